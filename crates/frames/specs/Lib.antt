@@ -1,0 +1,5 @@
+pub mod Cells
+pub mod Frame
+pub mod Options
+pub mod Order
+pub mod Keyed

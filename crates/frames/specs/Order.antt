@@ -1,0 +1,83 @@
+-- The order of cells, groups and rows. Assumes nothing.
+use mathlib.Core.Bool.{Bool, true, false, cond, not, _&&_, _||_}
+use mathlib.Core.List.{List, [], _∷_}
+use Prim.Native.Nat.{ℕ, zero, suc}
+use lib.IntN.{ℤ, natAbs, _-ℤ_}
+use lib.Signed.{ltZ}
+use Rattle.frames.specs.Cells.{Cell, null, value, cell, isNull, Rows}
+use Rattle.frames.specs.Options.{Rule, byRule, keyRule}
+use Rattle.frames.specs.declared.Options.{Options}
+use Rattle.frames.specs.declared.Order.{Order}
+use Rattle.frames.specs.declared.Order.the-variants.{Less, Equal, Greater}
+
+abbrev pub isLess : Order → Bool
+isLess Less = true
+isLess Equal = false
+isLess Greater = false
+
+abbrev pub isEqual : Order → Bool
+isEqual Less = false
+isEqual Equal = true
+isEqual Greater = false
+
+abbrev pub isGreater : Order → Bool
+isGreater Less = false
+isGreater Equal = false
+isGreater Greater = true
+
+-- The first that is not Equal decides.
+abbrev pub next : Order → Order → Order
+next Less y = Less
+next Equal y = y
+next Greater y = Greater
+
+-- Values compare as numbers.
+abbrev pub cmpZ : ℤ → ℤ → Order
+cmpZ a b = cond (ltZ a b) Less (cond (ltZ b a) Greater Equal)
+
+-- Null equals null; it stands before every value, or after where nulls last is set, whatever the direction. Values are reversed if descending.
+abbrev pub cmpCell : Rule → Cell → Cell → Order
+cmpCell k null null = Equal
+cmpCell k null (value b) = cond (k .nullsLast) Greater Less
+cmpCell k (value a) null = cond (k .nullsLast) Less Greater
+cmpCell k (value a) (value b) = cond (k .descending) (cmpZ b a) (cmpZ a b)
+
+-- Two rows by their first j by-columns, in order.
+unfoldable pub cmpFirst : Options → ℕ → List Cell → List Cell → Order
+cmpFirst o zero r s = Equal
+cmpFirst o (suc j) r s = next (cmpFirst o j r s) (cmpCell (byRule o j) (cell j r) (cell j s))
+
+-- A row's group is its b by-values.
+abbrev pub cmpGroup : Options → List Cell → List Cell → Order
+cmpGroup o r s = cmpFirst o (o .by) r s
+
+-- The key is column b.
+abbrev pub keyOf : Options → List Cell → Cell
+keyOf o r = cell (o .by) r
+
+-- Rows compare by by-columns in order, then key.
+unfoldable pub cmpRow : Options → List Cell → List Cell → Order
+cmpRow o r s = next (cmpGroup o r s) (cmpCell keyRule (keyOf o r) (keyOf o s))
+
+-- Sorted: no row is greater than the next.
+unfoldable pub sorted : Options → Rows → Bool
+sorted o [] = true
+sorted o (r ∷ []) = true
+sorted o (r ∷ s ∷ rs) = not (isGreater (cmpRow o r s)) && sorted o (s ∷ rs)
+
+-- A group is null if any by-value is.
+unfoldable pub nullIn : ℕ → List Cell → Bool
+nullIn zero r = false
+nullIn (suc j) r = nullIn j r || isNull (cell j r)
+
+abbrev pub nullGroup : Options → List Cell → Bool
+nullGroup o r = nullIn (o .by) r
+
+abbrev pub nullKey : Options → List Cell → Bool
+nullKey o r = isNull (keyOf o r)
+
+-- The distance of two keys is the greater less the smaller; to a null it is 0, and never asked.
+abbrev pub distance : Cell → Cell → ℕ
+distance null y = 0
+distance (value a) null = 0
+distance (value a) (value b) = natAbs (a -ℤ b)

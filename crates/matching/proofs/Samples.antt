@@ -1,0 +1,35 @@
+-- Matches at small tables. Assumes nothing.
+use mathlib.Core.Path.{_≡_, refl}
+use mathlib.Core.Bool.{true, false}
+use mathlib.Core.List.{[], _∷_}
+use Prim.Native.Nat.{_^_, _-_}
+use lib.IntN.{pos, negsuc}
+use Rattle.frames.specs.Cells.{null, value}
+use Rattle.frames.specs.Order.{cmpFirst, nullIn}
+use Rattle.frames.proofs.Samples.{options, plain, row, keys}
+use Rattle.frames.specs.declared.Options.{Options}
+use Rattle.matching.specs.Match.{fits, takesOver, choose, tolerate, matchIn, matchTable, wholeTable}
+use Rattle.matching.specs.Groups.{matchFrame, byRuns, runs, joinRun, pass, passes, used}
+use Rattle.matching.specs.declared.Choice.the-variants.{Row, Nothing}
+
+abbrev grouped : Options
+grouped = options 1 0 true (negsuc 0) false [] []
+
+-- A nearest tie goes to the greater key, of equal keys to the last; distances reach to 2^64 − 1.
+pub ties :
+    matchIn (plain 2 true) 0 (keys (10 ∷ 20 ∷ [])) (row (15 ∷ [])) ∷ matchIn (plain 2 true) 0 (keys (10 ∷ 20 ∷ 20 ∷ [])) (row (15 ∷ []))
+    ∷ matchIn (plain 2 true) 0 ((value (negsuc (2 ^ 63 - 1)) ∷ []) ∷ (value (pos 0) ∷ []) ∷ []) (value (pos (2 ^ 63 - 1)) ∷ []) ∷ []
+    ≡ Row 1 ∷ Row 2 ∷ Row 1 ∷ []
+unfolding matchIn choose tolerate fits takesOver
+ties = refl
+
+-- Null groups do not match each other: by runs, and in the whole table.
+pub nulls :
+    matchFrame grouped 0 ((null ∷ value (pos 1) ∷ []) ∷ row (1 ∷ 1 ∷ []) ∷ []) ((null ∷ value (pos 2) ∷ []) ∷ row (1 ∷ 2 ∷ []) ∷ row (1 ∷ 0 ∷ []) ∷ row (3 ∷ 2 ∷ []) ∷ []) ≡ Nothing ∷ Row 1 ∷ Nothing ∷ Nothing ∷ []
+unfolding matchFrame byRuns runs joinRun pass passes used matchIn choose tolerate fits takesOver cmpFirst nullIn
+nulls = refl
+
+pub nullsWhole :
+    wholeTable grouped ((null ∷ value (pos 1) ∷ []) ∷ row (1 ∷ 1 ∷ []) ∷ []) (null ∷ value (pos 2) ∷ []) ≡ Nothing
+unfolding wholeTable matchTable choose tolerate fits takesOver cmpFirst nullIn
+nullsWhole = refl

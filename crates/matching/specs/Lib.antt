@@ -1,0 +1,4 @@
+pub mod Match
+pub mod Picked
+pub mod Groups
+pub mod Answer

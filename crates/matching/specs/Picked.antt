@@ -1,0 +1,33 @@
+-- The row that the strategy picks, told without a search: it qualifies, and none that qualifies is better. Assumes nothing.
+use mathlib.Core.Path.{_≡_}
+use mathlib.Core.Bool.{Bool, true, false, _&&_, _||_}
+use mathlib.Core.List.{List, []}
+use Prim.Native.Nat.{ℕ, _<_}
+use lib.Dec.{ltb, eqb}
+use lib.ListN.{length, getD}
+use Rattle.frames.specs.Cells.{Cell, Rows}
+use Rattle.frames.specs.Options.{strategyOf, keyRule}
+use Rattle.frames.specs.Order.{keyOf, distance, cmpCell, isGreater, isEqual}
+use Rattle.frames.specs.declared.Options.{Options}
+use Rattle.frames.specs.declared.Strategy.{Strategy}
+use Rattle.frames.specs.declared.Strategy.the-variants.{Backward, Forward, Nearest}
+use Rattle.matching.specs.Match.{qualifies}
+
+-- Is right row s, at place k, a better pick for x than right row r at place i? Backward: last row by position. Forward: first. Nearest: least distance, then greater key, then last position.
+unfoldable pub better : Options → Strategy → List Cell → ℕ → List Cell → ℕ → List Cell → Bool
+better o Backward x k s i r = ltb i k
+better o Forward x k s i r = ltb k i
+better o Nearest x k s i r =
+    ltb (distance (keyOf o s) (keyOf o x)) (distance (keyOf o r) (keyOf o x))
+    || (eqb (distance (keyOf o s) (keyOf o x)) (distance (keyOf o r) (keyOf o x))
+    && (isGreater (cmpCell keyRule (keyOf o s) (keyOf o r)) || (isEqual (cmpCell keyRule (keyOf o s) (keyOf o r)) && ltb i k)))
+
+-- Right row i qualifies for x, and is the one that the strategy picks: none that qualifies is better.
+pub record Picked (o : Options) (rights : Rows) (x : List Cell) (i : ℕ) : Type 0 where
+  pub there : i < length rights
+  pub fit : qualifies o x (getD rights i []) ≡ true
+  pub best : (k : ℕ) → k < length rights → qualifies o x (getD rights k []) ≡ true → better o (strategyOf o) x k (getD rights k []) i (getD rights i []) ≡ false
+
+-- No right row qualifies for x.
+abbrev pub NoneQualifies : Options → Rows → List Cell → Type 0
+NoneQualifies o rights x = (k : ℕ) → k < length rights → qualifies o x (getD rights k []) ≡ false

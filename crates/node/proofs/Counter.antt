@@ -1,0 +1,105 @@
+-- The cases of 01's section "At the counter", as one list that holds by computation. Assumes nothing.
+use mathlib.Core.Path.{_≡_, refl}
+use mathlib.Core.Bool.{true, false}
+use mathlib.Core.List.{List, [], _∷_, _++_, map}
+use mathlib.Core.Option.{Option, none, some}
+use Prim.Native.Nat.{ℕ, _*_}
+use lib.IntN.{pos, negsuc}
+use lib.ListN.{length, replicate}
+use Rattle.frames.specs.Cells.{null, value, Words}
+use Rattle.frames.proofs.Samples.{options, plain, row, keys, frameOf}
+use Rattle.frames.specs.declared.Options.{Options}
+use Rattle.node.specs.Lists.{Call, left, right, end, turn, start, final}
+use Rattle.node.proofs.Script.{Said, ok, refused, wrote, wants, leftArea, rightArea, space, says}
+
+-- A frame of keys alone; of rows of one by-value and a key.
+abbrev frame1 : List ℕ → Words
+frame1 ks = frameOf 1 (keys ks)
+
+abbrev frame2 : List (List ℕ) → Words
+frame2 rs = frameOf 2 (map row rs)
+
+-- A match: none, or a right number.
+abbrev numbers : List (Option ℕ) → Words
+numbers [] = []
+numbers (none ∷ ms) = pos 0 ∷ numbers ms
+numbers (some n ∷ ms) = pos n ∷ numbers ms
+
+abbrev marks : List (Option ℕ) → Words
+marks [] = []
+marks (none ∷ ms) = pos 0 ∷ marks ms
+marks (some n ∷ ms) = pos 1 ∷ marks ms
+
+-- Turn number t wrote these matches.
+abbrev matched : ℕ → List (Option ℕ) → Said
+matched t ms = wrote (2 * t) (pos (length ms) ∷ pos 1 ∷ numbers ms ++ marks ms)
+
+-- What a case comes to: what the calls say, and then pruned and held.
+pub data Outcome : Type 0 where
+  outcome : List Said → ℕ → ℕ → Outcome
+
+-- A case: options, the words of the right area, the calls, and what is awaited.
+pub record Case : Type 0 where
+  pub opened : Options
+  pub words : ℕ
+  pub calls : List Call
+  pub awaited : Outcome
+
+unfoldable pub comesTo : Case → Outcome
+unfolding says final
+comesTo k =
+    let w = final (start (k .opened) (leftArea 40) (rightArea (k .words))) (k .calls) in
+    outcome (says (k .opened) (leftArea 40) (rightArea (k .words)) (k .calls)) (w .join .pruned) (w .join .held)
+
+abbrev case : Options → ℕ → List Call → List Said → ℕ → ℕ → Case
+case o r cs said pruned held = record { opened = o; words = r; calls = cs; awaited = outcome said pruned held }
+
+-- Unless said: no by-columns, no tolerance, check off, equality on, right 10, 20, 20, 30.
+abbrev usual : Call
+usual = right (frame1 (10 ∷ 20 ∷ 20 ∷ 30 ∷ []))
+
+abbrev long : ℕ → Words
+long n = pos n ∷ pos 1 ∷ replicate n (pos 7) ++ replicate n (pos 1)
+
+abbrev go : Call
+go = turn (space 20)
+
+pub cases : List Case
+cases =
+    -- P Backward, left 5, 20, 25: none, 2, 2; afterwards pruned 2, held 2
+    case (plain 0 true) 40 (usual ∷ left (frame1 (5 ∷ 20 ∷ 25 ∷ [])) ∷ go ∷ []) (ok ∷ ok ∷ matched 0 (none ∷ some 2 ∷ some 2 ∷ []) ∷ []) 2 2
+    -- P the same, only 10, 20, 20 held, right open: Wants right; right ended: the same matches
+    ∷ case (plain 0 true) 40 (right (frame1 (10 ∷ 20 ∷ 20 ∷ [])) ∷ left (frame1 (5 ∷ 20 ∷ 25 ∷ [])) ∷ go ∷ end ∷ go ∷ [])
+    (ok ∷ ok ∷ wants ∷ ok ∷ matched 0 (none ∷ some 2 ∷ some 2 ∷ []) ∷ []) 2 1
+    -- P Backward without equality, 20: 0
+    ∷ case (plain 0 false) 40 (usual ∷ left (frame1 (20 ∷ [])) ∷ go ∷ []) (ok ∷ ok ∷ matched 0 (some 0 ∷ []) ∷ []) 0 4
+    -- P Forward 20: 1
+    ∷ case (plain 1 true) 40 (usual ∷ left (frame1 (20 ∷ [])) ∷ go ∷ []) (ok ∷ ok ∷ matched 0 (some 1 ∷ []) ∷ []) 1 3
+    -- P Forward without equality 20: 3
+    ∷ case (plain 1 false) 40 (usual ∷ left (frame1 (20 ∷ [])) ∷ go ∷ []) (ok ∷ ok ∷ matched 0 (some 3 ∷ []) ∷ []) 1 3
+    -- P Nearest 14, 15, 25: 0, 2, 3, right ended
+    ∷ case (plain 2 true) 40 (usual ∷ end ∷ left (frame1 (14 ∷ 15 ∷ 25 ∷ [])) ∷ go ∷ []) (ok ∷ ok ∷ ok ∷ matched 0 (some 0 ∷ some 2 ∷ some 3 ∷ []) ∷ []) 2 2
+    -- P Nearest, held 10, 20, 30, left 25: more needed; with 31 pushed: not
+    ∷ case (plain 2 true) 40 (right (frame1 (10 ∷ 20 ∷ 30 ∷ [])) ∷ left (frame1 (25 ∷ [])) ∷ go ∷ right (frame1 (31 ∷ [])) ∷ go ∷ [])
+    (ok ∷ ok ∷ wants ∷ ok ∷ matched 0 (some 2 ∷ []) ∷ []) 1 3
+    -- P Backward 25, tolerance 4: none; 5: 2
+    ∷ case (options 0 0 true (pos 4) false [] []) 40 (usual ∷ left (frame1 (25 ∷ [])) ∷ go ∷ []) (ok ∷ ok ∷ matched 0 (none ∷ []) ∷ []) 2 2
+    ∷ case (options 0 0 true (pos 5) false [] []) 40 (usual ∷ left (frame1 (25 ∷ [])) ∷ go ∷ []) (ok ∷ ok ∷ matched 0 (some 2 ∷ []) ∷ []) 2 2
+    -- P Backward, right (1,10), (1,20), (2,5); left (1,15), (2,4), (3,9); right ended: 0, none, none; pruned 3
+    ∷ case (options 1 0 true (negsuc 0) false [] []) 40
+    (right (frame2 ((1 ∷ 10 ∷ []) ∷ (1 ∷ 20 ∷ []) ∷ (2 ∷ 5 ∷ []) ∷ [])) ∷ end ∷ left (frame2 ((1 ∷ 15 ∷ []) ∷ (2 ∷ 4 ∷ []) ∷ (3 ∷ 9 ∷ []) ∷ [])) ∷ go ∷ [])
+    (ok ∷ ok ∷ ok ∷ matched 0 (some 0 ∷ none ∷ none ∷ []) ∷ []) 3 0
+    -- Check on, Backward: right (2,1), (2,7), (3,1), (4,1); left frames (2,5); (3,null); (2,8): 0, none, none, and no refusal
+    ∷ case (options 1 0 true (negsuc 0) true [] []) 40
+    (right (frame2 ((2 ∷ 1 ∷ []) ∷ (2 ∷ 7 ∷ []) ∷ (3 ∷ 1 ∷ []) ∷ (4 ∷ 1 ∷ []) ∷ [])) ∷ left (frame2 ((2 ∷ 5 ∷ []) ∷ [])) ∷ go
+    ∷ left (frameOf 2 ((value (pos 3) ∷ null ∷ []) ∷ [])) ∷ go ∷ left (frame2 ((2 ∷ 8 ∷ []) ∷ [])) ∷ go ∷ [])
+    (ok ∷ ok ∷ matched 0 (some 0 ∷ []) ∷ ok ∷ matched 1 (none ∷ []) ∷ ok ∷ matched 2 (none ∷ []) ∷ []) 2 2
+    -- 4,096 rows pass, 4,097 are refusal 5; held = R takes an empty frame, one row is 6
+    ∷ case (plain 0 true) 8192 (right (long 4096) ∷ []) (ok ∷ []) 0 4096
+    ∷ case (plain 0 true) 8194 (right (long 4097) ∷ []) (refused 5 ∷ []) 0 0
+    ∷ case (plain 0 true) 9 (usual ∷ right (frame1 []) ∷ right (frame1 (40 ∷ [])) ∷ []) (ok ∷ ok ∷ refused 6 ∷ []) 0 4
+    ∷ []
+
+pub counter : map comesTo cases ≡ map (λ k. k .awaited) cases
+unfolding cases comesTo
+counter = refl

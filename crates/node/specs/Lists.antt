@@ -1,0 +1,235 @@
+-- Lists of calls: what they answer and leave, and what demand 3 reads off them. Assumes nothing.
+use mathlib.Core.Bool.{Bool, true, false, _&&_, _||_}
+use mathlib.Core.List.{List, [], _∷_, _++_}
+use Prim.Native.Nat.{ℕ, zero, suc, _+_, _-_}
+use lib.Dec.{eqb}
+use lib.IntN.{ℤ}
+use lib.ListN.{length, take, drop}
+use Rattle.frames.specs.Cells.{Rows, Words}
+use Rattle.frames.specs.Frame.{rowCount, frameRows, frameWords}
+use Rattle.frames.specs.declared.Options.{Options}
+use Rattle.node.specs.State.{number, fresh, waiting, front, widthOf}
+use Rattle.node.specs.Calls.{After, leftCall, rightCall, endCall, portsCall, turnCall, portDone}
+use Rattle.node.specs.declared.Join.{Join}
+use Rattle.node.specs.declared.PortState.{PortState}
+use Rattle.node.specs.declared.Answer.{Answer}
+use Rattle.node.specs.declared.Answer.the-variants.{Wrote, WantsRight, Idle, Refused as TurnRefused}
+use Rattle.node.specs.declared.Took.{Took}
+use Rattle.node.specs.declared.Took.the-variants.{Accepted, Refused}
+use Rattle.node.specs.declared.Ported.{Ported}
+use Rattle.node.specs.declared.Ported.the-variants.{Ports, Refused as PortsRefused}
+
+-- A call: a left or right frame of any words, the end of right, ports (left, right, send), a turn with any words as its output.
+pub data Call : Type 0 where
+  left : Words → Call
+  right : Words → Call
+  end : Call
+  ports : PortState → PortState → PortState → Call
+  turn : Words → Call
+
+-- A call with its answer; of a turn also its output as it returned.
+pub data Event : Type 0 where
+  onLeft : Words → Took → Event
+  onRight : Words → Took → Event
+  onEnd : Took → Event
+  onPorts : PortState → PortState → PortState → Ported → Event
+  onTurn : Answer → Words → Event
+
+-- A join and its two areas.
+pub record World : Type 0 where
+  pub join : Join
+  pub left : Words
+  pub right : Words
+
+-- The list starts from a fresh join and two areas of any length and any words.
+abbrev pub start : Options → Words → Words → World
+start o l r = record { join = fresh o; left = l; right = r }
+
+-- One call, over the join and the areas that the last one left.
+pub record Step : Type 0 where
+  pub event : Event
+  pub world : World
+
+abbrev pub stepped : {A : Type 0} → (A → Event) → After A → Step
+stepped on a = record { event = on (a .answer); world = record { join = a .join; left = a .left; right = a .right } }
+
+unfoldable pub step : World → Call → Step
+step w (left f) = stepped (onLeft f) (leftCall (w .join) (w .left) (w .right) f)
+step w (right f) = stepped (onRight f) (rightCall (w .join) (w .left) (w .right) f)
+step w end = stepped onEnd (endCall (w .join) (w .left) (w .right))
+step w (ports l r s) = stepped (onPorts l r s) (portsCall (w .join) (w .left) (w .right) l r s)
+step w (turn out) = let a = turnCall (w .join) (w .left) (w .right) out in stepped (λ x. onTurn x (a .out)) a
+
+-- The calls with their answers, in call order; and what the last one leaves.
+unfoldable pub events : World → List Call → List Event
+events w [] = []
+events w (c ∷ cs) = let s = step w c in s .event ∷ events (s .world) cs
+
+unfoldable pub final : World → List Call → World
+final w [] = w
+final w (c ∷ cs) = final (step w c .world) cs
+
+-- ---- what demand 3 reads off the events
+abbrev pub when {ℓ} : {A : Type ℓ} → Took → List A → List A
+when Accepted xs = xs
+when (Refused n) xs = []
+
+-- The frames of the left or right calls that were not refused.
+abbrev pub leftIn : Event → List Words
+leftIn (onLeft f a) = when a (f ∷ [])
+leftIn (onRight f a) = []
+leftIn (onEnd a) = []
+leftIn (onPorts l r s a) = []
+leftIn (onTurn a out) = []
+
+abbrev pub rightIn : Event → List Words
+rightIn (onLeft f a) = []
+rightIn (onRight f a) = when a (f ∷ [])
+rightIn (onEnd a) = []
+rightIn (onPorts l r s a) = []
+rightIn (onTurn a out) = []
+
+unfoldable pub leftFrames : List Event → List Words
+leftFrames [] = []
+leftFrames (e ∷ es) = leftIn e ++ leftFrames es
+
+unfoldable pub rightFrames : List Event → List Words
+rightFrames [] = []
+rightFrames (e ∷ es) = rightIn e ++ rightFrames es
+
+-- The rows of frames of c columns, in order.
+unfoldable pub rowsIn : ℕ → List Words → Rows
+rowsIn c [] = []
+rowsIn c (f ∷ fs) = frameRows c f ++ rowsIn c fs
+
+-- The outputs of the turns that answered Wrote, as each returned.
+abbrev pub whenWrote : Answer → List Words → List Words
+whenWrote (Wrote s) outs = outs
+whenWrote WantsRight outs = []
+whenWrote Idle outs = []
+whenWrote (TurnRefused n) outs = []
+
+abbrev pub outputIn : Event → List Words
+outputIn (onLeft f a) = []
+outputIn (onRight f a) = []
+outputIn (onEnd a) = []
+outputIn (onPorts l r s a) = []
+outputIn (onTurn a out) = whenWrote a (out ∷ [])
+
+unfoldable pub outputs : List Event → List Words
+outputs [] = []
+outputs (e ∷ es) = outputIn e ++ outputs es
+
+-- The rows that a turn wrote in its output: a right number and its mark each.
+pub record Entry : Type 0 where
+  pub number : ℤ
+  pub mark : ℤ
+
+unfoldable pub pairUp : Words → Words → List Entry
+pairUp [] ms = []
+pairUp (v ∷ vs) [] = []
+pairUp (v ∷ vs) (m ∷ ms) = record { number = v; mark = m } ∷ pairUp vs ms
+
+unfoldable pub writtenIn : Words → List Entry
+writtenIn out = pairUp (take (rowCount out) (drop 2 out)) (take (rowCount out) (drop (2 + rowCount out) out))
+
+unfoldable pub matchesIn : List Words → List Entry
+matchesIn [] = []
+matchesIn (out ∷ outs) = writtenIn out ++ matchesIn outs
+
+-- Right has ended once an end-of-right call was accepted.
+abbrev pub accepted : Took → Bool
+accepted Accepted = true
+accepted (Refused n) = false
+
+abbrev pub endsRight : Event → Bool
+endsRight (onLeft f a) = false
+endsRight (onRight f a) = false
+endsRight (onEnd a) = accepted a
+endsRight (onPorts l r s a) = false
+endsRight (onTurn a out) = false
+
+unfoldable pub rightEnded : List Event → Bool
+rightEnded [] = false
+rightEnded (e ∷ es) = endsRight e || rightEnded es
+
+-- The node is done from an accepted port call on that came with send Done, or that, with left Done in it or in an earlier one, found no frame waiting.
+-- `seen`: left Done came in an earlier one; `frames`: how many frames wait.
+abbrev pub acceptedPorts : Ported → Bool
+acceptedPorts (Ports l r s) = true
+acceptedPorts (PortsRefused n) = false
+
+abbrev pub leftDone : Event → Bool
+leftDone (onLeft f a) = false
+leftDone (onRight f a) = false
+leftDone (onEnd a) = false
+leftDone (onPorts l r s a) = acceptedPorts a && portDone l
+leftDone (onTurn a out) = false
+
+abbrev pub doneNow : Bool → ℕ → Event → Bool
+doneNow seen frames (onLeft f a) = false
+doneNow seen frames (onRight f a) = false
+doneNow seen frames (onEnd a) = false
+doneNow seen frames (onPorts l r s a) = acceptedPorts a && (portDone s || ((seen || portDone l) && eqb frames 0))
+doneNow seen frames (onTurn a out) = false
+
+unfoldable pub doneFrom : Bool → ℕ → List Event → Bool
+doneFrom seen frames [] = false
+doneFrom seen frames (e ∷ es) = doneNow seen frames e || doneFrom (seen || leftDone e) (frames + length (leftIn e) - length (outputIn e)) es
+
+abbrev pub nodeDone : List Event → Bool
+nodeDone es = doneFrom false 0 es
+
+-- Frames, or parts of frames, back to back.
+unfoldable pub backToBack : List Words → Words
+backToBack [] = []
+backToBack (f ∷ fs) = f ++ backToBack fs
+
+-- The number of the refusal that a call met, or 0.
+abbrev pub tookRefusal : Took → ℕ
+tookRefusal Accepted = 0
+tookRefusal (Refused n) = number n
+
+abbrev pub portsRefusal : Ported → ℕ
+portsRefusal (Ports l r s) = 0
+portsRefusal (PortsRefused n) = number n
+
+abbrev pub turnRefusal : Answer → ℕ
+turnRefusal (Wrote s) = 0
+turnRefusal WantsRight = 0
+turnRefusal Idle = 0
+turnRefusal (TurnRefused n) = number n
+
+abbrev pub refusalIn : Event → ℕ
+refusalIn (onLeft f a) = tookRefusal a
+refusalIn (onRight f a) = tookRefusal a
+refusalIn (onEnd a) = tookRefusal a
+refusalIn (onPorts l r s a) = portsRefusal a
+refusalIn (onTurn a out) = turnRefusal a
+
+-- Did a call meet refusal n?
+unfoldable pub refusedWith : ℕ → List Event → Bool
+refusedWith n [] = false
+refusedWith n (e ∷ es) = eqb (refusalIn e) n || refusedWith n es
+
+-- The turns of a list.
+abbrev pub turnIn : Event → List Event
+turnIn (onLeft f a) = []
+turnIn (onRight f a) = []
+turnIn (onEnd a) = []
+turnIn (onPorts l r s a) = []
+turnIn (onTurn a out) = onTurn a out ∷ []
+
+unfoldable pub turnsIn : List Event → List Event
+turnsIn [] = []
+turnsIn (e ∷ es) = turnIn e ++ turnsIn es
+
+-- The frames that stand back to back in words, each as long as its n and c give; the fuel is the number of words.
+unfoldable pub framesIn : ℕ → ℕ → Words → List Words
+framesIn zero c ws = []
+framesIn (suc fuel) c [] = []
+framesIn (suc fuel) c (w ∷ ws) = front c (w ∷ ws) ∷ framesIn fuel c (drop (frameWords (rowCount (w ∷ ws)) c) (w ∷ ws))
+
+-- The rows in the queue.
+unfoldable pub queueRows : World → Rows
+queueRows w = let ws = waiting (w .join) (w .left) in rowsIn (widthOf (w .join)) (framesIn (length ws) (widthOf (w .join)) ws)

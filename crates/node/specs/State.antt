@@ -1,0 +1,133 @@
+-- The join, and what it says of the areas. Assumes nothing.
+use mathlib.Core.Bool.{Bool, true, false, _||_}
+use Prim.Native.Nat.{ℕ, _+_, _-_, _*_, _%_, _^_}
+use lib.Dec.{ltb, eqb}
+use lib.ListN.{length, take, drop}
+use Rattle.frames.specs.Cells.{Rows, Words}
+use Rattle.frames.specs.Frame.{rowCount, frameWords}
+use Rattle.frames.specs.Options.{badOptions, columns}
+use Rattle.frames.specs.Keyed.{noRow}
+use Rattle.frames.specs.declared.Options.{Options}
+use Rattle.frames.specs.declared.Row.{Row}
+use Rattle.buffer.specs.Area.{capacity, heldRows}
+use Rattle.node.specs.declared.Join.{Join}
+use Rattle.node.specs.declared.NodeState.{NodeState}
+use Rattle.node.specs.declared.NodeState.the-variants.{Running, Flush, Done}
+use Rattle.node.specs.declared.Refusal.{Refusal}
+use Rattle.node.specs.declared.Refusal.the-variants.{BadOptions, BadJoin, Failed, Closed, BadFrame, NoRoom, UsedUp, LeftOrder, RightOrder}
+
+-- The refusals' numbers, in checking order.
+abbrev pub number : Refusal → ℕ
+number BadOptions = 1
+number BadJoin = 2
+number Failed = 3
+number Closed = 4
+number BadFrame = 5
+number NoRoom = 6
+number UsedUp = 7
+number LeftOrder = 8
+number RightOrder = 9
+
+-- A join from all that it is.
+abbrev pub joinOf : Options → ℕ → ℕ → ℕ → ℕ → ℕ → NodeState → Bool → Bool → ℕ → Row → Row → Join
+joinOf o base held pruned start words state ended failed seq l r = record {
+  options = o;
+  base = base;
+  held = held;
+  pruned = pruned;
+  «queue_start» = start;
+  «queue_words» = words;
+  state = state;
+  «right_ended» = ended;
+  failed = failed;
+  sequence = seq;
+  «last_left» = l;
+  «last_right» = r;
+}
+
+-- A fresh join is Running, right not ended, not failed, no row remembered, counters 0, with the options it was opened with.
+abbrev pub fresh : Options → Join
+fresh o = joinOf o 0 0 0 0 0 Running false false 0 noRow noRow
+
+-- The join with another queue; other held rows; another state; right ended; failed; one turn later.
+abbrev pub queueAt : Join → ℕ → ℕ → Join
+queueAt j start words =
+    joinOf (j .options) (j .base) (j .held) (j .pruned) start words (j .state) (j .«right_ended») (j .failed) (j .sequence) (j .«last_left») (j .«last_right»)
+
+abbrev pub heldAt : Join → ℕ → ℕ → ℕ → Join
+heldAt j base held pruned =
+    joinOf (j .options) base held pruned (j .«queue_start») (j .«queue_words») (j .state) (j .«right_ended») (j .failed) (j .sequence) (j .«last_left») (j .«last_right»)
+
+abbrev pub stateAt : Join → NodeState → Join
+stateAt j s =
+    joinOf (j .options) (j .base) (j .held) (j .pruned) (j .«queue_start») (j .«queue_words») s (j .«right_ended») (j .failed) (j .sequence) (j .«last_left») (j .«last_right»)
+
+abbrev pub endedRight : Join → Join
+endedRight j =
+    joinOf (j .options) (j .base) (j .held) (j .pruned) (j .«queue_start») (j .«queue_words») (j .state) true (j .failed) (j .sequence) (j .«last_left») (j .«last_right»)
+
+abbrev pub markedFailed : Join → Join
+markedFailed j =
+    joinOf (j .options) (j .base) (j .held) (j .pruned) (j .«queue_start») (j .«queue_words») (j .state) (j .«right_ended») true (j .sequence) (j .«last_left») (j .«last_right»)
+
+-- Sequence + 2, with the rows that are remembered now.
+abbrev pub nextTurn : Join → Row → Row → Join
+nextTurn j l r =
+    joinOf (j .options) (j .base) (j .held) (j .pruned) (j .«queue_start») (j .«queue_words») (j .state) (j .«right_ended») (j .failed) (j .sequence + 2) l r
+
+abbrev pub isRunning : NodeState → Bool
+isRunning Running = true
+isRunning Flush = false
+isRunning Done = false
+
+abbrev pub isDone : NodeState → Bool
+isDone Running = false
+isDone Flush = false
+isDone Done = true
+
+-- Frames have c = b + 1 columns; R rows have room in the right area.
+abbrev pub widthOf : Join → ℕ
+widthOf j = columns (j .options)
+
+-- The greatest number of right rows: 2^63 − 1. The last sequence: 2^64 − 2.
+abbrev pub mostRows : ℕ
+mostRows = 2 ^ 63 - 1
+
+abbrev pub lastSequence : ℕ
+lastSequence = 2 ^ 64 - 2
+
+-- Base + held above R; queue start + queue words above the left area; pruned + held above 2^63 − 1; an odd sequence.
+abbrev pub overRight : Join → Words → Bool
+overRight j right = ltb (capacity (widthOf j) right) (j .base + j .held)
+
+abbrev pub overLeft : Join → Words → Bool
+overLeft j left = ltb (length left) (j .«queue_start» + j .«queue_words»)
+
+abbrev pub overRows : Join → Bool
+overRows j = ltb mostRows (j .pruned + j .held)
+
+abbrev pub oddSequence : Join → Bool
+oddSequence j = eqb (j .sequence % 2) 1
+
+-- Refusal 2: a join whose options meet 1, or one of these.
+unfoldable pub badJoin : Join → Words → Words → Bool
+badJoin j left right = badOptions (j .options) || overRight j right || overLeft j left || overRows j || oddSequence j
+
+-- The held rows, of which row i is right number pruned + i.
+unfoldable pub heldOf : Join → Words → Rows
+heldOf j right = heldRows (widthOf j) (j .base) (j .held) right
+
+-- The words of the held rows: their values, and their marks.
+unfoldable pub heldValues : Join → Words → Words
+heldValues j right = take (j .held * widthOf j) (drop (j .base * widthOf j) right)
+
+unfoldable pub heldMarks : Join → Words → Words
+heldMarks j right = take (j .held * widthOf j) (drop ((capacity (widthOf j) right + j .base) * widthOf j) right)
+
+-- The words that wait: left frames back to back.
+unfoldable pub waiting : Join → Words → Words
+waiting j left = take (j .«queue_words») (drop (j .«queue_start») left)
+
+-- The front of the queue: its length is what its n and c give (and less only where the words that wait are fewer, which breaks the frame rule).
+unfoldable pub front : ℕ → Words → Words
+front c words = take (frameWords (rowCount words) c) words
