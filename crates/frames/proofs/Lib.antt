@@ -1,3 +1,5 @@
 pub mod Samples
 pub mod OrderLaws
 pub mod SortedLaws
+pub mod WordLaws
+pub mod FrameLaws
