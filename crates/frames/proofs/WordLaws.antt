@@ -46,7 +46,7 @@ nil-take : (n : ℕ) → _≡_ {A = Words} (take n []) []
 nil-take zero = refl
 nil-take (suc n) = refl
 
-drop-take : (w k : ℕ) (xs : Words) → drop w (take k xs) ≡ take (k - w) (drop w xs)
+pub drop-take : (w k : ℕ) (xs : Words) → drop w (take k xs) ≡ take (k - w) (drop w xs)
 drop-take zero k xs = simp unary-clauses
 drop-take (suc w) zero xs = let z : 0 - suc w ≡ 0 = omega arith in rw z
 drop-take (suc w) (suc k) [] = sym (nil-take (suc k - suc w))

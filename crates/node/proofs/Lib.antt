@@ -1,2 +1,4 @@
 pub mod Script
 pub mod Counter
+pub mod ListLaws
+pub mod Stock

@@ -153,8 +153,7 @@ unfoldable pub rightEnded : List Event → Bool
 rightEnded [] = false
 rightEnded (e ∷ es) = endsRight e || rightEnded es
 
--- The node is done from an accepted port call on that came with send Done, or that, with left Done in it or in an earlier one, found no frame waiting.
--- `seen`: left Done came in an earlier one; `frames`: how many frames wait.
+-- An accepted port call that came with left Done.
 abbrev pub acceptedPorts : Ported → Bool
 acceptedPorts (Ports l r s) = true
 acceptedPorts (PortsRefused n) = false
@@ -166,19 +165,28 @@ leftDone (onEnd a) = false
 leftDone (onPorts l r s a) = acceptedPorts a && portDone l
 leftDone (onTurn a out) = false
 
-abbrev pub doneNow : Bool → ℕ → Event → Bool
-doneNow seen frames (onLeft f a) = false
-doneNow seen frames (onRight f a) = false
-doneNow seen frames (onEnd a) = false
-doneNow seen frames (onPorts l r s a) = acceptedPorts a && (portDone s || ((seen || portDone l) && eqb frames 0))
-doneNow seen frames (onTurn a out) = false
+unfoldable pub leftEnded : List Event → Bool
+leftEnded [] = false
+leftEnded (e ∷ es) = leftDone e || leftEnded es
 
-unfoldable pub doneFrom : Bool → ℕ → List Event → Bool
-doneFrom seen frames [] = false
-doneFrom seen frames (e ∷ es) = doneNow seen frames e || doneFrom (seen || leftDone e) (frames + length (leftIn e) - length (outputIn e)) es
+-- How many frames wait: those accepted, less those turned.
+unfoldable pub framesWaiting : List Event → ℕ
+framesWaiting es = length (leftFrames es) - length (outputs es)
+
+-- The node is done from an accepted port call on that came with send Done, or that, with left Done in it or in an earlier one, found no frame waiting.
+unfoldable pub doneBy : List Event → Event → Bool
+doneBy before (onLeft f a) = false
+doneBy before (onRight f a) = false
+doneBy before (onEnd a) = false
+doneBy before (onPorts l r s a) = acceptedPorts a && (portDone s || ((leftEnded before || portDone l) && eqb (framesWaiting before) 0))
+doneBy before (onTurn a out) = false
+
+unfoldable pub doneAfter : List Event → List Event → Bool
+doneAfter before [] = false
+doneAfter before (e ∷ es) = doneBy before e || doneAfter (before ++ (e ∷ [])) es
 
 abbrev pub nodeDone : List Event → Bool
-nodeDone es = doneFrom false 0 es
+nodeDone es = doneAfter [] es
 
 -- Frames, or parts of frames, back to back.
 unfoldable pub backToBack : List Words → Words
