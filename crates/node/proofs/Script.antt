@@ -6,7 +6,7 @@ use Prim.Native.Nat.{ℕ, zero, suc, _+_, _*_, _%_}
 use lib.IntN.{negsuc, subℕ}
 use lib.ListN.{take, replicate}
 use Rattle.frames.specs.Cells.{Cell, cellsOf, rowsOf, Words}
-use Rattle.frames.specs.Frame.{rowCount, pairsFine, isFrame, frameRows}
+use Rattle.frames.specs.Frame.{rowCount, pairsFine, isFrame, frameRows, front}
 use Rattle.frames.specs.Options.{badOptions}
 use Rattle.frames.specs.Order.{cmpFirst, cmpRow, sorted, nullIn}
 use Rattle.frames.specs.Keyed.{firstFrom, lastBelow, recall, remember, rememberLast}
@@ -17,7 +17,7 @@ use Rattle.buffer.specs.Reach.{narrowBy, narrow, keyNeedsMore, rowNeedsMore, ne
 use Rattle.matching.specs.Match.{fits, takesOver, choose, tolerate, matchIn}
 use Rattle.matching.specs.Groups.{joinRun, runs, passes, pass, used, byRuns, matchFrame}
 use Rattle.matching.specs.Answer.{answerWords, answered}
-use Rattle.node.specs.State.{number, badJoin, heldOf, waiting, front, widthOf}
+use Rattle.node.specs.State.{number, badJoin, heldOf, waiting, widthOf}
 use Rattle.node.specs.Calls.{openAnswer, leftAnswer, queued, leftCall, rightAnswer, pushedRight, rightCall, endAnswer, endCall, portsAnswer, portsCall, badLeft, badRight, turnAnswer, firstPrune, remembered, dropped, dequeued, turned, turnCall}
 use Rattle.node.specs.Lists.{Call, Event, onLeft, onRight, onEnd, onPorts, onTurn, World, start, step}
 use Rattle.node.specs.declared.Join.{Join}

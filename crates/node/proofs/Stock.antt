@@ -9,7 +9,7 @@ use lib.IntN.{ℤ, pos}
 use lib.ListN.{length, take, drop, length-append, length-drop, length-map}
 use lib.Seq.{drop-append-le, drop-drop, drop-at, take-at, length-take-le}
 use Rattle.frames.specs.Cells.{Rows, Words, rowsOf}
-use Rattle.frames.specs.Frame.{rowCount, frameWords, valuesIn, marksIn, isFrame, frameRows}
+use Rattle.frames.specs.Frame.{rowCount, frameWords, valuesIn, marksIn, isFrame, frameRows, front}
 use Rattle.frames.specs.Options.{columns}
 use Rattle.frames.specs.declared.Options.{Options}
 use Rattle.frames.specs.declared.Row.{Row}
@@ -21,7 +21,7 @@ use Rattle.matching.specs.declared.Choice.{Choice}
 use Rattle.matching.specs.Answer.{answered, numberWord, choiceMark}
 use Rattle.matching.proofs.AnswerLaws.{answered-count, answered-numbers, answered-marks}
 use Rattle.node.specs.declared.Join.{Join}
-use Rattle.node.specs.State.{queueAt, heldAt, nextTurn, mostRows, widthOf, heldOf, heldValues, heldMarks, waiting, front}
+use Rattle.node.specs.State.{queueAt, heldAt, nextTurn, mostRows, widthOf, heldOf, heldValues, heldMarks, waiting}
 use Rattle.node.specs.Calls.{dropped, dequeued, queued, pushedRight}
 use Rattle.node.specs.Lists.{World, rowsIn, Entry, pairUp, writtenIn, matchesIn, backToBack}
 use Rattle.node.specs.Demand.{asWritten}

@@ -5,7 +5,7 @@ use Prim.Native.Nat.{ℕ, _+_, _-_, _*_}
 use lib.Dec.{ltb, eqb}
 use lib.ListN.{length, drop, take}
 use Rattle.frames.specs.Cells.{Rows, Words}
-use Rattle.frames.specs.Frame.{rowCount, isFrame, frameRows}
+use Rattle.frames.specs.Frame.{rowCount, isFrame, frameRows, front}
 use Rattle.frames.specs.Options.{isOn, columns, badOptions}
 use Rattle.frames.specs.Order.{sorted}
 use Rattle.frames.specs.Keyed.{firstKeyed, rowAt, recall, rememberLast, outOfOrder}
@@ -15,7 +15,7 @@ use Rattle.buffer.specs.Area.{capacity, newBase, pushed, moved, written}
 use Rattle.buffer.specs.Reach.{needMore, pruneBy, badSplit}
 use Rattle.matching.specs.Groups.{matchFrame}
 use Rattle.matching.specs.Answer.{answered}
-use Rattle.node.specs.State.{queueAt, heldAt, stateAt, endedRight, markedFailed, nextTurn, isRunning, isDone, widthOf, mostRows, lastSequence, badJoin, heldOf, waiting, front}
+use Rattle.node.specs.State.{queueAt, heldAt, stateAt, endedRight, markedFailed, nextTurn, isRunning, isDone, widthOf, mostRows, lastSequence, badJoin, heldOf, waiting}
 use Rattle.node.specs.declared.Join.{Join}
 use Rattle.node.specs.declared.NodeState.{NodeState}
 use Rattle.node.specs.declared.NodeState.the-variants.{Running, Flush, Done}

@@ -6,9 +6,9 @@ use lib.Dec.{eqb}
 use lib.IntN.{ℤ}
 use lib.ListN.{length, take, drop}
 use Rattle.frames.specs.Cells.{Rows, Words}
-use Rattle.frames.specs.Frame.{rowCount, frameRows, frameWords}
+use Rattle.frames.specs.Frame.{rowCount, frameRows, frameWords, front}
 use Rattle.frames.specs.declared.Options.{Options}
-use Rattle.node.specs.State.{number, fresh, waiting, front, widthOf}
+use Rattle.node.specs.State.{number, fresh, waiting, widthOf}
 use Rattle.node.specs.Calls.{After, leftCall, rightCall, endCall, portsCall, turnCall, portDone}
 use Rattle.node.specs.declared.Join.{Join}
 use Rattle.node.specs.declared.PortState.{PortState}

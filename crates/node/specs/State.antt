@@ -4,7 +4,6 @@ use Prim.Native.Nat.{ℕ, _+_, _-_, _*_, _%_, _^_}
 use lib.Dec.{ltb, eqb}
 use lib.ListN.{length, take, drop}
 use Rattle.frames.specs.Cells.{Rows, Words}
-use Rattle.frames.specs.Frame.{rowCount, frameWords}
 use Rattle.frames.specs.Options.{badOptions, columns}
 use Rattle.frames.specs.Keyed.{noRow}
 use Rattle.frames.specs.declared.Options.{Options}
@@ -127,7 +126,3 @@ heldMarks j right = take (j .held * widthOf j) (drop ((capacity (widthOf j) righ
 -- The words that wait: left frames back to back.
 unfoldable pub waiting : Join → Words → Words
 waiting j left = take (j .«queue_words») (drop (j .«queue_start») left)
-
--- The front of the queue: its length is what its n and c give (and less only where the words that wait are fewer, which breaks the frame rule).
-unfoldable pub front : ℕ → Words → Words
-front c words = take (frameWords (rowCount words) c) words
