@@ -1,2 +1,4 @@
 pub mod Samples
 pub mod ChoiceLaws
+pub mod Runs
+pub mod GroupLaws
