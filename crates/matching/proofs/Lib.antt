@@ -1,3 +1,5 @@
 pub mod Samples
 pub mod ChoiceLaws
 pub mod AnswerLaws
+pub mod Runs
+pub mod GroupLaws
