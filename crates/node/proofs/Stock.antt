@@ -148,3 +148,132 @@ module _ (o : Options) (l r : Words) (L R Os : List Words) (j : Join) (left righ
         rows = s .rows;
         wrote = rw (take-more (length Os) L (f ∷ []) (s .gone)) (s .wrote);
       }
+
+  -- A right frame whose rows are pushed.
+  part-more : (part : Words → Words) → ((f : Words) → isFrame (columns o) f ≡ true → length (part f) ≡ rowCount f * columns o) → (f : Words)
+      → drop (j .pruned * columns o) (backToBack (map part R)) ++ part f ≡ drop (j .pruned * columns o) (backToBack (map part (R ++ (f ∷ []))))
+  unfolding backToBack
+  part-more part law f =
+      let m : j .pruned * columns o ≤ length (rowsIn (columns o) R) * columns o = mul-le-mul-right (columns o) (omega (arith, s .rows)) in
+      let n : j .pruned * columns o ≤ length (backToBack (map part R)) = rw (parts-length (columns o) part law R (s .right-frames)) m in
+      rw (map-append part R (f ∷ []), words-append (map part R) (part f ∷ []), append-nil (part f))
+      (sym (drop-append-le (j .pruned * columns o) (backToBack (map part R)) (part f) n))
+
+  pub stock-right : (f : Words) → isFrame (columns o) f ≡ true → j .held + rowCount f ≤ capacity (columns o) right → j .pruned + j .held + rowCount f ≤ mostRows
+      → Stock o l r L (R ++ (f ∷ [])) Os (pushedRight j left right f .join) (pushedRight j left right f .left) (pushedRight j left right f .right)
+  unfolding pushedRight waiting heldValues heldMarks rowsIn
+  stock-right f h room few =
+      let b = newBase (j .base) (j .held) (rowCount f) (capacity (columns o) right) in
+      let len : length (pushed (columns o) (j .base) (j .held) f right) ≡ length right = pushed-length (columns o) (j .base) (j .held) f right h (s .right-room) room in
+      let cap : capacity (columns o) (pushed (columns o) (j .base) (j .held) f right) ≡ capacity (columns o) right = ap (λ (n : ℕ). n / (2 * columns o)) len in
+      record {
+        options = s .options;
+        left-length = s .left-length;
+        right-length = rw (s .options) (len ∙ s .right-length);
+        queue-room = s .queue-room;
+        right-room = rw (s .options, cap) (omega (arith, newBase-room (j .base) (j .held) (rowCount f) (capacity (columns o) right) room));
+        few = omega arith;
+        sequence = s .sequence;
+        gone = s .gone;
+        waits = s .waits;
+        values =
+          rw (s .options)
+          (pushed-values (columns o) (j .base) (j .held) f right h (s .right-room) room
+          ∙ ap (λ (z : Words). z ++ valuesIn (columns o) f) (rw (s .options) at (s .values)) ∙ part-more (valuesIn (columns o)) (values-length (columns o)) f);
+        marks =
+          rw (s .options, cap)
+          (pushed-marks (columns o) (j .base) (j .held) f right h (s .right-room) room
+          ∙ ap (λ (z : Words). z ++ marksIn (columns o) f) (rw (s .options) at (s .marks)) ∙ part-more (marksIn (columns o)) (marks-length (columns o)) f);
+        left-frames = s .left-frames;
+        right-frames = frames-join (columns o) R (f ∷ []) (s .right-frames) (h, tt);
+        rows = rw (rows-in-append (columns o) R (f ∷ []), length-append (rowsIn (columns o) R) (rowsIn (columns o) (f ∷ [])), s .rows, append-nil (frameRows (columns o) f), frame-rows (columns o) f h) (omega arith);
+        wrote = s .wrote;
+      }
+
+-- ---- the front of the queue
+pub front-is : (c : ℕ) (f g : Words) → isFrame c f ≡ true → front c (f ++ g) ≡ f
+unfolding front
+front-is c f g h = rw (count-append c f h g) (take-at f g (frameWords (rowCount f) c) (frame-length c f h))
+
+-- ---- what is read back of an answer
+pairs-back : (ms : List Choice) → pairUp (map numberWord ms) (map choiceMark ms) ≡ map asWritten ms
+unfolding pairUp
+pairs-back [] = refl
+pairs-back (m ∷ ms) = ap (λ (z : List Entry). asWritten m ∷ z) (pairs-back ms)
+
+pub written-back : (ms : List Choice) (out : Words) → writtenIn (answered ms out) ≡ map asWritten ms
+unfolding writtenIn
+written-back ms out = rw (answered-count ms out, answered-numbers ms out, answered-marks ms out) (pairs-back ms)
+
+module _ (o : Options) (l r : Words) (L R Os : List Words) (j : Join) (left right : Words) (s : Stock o l r L R Os j left right) where
+  -- All the words that wait are in the area.
+  pub waiting-length : length (waiting j left) ≡ j .«queue_words»
+  unfolding waiting
+  waiting-length = length-take-le (j .«queue_words») (drop (j .«queue_start») left) (rw (length-drop (j .«queue_start») left) (omega (arith, s .queue-room)))
+
+  -- The words of the held rows, at the width of the options.
+  pub held-values : take (j .held * columns o) (drop (j .base * columns o) right) ≡ drop (j .pruned * columns o) (allValues (columns o) R)
+  unfolding heldValues
+  held-values = rw (s .options) at (s .values)
+
+  pub held-marks : take (j .held * columns o) (drop ((capacity (columns o) right + j .base) * columns o) right) ≡ drop (j .pruned * columns o) (allMarks (columns o) R)
+  unfolding heldMarks
+  held-marks = rw (s .options) at (s .marks)
+
+  module _ (f : Words) (rest : List Words) (e : drop (length Os) L ≡ f ∷ rest) where
+    pub next-frame : isFrame (columns o) f ≡ true
+    next-frame = frames-drop-head (frames-drop (columns o) (length Os) L (s .left-frames))
+      where
+        frames-drop-head : Frames (columns o) (drop (length Os) L) → isFrame (columns o) f ≡ true
+        frames-drop-head p = (rw e at p) .0
+
+    pub waits-front : waiting j left ≡ f ++ backToBack rest
+    unfolding backToBack
+    waits-front = rw e at (s .waits)
+
+    pub front-next : front (columns o) (waiting j left) ≡ f
+    front-next = rw waits-front (front-is (columns o) f (backToBack rest) next-frame)
+
+    pub front-room : length f ≤ j .«queue_words»
+    front-room = omega (arith, waiting-length, ap length waits-front ∙ length-append f (backToBack rest))
+
+    more-gone : suc (length Os) ≤ length L
+    more-gone = omega (arith, length-drop (length Os) L, ap length e)
+
+    -- Of a part of n words that is the end of others, all but the first m.
+    part-less : (p n m k : ℕ) (ws : Words) → take n (drop p right) ≡ drop k ws → take (n - m) (drop (p + m) right) ≡ drop (k + m) ws
+    part-less p n m k ws q = rw (← drop-drop m p right, ← drop-take m n (drop p right), q) (drop-drop m k ws)
+
+    -- A turn that writes: d rows are dropped, the frame leaves, the answer is written.
+    pub stock-turn : (d : ℕ) → d ≤ j .held → (ms : List Choice) → length ms ≡ rowCount f → (out : Words) (lr rr : Row)
+        → Stock o l r L R (Os ++ (answered ms out ∷ [])) (nextTurn (dequeued (dropped j d) (length f)) lr rr) left right
+    unfolding dequeued dropped waiting heldValues heldMarks matchesIn rowsIn
+    stock-turn d h ms k out lr rr =
+        let n : length (Os ++ (answered ms out ∷ [])) ≡ suc (length Os) = rw (length-append Os (answered ms out ∷ [])) (omega arith) in
+        let x : ℕ = j .held - d in
+        let hx : j .held ≡ x + d = omega arith in
+        let hc : (j .held - d) * columns o ≡ j .held * columns o - d * columns o = omega (arith, ap (λ (n : ℕ). n * columns o) hx) in
+        let pb : (j .base + d) * columns o ≡ j .base * columns o + d * columns o = omega arith in
+        let pm : (capacity (columns o) right + (j .base + d)) * columns o ≡ (capacity (columns o) right + j .base) * columns o + d * columns o = omega arith in
+        let pk : (j .pruned + d) * columns o ≡ j .pruned * columns o + d * columns o = omega arith in
+        record {
+          options = s .options;
+          left-length = s .left-length;
+          right-length = s .right-length;
+          queue-room = omega (arith, s .queue-room, front-room);
+          right-room = omega (arith, s .right-room);
+          few = omega (arith, s .few);
+          sequence = rw n (omega (arith, s .sequence));
+          gone = rw n more-gone;
+          waits =
+            rw (n, drop-next (length Os) L f rest e, ← drop-drop (length f) (j .«queue_start») left, ← drop-take (length f) (j .«queue_words») (drop (j .«queue_start») left))
+            (ap (λ (z : Words). drop (length f) z) waits-front ∙ drop-at f (backToBack rest) (length f) refl);
+          values = rw (s .options, hc, pb, pk) (part-less (j .base * columns o) (j .held * columns o) (d * columns o) (j .pruned * columns o) (allValues (columns o) R) held-values);
+          marks = rw (s .options, hc, pm, pk) (part-less ((capacity (columns o) right + j .base) * columns o) (j .held * columns o) (d * columns o) (j .pruned * columns o) (allMarks (columns o) R) held-marks);
+          left-frames = s .left-frames;
+          right-frames = s .right-frames;
+          rows = omega (arith, s .rows);
+          wrote =
+            rw (n, matches-append Os (answered ms out ∷ []), length-append (matchesIn Os) (matchesIn (answered ms out ∷ [])), append-nil (writtenIn (answered ms out)), written-back ms out, length-map ms asWritten, k,
+            take-next (length Os) L f rest e, rows-in-append (columns o) (take (length Os) L) (f ∷ []), length-append (rowsIn (columns o) (take (length Os) L)) (rowsIn (columns o) (f ∷ [])), append-nil (frameRows (columns o) f), frame-rows (columns o) f next-frame, s .wrote);
+        }
