@@ -2,3 +2,4 @@ pub mod Script
 pub mod Counter
 pub mod ListLaws
 pub mod Stock
+pub mod Invariant

@@ -277,3 +277,18 @@ module _ (o : Options) (l r : Words) (L R Os : List Words) (j : Join) (left righ
             rw (n, matches-append Os (answered ms out ∷ []), length-append (matchesIn Os) (matchesIn (answered ms out ∷ [])), append-nil (writtenIn (answered ms out)), written-back ms out, length-map ms asWritten, k,
             take-next (length Os) L f rest e, rows-in-append (columns o) (take (length Os) L) (f ∷ []), length-append (rowsIn (columns o) (take (length Os) L)) (rowsIn (columns o) (f ∷ [])), append-nil (frameRows (columns o) f), frame-rows (columns o) f next-frame, s .wrote);
         }
+
+  -- The held rows are the accepted ones that were not dropped.
+  pub held-rows : heldOf j right ≡ drop (j .pruned) (rowsIn (columns o) R)
+  unfolding heldOf heldRows
+  held-rows =
+      let c = columns o in
+      let v = drop (j .base * c) right in
+      let m = drop ((capacity c right + j .base) * c) right in
+      let e : j .pruned + j .held - j .pruned ≡ j .held = omega arith in
+      rw (s .options)
+      (sym (rows-read c (j .held) (j .held * c) v m (omega arith))
+      ∙ rw (held-values, held-marks)
+      (ap (λ (n : ℕ). rowsOf c n (drop (j .pruned * c) (allValues c R)) (drop (j .pruned * c) (allMarks c R))) (sym e)
+      ∙ rows-drop c (j .pruned + j .held) (j .pruned) (allValues c R) (allMarks c R) (omega arith)
+      ∙ ap (λ (z : Rows). drop (j .pruned) z) (ap (λ (n : ℕ). rowsOf c n (allValues c R) (allMarks c R)) (sym (s .rows)) ∙ all-rows c R (s .right-frames))))
