@@ -1,3 +1,4 @@
 pub mod Samples
 pub mod OrderLaws
 pub mod SortedLaws
+pub mod KeyLaws
