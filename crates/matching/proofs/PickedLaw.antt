@@ -94,6 +94,7 @@ module _ (o : Options) (rights : Rows) (x : List Cell) where
     before : (k : ℕ) → k < n → may o x (row k) ≡ true → over c (row k) ≡ true
     behind : (k : ℕ) → n < k → k < i → may o x (row k) ≡ true → over (row k) c ≡ false
 
+  -- The choice so far is the best of the first i rows; with none, none of them may be chosen.
   abbrev Best : ℕ → Hit → Type 0
   Best i nobody = (k : ℕ) → k < i → may o x (row k) ≡ false
   Best i (hit n c) = Stands i n c
@@ -106,6 +107,7 @@ module _ (o : Options) (rights : Rows) (x : List Cell) where
       by (yes e) = rw e h
       by (no e) = f (omega arith)
 
+  -- Row i: the choice stays, is passed by a row that may not be chosen, or moves to the row.
   stays : (i n : ℕ) (c : List Cell) → (may o x (row i) ≡ true → over (row i) c ≡ false) → Stands i n c → Stands (suc i) n c
   stays i n c t b = record {
     there = omega (arith, b .there);
@@ -159,9 +161,11 @@ module _ (o : Options) (rights : Rows) (x : List Cell) where
     least-behind : (w : Strategy) → onSide w (o .«allow_eq») (cmpKey o c x) ≡ true → takesOver o w x s c ≡ false → AtMost (cmpKey o) c s → Least c s
     unfolding takesOver
     least-behind Backward f t k = never true refl t
-    least-behind Forward f t k = nearer-above (keyOf o x) (keyOf o c) (keyOf o s) (m .left) (not-less (cmpKey-is o) c x (fore-side (o .«allow_eq») (cmpKey o c x) f)) k
+    least-behind Forward f t k = nearer-above (keyOf o x) (keyOf o c) (keyOf o s) (m .left)
+        (not-less (cmpKey-is o) c x (fore-side (o .«allow_eq») (cmpKey o c x) f)) k
     least-behind Nearest f t k = not-nearer-least (keyOf o x) (keyOf o s) (keyOf o c) t
 
+  -- Two rows that may be chosen for x have one group, so on sorted rows their keys stand as their places.
   one-group : (r s : List Cell) → May o x r → May o x s → cmpGroup o r s ≡ Equal
   one-group r s m u = sym (same-right (cmpGroup-is o) r s x (u .group)) ∙ m .group
 

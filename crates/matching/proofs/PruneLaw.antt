@@ -26,7 +26,9 @@ use Rattle.matching.proofs.MayLaws.{may, May, may-out, may-too, fore-si
 module _ (o : Options) (t x a : List Cell) (tx : AtMost (cmpRow o) t x) (m : May o x a) where
   -- It is not of an earlier group.
   same-group : cmpGroup o a t ≡ Less → ⊥
-  same-group l = not-both (cmpGroup-is o) a x (less-then (cmpGroup-is o) a t x l (group-at-most o t x tx)) (equal-at-most (cmpGroup-is o) x a (equal-flip (cmpGroup-is o) a x (m .group)))
+  same-group l =
+      not-both (cmpGroup-is o) a x (less-then (cmpGroup-is o) a t x l (group-at-most o t x tx))
+      (equal-at-most (cmpGroup-is o) x a (equal-flip (cmpGroup-is o) a x (m .group)))
 
   -- So it is covered; and by every strategy that may drop it, a row b with keys a ≤ b < x is on x's side and beats it.
   abbrev Beaten : Strategy → Type 0
