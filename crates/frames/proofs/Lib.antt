@@ -3,3 +3,4 @@ pub mod OrderLaws
 pub mod SortedLaws
 pub mod WordLaws
 pub mod FrameLaws
+pub mod KeyLaws

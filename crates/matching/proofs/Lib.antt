@@ -3,3 +3,7 @@ pub mod ChoiceLaws
 pub mod AnswerLaws
 pub mod Runs
 pub mod GroupLaws
+pub mod MayLaws
+pub mod PruneLaw
+pub mod EnoughLaw
+pub mod PickedLaw
