@@ -3,3 +3,4 @@ pub mod Counter
 pub mod ListLaws
 pub mod Stock
 pub mod Invariant
+pub mod Turn

@@ -1,0 +1,320 @@
+-- A turn over the stock: what it answers and leaves, told by the accepted frames; and that it keeps the invariant. Assumes nothing.
+use mathlib.Core.Path.{_≡_, refl, sym, ap, _∙_}
+use mathlib.Core.Bool.{Bool, true, false, cond, not, _&&_, _||_, or-false, or-true}
+use mathlib.Core.List.{List, [], _∷_, _++_, append-nil}
+use mathlib.Core.Logic.{_⊎_, inl, inr}
+use Prim.Native.Nat.{ℕ, zero, suc, _+_, _-_, _*_, _≤_, _<_}
+use native.Mathlib.Omega.{arith}
+use borrow.Author.Tests.{ltb-false, ne-eqb, eq-eqb, not-true}
+use lib.Dec.{ltb, eqb}
+use lib.IntN.{ℤ}
+use lib.ListN.{length, take, drop, length-append, length-drop}
+use Rattle.frames.specs.Cells.{Cell, Rows, Words}
+use Rattle.frames.specs.Frame.{rowCount, isFrame, frameRows, front}
+use Rattle.frames.specs.Options.{columns, badOptions, isOn}
+use Rattle.frames.specs.declared.Options.{Options}
+use Rattle.frames.proofs.FrameLaws.{frame-length, frame-rows}
+use Rattle.buffer.specs.Reach.{needMore, pruneBy, noPrune, splitAt}
+use Rattle.buffer.proofs.SplitLaw.{split-within}
+use Rattle.matching.specs.Groups.{matchFrame}
+use Rattle.matching.specs.declared.Choice.{Choice}
+use Rattle.matching.specs.Answer.{answered}
+use Rattle.matching.proofs.ChoiceLaws.{cond-ind}
+use Rattle.matching.proofs.GroupLaws.{frame-length as match-length}
+use Rattle.node.specs.declared.Join.{Join}
+use Rattle.node.specs.declared.Refusal.{Refusal}
+use Rattle.node.specs.declared.Refusal.the-variants.{BadOptions, BadJoin, Failed, Closed, BadFrame, NoRoom, UsedUp, LeftOrder, RightOrder}
+use Rattle.node.specs.declared.Answer.{Answer}
+use Rattle.node.specs.declared.Answer.the-variants.{Wrote, WantsRight, Idle, Refused as TurnRefused}
+use Rattle.node.specs.State.{number, nextTurn, markedFailed, isRunning, isDone, widthOf, lastSequence, badJoin, heldOf, waiting}
+use Rattle.node.specs.Calls.{After, after, turnAnswer, turnCall, turned, badLeft, badRight, firstPrune, remembered, dropped, dequeued, spoiled}
+use Rattle.node.specs.Lists.{turn, Event, onTurn, World, step, leftIn, rightIn, leftFrames, rightFrames, rowsIn, outputIn, outputs, backToBack, framesWaiting, doneBy, refusedWith, turnRefusal}
+use Rattle.node.proofs.ListLaws.{left-append, right-append, outputs-append}
+use Rattle.node.proofs.Stock.{Stock, stock-same, stock-turn, waiting-length, next-frame, front-next, waits-front, front-room, held-rows}
+use Rattle.node.proofs.Invariant.{Inv, Adds, flags-add, good, keep, past, nothing-waits}
+
+-- A prune drops held rows alone, whatever they are.
+pub prune-within : (o : Options) (i : ℕ) (left held : Rows) → pruneBy o i left held ≤ length held
+unfolding pruneBy
+prune-within o i left held = cond-ind (λ n. n ≤ length held) (noPrune left held) (λ e. omega arith) (λ e. split-within o _ held)
+
+pub first-within : (o : Options) (left held : Rows) → firstPrune o left held ≤ length held
+unfolding firstPrune
+first-within o left held = cond-ind (λ n. n ≤ length held) (isOn (o .check)) (λ e. omega arith) (λ e. prune-within o 0 left held)
+
+-- ---- the turn's answer and what it leaves, told by the frame's rows and the held rows
+unfoldable pub judged : Options → Join → Rows → Rows → Words → Answer
+judged o j rows held out =
+    cond (j .failed) (TurnRefused Failed)
+    (cond (isDone (j .state)) (TurnRefused Closed)
+    (cond (not (j .«right_ended») && needMore o rows held) WantsRight
+    (cond (ltb (length out) (2 + 2 * length rows)) (TurnRefused NoRoom)
+    (cond (eqb (j .sequence) lastSequence) (TurnRefused UsedUp)
+    (cond (badLeft o (j .«last_left») rows) (TurnRefused LeftOrder)
+    (cond (badRight o (j .«last_right») rows held) (TurnRefused RightOrder)
+    (Wrote (j .sequence))))))))
+
+-- What a turn that writes keeps of the held rows for matching, and drops at its end.
+unfoldable pub keptBy : Options → Rows → Rows → Rows
+keptBy o rows held = drop (firstPrune o rows held) held
+
+unfoldable pub lastBy : Options → Rows → Rows → ℕ
+lastBy o rows held = pruneBy o (length rows - 1) rows (keptBy o rows held)
+
+unfoldable pub leftBy : Options → Join → Rows → Rows → ℕ → Join
+leftBy o j rows held n =
+    nextTurn (dequeued (dropped j (firstPrune o rows held + lastBy o rows held)) n) (remembered o (j .«last_left») rows) (remembered o (j .«last_right») (take (lastBy o rows held) (keptBy o rows held)))
+
+unfoldable pub matchedBy : Options → Join → Rows → Rows → List Choice
+matchedBy o j rows held = matchFrame o (j .pruned + firstPrune o rows held) (keptBy o rows held) rows
+
+count-matched : (o : Options) (j : Join) (rows held : Rows) → length (matchedBy o j rows held) ≡ length rows
+unfolding matchedBy
+count-matched o j rows held = match-length o (j .pruned + firstPrune o rows held) (keptBy o rows held) rows
+
+module _ (o : Options) (j : Join) (left right f : Words) (rows : Rows) (opened : j .options ≡ o) (fronted : front (columns o) (waiting j left) ≡ f) (holds : heldOf j right ≡ rows) where
+  own-front : front (columns (j .options)) (waiting j left) ≡ f
+  own-front = ap (λ (q : Options). front (columns q) (waiting j left)) opened ∙ fronted
+
+  pub answer-by : badJoin j left right ≡ false → eqb (j .«queue_words») 0 ≡ false → isFrame (columns o) f ≡ true → (out : Words) → turnAnswer j left right out ≡ judged o j (frameRows (columns o) f) rows out
+  unfolding turnAnswer judged
+  answer-by fine some frame out = rw (fine, own-front, some, holds, opened, frame)
+
+  pub turned-by : (out : Words) → turned j left right out
+      ≡ after (Wrote (j .sequence)) (leftBy o j (frameRows (columns o) f) rows (length f)) left right (answered (matchedBy o j (frameRows (columns o) f) rows) out)
+  unfolding turned leftBy keptBy lastBy matchedBy
+  turned-by out = rw (own-front, holds, opened)
+
+-- ---- what no turn answers
+-- Neither refusal 2 nor refusal 5.
+pub record Fine (a : Answer) : Type 0 where
+  pub not2 : eqb (turnRefusal a) 2 ≡ false
+  pub not5 : eqb (turnRefusal a) 5 ≡ false
+
+fine-idle : (b d : Bool) → Fine (cond b (TurnRefused Failed) (cond d (TurnRefused Closed) Idle))
+fine-idle true d = record { not2 = refl; not5 = refl }
+fine-idle false true = record { not2 = refl; not5 = refl }
+fine-idle false false = record { not2 = refl; not5 = refl }
+
+idle-writes : (b d : Bool) (q : ℕ) → cond b (TurnRefused Failed) (cond d (TurnRefused Closed) Idle) ≡ Wrote q → ⊥
+idle-writes true d q e = let z : _≡_ {A = ℕ} 0 1 = cc in omega arith
+idle-writes false true q e = let z : _≡_ {A = ℕ} 0 1 = cc in omega arith
+idle-writes false false q e = let z : _≡_ {A = ℕ} 0 1 = cc in omega arith
+
+fine-judged : (o : Options) (j : Join) (rows held : Rows) (out : Words) → Fine (judged o j rows held out)
+unfolding judged
+fine-judged o j rows held out =
+    cond-ind Fine (j .failed) (λ t. ok3) (λ t.
+    cond-ind Fine (isDone (j .state)) (λ t. ok4) (λ t.
+    cond-ind Fine (not (j .«right_ended») && needMore o rows held) (λ t. ok-wants) (λ t.
+    cond-ind Fine (ltb (length out) (2 + 2 * length rows)) (λ t. ok6) (λ t.
+    cond-ind Fine (eqb (j .sequence) lastSequence) (λ t. ok7) (λ t.
+    cond-ind Fine (badLeft o (j .«last_left») rows) (λ t. ok8) (λ t.
+    cond-ind Fine (badRight o (j .«last_right») rows held) (λ t. ok9) (λ t. ok-wrote)))))))
+  where
+    ok3 : Fine (TurnRefused Failed)
+    ok3 = record { not2 = refl; not5 = refl }
+
+    ok4 : Fine (TurnRefused Closed)
+    ok4 = record { not2 = refl; not5 = refl }
+
+    ok-wants : Fine WantsRight
+    ok-wants = record { not2 = refl; not5 = refl }
+
+    ok6 : Fine (TurnRefused NoRoom)
+    ok6 = record { not2 = refl; not5 = refl }
+
+    ok7 : Fine (TurnRefused UsedUp)
+    ok7 = record { not2 = refl; not5 = refl }
+
+    ok8 : Fine (TurnRefused LeftOrder)
+    ok8 = record { not2 = refl; not5 = refl }
+
+    ok9 : Fine (TurnRefused RightOrder)
+    ok9 = record { not2 = refl; not5 = refl }
+
+    ok-wrote : Fine (Wrote (j .sequence))
+    ok-wrote = record { not2 = refl; not5 = refl }
+
+and-true-right : (b : Bool) → (b && true) ≡ b
+and-true-right true = refl
+and-true-right false = refl
+
+-- The flags that a turn that writes leaves as they were.
+record SameFlags (j k : Join) : Type 0 where
+  ended : k .«right_ended» ≡ j .«right_ended»
+  state : k .state ≡ j .state
+  failed : k .failed ≡ j .failed
+
+by-fields : (o : Options) (j : Join) (rows held : Rows) (n : ℕ) → SameFlags j (leftBy o j rows held n)
+unfolding leftBy dequeued dropped
+by-fields o j rows held n = record { ended = refl; state = refl; failed = refl }
+
+wrote-adds : (es : List Event) (j : Join) (out : Words) (k : Join) → SameFlags j k → Adds es j (onTurn (Wrote (j .sequence)) out) k
+unfolding doneBy refusedWith
+wrote-adds es j out k q = record {
+  ended = q .ended ∙ sym (or-false (j .«right_ended»));
+  done = rw (q .state) (sym (or-false (isDone (j .state))));
+  running = rw (q .state) (sym (and-true-right (isRunning (j .state))));
+  failed = q .failed ∙ sym (or-false (j .failed));
+  unbroken = refl;
+  front = refl;
+}
+
+module _ (o : Options) (l r : Words) (allowed : badOptions o ≡ false) (es : List Event) (w : World) (i : Inv o l r es w) where
+  abbrev j : Join
+  j = w .join
+
+  abbrev s : Stock o l r (leftFrames es) (rightFrames es) (outputs es) (w .join) (w .left) (w .right)
+  s = i .stock
+
+  -- The held rows: the accepted right rows that were not dropped.
+  unfoldable pub held : Rows
+  held = drop (w .join .pruned) (rowsIn (columns o) (rightFrames es))
+
+  pub held-is : heldOf j (w .right) ≡ held
+  unfolding held
+  held-is = held-rows o l r (leftFrames es) (rightFrames es) (outputs es) j (w .left) (w .right) s
+
+  pub held-length : length held ≡ j .held
+  unfolding held
+  held-length = length-drop (j .pruned) (rowsIn (columns o) (rightFrames es)) ∙ omega (arith, s .rows)
+
+  -- ---- where a frame waits
+  module _ (f : Words) (rest : List Words) (e : drop (length (outputs es)) (leftFrames es) ≡ f ∷ rest) where
+    unfoldable pub rows : Rows
+    rows = frameRows (columns o) f
+
+    frame : isFrame (columns o) f ≡ true
+    frame = next-frame o l r (leftFrames es) (rightFrames es) (outputs es) j (w .left) (w .right) s f rest e
+
+    pub rows-count : length rows ≡ rowCount f
+    unfolding rows
+    rows-count = frame-rows (columns o) f frame
+
+    is-front : front (columns o) (waiting j (w .left)) ≡ f
+    is-front = front-next o l r (leftFrames es) (rightFrames es) (outputs es) j (w .left) (w .right) s f rest e
+
+    some-words : eqb (j .«queue_words») 0 ≡ false
+    some-words =
+        let n : 2 ≤ length f = omega (arith, frame-length (columns o) f frame) in
+        ne-eqb (j .«queue_words») 0 (λ (h : j .«queue_words» ≡ 0). omega (arith, front-room o l r (leftFrames es) (rightFrames es) (outputs es) j (w .left) (w .right) s f rest e))
+
+    pub answer-is : (out : Words) → turnAnswer j (w .left) (w .right) out ≡ judged o j rows held out
+    unfolding rows
+    answer-is = answer-by o j (w .left) (w .right) f held (s .options) is-front held-is (good o l r allowed es w i) some-words frame
+
+    pub turned-is : (out : Words) → turned j (w .left) (w .right) out
+        ≡ after (Wrote (j .sequence)) (leftBy o j rows held (length f)) (w .left) (w .right) (answered (matchedBy o j rows held) out)
+    unfolding rows
+    turned-is = turned-by o j (w .left) (w .right) f held (s .options) is-front held-is
+
+    pub drops-within : firstPrune o rows held + lastBy o rows held ≤ j .held
+    unfolding lastBy keptBy
+    drops-within =
+        let a : firstPrune o rows held ≤ length held = first-within o rows held in
+        let b : lastBy o rows held ≤ length (keptBy o rows held) = prune-within o (length rows - 1) rows (keptBy o rows held) in
+        omega (arith, held-length, length-drop (firstPrune o rows held) held)
+
+    turned-stock : (out : Words)
+        → Stock o l r (leftFrames es) (rightFrames es) (outputs es ++ (answered (matchedBy o j rows held) out ∷ [])) (leftBy o j rows held (length f)) (w .left) (w .right)
+    unfolding leftBy
+    turned-stock out =
+        stock-turn o l r (leftFrames es) (rightFrames es) (outputs es) j (w .left) (w .right) s f rest e (firstPrune o rows held + lastBy o rows held) drops-within (matchedBy o j rows held)
+        (matched-length ∙ rows-count) out (remembered o (j .«last_left») rows) (remembered o (j .«last_right») (take (lastBy o rows held) (keptBy o rows held)))
+      where
+        matched-length : length (matchedBy o j rows held) ≡ length rows
+        matched-length = count-matched o j rows held
+
+    -- A turn that writes keeps the invariant.
+    pub inv-wrote : (out : Words)
+        → Inv o l r (es ++ (onTurn (Wrote (j .sequence)) (answered (matchedBy o j rows held) out) ∷ [])) (record { join = leftBy o j rows held (length f); left = w .left; right = w .right })
+    unfolding leftFrames rightFrames outputs
+    inv-wrote out =
+        let ev = onTurn (Wrote (j .sequence)) (answered (matchedBy o j rows held) out) in
+        record {
+          stock =
+            rw (left-append es (ev ∷ []), right-append es (ev ∷ []), outputs-append es (ev ∷ []), append-nil (leftFrames es), append-nil (rightFrames es)) (turned-stock out);
+          flags = flags-add es j ev (leftBy o j rows held (length f)) (i .flags) (adds-wrote out);
+        }
+      where
+        adds-wrote : (out : Words) → Adds es j (onTurn (Wrote (j .sequence)) (answered (matchedBy o j rows held) out)) (leftBy o j rows held (length f))
+        adds-wrote out = wrote-adds es j (answered (matchedBy o j rows held) out) (leftBy o j rows held (length f)) (by-fields o j rows held (length f))
+
+  -- ---- every turn
+  -- An empty queue is Idle, or refused for the join's state.
+  pub idle-is : (out : Words) → drop (length (outputs es)) (leftFrames es) ≡ [] → turnAnswer j (w .left) (w .right) out ≡ cond (j .failed) (TurnRefused Failed) (cond (isDone (j .state)) (TurnRefused Closed) Idle)
+  unfolding turnAnswer backToBack
+  idle-is out e =
+      let z : j .«queue_words» ≡ 0 = sym (waiting-length o l r (leftFrames es) (rightFrames es) (outputs es) j (w .left) (w .right) s) ∙ ap length (s .waits ∙ ap backToBack e) in
+      rw (good o l r allowed es w i, eq-eqb (j .«queue_words») 0 z)
+
+  -- No turn meets refusal 2 or 5; none writes where no frame waits.
+  pub turn-fine : (out : Words) → Fine (turnAnswer j (w .left) (w .right) out)
+  turn-fine out = go (drop (length (outputs es)) (leftFrames es)) refl
+    where
+      go : (fs : List Words) → drop (length (outputs es)) (leftFrames es) ≡ fs → Fine (turnAnswer j (w .left) (w .right) out)
+      go [] e = rw (idle-is out e) (fine-idle (j .failed) (isDone (j .state)))
+      go (f ∷ rest) e = rw (answer-is f rest e out) (fine-judged o j (rows f rest e) held out)
+
+  no-write : (out : Words) (q : ℕ) → drop (length (outputs es)) (leftFrames es) ≡ [] → turnAnswer j (w .left) (w .right) out ≡ Wrote q → ⊥
+  no-write out q e h = idle-writes (j .failed) (isDone (j .state)) q (sym (idle-is out e) ∙ h)
+
+  quiet-turn : (a : Answer) (out : Words) → Fine a → eqb (turnRefusal a) 8 ≡ false → eqb (turnRefusal a) 9 ≡ false → Adds es j (onTurn a out) j
+  unfolding doneBy refusedWith
+  quiet-turn a out p n8 n9 = record {
+    ended = sym (or-false (j .«right_ended»));
+    done = sym (or-false (isDone (j .state)));
+    running = sym (and-true-right (isRunning (j .state)));
+    failed = rw (n8, n9) (sym (or-false (j .failed)));
+    unbroken = p .not2;
+    front = rw (p .not5);
+  }
+
+  spoils : (n : Refusal) (out : Words) → Fine (TurnRefused n) → (eqb (number n) 8 || eqb (number n) 9) ≡ true → Adds es j (onTurn (TurnRefused n) out) (markedFailed j)
+  unfolding doneBy refusedWith
+  spoils n out p t = record {
+    ended = sym (or-false (j .«right_ended»));
+    done = sym (or-false (isDone (j .state)));
+    running = sym (and-true-right (isRunning (j .state)));
+    failed = rw t (sym (or-true (j .failed)));
+    unbroken = p .not2;
+    front = rw (p .not5);
+  }
+
+  stays : (a : Answer) (out : Words) → Fine a → eqb (turnRefusal a) 8 ≡ false → eqb (turnRefusal a) 9 ≡ false → outputIn (onTurn a out) ≡ []
+      → Inv o l r (es ++ (onTurn a out ∷ [])) (record { join = j; left = w .left; right = w .right })
+  stays a out p n8 n9 eo = keep o l r allowed es w i (onTurn a out) j refl refl eo s (quiet-turn a out p n8 n9)
+
+  marks : (n : Refusal) (out : Words) → Fine (TurnRefused n) → (eqb (number n) 8 || eqb (number n) 9) ≡ true
+      → Inv o l r (es ++ (onTurn (TurnRefused n) out ∷ [])) (record { join = markedFailed j; left = w .left; right = w .right })
+  marks n out p t =
+      keep o l r allowed es w i (onTurn (TurnRefused n) out) (markedFailed j) refl refl refl
+      (stock-same o l r (leftFrames es) (rightFrames es) (outputs es) j (w .left) (w .right) s (markedFailed j) refl refl refl refl refl refl refl) (spoils n out p t)
+
+  inv-refused : (n : Refusal) (out : Words) → Fine (TurnRefused n) → Inv o l r (es ++ (onTurn (TurnRefused n) out ∷ [])) (record { join = spoiled n j; left = w .left; right = w .right })
+  inv-refused BadOptions out p = stays (TurnRefused BadOptions) out p refl refl refl
+  inv-refused BadJoin out p = stays (TurnRefused BadJoin) out p refl refl refl
+  inv-refused Failed out p = stays (TurnRefused Failed) out p refl refl refl
+  inv-refused Closed out p = stays (TurnRefused Closed) out p refl refl refl
+  inv-refused BadFrame out p = stays (TurnRefused BadFrame) out p refl refl refl
+  inv-refused NoRoom out p = stays (TurnRefused NoRoom) out p refl refl refl
+  inv-refused UsedUp out p = stays (TurnRefused UsedUp) out p refl refl refl
+  inv-refused LeftOrder out p = marks LeftOrder out p refl
+  inv-refused RightOrder out p = marks RightOrder out p refl
+
+  pub inv-turn : (out : Words) → Inv o l r (es ++ (step w (turn out) .event ∷ [])) (step w (turn out) .world)
+  unfolding step turnCall
+  inv-turn out = go (turnAnswer j (w .left) (w .right) out) refl
+    where
+      wrote : (q : ℕ) → turnAnswer j (w .left) (w .right) out ≡ Wrote q → (fs : List Words) → drop (length (outputs es)) (leftFrames es) ≡ fs
+          → Inv o l r (es ++ (onTurn (turned j (w .left) (w .right) out .answer) (turned j (w .left) (w .right) out .out) ∷ []))
+          (record { join = turned j (w .left) (w .right) out .join; left = turned j (w .left) (w .right) out .left; right = turned j (w .left) (w .right) out .right })
+      wrote q e [] d = absurd (no-write out q d e)
+      wrote q e (f ∷ rest) d = rw (turned-is f rest d out) (inv-wrote f rest d out)
+
+      go : (a : Answer) → turnAnswer j (w .left) (w .right) out ≡ a → Inv o l r (es ++ (step w (turn out) .event ∷ [])) (step w (turn out) .world)
+      go (Wrote q) e = rw (e, turnCall) (wrote q e (drop (length (outputs es)) (leftFrames es)) refl)
+      go WantsRight e = rw (e, turnCall) (stays WantsRight out (rw e at (turn-fine out)) refl refl refl)
+      go Idle e = rw (e, turnCall) (stays Idle out (rw e at (turn-fine out)) refl refl refl)
+      go (TurnRefused n) e = rw (e, turnCall) (inv-refused n out (rw e at (turn-fine out)))
