@@ -5,3 +5,4 @@ pub mod SearchLaws
 pub mod Bounds
 pub mod SplitLaw
 pub mod EnoughLaw
+pub mod CheckLaw

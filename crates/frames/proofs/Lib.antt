@@ -4,3 +4,4 @@ pub mod SortedLaws
 pub mod WordLaws
 pub mod FrameLaws
 pub mod KeyLaws
+pub mod KeyedLaws

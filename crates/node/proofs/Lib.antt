@@ -4,3 +4,4 @@ pub mod ListLaws
 pub mod Stock
 pub mod Invariant
 pub mod Turn
+pub mod Sound

@@ -1,0 +1,79 @@
+-- Rows with a key: the place found is in the stretch; what is remembered stands below what comes in order. Assumes nothing.
+use mathlib.Core.Path.{_≡_, refl, sym, ap, _∙_}
+use mathlib.Core.Bool.{Bool, true, false, not}
+use mathlib.Core.List.{List, [], _∷_, _++_}
+use mathlib.Core.Option.{Option, none, some}
+use Prim.Native.Nat.{ℕ, zero, suc, _+_, _≤_, _<_}
+use native.Mathlib.Omega.{arith}
+use lib.ListN.{length, getD}
+use Rattle.frames.specs.Cells.{Cell, Rows}
+use Rattle.frames.specs.Order.{cmpRow, nullKey}
+use Rattle.frames.specs.Keyed.{firstFrom, firstKeyed, lastBelow, lastKeyed, rowAt, recall, remember, rememberLast, rememberAt, outOfOrder}
+use Rattle.frames.specs.declared.Options.{Options}
+use Rattle.frames.specs.declared.Row.{Row}
+use Rattle.frames.specs.declared.Keyed.{Keyed}
+use Rattle.frames.specs.declared.Keyed.the-variants.{At, Nothing}
+use Rattle.frames.proofs.OrderLaws.{AtMost}
+use Rattle.frames.proofs.SortedLaws.{All, all-at, greater-not}
+use Rattle.frames.proofs.WordLaws.{recall-remember}
+
+-- A place that was found is from a place on, and below another.
+abbrev pub Found : ℕ → ℕ → Keyed → Type 0
+Found from to (At i) = (from ≤ i) × (i < to)
+Found from to Nothing = Unit {0}
+
+found-less : (from to : ℕ) (k : Keyed) → Found (suc from) to k → Found from to k
+found-less from to (At i) h = (omega arith, h .1)
+found-less from to Nothing h = tt
+
+found-more : (from to : ℕ) (k : Keyed) → Found from to k → Found from (suc to) k
+found-more from to (At i) h = (h .0, omega arith)
+found-more from to Nothing h = tt
+
+found-to : (from to more : ℕ) → to ≡ more → (k : Keyed) → Found from to k → Found from more k
+found-to from to more e k h = rw e at h
+
+module _ (o : Options) where
+  pub first-found : (i : ℕ) (rs : Rows) → Found i (i + length rs) (firstFrom o i rs)
+  unfolding firstFrom
+  first-found i [] = tt
+  first-found i (r ∷ rs) = go (first-found (suc i) rs) (nullKey o r)
+    where
+      go : Found (suc i) (suc i + length rs) (firstFrom o (suc i) rs) → (b : Bool) → Found i (i + suc (length rs)) (elim b [ true ↦ firstFrom o (suc i) rs | false ↦ At i ])
+      go ih true = found-to i (suc i + length rs) (i + suc (length rs)) (omega arith) (firstFrom o (suc i) rs) (found-less i (suc i + length rs) (firstFrom o (suc i) rs) ih)
+      go ih false = (omega arith, omega arith)
+
+  pub last-found : (rs : Rows) (n : ℕ) → Found 0 n (lastBelow o rs n)
+  unfolding lastBelow
+  last-found rs zero = tt
+  last-found rs (suc n) = go (last-found rs n) (nullKey o (getD rs n []))
+    where
+      go : Found 0 n (lastBelow o rs n) → (b : Bool) → Found 0 (suc n) (elim b [ true ↦ lastBelow o rs n | false ↦ At n ])
+      go ih true = found-more 0 n (lastBelow o rs n) ih
+      go ih false = (omega arith, omega arith)
+
+  -- A row, if there is one, is at most x.
+  abbrev pub Below : Option (List Cell) → List Cell → Type 0
+  Below none x = Unit {0}
+  Below (some m) x = AtMost (cmpRow o) m x
+
+  -- What is below every row of a stretch is not out of order before its first row with a key.
+  pub below-fine : (m : Option (List Cell)) (rs : Rows) → ((i : ℕ) → i < length rs → Below m (getD rs i [])) → outOfOrder o m (rowAt rs (firstKeyed o rs)) ≡ false
+  below-fine none rs h = refl
+  below-fine (some m) rs h = go (firstKeyed o rs) (first-found 0 rs)
+    where
+      go : (k : Keyed) → Found 0 (0 + length rs) k → outOfOrder o (some m) (rowAt rs k) ≡ false
+      go (At i) f = greater-not (cmpRow o m (getD rs i [])) (h i (omega arith))
+      go Nothing f = refl
+
+  -- The last row with a key is remembered: it, or what was remembered, is below x.
+  pub remember-below : (w : ℕ) (m : Row) (rs : Rows) → All (λ r. length r ≡ w) rs → (x : List Cell) → All (λ r. AtMost (cmpRow o) r x) rs
+      → Below (recall w m) x → Below (recall w (rememberLast o m rs)) x
+  unfolding rememberLast
+  remember-below w m rs wide x h b = go (lastKeyed o rs) (last-found rs (length rs))
+    where
+      go : (k : Keyed) → Found 0 (length rs) k → Below (recall w (rememberAt m rs k)) x
+      go (At i) f =
+          rw (recall-remember (getD rs i []) w (all-at (λ r. length r ≡ w) rs wide i (omega arith)))
+          (all-at (λ r. AtMost (cmpRow o) r x) rs h i (omega arith))
+      go Nothing f = b

@@ -1,0 +1,377 @@
+-- Sorted sides: what is written are the matches of the whole table, what was dropped matters to no later row, and no order fault is told. Assumes nothing.
+use mathlib.Core.Path.{_≡_, refl, sym, ap, _∙_}
+use mathlib.Core.Bool.{Bool, true, false, cond, not, _&&_, _||_, and-false}
+use mathlib.Core.List.{List, [], _∷_, _++_, append-nil, append-assoc, map}
+use mathlib.Core.Option.{Option, none, some}
+use Prim.Native.Nat.{ℕ, zero, suc, _+_, _-_, _*_, _≤_, _<_}
+use native.Mathlib.Omega.{arith}
+use borrow.Author.Tests.{eqb-false, eqb-true}
+use lib.Dec.{eqb}
+use lib.IntN.{ℤ}
+use lib.ListN.{length, getD, take, drop, take-append-drop, length-append, length-drop, List·getD-append}
+use lib.Seq.{take-append-le, drop-append-le, drop-drop, take-add}
+use Rattle.frames.specs.Cells.{Cell, Rows, Words}
+use Rattle.frames.specs.Frame.{rowCount, isFrame, frameRows}
+use Rattle.frames.specs.Options.{columns, isOn}
+use Rattle.frames.specs.Order.{cmpRow, sorted}
+use Rattle.frames.specs.Keyed.{recall, rememberLast, firstKeyed, rowAt, outOfOrder}
+use Rattle.frames.specs.declared.Options.{Options}
+use Rattle.frames.specs.declared.Row.{Row}
+use Rattle.frames.proofs.OrderLaws.{AtMost}
+use Rattle.frames.proofs.SortedLaws.{All, all-at, all-by, all-map, all-cut, all-join, sorted-cut, sorted-at, sorted-drop}
+use Rattle.frames.proofs.WordLaws.{map-append}
+use Rattle.frames.proofs.FrameLaws.{frame-rows, frame-wide}
+use Rattle.frames.proofs.KeyedLaws.{Below, below-fine, remember-below}
+use Rattle.buffer.specs.Reach.{needMore, rowNeedsMore, pruneBy, noPrune, splitAt, badSplit}
+use Rattle.buffer.proofs.SplitLaw.{split}
+use Rattle.buffer.proofs.EnoughLaw.{enough}
+use Rattle.buffer.proofs.CheckLaw.{split-fine}
+use Rattle.matching.specs.declared.Choice.{Choice}
+use Rattle.matching.specs.Match.{matchTable}
+use Rattle.matching.specs.Answer.{answered}
+use Rattle.matching.specs.Groups.{matchFrame}
+use Rattle.matching.proofs.PruneLaw.{prune-keeps}
+use Rattle.matching.proofs.EnoughLaw.{enough-keeps}
+use Rattle.matching.proofs.GroupLaws.{frame-match}
+use Rattle.node.specs.declared.Join.{Join}
+use Rattle.node.specs.Calls.{badLeft, badRight, firstPrune, remembered, dropped, dequeued}
+use Rattle.node.specs.Lists.{rowsIn, Entry, writtenIn, matchesIn}
+use Rattle.node.specs.Demand.{asWritten}
+use Rattle.node.proofs.ListLaws.{rows-in-append, matches-append, take-next, take-more}
+use Rattle.node.proofs.Stock.{Frames, written-back}
+use Rattle.node.proofs.Turn.{keptBy, lastBy, leftBy, matchedBy, first-within, prune-within}
+
+-- ---- small laws of lists
+map-same : {A B : Type 0} (f g : A → B) (xs : List A) → ((i : ℕ) → i < length xs → (d : A) → f (getD xs i d) ≡ g (getD xs i d)) → map f xs ≡ map g xs
+map-same f g [] h = refl
+map-same f g (x ∷ xs) h = rw (h 0 (omega arith) x, map-same f g xs (λ i l d. h (suc i) (omega arith) d))
+
+map-map : {A B C : Type 0} (f : B → C) (g : A → B) (xs : List A) → map f (map g xs) ≡ map (λ x. f (g x)) xs
+map-map f g [] = refl
+map-map f g (x ∷ xs) = rw (map-map f g xs)
+
+-- The rows of frames of c columns have c cells each.
+pub rows-in-wide : (c : ℕ) (fs : List Words) → Frames c fs → All (λ r. length r ≡ c) (rowsIn c fs)
+unfolding rowsIn
+rows-in-wide c [] p = tt
+rows-in-wide c (f ∷ fs) p =
+    all-join (λ r. length r ≡ c) (frameRows c f) (rowsIn c fs)
+    (all-by (λ r. length r ≡ c) (frameRows c f) (λ i h. frame-wide c f (p .0) i (omega (arith, frame-rows c f (p .0))))) (rows-in-wide c fs (p .1))
+
+-- The left rows turned.
+unfoldable pub turnedOf : Options → List Words → List Words → Rows
+turnedOf o L Os = rowsIn (columns o) (take (length Os) L)
+
+-- What holds where both sides are sorted: L, R the accepted frames, Os the outputs written, `ended` whether right has ended. F is any rows that may come behind the right ones.
+pub record Sound (o : Options) (L R Os : List Words) (ended : Bool) (j : Join) : Type 0 where
+  pub matches : (F : Rows) → (ended ≡ true → F ≡ []) → sorted o (rowsIn (columns o) R ++ F) ≡ true
+      → matchesIn Os ≡ map (λ x. asWritten (matchTable o 0 (rowsIn (columns o) R ++ F) x)) (turnedOf o L Os)
+  pub harmless : (F : Rows) → (ended ≡ true → F ≡ []) → sorted o (rowsIn (columns o) R ++ F) ≡ true → (x : List Cell) → All (λ y. AtMost (cmpRow o) y x) (turnedOf o L Os)
+      → matchTable o 0 (rowsIn (columns o) R ++ F) x ≡ matchTable o (j .pruned) (drop (j .pruned) (rowsIn (columns o) R) ++ F) x
+  pub left-below : (x : List Cell) → All (λ y. AtMost (cmpRow o) y x) (turnedOf o L Os) → Below o (recall (columns o) (j .«last_left»)) x
+  pub right-below : (x : List Cell) → All (λ y. AtMost (cmpRow o) y x) (take (j .pruned) (rowsIn (columns o) R)) → Below o (recall (columns o) (j .«last_right»)) x
+  pub unfailed : j .failed ≡ false
+
+-- ---- rows
+module _ (o : Options) where
+  -- Rows before: each is at most row i behind them.
+  pub before-row : (T rows : Rows) → sorted o (T ++ rows) ≡ true → (i : ℕ) → i < length rows → All (λ y. AtMost (cmpRow o) y (getD rows i [])) T
+  before-row T rows s i h =
+      all-map (λ a. All (AtMost (cmpRow o) a) rows) (λ y. AtMost (cmpRow o) y (getD rows i [])) (λ a p. all-at (AtMost (cmpRow o) a) rows p i h) T (sorted-cut o T rows s .2)
+
+  sorted-more : (n : ℕ) (held F : Rows) → n ≤ length held → sorted o (held ++ F) ≡ true → sorted o (drop n held ++ F) ≡ true
+  sorted-more n held F h s = rw (← drop-append-le n held F h) (sorted-drop o n (held ++ F) s)
+
+  sorted-alone : (held F : Rows) → sorted o (held ++ F) ≡ true → sorted o (held ++ []) ≡ true
+  sorted-alone held F s = rw (append-nil held) (sorted-cut o held F s .0)
+
+  -- A prune by row i of the left frame changes no match of a row that is not before it.
+  prune-by : (i : ℕ) (left held F : Rows) → sorted o (held ++ F) ≡ true → (x : List Cell) → (noPrune left held ≡ false → AtMost (cmpRow o) (getD left i []) x) → (n : ℕ)
+      → matchTable o n (held ++ F) x ≡ matchTable o (n + pruneBy o i left held) (drop (pruneBy o i left held) held ++ F) x
+  unfolding pruneBy
+  prune-by i left held F s x h n = go (noPrune left held) refl
+    where
+      p : ℕ
+      p = splitAt o (getD left i []) held
+
+      go : (b : Bool) → noPrune left held ≡ b → matchTable o n (held ++ F) x ≡ matchTable o (n + cond b 0 (splitAt o (getD left i []) held)) (drop (cond b 0 (splitAt o (getD left i []) held)) held ++ F) x
+      go true e = let z : n + 0 ≡ n = omega arith in rw z
+      go false e = prune-keeps o (getD left i []) held F (splitAt o (getD left i []) held) (split o (getD left i []) held (sorted-cut o held F s .0)) s x (h e) n
+
+  -- The prune by row 0, where the check is off.
+  first-by : (left held F : Rows) → sorted o (held ++ F) ≡ true → (x : List Cell) → (noPrune left held ≡ false → AtMost (cmpRow o) (getD left 0 []) x) → (n : ℕ)
+      → matchTable o n (held ++ F) x ≡ matchTable o (n + firstPrune o left held) (keptBy o left held ++ F) x
+  unfolding keptBy firstPrune
+  first-by left held F s x h n = go (isOn (o .check))
+    where
+      go : (b : Bool) → matchTable o n (held ++ F) x ≡ matchTable o (n + cond b 0 (pruneBy o 0 left held)) (drop (cond b 0 (pruneBy o 0 left held)) held ++ F) x
+      go true = let z : n + 0 ≡ n = omega arith in rw z
+      go false = prune-by 0 left held F s x h n
+
+  not-empty : (left held : Rows) → noPrune left held ≡ false → 0 < length left
+  not-empty left held e = go (eqb (length left) 0) refl e
+    where
+      go : (b : Bool) → eqb (length left) 0 ≡ b → (b || eqb (length held) 0) ≡ false → 0 < length left
+      go true q e = let z : _≡_ {A = ℕ} 0 1 = cc in absurd (omega arith)
+      go false q e = let n = eqb-false (length left) 0 q in pos-of (length left) n
+        where
+          pos-of : (n : ℕ) → (n ≡ 0 → ⊥) → 0 < n
+          pos-of zero k = absurd (k refl)
+          pos-of (suc n) k = omega arith
+
+  -- Rows that come behind change no match of a frame that needs no more.
+  wait-by : (left held F : Rows) → sorted o (held ++ F) ≡ true → needMore o left held ≡ false → sorted o left ≡ true → (i : ℕ) → i < length left → (n : ℕ)
+      → matchTable o n (held ++ F) (getD left i []) ≡ matchTable o n held (getD left i [])
+  unfolding needMore
+  wait-by left held F s e t i h n =
+      enough-keeps o last held F (enough o last held F s (no-more (eqb (length left) 0) refl e)) (getD left i []) (sorted-at o left t i (length left - 1) (omega arith) (omega arith)) n
+    where
+      last : List Cell
+      last = getD left (length left - 1) []
+
+      no-more : (b : Bool) → eqb (length left) 0 ≡ b → cond b false (rowNeedsMore o (getD left (length left - 1) []) held) ≡ false → rowNeedsMore o (getD left (length left - 1) []) held ≡ false
+      no-more true q z = absurd (omega (arith, eqb-true (length left) 0 q))
+      no-more false q z = z
+
+all-take : (P : List Cell → Type 0) (n : ℕ) (rs : Rows) → All P rs → All P (take n rs)
+all-take P n rs h = all-cut P (take n rs) (drop n rs) (rw (take-append-drop n rs) h) .0
+
+all-drop : (P : List Cell → Type 0) (n : ℕ) (rs : Rows) → All P rs → All P (drop n rs)
+all-drop P n rs h = all-cut P (take n rs) (drop n rs) (rw (take-append-drop n rs) h) .1
+
+-- Of the first p + d rows: the first p, and the d behind them.
+all-parts : (P : List Cell → Type 0) (p d : ℕ) (rs : Rows) → All P (take (p + d) rs) → All P (take p rs) × All P (take d (drop p rs))
+all-parts P p d rs h = all-cut P (take p rs) (take d (drop p rs)) (rw (take-add p d rs) at h)
+
+-- ---- what is kept for matching
+module _ (o : Options) (left held : Rows) where
+  kept-sorted : sorted o held ≡ true → sorted o (keptBy o left held) ≡ true
+  unfolding keptBy
+  kept-sorted s = sorted-drop o (firstPrune o left held) held s
+
+  kept-sorted-more : (F : Rows) → sorted o (held ++ F) ≡ true → sorted o (keptBy o left held ++ F) ≡ true
+  unfolding keptBy
+  kept-sorted-more F s = sorted-more o (firstPrune o left held) held F (first-within o left held) s
+
+  gone-rows : (n : ℕ) → drop n (keptBy o left held) ≡ drop n (drop (firstPrune o left held) held)
+  unfolding keptBy
+  gone-rows n = refl
+
+  -- The prune by the last row, over what is kept.
+  last-by : (F : Rows) → sorted o (keptBy o left held ++ F) ≡ true → (x : List Cell)
+      → (noPrune left (keptBy o left held) ≡ false → AtMost (cmpRow o) (getD left (length left - 1) []) x) → (n : ℕ)
+      → matchTable o n (keptBy o left held ++ F) x ≡ matchTable o (n + lastBy o left held) (drop (lastBy o left held) (keptBy o left held) ++ F) x
+  unfolding lastBy
+  last-by F s x h n = prune-by o (length left - 1) left (keptBy o left held) F s x h n
+
+-- A place in a list does not ask for what stands behind it.
+getD-any : {A : Type 0} (xs : List A) (i : ℕ) (d e : A) → i < length xs → getD xs i d ≡ getD xs i e
+getD-any [] i d e h = absurd (omega arith)
+getD-any (x ∷ xs) zero d e h = refl
+getD-any (x ∷ xs) (suc i) d e h = getD-any xs i d e (omega arith)
+
+-- ---- a turn
+module _ (o : Options) (L R Os : List Words) (ended : Bool) (j : Join) (S : Sound o L R Os ended j) (right-frames : Frames (columns o) R)
+    (few : j .pruned ≤ length (rowsIn (columns o) R)) (f : Words) (rest : List Words) (frame : isFrame (columns o) f ≡ true) (e : drop (length Os) L ≡ f ∷ rest)
+    (sl : sorted o (rowsIn (columns o) L) ≡ true) (sr : sorted o (rowsIn (columns o) R) ≡ true) where
+  abbrev A : Rows
+  A = rowsIn (columns o) R
+
+  abbrev held : Rows
+  held = drop (j .pruned) (rowsIn (columns o) R)
+
+  abbrev rows : Rows
+  rows = frameRows (columns o) f
+
+  abbrev T : Rows
+  T = turnedOf o L Os
+
+  -- The left rows: those turned, the frame's, the rest.
+  lefts-are : rowsIn (columns o) L ≡ T ++ rows ++ rowsIn (columns o) rest
+  unfolding turnedOf rowsIn
+  lefts-are =
+      ap (λ (fs : List Words). rowsIn (columns o) fs) (sym (take-append-drop (length Os) L) ∙ ap (λ (gs : List Words). take (length Os) L ++ gs) e)
+      ∙ rows-in-append (columns o) (take (length Os) L) (f ∷ rest)
+      ∙ sym (append-assoc (rowsIn (columns o) (take (length Os) L)) (frameRows (columns o) f) (rowsIn (columns o) rest))
+
+  sorted-turned : sorted o (T ++ rows) ≡ true
+  sorted-turned = sorted-cut o (T ++ rows) (rowsIn (columns o) rest) (rw lefts-are at sl) .0
+
+  sorted-rows : sorted o rows ≡ true
+  sorted-rows = sorted-cut o T rows sorted-turned .1
+
+  sorted-held : sorted o held ≡ true
+  sorted-held = sorted-drop o (j .pruned) A sr
+
+  before-held : (i : ℕ) → i < length held → All (λ y. AtMost (cmpRow o) y (getD held i [])) (take (j .pruned) A)
+  before-held = before-row o (take (j .pruned) A) held (rw (take-append-drop (j .pruned) A) sr)
+
+  -- (O) No false alarm, with the check on or off.
+  pub left-fine : badLeft o (j .«last_left») rows ≡ false
+  unfolding badLeft
+  left-fine =
+      rw (below-fine o (recall (columns o) (j .«last_left»)) rows (λ i h. S .left-below (getD rows i []) (before-row o T rows sorted-turned i h)), sorted-rows) (and-false (isOn (o .check)))
+
+  pub right-fine : badRight o (j .«last_right») rows held ≡ false
+  unfolding badRight
+  right-fine =
+      rw (sorted-held, split-fine o (j .«last_right») held sorted-held (all-by (Below o (recall (columns o) (j .«last_right»))) held (λ i h. S .right-below (getD held i []) (before-held i h))) (length rows - 1) rows)
+      (and-false (isOn (o .check)))
+
+  abbrev first : ℕ
+  first = firstPrune o rows held
+
+  abbrev last : ℕ
+  last = lastBy o rows held
+
+  first-few : first ≤ length held
+  first-few = first-within o rows held
+
+  -- What a turn that writes leaves.
+  module _ (need : ended ≡ false → needMore o rows held ≡ false) where
+    module _ (F : Rows) (open-to : ended ≡ true → F ≡ []) (sf : sorted o (A ++ F) ≡ true) where
+      sorted-hf : sorted o (held ++ F) ≡ true
+      sorted-hf = sorted-more o (j .pruned) A F few sf
+
+      waited : (i : ℕ) → i < length rows → matchTable o (j .pruned) (held ++ F) (getD rows i []) ≡ matchTable o (j .pruned) held (getD rows i [])
+      waited i h = go ended refl
+        where
+          go : (b : Bool) → ended ≡ b → matchTable o (j .pruned) (held ++ F) (getD rows i []) ≡ matchTable o (j .pruned) held (getD rows i [])
+          go true q = rw (open-to q, append-nil held)
+          go false q = wait-by o rows held F sorted-hf (need q) sorted-rows i h (j .pruned)
+
+      -- The match of each row of the frame is that of the whole table.
+      each-row : (i : ℕ) → i < length rows → matchTable o (j .pruned + first) (keptBy o rows held) (getD rows i []) ≡ matchTable o 0 (A ++ F) (getD rows i [])
+      each-row i h =
+          let x = getD rows i [] in
+          let p = first-by o rows held [] (sorted-alone o held F sorted-hf) x (λ n. sorted-at o rows sorted-rows 0 i (omega arith) h) (j .pruned) in
+          let q : matchTable o (j .pruned) held x ≡ matchTable o (j .pruned + first) (keptBy o rows held) x = rw (append-nil held, append-nil (keptBy o rows held)) at p in
+          sym (S .harmless F open-to sf x (before-row o T rows sorted-turned i h) ∙ waited i h ∙ q)
+
+      frame-written : (out : Words) → writtenIn (answered (matchedBy o j rows held) out) ≡ map (λ x. asWritten (matchTable o 0 (A ++ F) x)) rows
+      unfolding matchedBy
+      frame-written out =
+          written-back (matchFrame o (j .pruned + first) (keptBy o rows held) rows) out
+          ∙ ap (λ (ms : List Choice). map asWritten ms) (frame-match o (j .pruned + first) (keptBy o rows held) rows sorted-kept sorted-rows)
+          ∙ map-map asWritten (matchTable o (j .pruned + first) (keptBy o rows held)) rows
+          ∙ map-same (λ x. asWritten (matchTable o (j .pruned + first) (keptBy o rows held) x)) (λ x. asWritten (matchTable o 0 (A ++ F) x)) rows by-row
+        where
+          sorted-kept : sorted o (keptBy o rows held) ≡ true
+          sorted-kept = kept-sorted o rows held sorted-held
+
+          by-row : (i : ℕ) → i < length rows → (d : List Cell) → asWritten (matchTable o (j .pruned + first) (keptBy o rows held) (getD rows i d)) ≡ asWritten (matchTable o 0 (A ++ F) (getD rows i d))
+          by-row i h d = rw (getD-any rows i d [] h) (ap asWritten (each-row i h))
+
+      -- What was dropped matters to no later row.
+      pub harmless-after : (x : List Cell) → All (λ y. AtMost (cmpRow o) y x) (T ++ rows)
+          → matchTable o 0 (A ++ F) x ≡ matchTable o (j .pruned + (first + last)) (drop (j .pruned + (first + last)) A ++ F) x
+      harmless-after x h =
+          let c = all-cut (λ y. AtMost (cmpRow o) y x) T rows h in
+          let in-rows = all-at (λ y. AtMost (cmpRow o) y x) rows (c .1) in
+          let a = S .harmless F open-to sf x (c .0) in
+          let b = first-by o rows held F sorted-hf x (λ n. in-rows 0 (not-empty o rows held n)) (j .pruned) in
+          let d = last-by o rows held F (sorted-kept-f) x (λ n. in-rows (length rows - 1) (omega (arith, not-empty o rows (keptBy o rows held) n))) (j .pruned + first) in
+          let n : j .pruned + (first + last) ≡ j .pruned + first + last = omega arith in
+          a ∙ b ∙ d ∙ rw (n) (ap (λ (z : Rows). matchTable o (j .pruned + first + last) (z ++ F) x) (gone-rows o rows held last ∙ ap (λ (z : Rows). drop last z) (drop-drop first (j .pruned) A) ∙ drop-drop last (j .pruned + first) A))
+        where
+          sorted-kept-f : sorted o (keptBy o rows held ++ F) ≡ true
+          sorted-kept-f = kept-sorted-more o rows held F sorted-hf
+
+    pub turned-after : (out : Words) → turnedOf o L (Os ++ (out ∷ [])) ≡ T ++ rows
+    unfolding turnedOf rowsIn
+    turned-after out =
+        let n : length (Os ++ (out ∷ [])) ≡ suc (length Os) = rw (length-append Os (out ∷ [])) (omega arith) in
+        rw (n, take-next (length Os) L f rest e, rows-in-append (columns o) (take (length Os) L) (f ∷ []), append-nil (frameRows (columns o) f))
+
+    -- The last row with a key of the frame, or what was remembered, is below every later left row.
+    left-below-after : (x : List Cell) → All (λ y. AtMost (cmpRow o) y x) (T ++ rows) → Below o (recall (columns o) (remembered o (j .«last_left») rows)) x
+    unfolding remembered
+    left-below-after x h = go (isOn (o .check))
+      where
+        c : All (λ y. AtMost (cmpRow o) y x) T × All (λ y. AtMost (cmpRow o) y x) rows
+        c = all-cut (λ y. AtMost (cmpRow o) y x) T rows h
+
+        wide : All (λ r. length r ≡ columns o) rows
+        wide = all-by (λ r. length r ≡ columns o) rows (λ i l. frame-wide (columns o) f frame i (omega (arith, frame-rows (columns o) f frame)))
+
+        go : (b : Bool) → Below o (recall (columns o) (cond b (rememberLast o (j .«last_left») rows) (j .«last_left»))) x
+        go true = remember-below o (columns o) (j .«last_left») rows wide x (c .1) (S .left-below x (c .0))
+        go false = S .left-below x (c .0)
+
+    -- The last row with a key of those dropped, or what was remembered, is below every row that is held or comes.
+    right-below-after : (x : List Cell) → All (λ y. AtMost (cmpRow o) y x) (take (j .pruned + (first + last)) A)
+        → Below o (recall (columns o) (remembered o (j .«last_right») (take last (keptBy o rows held)))) x
+    unfolding remembered keptBy
+    right-below-after x h = go (isOn (o .check))
+      where
+        c : All (λ y. AtMost (cmpRow o) y x) (take (j .pruned) A) × All (λ y. AtMost (cmpRow o) y x) (take (first + last) held)
+        c = all-parts (λ y. AtMost (cmpRow o) y x) (j .pruned) (first + last) A h
+
+        d : All (λ y. AtMost (cmpRow o) y x) (take last (drop first held))
+        d = all-parts (λ y. AtMost (cmpRow o) y x) first last held (c .1) .1
+
+        wide : All (λ r. length r ≡ columns o) (take last (drop first held))
+        wide =
+            all-take (λ r. length r ≡ columns o) last (drop first held)
+            (all-drop (λ r. length r ≡ columns o) first held (all-drop (λ r. length r ≡ columns o) (j .pruned) A (rows-in-wide (columns o) R right-frames)))
+
+        go : (b : Bool) → Below o (recall (columns o) (cond b (rememberLast o (j .«last_right») (take last (drop first held))) (j .«last_right»))) x
+        go true = remember-below o (columns o) (j .«last_right») (take last (drop first held)) wide x d (S .right-below x (c .0))
+        go false = S .right-below x (c .0)
+
+    pub sound-turn : (out : Words) → Sound o L R (Os ++ (answered (matchedBy o j rows held) out ∷ [])) ended (leftBy o j rows held (length f))
+    unfolding leftBy dropped dequeued matchesIn
+    sound-turn out =
+        let out′ = answered (matchedBy o j rows held) out in
+        record {
+          matches = λ F q sf.
+            rw (turned-after out′, matches-append Os (out′ ∷ []), append-nil (writtenIn out′), map-append (λ x. asWritten (matchTable o 0 (A ++ F) x)) T rows, frame-written F q sf out) (ap (λ (z : List Entry). z ++ map (λ x. asWritten (matchTable o 0 (A ++ F) x)) rows) (S .matches F q sf));
+          harmless = λ F q sf x h. harmless-after F q sf x (rw (turned-after out′) at h);
+          left-below = λ x h. left-below-after x (rw (turned-after out′) at h);
+          right-below = right-below-after;
+          unfailed = S .unfailed;
+        }
+
+contra : {A : Type 0} {b : Bool} → b ≡ true → b ≡ false → A
+contra p q = let z : _≡_ {A = ℕ} 0 1 = cc in absurd (omega arith)
+
+-- ---- the other calls that change what Sound speaks of
+module _ (o : Options) (L R Os : List Words) (ended : Bool) (j : Join) (S : Sound o L R Os ended j) where
+  -- A join that differs in other fields alone; right may end.
+  pub sound-same : (k : Join) → k .pruned ≡ j .pruned → k .«last_left» ≡ j .«last_left» → k .«last_right» ≡ j .«last_right» → k .failed ≡ j .failed
+      → (now : Bool) → (ended ≡ true → now ≡ true) → Sound o L R Os now k
+  sound-same k ep el er ef now q = record {
+    matches = λ F p sf. S .matches F (λ t. p (q t)) sf;
+    harmless = λ F p sf x h. rw ep (S .harmless F (λ t. p (q t)) sf x h);
+    left-below = λ x h. rw el (S .left-below x h);
+    right-below = λ x h. rw er (S .right-below x (rw ep at h));
+    unfailed = ef ∙ S .unfailed;
+  }
+
+  -- A left frame more.
+  pub sound-left : (f : Words) → length Os ≤ length L → Sound o (L ++ (f ∷ [])) R Os ended j
+  unfolding turnedOf
+  sound-left f g =
+      let n : take (length Os) (L ++ (f ∷ [])) ≡ take (length Os) L = take-more (length Os) L (f ∷ []) g in
+      record {
+        matches = λ F p sf. rw n (S .matches F p sf);
+        harmless = λ F p sf x h. S .harmless F p sf x (rw n at h);
+        left-below = λ x h. S .left-below x (rw n at h);
+        right-below = S .right-below;
+        unfailed = S .unfailed;
+      }
+
+  -- A right frame more, while right has not ended.
+  pub sound-right : (f : Words) → ended ≡ false → j .pruned ≤ length (rowsIn (columns o) R) → Sound o L (R ++ (f ∷ [])) Os ended j
+  unfolding rowsIn
+  sound-right f open-still few =
+      let A = rowsIn (columns o) R in
+      let new = frameRows (columns o) f in
+      let n : rowsIn (columns o) (R ++ (f ∷ [])) ≡ A ++ new = rows-in-append (columns o) R (f ∷ []) ∙ ap (λ (z : Rows). A ++ z) (append-nil new) in
+      record {
+        matches = λ F p sf. rw (n, append-assoc A new F) (S .matches (new ++ F) (λ t. contra t open-still) (rw (n, append-assoc A new F) at sf));
+        harmless = λ F p sf x h. rw (n, append-assoc A new F, drop-append-le (j .pruned) A new few, append-assoc (drop (j .pruned) A) new F) (S .harmless (new ++ F) (λ t. contra t open-still) (rw (n, append-assoc A new F) at sf) x h);
+        left-below = S .left-below;
+        right-below = λ x h. S .right-below x (rw (n, take-append-le (j .pruned) A new few) at h);
+        unfailed = S .unfailed;
+      }
