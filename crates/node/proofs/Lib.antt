@@ -5,3 +5,4 @@ pub mod Stock
 pub mod Invariant
 pub mod Turn
 pub mod Sound
+pub mod Steps

@@ -257,7 +257,7 @@ module _ (o : Options) (l r : Words) (allowed : badOptions o ≡ false) (es : Li
       go [] e = rw (idle-is out e) (fine-idle (j .failed) (isDone (j .state)))
       go (f ∷ rest) e = rw (answer-is f rest e out) (fine-judged o j (rows f rest e) held out)
 
-  no-write : (out : Words) (q : ℕ) → drop (length (outputs es)) (leftFrames es) ≡ [] → turnAnswer j (w .left) (w .right) out ≡ Wrote q → ⊥
+  pub no-write : (out : Words) (q : ℕ) → drop (length (outputs es)) (leftFrames es) ≡ [] → turnAnswer j (w .left) (w .right) out ≡ Wrote q → ⊥
   no-write out q e h = idle-writes (j .failed) (isDone (j .state)) q (sym (idle-is out e) ∙ h)
 
   quiet-turn : (a : Answer) (out : Words) → Fine a → eqb (turnRefusal a) 8 ≡ false → eqb (turnRefusal a) 9 ≡ false → Adds es j (onTurn a out) j

@@ -1,0 +1,318 @@
+-- Each call, from a join and areas that meet the invariant and are sound: what it leaves is sound. Then all lists of calls, by induction. Assumes nothing.
+use mathlib.Core.Path.{_≡_, refl, sym, ap, _∙_}
+use mathlib.Core.Bool.{Bool, true, false, cond, not, _&&_, _||_, or-false, or-true}
+use mathlib.Core.List.{List, [], _∷_, _++_, append-nil, append-assoc, map}
+use Prim.Native.Nat.{ℕ, zero, suc, _+_, _-_, _*_, _≤_, _<_}
+use native.Mathlib.Omega.{arith}
+use borrow.Author.Tests.{ltb-false, eqb-false}
+use lib.Dec.{ltb, eqb}
+use lib.IntN.{ℤ}
+use lib.ListN.{length, take, drop}
+use Rattle.frames.specs.Cells.{Cell, Rows, Words}
+use Rattle.frames.specs.Frame.{frameRows, isFrame}
+use Rattle.frames.specs.Options.{columns, badOptions}
+use Rattle.frames.specs.Order.{sorted}
+use Rattle.frames.specs.Keyed.{recall}
+use Rattle.frames.specs.declared.Options.{Options}
+use Rattle.frames.proofs.SortedLaws.{sorted-cut}
+use Rattle.buffer.specs.Reach.{needMore}
+use Rattle.matching.specs.Answer.{answered}
+use Rattle.matching.proofs.ChoiceLaws.{cond-ind}
+use Rattle.node.specs.declared.Join.{Join}
+use Rattle.node.specs.declared.PortState.{PortState}
+use Rattle.node.specs.declared.Refusal.{Refusal}
+use Rattle.node.specs.declared.Refusal.the-variants.{BadOptions, BadJoin, Failed, Closed, BadFrame, NoRoom, UsedUp, LeftOrder, RightOrder}
+use Rattle.node.specs.declared.Answer.{Answer}
+use Rattle.node.specs.declared.Answer.the-variants.{Wrote, WantsRight, Idle, Refused as TurnRefused}
+use Rattle.node.specs.declared.Took.{Took}
+use Rattle.node.specs.declared.Took.the-variants.{Accepted, Refused}
+use Rattle.node.specs.declared.Ported.{Ported}
+use Rattle.node.specs.declared.Ported.the-variants.{Ports, Refused as PortsRefused}
+use Rattle.node.specs.State.{number, fresh, waiting, heldValues, heldMarks, endedRight, stateAt, markedFailed, isDone, lastSequence}
+use Rattle.node.specs.Calls.{leftAnswer, leftCall, queued, rightAnswer, rightCall, pushedRight, endAnswer, endCall, portsAnswer, portsCall, portsState, turnAnswer, turnCall, turned, badLeft, badRight, spoiled}
+use Rattle.node.specs.Lists.{Call, left, right, end, ports, turn, Event, onLeft, onRight, onEnd, onPorts, onTurn, World, start, step, events, final, leftIn, rightIn, leftFrames, rightFrames, rowsIn, outputIn, outputs, endsRight, rightEnded, turnRefusal, matchesIn, backToBack, leftEnded, doneAfter, refusedWith, turnsIn}
+use Rattle.node.proofs.ListLaws.{left-append, right-append, outputs-append, ended-append, rows-in-append}
+use Rattle.node.proofs.Stock.{Stock, next-frame}
+use Rattle.node.proofs.Invariant.{Inv, past, left-passed, right-passed, inv-left, inv-right, inv-end, inv-ports}
+use Rattle.node.proofs.Turn.{judged, leftBy, matchedBy, held, rows, answer-is, turned-is, idle-is, no-write, inv-turn}
+use Rattle.node.proofs.Sound.{Sound, turnedOf, left-fine, right-fine, sound-turn, sound-same, sound-left, sound-right}
+
+-- Sound, where both sides are sorted.
+abbrev pub SoundAt : Options → List Event → World → Type 0
+SoundAt o es w =
+    sorted o (rowsIn (columns o) (leftFrames es)) ≡ true → sorted o (rowsIn (columns o) (rightFrames es)) ≡ true
+    → Sound o (leftFrames es) (rightFrames es) (outputs es) (rightEnded es) (w .join)
+
+-- ---- what a turn that writes has passed; and that sorted rows are never refused for their order
+pub record Passed (o : Options) (j : Join) (rows held : Rows) : Type 0 where
+  pub need : j .«right_ended» ≡ false → needMore o rows held ≡ false
+
+not-and : (a b : Bool) → (not a && b) ≡ false → a ≡ false → b ≡ false
+not-and true b e f = let z : _≡_ {A = ℕ} 0 1 = cc in absurd (omega arith)
+not-and false b e f = e
+
+refused-apart : (n : Refusal) (q : ℕ) → _≡_ {A = Answer} (TurnRefused n) (Wrote q) → ⊥
+refused-apart n q e = let z : _≡_ {A = ℕ} 0 1 = cc in omega arith
+
+wants-apart : (q : ℕ) → _≡_ {A = Answer} WantsRight (Wrote q) → ⊥
+wants-apart q e = let z : _≡_ {A = ℕ} 0 1 = cc in omega arith
+
+passed : (o : Options) (j : Join) (rows held : Rows) (out : Words) (q : ℕ) → judged o j rows held out ≡ Wrote q → Passed o j rows held
+unfolding judged
+passed o j rows held out q e =
+    let p3 = past (j .failed) (TurnRefused Failed) _ (Wrote q) (refused-apart Failed q) e in
+    let p4 = past (isDone (j .state)) (TurnRefused Closed) _ (Wrote q) (refused-apart Closed q) (p3 .1) in
+    let p = past (not (j .«right_ended») && needMore o rows held) WantsRight _ (Wrote q) (wants-apart q) (p4 .1) in
+    record { need = not-and (j .«right_ended») (needMore o rows held) (p .0) }
+
+-- Neither refusal 8 nor refusal 9.
+pub record Ordered (a : Answer) : Type 0 where
+  pub not8 : eqb (turnRefusal a) 8 ≡ false
+  pub not9 : eqb (turnRefusal a) 9 ≡ false
+
+judged-ordered : (o : Options) (j : Join) (rows held : Rows) (out : Words) → badLeft o (j .«last_left») rows ≡ false → badRight o (j .«last_right») rows held ≡ false → Ordered (judged o j rows held out)
+unfolding judged
+judged-ordered o j rows held out bl br =
+    rw (bl, br)
+    (cond-ind Ordered (j .failed) (λ t. ok3) (λ t.
+    cond-ind Ordered (isDone (j .state)) (λ t. ok4) (λ t.
+    cond-ind Ordered (not (j .«right_ended») && needMore o rows held) (λ t. ok-wants) (λ t.
+    cond-ind Ordered (ltb (length out) (2 + 2 * length rows)) (λ t. ok6) (λ t.
+    cond-ind Ordered (eqb (j .sequence) lastSequence) (λ t. ok7) (λ t. ok-wrote))))))
+  where
+    ok3 : Ordered (TurnRefused Failed)
+    ok3 = record { not8 = refl; not9 = refl }
+
+    ok4 : Ordered (TurnRefused Closed)
+    ok4 = record { not8 = refl; not9 = refl }
+
+    ok-wants : Ordered WantsRight
+    ok-wants = record { not8 = refl; not9 = refl }
+
+    ok6 : Ordered (TurnRefused NoRoom)
+    ok6 = record { not8 = refl; not9 = refl }
+
+    ok7 : Ordered (TurnRefused UsedUp)
+    ok7 = record { not8 = refl; not9 = refl }
+
+    ok-wrote : Ordered (Wrote (j .sequence))
+    ok-wrote = record { not8 = refl; not9 = refl }
+
+idle-ordered : (b d : Bool) → Ordered (cond b (TurnRefused Failed) (cond d (TurnRefused Closed) Idle))
+idle-ordered true d = record { not8 = refl; not9 = refl }
+idle-ordered false true = record { not8 = refl; not9 = refl }
+idle-ordered false false = record { not8 = refl; not9 = refl }
+
+module _ (o : Options) (l r : Words) (allowed : badOptions o ≡ false) (es : List Event) (w : World) (i : Inv o l r es w) (S : SoundAt o es w) where
+  abbrev j : Join
+  j = w .join
+
+  -- An event that adds no frame and no output, and a join that differs in other fields alone.
+  quiet : (e : Event) (k : Join) → leftIn e ≡ [] → rightIn e ≡ [] → outputIn e ≡ [] → k .pruned ≡ j .pruned → k .«last_left» ≡ j .«last_left» → k .«last_right» ≡ j .«last_right» → k .failed ≡ j .failed
+      → SoundAt o (es ++ (e ∷ [])) (record { join = k; left = w .left; right = w .right })
+  unfolding leftFrames rightFrames outputs
+  quiet e k el er eo ep ell err ef =
+      rw (left-append es (e ∷ []), right-append es (e ∷ []), outputs-append es (e ∷ []), el, er, eo, append-nil (leftFrames es), append-nil (rightFrames es), append-nil (outputs es), ended-append es (e ∷ []))
+      (λ sl sr. sound-same o (leftFrames es) (rightFrames es) (outputs es) (rightEnded es) j (S sl sr) k ep ell err ef (rightEnded es || rightEnded (e ∷ [])) (λ t. rw t))
+
+  still : (e : Event) → leftIn e ≡ [] → rightIn e ≡ [] → outputIn e ≡ [] → SoundAt o (es ++ (e ∷ [])) (record { join = j; left = w .left; right = w .right })
+  still e el er eo = quiet e j el er eo refl refl refl refl
+
+  sound-queued : (f : Words)
+      → SoundAt o (es ++ (onLeft f (queued j (w .left) (w .right) f .answer) ∷ []))
+      (record { join = queued j (w .left) (w .right) f .join; left = queued j (w .left) (w .right) f .left; right = queued j (w .left) (w .right) f .right })
+  unfolding queued leftFrames rightFrames outputs rightEnded
+  sound-queued f =
+      rw (left-append es (onLeft f Accepted ∷ []), right-append es (onLeft f Accepted ∷ []), outputs-append es (onLeft f Accepted ∷ []), append-nil (rightFrames es), append-nil (outputs es), ended-append es (onLeft f Accepted ∷ []), or-false (rightEnded es), rows-in-append (columns o) (leftFrames es) (f ∷ []))
+      (λ sl sr.
+      sound-left o (leftFrames es) (rightFrames es) (outputs es) (rightEnded es) (queued j (w .left) (w .right) f .join)
+      (sound-same o (leftFrames es) (rightFrames es) (outputs es) (rightEnded es) j (S (sorted-cut o (rowsIn (columns o) (leftFrames es)) (rowsIn (columns o) (f ∷ [])) sl .0) sr) (queued j (w .left) (w .right) f .join) refl refl refl refl (rightEnded es) (λ t. t))
+      f (i .stock .gone))
+
+  pub sound-on-left : (f : Words) → SoundAt o (es ++ (step w (left f) .event ∷ [])) (step w (left f) .world)
+  unfolding step leftCall
+  sound-on-left f = go (leftAnswer j (w .left) (w .right) f) refl
+    where
+      go : (a : Took) → leftAnswer j (w .left) (w .right) f ≡ a → SoundAt o (es ++ (step w (left f) .event ∷ [])) (step w (left f) .world)
+      go (Refused n) e = rw (e, leftCall) (still (onLeft f (Refused n)) refl refl refl)
+      go Accepted e = rw (e, leftCall) (sound-queued f)
+
+  or-false-both : (a b : Bool) → (a || b) ≡ false → a ≡ false
+  or-false-both true b e = e
+  or-false-both false b e = refl
+
+  sound-pushed : (f : Words) → (j .«right_ended» || isDone (j .state)) ≡ false
+      → SoundAt o (es ++ (onRight f (pushedRight j (w .left) (w .right) f .answer) ∷ []))
+      (record { join = pushedRight j (w .left) (w .right) f .join; left = pushedRight j (w .left) (w .right) f .left; right = pushedRight j (w .left) (w .right) f .right })
+  unfolding pushedRight leftFrames rightFrames outputs rightEnded
+  sound-pushed f u =
+      let open-still : rightEnded es ≡ false = sym (i .flags .ended) ∙ or-false-both (j .«right_ended») (isDone (j .state)) u in
+      rw (left-append es (onRight f Accepted ∷ []), right-append es (onRight f Accepted ∷ []), outputs-append es (onRight f Accepted ∷ []), append-nil (leftFrames es), append-nil (outputs es), ended-append es (onRight f Accepted ∷ []), or-false (rightEnded es), rows-in-append (columns o) (rightFrames es) (f ∷ []))
+      (λ sl sr.
+      sound-right o (leftFrames es) (rightFrames es) (outputs es) (rightEnded es) (pushedRight j (w .left) (w .right) f .join)
+      (sound-same o (leftFrames es) (rightFrames es) (outputs es) (rightEnded es) j (S sl (sorted-cut o (rowsIn (columns o) (rightFrames es)) (rowsIn (columns o) (f ∷ [])) sr .0)) (pushedRight j (w .left) (w .right) f .join) refl refl refl refl (rightEnded es) (λ t. t))
+      f open-still (omega (arith, i .stock .rows)))
+
+  pub sound-on-right : (f : Words) → SoundAt o (es ++ (step w (right f) .event ∷ [])) (step w (right f) .world)
+  unfolding step rightCall
+  sound-on-right f = go (rightAnswer j (w .left) (w .right) f) refl
+    where
+      go : (a : Took) → rightAnswer j (w .left) (w .right) f ≡ a → SoundAt o (es ++ (step w (right f) .event ∷ [])) (step w (right f) .world)
+      go (Refused n) e = rw (e, rightCall) (still (onRight f (Refused n)) refl refl refl)
+      go Accepted e = rw (e, rightCall) (sound-pushed f (right-passed o l r allowed es w i f e .unended))
+
+  pub sound-on-end : SoundAt o (es ++ (step w end .event ∷ [])) (step w end .world)
+  unfolding step endCall
+  sound-on-end = go (endAnswer j (w .left) (w .right)) refl
+    where
+      go : (a : Took) → endAnswer j (w .left) (w .right) ≡ a → SoundAt o (es ++ (step w end .event ∷ [])) (step w end .world)
+      go (Refused n) e = rw (e, endCall) (still (onEnd (Refused n)) refl refl refl)
+      go Accepted e = rw (e, endCall) (quiet (onEnd Accepted) (endedRight j) refl refl refl refl refl refl refl)
+
+  pub sound-on-ports : (l′ r′ s′ : PortState) → SoundAt o (es ++ (step w (ports l′ r′ s′) .event ∷ [])) (step w (ports l′ r′ s′) .world)
+  unfolding step portsCall
+  sound-on-ports l′ r′ s′ = go (portsAnswer j (w .left) (w .right) l′ r′ s′) refl
+    where
+      go : (a : Ported) → portsAnswer j (w .left) (w .right) l′ r′ s′ ≡ a → SoundAt o (es ++ (step w (ports l′ r′ s′) .event ∷ [])) (step w (ports l′ r′ s′) .world)
+      go (PortsRefused n) e = rw (e, portsCall) (still (onPorts l′ r′ s′ (PortsRefused n)) refl refl refl)
+      go (Ports a b d) e = rw (e, portsCall) (quiet (onPorts l′ r′ s′ (Ports a b d)) (stateAt j (portsState j l′ s′)) refl refl refl refl refl refl refl)
+
+  -- ---- turns
+  module _ (sl : sorted o (rowsIn (columns o) (leftFrames es)) ≡ true) (sr : sorted o (rowsIn (columns o) (rightFrames es)) ≡ true) where
+    now : Sound o (leftFrames es) (rightFrames es) (outputs es) (rightEnded es) j
+    now = S sl sr
+
+    few : j .pruned ≤ length (rowsIn (columns o) (rightFrames es))
+    few = omega (arith, i .stock .rows)
+
+    module _ (f : Words) (rest : List Words) (e : drop (length (outputs es)) (leftFrames es) ≡ f ∷ rest) where
+      frame : isFrame (columns o) f ≡ true
+      frame = next-frame o l r (leftFrames es) (rightFrames es) (outputs es) j (w .left) (w .right) (i .stock) f rest e
+
+      pub no-left-fault : badLeft o (j .«last_left») (rows o l r allowed es w i f rest e) ≡ false
+      unfolding rows
+      no-left-fault = left-fine o (leftFrames es) (rightFrames es) (outputs es) (rightEnded es) j now (i .stock .right-frames) few f rest frame e sl sr
+
+      pub no-right-fault : badRight o (j .«last_right») (rows o l r allowed es w i f rest e) (held o l r allowed es w i) ≡ false
+      unfolding rows held
+      no-right-fault = right-fine o (leftFrames es) (rightFrames es) (outputs es) (rightEnded es) j now (i .stock .right-frames) few f rest frame e sl sr
+
+      pub after-turn : (out : Words) → Passed o j (rows o l r allowed es w i f rest e) (held o l r allowed es w i)
+          → Sound o (leftFrames es) (rightFrames es) (outputs es ++ (answered (matchedBy o j (rows o l r allowed es w i f rest e) (held o l r allowed es w i)) out ∷ [])) (rightEnded es) (leftBy o j (rows o l r allowed es w i f rest e) (held o l r allowed es w i) (length f))
+      unfolding rows held
+      after-turn out p =
+          sound-turn o (leftFrames es) (rightFrames es) (outputs es) (rightEnded es) j now (i .stock .right-frames) few f rest frame e sl sr (λ t. p .need (i .flags .ended ∙ t)) out
+
+    pub turn-ordered : (out : Words) → Ordered (turnAnswer j (w .left) (w .right) out)
+    turn-ordered out = go (drop (length (outputs es)) (leftFrames es)) refl
+      where
+        go : (fs : List Words) → drop (length (outputs es)) (leftFrames es) ≡ fs → Ordered (turnAnswer j (w .left) (w .right) out)
+        go [] e = rw (idle-is o l r allowed es w i out e) (idle-ordered (j .failed) (isDone (j .state)))
+        go (f ∷ rest) e = rw (answer-is o l r allowed es w i f rest e out) (judged-ordered o j (rows o l r allowed es w i f rest e) (held o l r allowed es w i) out (no-left-fault f rest e) (no-right-fault f rest e))
+
+  -- A refused turn of sorted rows changes nothing: it is not refused for their order.
+  spoils-not : (n : Refusal) (out : Words) → (eqb (number n) 8 || eqb (number n) 9) ≡ true → turnAnswer j (w .left) (w .right) out ≡ TurnRefused n
+      → SoundAt o (es ++ (onTurn (TurnRefused n) out ∷ [])) (record { join = markedFailed j; left = w .left; right = w .right })
+  unfolding leftFrames rightFrames outputs
+  spoils-not n out t e =
+      let ev = onTurn (TurnRefused n) out in
+      rw (left-append es (ev ∷ []), right-append es (ev ∷ []), outputs-append es (ev ∷ []), append-nil (leftFrames es), append-nil (rightFrames es), append-nil (outputs es), ended-append es (ev ∷ []))
+      (λ sl sr. absurd (never (rw e at (turn-ordered sl sr out))))
+    where
+      never : Ordered (TurnRefused n) → ⊥
+      never p = let q : false ≡ true = rw (p .not8, p .not9) at t in let z : _≡_ {A = ℕ} 0 1 = cc in omega arith
+
+  sound-refused : (n : Refusal) (out : Words) → turnAnswer j (w .left) (w .right) out ≡ TurnRefused n
+      → SoundAt o (es ++ (onTurn (TurnRefused n) out ∷ [])) (record { join = spoiled n j; left = w .left; right = w .right })
+  sound-refused BadOptions out e = still (onTurn (TurnRefused BadOptions) out) refl refl refl
+  sound-refused BadJoin out e = still (onTurn (TurnRefused BadJoin) out) refl refl refl
+  sound-refused Failed out e = still (onTurn (TurnRefused Failed) out) refl refl refl
+  sound-refused Closed out e = still (onTurn (TurnRefused Closed) out) refl refl refl
+  sound-refused BadFrame out e = still (onTurn (TurnRefused BadFrame) out) refl refl refl
+  sound-refused NoRoom out e = still (onTurn (TurnRefused NoRoom) out) refl refl refl
+  sound-refused UsedUp out e = still (onTurn (TurnRefused UsedUp) out) refl refl refl
+  sound-refused LeftOrder out e = spoils-not LeftOrder out refl e
+  sound-refused RightOrder out e = spoils-not RightOrder out refl e
+
+  sound-wrote : (out : Words) (q : ℕ) (f : Words) (rest : List Words) (d : drop (length (outputs es)) (leftFrames es) ≡ f ∷ rest) → turnAnswer j (w .left) (w .right) out ≡ Wrote q
+      → SoundAt o (es ++ (onTurn (Wrote (j .sequence)) (answered (matchedBy o j (rows o l r allowed es w i f rest d) (held o l r allowed es w i)) out) ∷ []))
+      (record { join = leftBy o j (rows o l r allowed es w i f rest d) (held o l r allowed es w i) (length f); left = w .left; right = w .right })
+  unfolding leftFrames rightFrames outputs rightEnded
+  sound-wrote out q f rest d e =
+      let ev = onTurn (Wrote (j .sequence)) (answered (matchedBy o j (rows o l r allowed es w i f rest d) (held o l r allowed es w i)) out) in
+      let p = passed o j (rows o l r allowed es w i f rest d) (held o l r allowed es w i) out q (sym (answer-is o l r allowed es w i f rest d out) ∙ e) in
+      rw (left-append es (ev ∷ []), right-append es (ev ∷ []), outputs-append es (ev ∷ []), append-nil (leftFrames es), append-nil (rightFrames es), ended-append es (ev ∷ []), or-false (rightEnded es))
+      (λ sl sr. after-turn sl sr f rest d out p)
+
+  pub sound-on-turn : (out : Words) → SoundAt o (es ++ (step w (turn out) .event ∷ [])) (step w (turn out) .world)
+  unfolding step turnCall
+  sound-on-turn out = go (turnAnswer j (w .left) (w .right) out) refl
+    where
+      wrote : (q : ℕ) → turnAnswer j (w .left) (w .right) out ≡ Wrote q → (fs : List Words) → drop (length (outputs es)) (leftFrames es) ≡ fs
+          → SoundAt o (es ++ (onTurn (turned j (w .left) (w .right) out .answer) (turned j (w .left) (w .right) out .out) ∷ []))
+          (record { join = turned j (w .left) (w .right) out .join; left = turned j (w .left) (w .right) out .left; right = turned j (w .left) (w .right) out .right })
+      wrote q e [] d = absurd (no-write o l r allowed es w i out q d e)
+      wrote q e (f ∷ rest) d = rw (turned-is o l r allowed es w i f rest d out) (sound-wrote out q f rest d e)
+
+      go : (a : Answer) → turnAnswer j (w .left) (w .right) out ≡ a → SoundAt o (es ++ (step w (turn out) .event ∷ [])) (step w (turn out) .world)
+      go (Wrote q) e = rw (e, turnCall) (wrote q e (drop (length (outputs es)) (leftFrames es)) refl)
+      go WantsRight e = rw (e, turnCall) (still (onTurn WantsRight out) refl refl refl)
+      go Idle e = rw (e, turnCall) (still (onTurn Idle out) refl refl refl)
+      go (TurnRefused n) e = rw (e, turnCall) (sound-refused n out e)
+
+-- ---- every list of calls
+module _ (o : Options) (l r : Words) (allowed : badOptions o ≡ false) where
+  pub inv-step : (es : List Event) (w : World) → Inv o l r es w → (c : Call) → Inv o l r (es ++ (step w c .event ∷ [])) (step w c .world)
+  inv-step es w i (left f) = inv-left o l r allowed es w i f
+  inv-step es w i (right f) = inv-right o l r allowed es w i f
+  inv-step es w i end = inv-end o l r allowed es w i
+  inv-step es w i (ports l′ r′ s′) = inv-ports o l r allowed es w i l′ r′ s′
+  inv-step es w i (turn out) = inv-turn o l r allowed es w i out
+
+  pub sound-step : (es : List Event) (w : World) → Inv o l r es w → SoundAt o es w → (c : Call) → SoundAt o (es ++ (step w c .event ∷ [])) (step w c .world)
+  sound-step es w i S (left f) = sound-on-left o l r allowed es w i S f
+  sound-step es w i S (right f) = sound-on-right o l r allowed es w i S f
+  sound-step es w i S end = sound-on-end o l r allowed es w i S
+  sound-step es w i S (ports l′ r′ s′) = sound-on-ports o l r allowed es w i S l′ r′ s′
+  sound-step es w i S (turn out) = sound-on-turn o l r allowed es w i S out
+
+  pub inv-list : (cs : List Call) (es : List Event) (w : World) → Inv o l r es w → Inv o l r (es ++ events w cs) (final w cs)
+  unfolding events final
+  inv-list [] es w i = rw (append-nil es) i
+  inv-list (c ∷ cs) es w i =
+      rw (append-assoc es (step w c .event ∷ []) (events (step w c .world) cs)) at (inv-list cs (es ++ (step w c .event ∷ [])) (step w c .world) (inv-step es w i c))
+
+  pub sound-list : (cs : List Call) (es : List Event) (w : World) → Inv o l r es w → SoundAt o es w → SoundAt o (es ++ events w cs) (final w cs)
+  unfolding events final
+  sound-list [] es w i S = rw (append-nil es) S
+  sound-list (c ∷ cs) es w i S =
+      rw (append-assoc es (step w c .event ∷ []) (events (step w c .world) cs)) at
+      (sound-list cs (es ++ (step w c .event ∷ [])) (step w c .world) (inv-step es w i c) (sound-step es w i S c))
+
+  -- A fresh join.
+  pub inv-start : Inv o l r [] (start o l r)
+  unfolding leftFrames rightFrames outputs rowsIn matchesIn backToBack waiting heldValues heldMarks rightEnded leftEnded doneAfter refusedWith turnsIn
+  inv-start = record {
+    stock = record {
+      options = refl;
+      left-length = refl;
+      right-length = refl;
+      queue-room = omega arith;
+      right-room = omega arith;
+      few = omega arith;
+      sequence = omega arith;
+      gone = omega arith;
+      waits = refl;
+      values = let z : 0 * columns o ≡ 0 = omega arith in rw z;
+      marks = let z : 0 * columns o ≡ 0 = omega arith in rw z;
+      left-frames = tt;
+      right-frames = tt;
+      rows = omega arith;
+      wrote = refl;
+    };
+    flags = record { ended = refl; done = refl; running = refl; failed = refl; unbroken = refl; fronts = refl };
+  }
+
+  pub sound-start : SoundAt o [] (start o l r)
+  unfolding leftFrames rightFrames outputs rowsIn matchesIn turnedOf recall
+  sound-start sl sr = record { matches = λ F p sf. refl; harmless = λ F p sf x h. refl; left-below = λ x h. tt; right-below = λ x h. tt; unfailed = refl }
