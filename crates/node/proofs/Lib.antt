@@ -6,3 +6,4 @@ pub mod Invariant
 pub mod Turn
 pub mod Sound
 pub mod Steps
+pub mod Demand3
