@@ -7,3 +7,4 @@ pub mod Turn
 pub mod Sound
 pub mod Steps
 pub mod Demand3
+pub mod Example
