@@ -110,14 +110,14 @@ module _ (area vs ms : Words) (fv tv fm tm h : ℕ)
   two-marks =
       take-add h (length ms) (drop tm a₄)
       ∙ ap (λ (z : Words). z ++ take (length ms) (drop h (drop tm a₄)))
-          (part-before a₃ (tm + h) ms (length ms) tm h (rw l₃ (omega arith)) (omega arith)
-          ∙ ap (λ (z : Words). take h z) (part-behind a₂ (tv + h) vs (length vs) tm (rw l₂ (omega arith)) (omega arith) apart)
-          ∙ part-copied a₁ tm (drop fm a₁) h (rw l₁ (omega arith)) (rw (length-drop fm a₁, l₁) (omega arith))
-          ∙ ap (λ (z : Words). take h z) (part-behind area tv (drop fv area) h fm (omega arith) (rw (length-drop fv area) (omega arith)) before))
+      (part-before a₃ (tm + h) ms (length ms) tm h (rw l₃ (omega arith)) (omega arith)
+      ∙ ap (λ (z : Words). take h z) (part-behind a₂ (tv + h) vs (length vs) tm (rw l₂ (omega arith)) (omega arith) apart)
+      ∙ part-copied a₁ tm (drop fm a₁) h (rw l₁ (omega arith)) (rw (length-drop fm a₁, l₁) (omega arith))
+      ∙ ap (λ (z : Words). take h z) (part-behind area tv (drop fv area) h fm (omega arith) (rw (length-drop fv area) (omega arith)) before))
       ∙ ap (λ (z : Words). take h (drop fm area) ++ z)
-          (ap (λ (z : Words). take (length ms) z) (drop-drop h tm a₄)
-          ∙ part-copied a₃ (tm + h) ms (length ms) (rw l₃ (omega arith)) (omega arith)
-          ∙ take-length ms)
+      (ap (λ (z : Words). take (length ms) z) (drop-drop h tm a₄)
+      ∙ part-copied a₃ (tm + h) ms (length ms) (rw l₃ (omega arith)) (omega arith)
+      ∙ take-length ms)
 
 module _ (c base held : ℕ) (f area : Words) (frame : isFrame c f ≡ true) (within : base + held ≤ capacity c area) (room : held + rowCount f ≤ capacity c area) where
   abbrev R : ℕ

@@ -33,3 +33,32 @@ pub nullsWhole :
     wholeTable grouped ((null ∷ value (pos 1) ∷ []) ∷ row (1 ∷ 1 ∷ []) ∷ []) (null ∷ value (pos 2) ∷ []) ≡ Nothing
 unfolding wholeTable matchTable choose tolerate fits takesOver cmpFirst nullIn
 nullsWhole = refl
+
+-- Equal keys: Backward and Forward with equality take them, Backward the last of them, Forward the first; without equality they are passed over.
+pub equals :
+    matchIn (plain 0 true) 0 (keys (10 ∷ 20 ∷ 20 ∷ 30 ∷ [])) (row (20 ∷ [])) ∷ matchIn (plain 0 false) 0 (keys (10 ∷ 20 ∷ 20 ∷ 30 ∷ [])) (row (20 ∷ []))
+    ∷ matchIn (plain 1 true) 0 (keys (10 ∷ 20 ∷ 20 ∷ 30 ∷ [])) (row (20 ∷ [])) ∷ matchIn (plain 1 false) 0 (keys (10 ∷ 20 ∷ 20 ∷ 30 ∷ [])) (row (20 ∷ [])) ∷ []
+    ≡ Row 2 ∷ Row 0 ∷ Row 1 ∷ Row 3 ∷ []
+unfolding matchIn choose tolerate fits takesOver
+equals = refl
+
+-- A distance equal to the tolerance is within it.
+pub tolerances :
+    matchIn (options 0 0 true (pos 4) false [] []) 0 (keys (20 ∷ [])) (row (25 ∷ [])) ∷ matchIn (options 0 0 true (pos 5) false [] []) 0 (keys (20 ∷ [])) (row (25 ∷ [])) ∷ []
+    ≡ Nothing ∷ Row 0 ∷ []
+unfolding matchIn choose tolerate fits takesOver
+tolerances = refl
+
+-- Rows in no order: a null run is passed wherever it stands, and a null left run leaves the cursor.
+abbrev lasting : Options
+lasting = options 1 0 true (negsuc 0) false [] (true ∷ [])
+
+pub cursor :
+    matchFrame lasting 0 ((null ∷ value (pos 1) ∷ []) ∷ row (1 ∷ 1 ∷ []) ∷ []) (row (1 ∷ 1 ∷ []) ∷ []) ≡ Row 1 ∷ []
+unfolding matchFrame byRuns runs joinRun pass passes used matchIn choose tolerate fits takesOver cmpFirst nullIn
+cursor = refl
+
+pub cursor-stays :
+    matchFrame lasting 0 (row (1 ∷ 1 ∷ []) ∷ []) ((null ∷ value (pos 1) ∷ []) ∷ row (1 ∷ 1 ∷ []) ∷ []) ≡ Nothing ∷ Row 0 ∷ []
+unfolding matchFrame byRuns runs joinRun pass passes used matchIn choose tolerate fits takesOver cmpFirst nullIn
+cursor-stays = refl

@@ -175,12 +175,12 @@ module _ (o : Options) (l r : Words) (allowed : badOptions o ≡ false) where
       record {
         all-write = rw se (ap suc (ih .all-write));
         all-matched =
-          ap (λ (z : Event). matchesIn (outputs es) ++ matchesIn (outputIn z ++ outputs (events w′ (map turn outs)))) se
-          ∙ stitch (outputs es) out′ (outputs (events w′ (map turn outs)))
-          ∙ ap (λ (z : List Words). matchesIn z ++ matchesIn (outputs (events w′ (map turn outs)))) (sym eo)
-          ∙ ih .all-matched
-          ∙ ap (λ (z : List Words). map (λ x. asWritten (wholeTable o (rowsIn (columns o) z) x)) (rowsIn (columns o) (leftFrames es′))) er
-          ∙ ap (λ (z : List Words). map (λ x. asWritten (wholeTable o (rowsIn (columns o) (rightFrames es)) x)) (rowsIn (columns o) z)) el;
+            ap (λ (z : Event). matchesIn (outputs es) ++ matchesIn (outputIn z ++ outputs (events w′ (map turn outs)))) se
+            ∙ stitch (outputs es) out′ (outputs (events w′ (map turn outs)))
+            ∙ ap (λ (z : List Words). matchesIn z ++ matchesIn (outputs (events w′ (map turn outs)))) (sym eo)
+            ∙ ih .all-matched
+            ∙ ap (λ (z : List Words). map (λ x. asWritten (wholeTable o (rowsIn (columns o) z) x)) (rowsIn (columns o) (leftFrames es′))) er
+            ∙ ap (λ (z : List Words). map (λ x. asWritten (wholeTable o (rowsIn (columns o) (rightFrames es)) x)) (rowsIn (columns o) z)) el;
       }
 
 -- ---- 4. accepted left rows are those written and those in the queue

@@ -70,10 +70,10 @@ flags-add es j e k f a = record {
   ended = rw (ended-append es (e ∷ []), a .ended, f .ended) (ap (λ (z : Bool). rightEnded es || z) (sym (or-false (endsRight e))));
   done = rw (done-snoc [] es e, a .done, f .done);
   running =
-    rw (done-snoc [] es e, left-ended-append es (e ∷ []), or-false (leftDone e), a .running, f .running) (not-or (leftEnded es) (nodeDone es) (leftDone e) (doneBy es e));
+      rw (done-snoc [] es e, left-ended-append es (e ∷ []), or-false (leftDone e), a .running, f .running) (not-or (leftEnded es) (nodeDone es) (leftDone e) (doneBy es e));
   failed =
-    rw (refused-append 8 es (e ∷ []), refused-append 9 es (e ∷ []), or-false (eqb (refusalIn e) 8), or-false (eqb (refusalIn e) 9), a .failed, f .failed)
-    (or-swap (refusedWith 8 es) (refusedWith 9 es) (eqb (refusalIn e) 8) (eqb (refusalIn e) 9));
+      rw (refused-append 8 es (e ∷ []), refused-append 9 es (e ∷ []), or-false (eqb (refusalIn e) 8), or-false (eqb (refusalIn e) 9), a .failed, f .failed)
+      (or-swap (refusedWith 8 es) (refusedWith 9 es) (eqb (refusalIn e) 8) (eqb (refusalIn e) 9));
   unbroken = rw (refused-append 2 es (e ∷ []), f .unbroken, a .unbroken);
   fronts = rw (turns-append es (e ∷ []), append-nil (turnIn e), refused-append 5 (turnsIn es) (turnIn e), f .fronts) (a .front);
 }
@@ -201,7 +201,7 @@ module _ (o : Options) (l r : Words) (allowed : badOptions o ≡ false) (es : Li
   unfolding leftFrames rightFrames outputs
   keep e k el er eo t a = record {
     stock =
-      rw (left-append es (e ∷ []), right-append es (e ∷ []), outputs-append es (e ∷ []), el, er, eo, append-nil (leftFrames es), append-nil (rightFrames es), append-nil (outputs es)) t;
+        rw (left-append es (e ∷ []), right-append es (e ∷ []), outputs-append es (e ∷ []), el, er, eo, append-nil (leftFrames es), append-nil (rightFrames es), append-nil (outputs es)) t;
     flags = flags-add es j e k (i .flags) a;
   }
 
@@ -259,8 +259,8 @@ module _ (o : Options) (l r : Words) (allowed : badOptions o ≡ false) (es : Li
   unfolding queued leftFrames rightFrames outputs
   inv-queued f p = record {
     stock =
-      rw (left-append es (onLeft f Accepted ∷ []), right-append es (onLeft f Accepted ∷ []), outputs-append es (onLeft f Accepted ∷ []), append-nil (rightFrames es), append-nil (outputs es))
-      (stock-left o l r (leftFrames es) (rightFrames es) (outputs es) j (w .left) (w .right) s f (p .frame) (p .room));
+        rw (left-append es (onLeft f Accepted ∷ []), right-append es (onLeft f Accepted ∷ []), outputs-append es (onLeft f Accepted ∷ []), append-nil (rightFrames es), append-nil (outputs es))
+        (stock-left o l r (leftFrames es) (rightFrames es) (outputs es) j (w .left) (w .right) s f (p .frame) (p .room));
     flags = flags-add es j (onLeft f Accepted) (queued j (w .left) (w .right) f .join) (i .flags) (as-before (quiet-left f Accepted plain0));
   }
     where
@@ -315,8 +315,8 @@ module _ (o : Options) (l r : Words) (allowed : badOptions o ≡ false) (es : Li
   unfolding pushedRight leftFrames rightFrames outputs
   inv-pushed f p = record {
     stock =
-      rw (left-append es (onRight f Accepted ∷ []), right-append es (onRight f Accepted ∷ []), outputs-append es (onRight f Accepted ∷ []), append-nil (leftFrames es), append-nil (outputs es))
-      (stock-right o l r (leftFrames es) (rightFrames es) (outputs es) j (w .left) (w .right) s f (p .frame) (p .room) (p .few));
+        rw (left-append es (onRight f Accepted ∷ []), right-append es (onRight f Accepted ∷ []), outputs-append es (onRight f Accepted ∷ []), append-nil (leftFrames es), append-nil (outputs es))
+        (stock-right o l r (leftFrames es) (rightFrames es) (outputs es) j (w .left) (w .right) s f (p .frame) (p .room) (p .few));
     flags = flags-add es j (onRight f Accepted) (pushedRight j (w .left) (w .right) f .join) (i .flags) (as-before (quiet-right f Accepted plain0));
   }
     where

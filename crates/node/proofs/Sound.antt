@@ -325,7 +325,7 @@ module _ (o : Options) (L R Os : List Words) (ended : Bool) (j : Join) (S : Soun
         let out′ = answered (matchedBy o j rows held) out in
         record {
           matches = λ F q sf.
-            rw (turned-after out′, matches-append Os (out′ ∷ []), append-nil (writtenIn out′), map-append (λ x. asWritten (matchTable o 0 (A ++ F) x)) T rows, frame-written F q sf out) (ap (λ (z : List Entry). z ++ map (λ x. asWritten (matchTable o 0 (A ++ F) x)) rows) (S .matches F q sf));
+              rw (turned-after out′, matches-append Os (out′ ∷ []), append-nil (writtenIn out′), map-append (λ x. asWritten (matchTable o 0 (A ++ F) x)) T rows, frame-written F q sf out) (ap (λ (z : List Entry). z ++ map (λ x. asWritten (matchTable o 0 (A ++ F) x)) rows) (S .matches F q sf));
           harmless = λ F q sf x h. harmless-after F q sf x (rw (turned-after out′) at h);
           left-below = λ x h. left-below-after x (rw (turned-after out′) at h);
           right-below = right-below-after;

@@ -139,8 +139,8 @@ module _ (o : Options) (l r : Words) (L R Os : List Words) (j : Join) (left righ
         sequence = s .sequence;
         gone = rw (length-append L (f ∷ [])) (omega (arith, s .gone));
         waits =
-          append-part left (j .«queue_start») start (j .«queue_words») f nb (s .queue-room)
-          ∙ rw (s .waits, drop-more (length Os) L (f ∷ []) (s .gone), words-append (drop (length Os) L) (f ∷ []), append-nil f);
+            append-part left (j .«queue_start») start (j .«queue_words») f nb (s .queue-room)
+            ∙ rw (s .waits, drop-more (length Os) L (f ∷ []) (s .gone), words-append (drop (length Os) L) (f ∷ []), append-nil f);
         values = s .values;
         marks = s .marks;
         left-frames = frames-join (columns o) L (f ∷ []) (s .left-frames) (h, tt);
@@ -177,13 +177,13 @@ module _ (o : Options) (l r : Words) (L R Os : List Words) (j : Join) (left righ
         gone = s .gone;
         waits = s .waits;
         values =
-          rw (s .options)
-          (pushed-values (columns o) (j .base) (j .held) f right h (s .right-room) room
-          ∙ ap (λ (z : Words). z ++ valuesIn (columns o) f) (rw (s .options) at (s .values)) ∙ part-more (valuesIn (columns o)) (values-length (columns o)) f);
+            rw (s .options)
+            (pushed-values (columns o) (j .base) (j .held) f right h (s .right-room) room
+            ∙ ap (λ (z : Words). z ++ valuesIn (columns o) f) (rw (s .options) at (s .values)) ∙ part-more (valuesIn (columns o)) (values-length (columns o)) f);
         marks =
-          rw (s .options, cap)
-          (pushed-marks (columns o) (j .base) (j .held) f right h (s .right-room) room
-          ∙ ap (λ (z : Words). z ++ marksIn (columns o) f) (rw (s .options) at (s .marks)) ∙ part-more (marksIn (columns o)) (marks-length (columns o)) f);
+            rw (s .options, cap)
+            (pushed-marks (columns o) (j .base) (j .held) f right h (s .right-room) room
+            ∙ ap (λ (z : Words). z ++ marksIn (columns o) f) (rw (s .options) at (s .marks)) ∙ part-more (marksIn (columns o)) (marks-length (columns o)) f);
         left-frames = s .left-frames;
         right-frames = frames-join (columns o) R (f ∷ []) (s .right-frames) (h, tt);
         rows = rw (rows-in-append (columns o) R (f ∷ []), length-append (rowsIn (columns o) R) (rowsIn (columns o) (f ∷ [])), s .rows, append-nil (frameRows (columns o) f), frame-rows (columns o) f h) (omega arith);
@@ -266,16 +266,29 @@ module _ (o : Options) (l r : Words) (L R Os : List Words) (j : Join) (left righ
           sequence = rw n (omega (arith, s .sequence));
           gone = rw n more-gone;
           waits =
-            rw (n, drop-next (length Os) L f rest e, ← drop-drop (length f) (j .«queue_start») left, ← drop-take (length f) (j .«queue_words») (drop (j .«queue_start») left))
-            (ap (λ (z : Words). drop (length f) z) waits-front ∙ drop-at f (backToBack rest) (length f) refl);
+              rw (n, drop-next (length Os) L f rest e, ← drop-drop (length f) (j .«queue_start») left, ← drop-take (length f) (j .«queue_words») (drop (j .«queue_start») left))
+              (ap (λ (z : Words). drop (length f) z) waits-front ∙ drop-at f (backToBack rest) (length f) refl);
           values = rw (s .options, hc, pb, pk) (part-less (j .base * columns o) (j .held * columns o) (d * columns o) (j .pruned * columns o) (allValues (columns o) R) held-values);
           marks = rw (s .options, hc, pm, pk) (part-less ((capacity (columns o) right + j .base) * columns o) (j .held * columns o) (d * columns o) (j .pruned * columns o) (allMarks (columns o) R) held-marks);
           left-frames = s .left-frames;
           right-frames = s .right-frames;
           rows = omega (arith, s .rows);
           wrote =
-            rw (n, matches-append Os (answered ms out ∷ []), length-append (matchesIn Os) (matchesIn (answered ms out ∷ [])), append-nil (writtenIn (answered ms out)), written-back ms out, length-map ms asWritten, k,
-            take-next (length Os) L f rest e, rows-in-append (columns o) (take (length Os) L) (f ∷ []), length-append (rowsIn (columns o) (take (length Os) L)) (rowsIn (columns o) (f ∷ [])), append-nil (frameRows (columns o) f), frame-rows (columns o) f next-frame, s .wrote);
+              rw (
+                n,
+                matches-append Os (answered ms out ∷ []),
+                length-append (matchesIn Os) (matchesIn (answered ms out ∷ [])),
+                append-nil (writtenIn (answered ms out)),
+                written-back ms out,
+                length-map ms asWritten,
+                k,
+                take-next (length Os) L f rest e,
+                rows-in-append (columns o) (take (length Os) L) (f ∷ []),
+                length-append (rowsIn (columns o) (take (length Os) L)) (rowsIn (columns o) (f ∷ [])),
+                append-nil (frameRows (columns o) f),
+                frame-rows (columns o) f next-frame,
+                s .wrote,
+              );
         }
 
   -- The held rows are the accepted ones that were not dropped.

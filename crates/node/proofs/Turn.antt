@@ -234,7 +234,7 @@ module _ (o : Options) (l r : Words) (allowed : badOptions o ≡ false) (es : Li
         let ev = onTurn (Wrote (j .sequence)) (answered (matchedBy o j rows held) out) in
         record {
           stock =
-            rw (left-append es (ev ∷ []), right-append es (ev ∷ []), outputs-append es (ev ∷ []), append-nil (leftFrames es), append-nil (rightFrames es)) (turned-stock out);
+              rw (left-append es (ev ∷ []), right-append es (ev ∷ []), outputs-append es (ev ∷ []), append-nil (leftFrames es), append-nil (rightFrames es)) (turned-stock out);
           flags = flags-add es j ev (leftBy o j rows held (length f)) (i .flags) (adds-wrote out);
         }
       where
