@@ -52,6 +52,22 @@ pub record Adds (es : List Event) (j : Join) (e : Event) (k : Join) : Type 0 whe
   pub unbroken : eqb (refusalIn e) 2 ≡ false
   pub front : refusedWith 5 (turnIn e) ≡ false
 
+-- A join whose flags are the same.
+pub record SameFlags (j k : Join) : Type 0 where
+  pub ended : k .«right_ended» ≡ j .«right_ended»
+  pub state : k .state ≡ j .state
+  pub failed : k .failed ≡ j .failed
+
+pub adds-same : (es : List Event) (j : Join) (e : Event) (k : Join) → Adds es j e j → SameFlags j k → Adds es j e k
+adds-same es j e k a q = record {
+  ended = q .ended ∙ a .ended;
+  done = rw (q .state) (a .done);
+  running = rw (q .state) (a .running);
+  failed = q .failed ∙ a .failed;
+  unbroken = a .unbroken;
+  front = a .front;
+}
+
 or-swap : (a b x y : Bool) → (a || b || (x || y)) ≡ (a || x || (b || y))
 or-swap true b x y = refl
 or-swap false true true y = refl
@@ -261,11 +277,8 @@ module _ (o : Options) (l r : Words) (allowed : badOptions o ≡ false) (es : Li
     stock =
         rw (left-append es (onLeft f Accepted ∷ []), right-append es (onLeft f Accepted ∷ []), outputs-append es (onLeft f Accepted ∷ []), append-nil (rightFrames es), append-nil (outputs es))
         (stock-left o l r (leftFrames es) (rightFrames es) (outputs es) j (w .left) (w .right) s f (p .frame) (p .room));
-    flags = flags-add es j (onLeft f Accepted) (queued j (w .left) (w .right) f .join) (i .flags) (as-before (quiet-left f Accepted plain0));
+    flags = flags-add es j (onLeft f Accepted) (queued j (w .left) (w .right) f .join) (i .flags) (adds-same es j (onLeft f Accepted) (queued j (w .left) (w .right) f .join) (quiet-left f Accepted plain0) (record { ended = refl; state = refl; failed = refl }));
   }
-    where
-      as-before : Adds es j (onLeft f Accepted) j → Adds es j (onLeft f Accepted) (queued j (w .left) (w .right) f .join)
-      as-before q = record { ended = q .ended; done = q .done; running = q .running; failed = q .failed; unbroken = q .unbroken; front = q .front }
 
   pub inv-left : (f : Words) → Inv o l r (es ++ (step w (left f) .event ∷ [])) (step w (left f) .world)
   unfolding step leftCall
@@ -317,11 +330,8 @@ module _ (o : Options) (l r : Words) (allowed : badOptions o ≡ false) (es : Li
     stock =
         rw (left-append es (onRight f Accepted ∷ []), right-append es (onRight f Accepted ∷ []), outputs-append es (onRight f Accepted ∷ []), append-nil (leftFrames es), append-nil (outputs es))
         (stock-right o l r (leftFrames es) (rightFrames es) (outputs es) j (w .left) (w .right) s f (p .frame) (p .room) (p .few));
-    flags = flags-add es j (onRight f Accepted) (pushedRight j (w .left) (w .right) f .join) (i .flags) (as-before (quiet-right f Accepted plain0));
+    flags = flags-add es j (onRight f Accepted) (pushedRight j (w .left) (w .right) f .join) (i .flags) (adds-same es j (onRight f Accepted) (pushedRight j (w .left) (w .right) f .join) (quiet-right f Accepted plain0) (record { ended = refl; state = refl; failed = refl }));
   }
-    where
-      as-before : Adds es j (onRight f Accepted) j → Adds es j (onRight f Accepted) (pushedRight j (w .left) (w .right) f .join)
-      as-before q = record { ended = q .ended; done = q .done; running = q .running; failed = q .failed; unbroken = q .unbroken; front = q .front }
 
   pub inv-right : (f : Words) → Inv o l r (es ++ (step w (right f) .event ∷ [])) (step w (right f) .world)
   unfolding step rightCall

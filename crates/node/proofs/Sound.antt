@@ -332,7 +332,7 @@ module _ (o : Options) (L R Os : List Words) (ended : Bool) (j : Join) (S : Soun
           unfailed = S .unfailed;
         }
 
-contra : {A : Type 0} {b : Bool} → b ≡ true → b ≡ false → A
+pub contra : {A : Type 0} {b : Bool} → b ≡ true → b ≡ false → A
 contra p q = let z : _≡_ {A = ℕ} 0 1 = cc in absurd (omega arith)
 
 -- ---- the other calls that change what Sound speaks of

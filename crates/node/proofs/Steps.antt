@@ -17,7 +17,6 @@ use Rattle.frames.specs.declared.Options.{Options}
 use Rattle.frames.proofs.SortedLaws.{sorted-cut}
 use Rattle.buffer.specs.Reach.{needMore}
 use Rattle.matching.specs.Answer.{answered}
-use Rattle.matching.proofs.ChoiceLaws.{cond-ind}
 use Rattle.node.specs.declared.Join.{Join}
 use Rattle.node.specs.declared.PortState.{PortState}
 use Rattle.node.specs.declared.Refusal.{Refusal}
@@ -34,8 +33,8 @@ use Rattle.node.specs.Lists.{Call, left, right, end, ports, turn, Event,
 use Rattle.node.proofs.ListLaws.{left-append, right-append, outputs-append, ended-append, rows-in-append}
 use Rattle.node.proofs.Stock.{Stock, next-frame}
 use Rattle.node.proofs.Invariant.{Inv, past, left-passed, right-passed, inv-left, inv-right, inv-end, inv-ports}
-use Rattle.node.proofs.Turn.{judged, leftBy, matchedBy, held, rows, answer-is, turned-is, idle-is, no-write, inv-turn}
-use Rattle.node.proofs.Sound.{Sound, turnedOf, left-fine, right-fine, sound-turn, sound-same, sound-left, sound-right}
+use Rattle.node.proofs.Turn.{judged, judged-all, leftBy, matchedBy, held, rows, answer-is, turned-is, idle-is, no-write, inv-turn}
+use Rattle.node.proofs.Sound.{Sound, contra, turnedOf, left-fine, right-fine, sound-turn, sound-same, sound-left, sound-right}
 
 -- Sound, where both sides are sorted.
 abbrev pub SoundAt : Options → List Event → World → Type 0
@@ -71,32 +70,9 @@ pub record Ordered (a : Answer) : Type 0 where
   pub not9 : eqb (turnRefusal a) 9 ≡ false
 
 judged-ordered : (o : Options) (j : Join) (rows held : Rows) (out : Words) → badLeft o (j .«last_left») rows ≡ false → badRight o (j .«last_right») rows held ≡ false → Ordered (judged o j rows held out)
-unfolding judged
 judged-ordered o j rows held out bl br =
-    rw (bl, br)
-    (cond-ind Ordered (j .failed) (λ t. ok3) (λ t.
-    cond-ind Ordered (isDone (j .state)) (λ t. ok4) (λ t.
-    cond-ind Ordered (not (j .«right_ended») && needMore o rows held) (λ t. ok-wants) (λ t.
-    cond-ind Ordered (ltb (length out) (2 + 2 * length rows)) (λ t. ok6) (λ t.
-    cond-ind Ordered (eqb (j .sequence) lastSequence) (λ t. ok7) (λ t. ok-wrote))))))
-  where
-    ok3 : Ordered (TurnRefused Failed)
-    ok3 = record { not8 = refl; not9 = refl }
-
-    ok4 : Ordered (TurnRefused Closed)
-    ok4 = record { not8 = refl; not9 = refl }
-
-    ok-wants : Ordered WantsRight
-    ok-wants = record { not8 = refl; not9 = refl }
-
-    ok6 : Ordered (TurnRefused NoRoom)
-    ok6 = record { not8 = refl; not9 = refl }
-
-    ok7 : Ordered (TurnRefused UsedUp)
-    ok7 = record { not8 = refl; not9 = refl }
-
-    ok-wrote : Ordered (Wrote (j .sequence))
-    ok-wrote = record { not8 = refl; not9 = refl }
+    judged-all Ordered o j rows held out (record { not8 = refl; not9 = refl }) (record { not8 = refl; not9 = refl }) (record { not8 = refl; not9 = refl }) (record { not8 = refl; not9 = refl })
+    (record { not8 = refl; not9 = refl }) (λ t. contra t bl) (λ t. contra t br) (record { not8 = refl; not9 = refl })
 
 idle-ordered : (b d : Bool) → Ordered (cond b (TurnRefused Failed) (cond d (TurnRefused Closed) Idle))
 idle-ordered true d = record { not8 = refl; not9 = refl }

@@ -31,7 +31,7 @@ use Rattle.node.specs.Calls.{After, after, turnAnswer, turnCall, turned,
 use Rattle.node.specs.Lists.{turn, Event, onTurn, World, step, leftIn, rightIn, leftFrames, rightFrames, rowsIn, outputIn, outputs, backToBack, framesWaiting, doneBy, refusedWith, turnRefusal}
 use Rattle.node.proofs.ListLaws.{left-append, right-append, outputs-append}
 use Rattle.node.proofs.Stock.{Stock, stock-same, stock-turn, waiting-length, next-frame, front-next, waits-front, front-room, held-rows}
-use Rattle.node.proofs.Invariant.{Inv, Adds, flags-add, good, keep, past, nothing-waits}
+use Rattle.node.proofs.Invariant.{Inv, Adds, SameFlags, adds-same, flags-add, good, keep, past, nothing-waits}
 
 -- A prune drops held rows alone, whatever they are.
 pub prune-within : (o : Options) (i : ℕ) (left held : Rows) → pruneBy o i left held ≤ length held
@@ -101,65 +101,32 @@ idle-writes true d q e = let z : _≡_ {A = ℕ} 0 1 = cc in omega arith
 idle-writes false true q e = let z : _≡_ {A = ℕ} 0 1 = cc in omega arith
 idle-writes false false q e = let z : _≡_ {A = ℕ} 0 1 = cc in omega arith
 
-fine-judged : (o : Options) (j : Join) (rows held : Rows) (out : Words) → Fine (judged o j rows held out)
+-- What holds of each answer that a turn over a waiting frame can give holds of its answer.
+pub judged-all : (P : Answer → Type 0) (o : Options) (j : Join) (rows held : Rows) (out : Words) → P (TurnRefused Failed) → P (TurnRefused Closed) → P WantsRight → P (TurnRefused NoRoom) → P (TurnRefused UsedUp)
+    → (badLeft o (j .«last_left») rows ≡ true → P (TurnRefused LeftOrder)) → (badRight o (j .«last_right») rows held ≡ true → P (TurnRefused RightOrder)) → P (Wrote (j .sequence)) → P (judged o j rows held out)
 unfolding judged
+judged-all P o j rows held out p3 p4 pw p6 p7 p8 p9 p =
+    cond-ind P (j .failed) (λ t. p3) (λ t.
+    cond-ind P (isDone (j .state)) (λ t. p4) (λ t.
+    cond-ind P (not (j .«right_ended») && needMore o rows held) (λ t. pw) (λ t.
+    cond-ind P (ltb (length out) (2 + 2 * length rows)) (λ t. p6) (λ t.
+    cond-ind P (eqb (j .sequence) lastSequence) (λ t. p7) (λ t.
+    cond-ind P (badLeft o (j .«last_left») rows) p8 (λ t.
+    cond-ind P (badRight o (j .«last_right») rows held) p9 (λ t. p)))))))
+
+fine-judged : (o : Options) (j : Join) (rows held : Rows) (out : Words) → Fine (judged o j rows held out)
 fine-judged o j rows held out =
-    cond-ind Fine (j .failed) (λ t. ok3) (λ t.
-    cond-ind Fine (isDone (j .state)) (λ t. ok4) (λ t.
-    cond-ind Fine (not (j .«right_ended») && needMore o rows held) (λ t. ok-wants) (λ t.
-    cond-ind Fine (ltb (length out) (2 + 2 * length rows)) (λ t. ok6) (λ t.
-    cond-ind Fine (eqb (j .sequence) lastSequence) (λ t. ok7) (λ t.
-    cond-ind Fine (badLeft o (j .«last_left») rows) (λ t. ok8) (λ t.
-    cond-ind Fine (badRight o (j .«last_right») rows held) (λ t. ok9) (λ t. ok-wrote)))))))
-  where
-    ok3 : Fine (TurnRefused Failed)
-    ok3 = record { not2 = refl; not5 = refl }
-
-    ok4 : Fine (TurnRefused Closed)
-    ok4 = record { not2 = refl; not5 = refl }
-
-    ok-wants : Fine WantsRight
-    ok-wants = record { not2 = refl; not5 = refl }
-
-    ok6 : Fine (TurnRefused NoRoom)
-    ok6 = record { not2 = refl; not5 = refl }
-
-    ok7 : Fine (TurnRefused UsedUp)
-    ok7 = record { not2 = refl; not5 = refl }
-
-    ok8 : Fine (TurnRefused LeftOrder)
-    ok8 = record { not2 = refl; not5 = refl }
-
-    ok9 : Fine (TurnRefused RightOrder)
-    ok9 = record { not2 = refl; not5 = refl }
-
-    ok-wrote : Fine (Wrote (j .sequence))
-    ok-wrote = record { not2 = refl; not5 = refl }
+    judged-all Fine o j rows held out (record { not2 = refl; not5 = refl }) (record { not2 = refl; not5 = refl }) (record { not2 = refl; not5 = refl }) (record { not2 = refl; not5 = refl })
+    (record { not2 = refl; not5 = refl }) (λ t. record { not2 = refl; not5 = refl }) (λ t. record { not2 = refl; not5 = refl }) (record { not2 = refl; not5 = refl })
 
 and-true-right : (b : Bool) → (b && true) ≡ b
 and-true-right true = refl
 and-true-right false = refl
 
 -- The flags that a turn that writes leaves as they were.
-record SameFlags (j k : Join) : Type 0 where
-  ended : k .«right_ended» ≡ j .«right_ended»
-  state : k .state ≡ j .state
-  failed : k .failed ≡ j .failed
-
 by-fields : (o : Options) (j : Join) (rows held : Rows) (n : ℕ) → SameFlags j (leftBy o j rows held n)
 unfolding leftBy dequeued dropped
 by-fields o j rows held n = record { ended = refl; state = refl; failed = refl }
-
-wrote-adds : (es : List Event) (j : Join) (out : Words) (k : Join) → SameFlags j k → Adds es j (onTurn (Wrote (j .sequence)) out) k
-unfolding doneBy refusedWith
-wrote-adds es j out k q = record {
-  ended = q .ended ∙ sym (or-false (j .«right_ended»));
-  done = rw (q .state) (sym (or-false (isDone (j .state))));
-  running = rw (q .state) (sym (and-true-right (isRunning (j .state))));
-  failed = q .failed ∙ sym (or-false (j .failed));
-  unbroken = refl;
-  front = refl;
-}
 
 module _ (o : Options) (l r : Words) (allowed : badOptions o ≡ false) (es : List Event) (w : World) (i : Inv o l r es w) where
   abbrev j : Join
@@ -179,6 +146,18 @@ module _ (o : Options) (l r : Words) (allowed : badOptions o ≡ false) (es : Li
   pub held-length : length held ≡ j .held
   unfolding held
   held-length = length-drop (j .pruned) (rowsIn (columns o) (rightFrames es)) ∙ omega (arith, s .rows)
+
+  -- A turn that breaks nothing and tells of no order leaves the flags.
+  quiet-turn : (a : Answer) (out : Words) → Fine a → eqb (turnRefusal a) 8 ≡ false → eqb (turnRefusal a) 9 ≡ false → Adds es j (onTurn a out) j
+  unfolding doneBy refusedWith
+  quiet-turn a out p n8 n9 = record {
+    ended = sym (or-false (j .«right_ended»));
+    done = sym (or-false (isDone (j .state)));
+    running = sym (and-true-right (isRunning (j .state)));
+    failed = rw (n8, n9) (sym (or-false (j .failed)));
+    unbroken = p .not2;
+    front = rw (p .not5);
+  }
 
   -- ---- where a frame waits
   module _ (f : Words) (rest : List Words) (e : drop (length (outputs es)) (leftFrames es) ≡ f ∷ rest) where
@@ -239,7 +218,7 @@ module _ (o : Options) (l r : Words) (allowed : badOptions o ≡ false) (es : Li
         }
       where
         adds-wrote : (out : Words) → Adds es j (onTurn (Wrote (j .sequence)) (answered (matchedBy o j rows held) out)) (leftBy o j rows held (length f))
-        adds-wrote out = wrote-adds es j (answered (matchedBy o j rows held) out) (leftBy o j rows held (length f)) (by-fields o j rows held (length f))
+        adds-wrote out = adds-same es j (onTurn (Wrote (j .sequence)) (answered (matchedBy o j rows held) out)) (leftBy o j rows held (length f)) (quiet-turn (Wrote (j .sequence)) (answered (matchedBy o j rows held) out) (record { not2 = refl; not5 = refl }) refl refl) (by-fields o j rows held (length f))
 
   -- ---- every turn
   -- An empty queue is Idle, or refused for the join's state.
@@ -259,17 +238,6 @@ module _ (o : Options) (l r : Words) (allowed : badOptions o ≡ false) (es : Li
 
   pub no-write : (out : Words) (q : ℕ) → drop (length (outputs es)) (leftFrames es) ≡ [] → turnAnswer j (w .left) (w .right) out ≡ Wrote q → ⊥
   no-write out q e h = idle-writes (j .failed) (isDone (j .state)) q (sym (idle-is out e) ∙ h)
-
-  quiet-turn : (a : Answer) (out : Words) → Fine a → eqb (turnRefusal a) 8 ≡ false → eqb (turnRefusal a) 9 ≡ false → Adds es j (onTurn a out) j
-  unfolding doneBy refusedWith
-  quiet-turn a out p n8 n9 = record {
-    ended = sym (or-false (j .«right_ended»));
-    done = sym (or-false (isDone (j .state)));
-    running = sym (and-true-right (isRunning (j .state)));
-    failed = rw (n8, n9) (sym (or-false (j .failed)));
-    unbroken = p .not2;
-    front = rw (p .not5);
-  }
 
   spoils : (n : Refusal) (out : Words) → Fine (TurnRefused n) → (eqb (number n) 8 || eqb (number n) 9) ≡ true → Adds es j (onTurn (TurnRefused n) out) (markedFailed j)
   unfolding doneBy refusedWith
