@@ -35,6 +35,7 @@ unfoldable pub narrow : Options → Rows → List Cell → ℕ → Range
 narrow o held t zero = record { start = 0; end = length held }
 narrow o held t (suc j) = narrowBy o held t j (narrow o held t j)
 
+-- By all b by-values.
 abbrev pub narrowed : Options → Rows → List Cell → Range
 narrowed o held t = narrow o held t (o .by)
 
@@ -94,6 +95,7 @@ abbrev pub rowOr : Rows → Option (List Cell) → Keyed → Option (List Cell)
 rowOr before other (At i) = some (getD before i [])
 rowOr before other Nothing = other
 
+-- Of the rows before the split, with the row m that is remembered.
 unfoldable pub rowBefore : Options → Row → Rows → Option (List Cell)
 rowBefore o m before = rowOr before (recall (columns o) m) (lastKeyed o before)
 

@@ -24,6 +24,7 @@ searchFor (suc fuel) p lower upper =
       | false ↦ lower
     ]
 
+-- With fuel enough.
 unfoldable pub search : (ℕ → Bool) → ℕ → ℕ → ℕ
 search p lower upper = searchFor (upper - lower) p lower upper
 

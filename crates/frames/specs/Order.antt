@@ -10,16 +10,19 @@ use Rattle.frames.specs.declared.Options.{Options}
 use Rattle.frames.specs.declared.Order.{Order}
 use Rattle.frames.specs.declared.Order.the-variants.{Less, Equal, Greater}
 
+-- The first is before the other.
 abbrev pub isLess : Order → Bool
 isLess Less = true
 isLess Equal = false
 isLess Greater = false
 
+-- Neither is before the other.
 abbrev pub isEqual : Order → Bool
 isEqual Less = false
 isEqual Equal = true
 isEqual Greater = false
 
+-- The first is after the other.
 abbrev pub isGreater : Order → Bool
 isGreater Less = false
 isGreater Equal = false
@@ -70,9 +73,11 @@ unfoldable pub nullIn : ℕ → List Cell → Bool
 nullIn zero r = false
 nullIn (suc j) r = nullIn j r || isNull (cell j r)
 
+-- Of a row's group.
 abbrev pub nullGroup : Options → List Cell → Bool
 nullGroup o r = nullIn (o .by) r
 
+-- A row without a key.
 abbrev pub nullKey : Options → List Cell → Bool
 nullKey o r = isNull (keyOf o r)
 

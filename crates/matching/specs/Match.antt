@@ -34,11 +34,13 @@ fits o x r = not (nullKey o x) && not (nullKey o r) && onSide (strategyOf o) (o 
 abbrev pub nearer : Cell → Cell → Cell → Bool
 nearer v r c = ltb (distance r v) (distance c v) || (eqb (distance r v) (distance c v) && not (isLess (cmpCell keyRule r c)))
 
+-- By strategy: does r, which stands after c, take its place as the choice for x?
 unfoldable pub takesOver : Options → Strategy → List Cell → List Cell → List Cell → Bool
 takesOver o Backward x r c = true
 takesOver o Forward x r c = false
 takesOver o Nearest x r c = nearer (keyOf o x) (keyOf o r) (keyOf o c)
 
+-- The row r, numbered i, meets the choice so far.
 abbrev pub meet : Options → List Cell → ℕ → List Cell → Hit → Hit
 meet o x i r nobody = hit i r
 meet o x i r (hit k c) = cond (takesOver o (strategyOf o) x r c) (hit i r) (hit k c)

@@ -38,6 +38,7 @@ pub record After (A : Type 0) : Type 0 where
   pub right : Words
   pub out : Words
 
+-- From its parts.
 abbrev pub after : {A : Type 0} → A → Join → Words → Words → Words → After A
 after a j l r out = record { answer = a; join = j; left = l; right = r; out = out }
 
@@ -63,6 +64,7 @@ queued j left right f =
     after Accepted (queueAt j start (j .«queue_words» + length f))
     (written f (start + j .«queue_words») (moved (j .«queue_start») start (j .«queue_words») left)) right []
 
+-- A left call: refused, it changes nothing.
 unfoldable pub leftCall : Join → Words → Words → Words → After Took
 leftCall j left right f =
     elim (leftAnswer j left right f) [
@@ -88,6 +90,7 @@ pushedRight j left right f =
     let base = newBase (j .base) (j .held) (rowCount f) (capacity (widthOf j) right) in
     after Accepted (heldAt j base (j .held + rowCount f) (j .pruned)) left (pushed (widthOf j) (j .base) (j .held) f right) []
 
+-- A right call: refused, it changes nothing.
 unfoldable pub rightCall : Join → Words → Words → Words → After Took
 rightCall j left right f =
     elim (rightAnswer j left right f) [
@@ -104,6 +107,7 @@ endAnswer j left right =
     (cond (j .«right_ended» || isDone (j .state)) (Refused Closed)
     Accepted))
 
+-- An end-of-right call: refused, it changes nothing.
 unfoldable pub endCall : Join → Words → Words → After Took
 endCall j left right =
     elim (endAnswer j left right) [
@@ -117,6 +121,7 @@ portDone Blocked = false
 portDone Ready = false
 portDone PortDone = true
 
+-- A port that came Blocked.
 abbrev pub portBlocked : PortState → Bool
 portBlocked Blocked = true
 portBlocked Ready = false
@@ -132,6 +137,7 @@ toDone Running words = Running
 toDone Flush words = cond (eqb words 0) Done Flush
 toDone Done words = Done
 
+-- Ready unless another one came Blocked.
 abbrev pub readyUnless : Bool → PortState
 readyUnless blocked = cond blocked Blocked Ready
 
@@ -142,6 +148,7 @@ portsIn Running l r s =
 portsIn Flush l r s = Ports PortDone (readyUnless (portBlocked s)) (readyUnless (portBlocked r))
 portsIn Done l r s = Ports PortDone PortDone PortDone
 
+-- The node's state after a port call.
 abbrev pub portsState : Join → PortState → PortState → NodeState
 portsState j l s = toDone (toFlush (j .state) l s) (j .«queue_words»)
 
@@ -152,6 +159,7 @@ portsAnswer j left right l r s =
     (cond (j .failed) (PortsRefused Failed)
     (portsIn (portsState j l s) l r s))
 
+-- A port call: refused, it changes nothing.
 unfoldable pub portsCall : Join → Words → Words → PortState → PortState → PortState → After Ported
 portsCall j left right l r s =
     elim (portsAnswer j left right l r s) [
@@ -199,6 +207,7 @@ remembered o m rows = cond (isOn (o .check)) (rememberLast o m rows) m
 unfoldable pub dropped : Join → ℕ → Join
 dropped j n = heldAt j (j .base + n) (j .held - n) (j .pruned + n)
 
+-- The queue without its first n words.
 unfoldable pub dequeued : Join → ℕ → Join
 dequeued j n = queueAt j (j .«queue_start» + n) (j .«queue_words» - n)
 
@@ -227,6 +236,7 @@ spoiled UsedUp j = j
 spoiled LeftOrder j = markedFailed j
 spoiled RightOrder j = markedFailed j
 
+-- A turn: only one that writes, or that is refused for the order of rows, changes anything.
 unfoldable pub turnCall : Join → Words → Words → Words → After Answer
 turnCall j left right out =
     elim (turnAnswer j left right out) [

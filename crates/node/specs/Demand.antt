@@ -33,6 +33,7 @@ pub data Each {A B : Type 0} (P : A → B → Type 0) : List A → List B → Ty
 
 -- Over a list of calls from a fresh join with options that are not refused and two areas of any length and any words.
 module _ (o : Options) (l r : Words) (calls : List Call) where
+  -- The calls with their answers.
   abbrev pub all : List Event
   all = events (start o l r) calls
 
@@ -40,6 +41,7 @@ module _ (o : Options) (l r : Words) (calls : List Call) where
   abbrev pub lefts : Rows
   lefts = rowsIn (columns o) (leftFrames all)
 
+  -- The accepted right rows.
   abbrev pub rights : Rows
   rights = rowsIn (columns o) (rightFrames all)
 
@@ -47,6 +49,7 @@ module _ (o : Options) (l r : Words) (calls : List Call) where
   abbrev pub turnedRows : Rows
   turnedRows = rowsIn (columns o) (take (length (outputs all)) (leftFrames all))
 
+  -- The accepted left frames that wait.
   abbrev pub waitingFrames : List Words
   waitingFrames = drop (length (outputs all)) (leftFrames all)
 
@@ -116,5 +119,6 @@ pub record Demand3 (o : Options) (l r : Words) (calls : List Call) : Type 0 wher
   pub no-false-alarm : NoFalseAlarm o l r calls
   pub words-kept : WordsKept o l r calls
 
+-- For all options that are not refused, areas of any length and any words, and lists of calls.
 abbrev pub Demand : Type 0
 Demand = (o : Options) → badOptions o ≡ false → (l r : Words) (calls : List Call) → Demand3 o l r calls

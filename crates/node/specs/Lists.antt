@@ -50,9 +50,11 @@ pub record Step : Type 0 where
   pub event : Event
   pub world : World
 
+-- From what the call leaves.
 abbrev pub stepped : {A : Type 0} → (A → Event) → After A → Step
 stepped on a = record { event = on (a .answer); world = record { join = a .join; left = a .left; right = a .right } }
 
+-- The five calls.
 unfoldable pub step : World → Call → Step
 step w (left f) = stepped (onLeft f) (leftCall (w .join) (w .left) (w .right) f)
 step w (right f) = stepped (onRight f) (rightCall (w .join) (w .left) (w .right) f)
@@ -65,6 +67,7 @@ unfoldable pub events : World → List Call → List Event
 events w [] = []
 events w (c ∷ cs) = let s = step w c in s .event ∷ events (s .world) cs
 
+-- The join and the areas that the last call leaves.
 unfoldable pub final : World → List Call → World
 final w [] = w
 final w (c ∷ cs) = final (step w c .world) cs
@@ -82,6 +85,7 @@ leftIn (onEnd a) = []
 leftIn (onPorts l r s a) = []
 leftIn (onTurn a out) = []
 
+-- The frame of a right call that was not refused.
 abbrev pub rightIn : Event → List Words
 rightIn (onLeft f a) = []
 rightIn (onRight f a) = when a (f ∷ [])
@@ -89,10 +93,12 @@ rightIn (onEnd a) = []
 rightIn (onPorts l r s a) = []
 rightIn (onTurn a out) = []
 
+-- The accepted left frames, in call order.
 unfoldable pub leftFrames : List Event → List Words
 leftFrames [] = []
 leftFrames (e ∷ es) = leftIn e ++ leftFrames es
 
+-- The accepted right frames, in call order.
 unfoldable pub rightFrames : List Event → List Words
 rightFrames [] = []
 rightFrames (e ∷ es) = rightIn e ++ rightFrames es
@@ -109,6 +115,7 @@ whenWrote WantsRight outs = []
 whenWrote Idle outs = []
 whenWrote (TurnRefused n) outs = []
 
+-- The output of a turn that answered Wrote.
 abbrev pub outputIn : Event → List Words
 outputIn (onLeft f a) = []
 outputIn (onRight f a) = []
@@ -116,6 +123,7 @@ outputIn (onEnd a) = []
 outputIn (onPorts l r s a) = []
 outputIn (onTurn a out) = whenWrote a (out ∷ [])
 
+-- The outputs written, in call order.
 unfoldable pub outputs : List Event → List Words
 outputs [] = []
 outputs (e ∷ es) = outputIn e ++ outputs es
@@ -125,14 +133,17 @@ pub record Entry : Type 0 where
   pub number : ℤ
   pub mark : ℤ
 
+-- Numbers with their marks.
 unfoldable pub pairUp : Words → Words → List Entry
 pairUp [] ms = []
 pairUp (v ∷ vs) [] = []
 pairUp (v ∷ vs) (m ∷ ms) = record { number = v; mark = m } ∷ pairUp vs ms
 
+-- The rows of an output: n numbers from word 2 on, n marks behind them.
 unfoldable pub writtenIn : Words → List Entry
 writtenIn out = pairUp (take (rowCount out) (drop 2 out)) (take (rowCount out) (drop (2 + rowCount out) out))
 
+-- The matches written, in call order.
 unfoldable pub matchesIn : List Words → List Entry
 matchesIn [] = []
 matchesIn (out ∷ outs) = writtenIn out ++ matchesIn outs
@@ -142,6 +153,7 @@ abbrev pub accepted : Took → Bool
 accepted Accepted = true
 accepted (Refused n) = false
 
+-- An end-of-right call that was accepted.
 abbrev pub endsRight : Event → Bool
 endsRight (onLeft f a) = false
 endsRight (onRight f a) = false
@@ -149,6 +161,7 @@ endsRight (onEnd a) = accepted a
 endsRight (onPorts l r s a) = false
 endsRight (onTurn a out) = false
 
+-- Right has ended.
 unfoldable pub rightEnded : List Event → Bool
 rightEnded [] = false
 rightEnded (e ∷ es) = endsRight e || rightEnded es
@@ -158,6 +171,7 @@ abbrev pub acceptedPorts : Ported → Bool
 acceptedPorts (Ports l r s) = true
 acceptedPorts (PortsRefused n) = false
 
+-- It came with left Done.
 abbrev pub leftDone : Event → Bool
 leftDone (onLeft f a) = false
 leftDone (onRight f a) = false
@@ -165,6 +179,7 @@ leftDone (onEnd a) = false
 leftDone (onPorts l r s a) = acceptedPorts a && portDone l
 leftDone (onTurn a out) = false
 
+-- An earlier one came with left Done.
 unfoldable pub leftEnded : List Event → Bool
 leftEnded [] = false
 leftEnded (e ∷ es) = leftDone e || leftEnded es
@@ -181,10 +196,12 @@ doneBy before (onEnd a) = false
 doneBy before (onPorts l r s a) = acceptedPorts a && (portDone s || ((leftEnded before || portDone l) && eqb (framesWaiting before) 0))
 doneBy before (onTurn a out) = false
 
+-- The node is done at the end of es, where the events `before` came first.
 unfoldable pub doneAfter : List Event → List Event → Bool
 doneAfter before [] = false
 doneAfter before (e ∷ es) = doneBy before e || doneAfter (before ++ (e ∷ [])) es
 
+-- From the first event on.
 abbrev pub nodeDone : List Event → Bool
 nodeDone es = doneAfter [] es
 
@@ -198,16 +215,19 @@ abbrev pub tookRefusal : Took → ℕ
 tookRefusal Accepted = 0
 tookRefusal (Refused n) = number n
 
+-- The same of a port call.
 abbrev pub portsRefusal : Ported → ℕ
 portsRefusal (Ports l r s) = 0
 portsRefusal (PortsRefused n) = number n
 
+-- The same of a turn.
 abbrev pub turnRefusal : Answer → ℕ
 turnRefusal (Wrote s) = 0
 turnRefusal WantsRight = 0
 turnRefusal Idle = 0
 turnRefusal (TurnRefused n) = number n
 
+-- The same of any call.
 abbrev pub refusalIn : Event → ℕ
 refusalIn (onLeft f a) = tookRefusal a
 refusalIn (onRight f a) = tookRefusal a
@@ -228,6 +248,7 @@ turnIn (onEnd a) = []
 turnIn (onPorts l r s a) = []
 turnIn (onTurn a out) = onTurn a out ∷ []
 
+-- The turns of a list, in call order.
 unfoldable pub turnsIn : List Event → List Event
 turnsIn [] = []
 turnsIn (e ∷ es) = turnIn e ++ turnsIn es

@@ -48,23 +48,27 @@ joinOf o base held pruned start words state ended failed seq l r = record {
 abbrev pub fresh : Options → Join
 fresh o = joinOf o 0 0 0 0 0 Running false false 0 noRow noRow
 
--- The join with another queue; other held rows; another state; right ended; failed; one turn later.
+-- The join with another queue.
 abbrev pub queueAt : Join → ℕ → ℕ → Join
 queueAt j start words =
     joinOf (j .options) (j .base) (j .held) (j .pruned) start words (j .state) (j .«right_ended») (j .failed) (j .sequence) (j .«last_left») (j .«last_right»)
 
+-- The join with other held rows.
 abbrev pub heldAt : Join → ℕ → ℕ → ℕ → Join
 heldAt j base held pruned =
     joinOf (j .options) base held pruned (j .«queue_start») (j .«queue_words») (j .state) (j .«right_ended») (j .failed) (j .sequence) (j .«last_left») (j .«last_right»)
 
+-- The join in another state.
 abbrev pub stateAt : Join → NodeState → Join
 stateAt j s =
     joinOf (j .options) (j .base) (j .held) (j .pruned) (j .«queue_start») (j .«queue_words») s (j .«right_ended») (j .failed) (j .sequence) (j .«last_left») (j .«last_right»)
 
+-- The join with right ended.
 abbrev pub endedRight : Join → Join
 endedRight j =
     joinOf (j .options) (j .base) (j .held) (j .pruned) (j .«queue_start») (j .«queue_words») (j .state) true (j .failed) (j .sequence) (j .«last_left») (j .«last_right»)
 
+-- The join, failed.
 abbrev pub markedFailed : Join → Join
 markedFailed j =
     joinOf (j .options) (j .base) (j .held) (j .pruned) (j .«queue_start») (j .«queue_words») (j .state) (j .«right_ended») true (j .sequence) (j .«last_left») (j .«last_right»)
@@ -74,11 +78,13 @@ abbrev pub nextTurn : Join → Row → Row → Join
 nextTurn j l r =
     joinOf (j .options) (j .base) (j .held) (j .pruned) (j .«queue_start») (j .«queue_words») (j .state) (j .«right_ended») (j .failed) (j .sequence + 2) l r
 
+-- Whether the node is Running.
 abbrev pub isRunning : NodeState → Bool
 isRunning Running = true
 isRunning Flush = false
 isRunning Done = false
 
+-- Whether the node is Done.
 abbrev pub isDone : NodeState → Bool
 isDone Running = false
 isDone Flush = false
@@ -88,23 +94,27 @@ isDone Done = true
 abbrev pub widthOf : Join → ℕ
 widthOf j = columns (j .options)
 
--- The greatest number of right rows: 2^63 − 1. The last sequence: 2^64 − 2.
+-- The greatest number of right rows: 2^63 − 1.
 abbrev pub mostRows : ℕ
 mostRows = 2 ^ 63 - 1
 
+-- The last sequence: 2^64 − 2.
 abbrev pub lastSequence : ℕ
 lastSequence = 2 ^ 64 - 2
 
--- Base + held above R; queue start + queue words above the left area; pruned + held above 2^63 − 1; an odd sequence.
+-- Base + held above R.
 abbrev pub overRight : Join → Words → Bool
 overRight j right = ltb (capacity (widthOf j) right) (j .base + j .held)
 
+-- Queue start + queue words above the left area.
 abbrev pub overLeft : Join → Words → Bool
 overLeft j left = ltb (length left) (j .«queue_start» + j .«queue_words»)
 
+-- Pruned + held above 2^63 − 1.
 abbrev pub overRows : Join → Bool
 overRows j = ltb mostRows (j .pruned + j .held)
 
+-- An odd sequence.
 abbrev pub oddSequence : Join → Bool
 oddSequence j = eqb (j .sequence % 2) 1
 
@@ -120,6 +130,7 @@ heldOf j right = heldRows (widthOf j) (j .base) (j .held) right
 unfoldable pub heldValues : Join → Words → Words
 heldValues j right = take (j .held * widthOf j) (drop (j .base * widthOf j) right)
 
+-- Their marks.
 unfoldable pub heldMarks : Join → Words → Words
 heldMarks j right = take (j .held * widthOf j) (drop ((capacity (widthOf j) right + j .base) * widthOf j) right)
 
