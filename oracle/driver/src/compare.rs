@@ -1,0 +1,165 @@
+//! Running one script through the Rust and through the rules, and through the Rust and the whole-table rule.
+use std::fmt;
+use std::panic::{AssertUnwindSafe, catch_unwind};
+
+use judges::rules::{Fault, Rules};
+use judges::script::{Answer, Call, Judge};
+use judges::whole_table;
+
+use crate::rust::{Inside, Rust, Ways};
+
+/// What a run had in it, so that one that tests nothing is seen.
+#[derive(Default, Clone)]
+pub struct Tally {
+    pub scripts: u64,
+    pub calls: u64,
+    pub compared: u64,
+    pub written: u64,
+    pub rows: u64,
+    pub matched: u64,
+    pub wants: u64,
+    pub idle: u64,
+    pub faults: [u64; 4],
+    pub in_flush: u64,
+    pub states: [u64; 3],
+}
+
+impl Tally {
+    /// Adds another run's counts.
+    pub fn add(&mut self, other: &Tally) {
+        self.scripts += other.scripts;
+        self.calls += other.calls;
+        self.compared += other.compared;
+        self.written += other.written;
+        self.rows += other.rows;
+        self.matched += other.matched;
+        self.wants += other.wants;
+        self.idle += other.idle;
+        self.in_flush += other.in_flush;
+        (0..4).for_each(|i| self.faults[i] += other.faults[i]);
+        (0..3).for_each(|i| self.states[i] += other.states[i]);
+    }
+
+    /// Counts one answer, given in this node state.
+    pub fn count(&mut self, answer: &Answer, state: u8) {
+        match answer {
+            Answer::Wrote(_, words) => {
+                self.written += 1;
+                self.rows += words[0] as u64;
+                self.matched += words[2 + words[0] as usize..].iter().sum::<i64>() as u64;
+                self.in_flush += (state == 1) as u64;
+            },
+            Answer::Wants => self.wants += 1,
+            Answer::Idle => self.idle += 1,
+            Answer::Ports(_, state) => self.states[*state as usize] += 1,
+            _ => {},
+        }
+    }
+
+    /// Counts an order fault by the place where the rules saw it.
+    fn fault(&mut self, fault: Fault) {
+        self.faults[fault as usize] += 1;
+    }
+}
+
+impl fmt::Display for Tally {
+    /// The counts on one line.
+    fn fmt(&self, f: &mut fmt::Formatter<'_>) -> fmt::Result {
+        let [continuity, frame, held, split] = self.faults;
+        let [running, flush, done] = self.states;
+        write!(f, "{} scripts, {} calls, {} compared; ", self.scripts, self.calls, self.compared)?;
+        write!(f, "{} turns wrote {} rows, {} matched, ", self.written, self.rows, self.matched)?;
+        write!(f, "{} of the turns in Flush; ", self.in_flush)?;
+        write!(f, "{} wants, {} idle; ", self.wants, self.idle)?;
+        write!(f, "faults 8: {continuity} between frames, {frame} in a frame, 9: {held} held, {split} split; ")?;
+        write!(f, "ports: {running} Running, {flush} Flush, {done} Done")
+    }
+}
+
+/// How the Rust and a judge differ.
+#[derive(Clone, PartialEq, Debug)]
+pub enum Difference {
+    /// Another answer than the rules give, or a panic.
+    Answer(String),
+    /// The same answers, but other rows held or remembered.
+    Inside(String),
+}
+
+/// Whether 01 refuses the call by 1 to 7: the Rust has no counterpart.
+fn no_counterpart(answer: &Answer) -> bool {
+    matches!(answer, Answer::Refused(1..=7) | Answer::State(_) | Answer::NoJoin)
+}
+
+/// Whether the Rust went another way than 01 from here on: it knows no areas, so it took what 01 refused.
+fn parted(answer: &Answer) -> bool {
+    matches!(answer, Answer::Refused(2 | 6 | 7))
+}
+
+/// What the rules hold and remember, as the Rust tells it.
+fn rules_inside(rules: &Rules) -> Option<Inside> {
+    let look = rules.look().filter(|l| !l.failed)?;
+    Some(Inside { held: look.held, pruned: look.pruned, left: look.left.clone(), right: look.right.clone() })
+}
+
+/// What the Rust holds and remembers, while it has not failed.
+fn rust_inside(rust: &Rust) -> Option<Inside> {
+    rust.join.as_ref().filter(|j| !j.failed()).map(|j| j.inside())
+}
+
+/// Runs a script through both. An answer that differs comes before a difference inside, even a later one.
+fn run_both(calls: &[Call], ways: Ways, tally: &mut Tally) -> Result<(), Difference> {
+    let (mut rust, mut rules) = (Rust { ways, join: None }, Rules::default());
+    let mut inside = Ok(());
+    for (i, call) in calls.iter().enumerate() {
+        let state = rules.look().map_or(0, |l| l.state);
+        let (said, ruled) = (rust.call(call), rules.call(call));
+        tally.calls += 1;
+        if parted(&ruled) {
+            break;
+        } else if no_counterpart(&ruled) {
+            continue;
+        } else if said != ruled {
+            return Err(Difference::Answer(format!("call {}, {call}: the Rust says {said}, 01 says {ruled}", i + 1)));
+        }
+        tally.compared += 1;
+        tally.count(&ruled, state);
+        let (is, should) = (rust_inside(&rust), rules_inside(&rules));
+        if inside.is_ok() && is != should {
+            let text = format!("call {}, {call}: the Rust has {is:?}, 01 has {should:?}", i + 1);
+            inside = Err(Difference::Inside(text));
+        }
+    }
+    tally.scripts += 1;
+    rules.fault().into_iter().for_each(|f| tally.fault(f));
+    inside
+}
+
+/// Text of a panic, which is a difference like any other: 01 knows no panic.
+fn panic_text(panic: Box<dyn std::any::Any + Send>) -> String {
+    let text = panic.downcast_ref::<String>().cloned();
+    text.or_else(|| panic.downcast_ref::<&str>().map(|s| s.to_string())).unwrap_or_default()
+}
+
+/// Compares the Rust with the rules on one script.
+pub fn with_rules(calls: &[Call], ways: Ways, tally: &mut Tally) -> Result<(), Difference> {
+    let run = catch_unwind(AssertUnwindSafe(|| run_both(calls, ways, tally)));
+    run.unwrap_or_else(|p| Err(Difference::Answer(format!("panic: {}", panic_text(p)))))
+}
+
+/// All answers of a judge to a script.
+pub fn answers(judge: &mut impl Judge, calls: &[Call]) -> Vec<Answer> {
+    calls.iter().map(|c| judge.call(c)).collect()
+}
+
+/// Compares the Rust with the whole-table rule on one script of sorted sides.
+pub fn with_whole_table(calls: &[Call], ways: Ways, counts: &mut whole_table::Counts) -> Result<(), String> {
+    let run = catch_unwind(AssertUnwindSafe(|| {
+        let said = answers(&mut Rust { ways, join: None }, calls);
+        whole_table::judge(calls, &said)
+    }));
+    let one = run.unwrap_or_else(|p| Err(format!("panic: {}", panic_text(p))))?;
+    counts.rows += one.rows;
+    counts.matched += one.matched;
+    counts.wants += one.wants;
+    Ok(())
+}

@@ -1,0 +1,395 @@
+//! The Rust itself: the published node between real pipes, driven one waiting left frame a turn.
+use std::cell::RefCell;
+use std::sync::Arc;
+
+use polars_async::executor::{self, TaskPriority};
+use polars_core::prelude::*;
+use polars_ops::frame::is_sorted::FAULTS;
+use polars_ops::frame::{AsOfOptions, AsofStrategy, JoinArgs, JoinType};
+use polars_stream::execute::StreamingExecutionState;
+use polars_stream::graph::{LogicalPipeKey, PortState};
+use polars_stream::morsel::{Morsel, MorselSeq, SourceToken};
+use polars_stream::nodes::ComputeNode;
+use polars_stream::nodes::joins::asof_join::AsOfJoinNode;
+use polars_stream::pipe::{PhysicalPipe, PortSender};
+use slotmap::Key;
+
+use judges::script::{Answer, Call, Judge, Open};
+
+/// How the node is fed. No answer may depend on it, save `right_pipe` on rows that are not sorted as declared.
+#[derive(Clone, Copy)]
+pub struct Ways {
+    /// How many compute tasks run side by side, with the real linearizing pipe behind them.
+    pub pipelines: usize,
+    /// While Running, the frame of a turn comes by the left pipe, not from the node's queue.
+    pub left_pipe: bool,
+    /// Right frames come by the right pipe during a turn, only as many as the node asks for.
+    pub right_pipe: bool,
+}
+
+impl Default for Ways {
+    /// One compute task; frames wait in the node's queue and right frames are taken when they come.
+    fn default() -> Self {
+        Ways { pipelines: 1, left_pipe: false, right_pipe: false }
+    }
+}
+
+/// The names of a side's by-columns, its key, and what stands beside it.
+struct Names {
+    by: [PlSmallStr; 4],
+    key: PlSmallStr,
+    number: Option<PlSmallStr>,
+}
+
+const KEY_LEFT: PlSmallStr = PlSmallStr::from_static("lk");
+const NUMBER: PlSmallStr = PlSmallStr::from_static("rn");
+const LEFT: Names = Names {
+    by: [
+        PlSmallStr::from_static("lb0"),
+        PlSmallStr::from_static("lb1"),
+        PlSmallStr::from_static("lb2"),
+        PlSmallStr::from_static("lb3"),
+    ],
+    key: KEY_LEFT,
+    number: None,
+};
+/// The right rows' numbers come as one more column, so that the matched rows tell them.
+const RIGHT: Names = Names {
+    by: [
+        PlSmallStr::from_static("rb0"),
+        PlSmallStr::from_static("rb1"),
+        PlSmallStr::from_static("rb2"),
+        PlSmallStr::from_static("rb3"),
+    ],
+    key: PlSmallStr::from_static("rk"),
+    number: Some(NUMBER),
+};
+
+impl Names {
+    /// The side's schema with b by-columns.
+    fn schema(&self, b: usize) -> SchemaRef {
+        Arc::new(Schema::of_names(self.by[..b].iter().copied().chain([self.key]).chain(self.number)))
+    }
+
+    /// A frame's words as the Rust's frame, or none where they break 01's frame rule: no such frame can be made.
+    fn frame(&self, words: &[i64], b: usize, first_number: usize) -> Option<DataFrame> {
+        let c = b + 1;
+        let [n, columns, cells @ ..] = words else { return None };
+        if !(0..=4096).contains(n) || *columns != c as i64 || cells.len() != 2 * *n as usize * c {
+            return None;
+        }
+        let n = *n as usize;
+        let (values, marks) = cells.split_at(n * c);
+        if values.iter().zip(marks).any(|(v, m)| !(*m == 1 || (*m == 0 && *v == 0))) {
+            return None;
+        }
+        let cell = |at: usize| (marks[at] == 1).then_some(values[at]);
+        let column = |j: usize| (0..n).map(|i| cell(i * c + j)).collect();
+        let named = self.by[..b].iter().copied().chain([self.key]).enumerate();
+        let mut columns: Vec<Column> = named.map(|(j, name)| Column::new(name, column(j))).collect();
+        let numbers = || (first_number..first_number + n).map(|i| Some(i as i64)).collect();
+        columns.extend(self.number.map(|name| Column::new(name, numbers())));
+        Some(DataFrame::new(n, columns))
+    }
+}
+
+/// What a phase sent, each frame with its sequence.
+type Sent = Vec<(u64, DataFrame)>;
+
+/// What can be compared of the node beyond its answers: rows held and dropped, and the remembered rows.
+#[derive(Debug, PartialEq)]
+pub struct Inside {
+    pub held: usize,
+    pub pruned: u64,
+    pub left: Option<Vec<Option<i64>>>,
+    pub right: Option<Vec<Option<i64>>>,
+}
+
+/// What was seen of a turn that an order fault spoiled.
+#[derive(Debug, Clone, Copy, PartialEq)]
+pub struct Spoiled {
+    /// Whether a check of the left rows said no.
+    pub left: bool,
+    /// Whether a check of the right rows said no.
+    pub right: bool,
+    /// How many frames the node had sent all the same.
+    pub sent: usize,
+}
+
+/// An open join: the node and what the driver keeps beside it.
+pub struct Join {
+    b: usize,
+    ways: Ways,
+    node: AsOfJoinNode,
+    accepted: usize,
+    right_waiting: Vec<DataFrame>,
+    ended: bool,
+    spoiled: Option<Spoiled>,
+}
+
+/// Whether 01 refuses these options by 1: it gives them no meaning that a stand-in could have.
+fn refused_by_1(o: &Open) -> bool {
+    o.b > 4 || !(0..=2).contains(&o.strategy) || o.tolerance < -1 || (o.strategy == 2 && !o.eq)
+}
+
+/// The node of these options.
+fn node(o: &Open) -> AsOfJoinNode {
+    let strategy = [AsofStrategy::Backward, AsofStrategy::Forward, AsofStrategy::Nearest][o.strategy as usize];
+    let by = |names: &Names| (o.b > 0).then(|| names.by[..o.b].to_vec());
+    let flags = |flags: &[bool]| (o.b > 0).then(|| flags.to_vec());
+    let options = AsOfOptions {
+        strategy,
+        tolerance: (o.tolerance >= 0).then(|| Scalar::from_i64(o.tolerance)),
+        left_by: by(&LEFT),
+        right_by: by(&RIGHT),
+        allow_eq: o.eq,
+        check_sortedness: o.check,
+    };
+    let args = JoinArgs { how: JoinType::AsOf(Box::new(options)), suffix: None };
+    let (descending, nulls_last) = (flags(&o.descending), flags(&o.nulls_last));
+    let (left, right) = (LEFT.schema(o.b), RIGHT.schema(o.b));
+    AsOfJoinNode::new(left, right, LEFT.key, RIGHT.key, None, None, descending, nulls_last, args)
+}
+
+/// A task that sends frames into a pipe, as the node before the join would.
+async fn source(mut send: PortSender, frames: Vec<DataFrame>) -> PolarsResult<()> {
+    let mut seq = MorselSeq::default();
+    for df in frames {
+        if send.send(Morsel::new_unregistered(df, seq, SourceToken::new())).await.is_err() {
+            break;
+        }
+        seq = seq.successor();
+    }
+    Ok(())
+}
+
+/// A task that takes all that the join sends, as the node behind it would.
+async fn sink(mut recv: polars_stream::pipe::PortReceiver, sent: &RefCell<Sent>) -> PolarsResult<()> {
+    while let Ok(morsel) = recv.recv().await {
+        let (sf, seq, _, _) = morsel.into_inner();
+        sent.borrow_mut().push((seq.to_u64(), sf.into_df_blocking()));
+    }
+    Ok(())
+}
+
+impl Join {
+    /// A fresh join, or none where 01 refuses its options.
+    pub fn open(o: &Open, ways: Ways) -> Option<Self> {
+        (!refused_by_1(o)).then(|| Self::open_any(o, ways))
+    }
+
+    /// A fresh join of any options that the Rust takes.
+    pub fn open_any(o: &Open, ways: Ways) -> Self {
+        Join { b: o.b, ways, node: node(o), accepted: 0, right_waiting: vec![], ended: false, spoiled: None }
+    }
+
+    /// One phase: the node's real tasks between real pipes, with these frames in the left and right pipes; what the
+    /// node sent. The left pipe is there while Running, the right one until right has ended.
+    fn phase(&mut self, left: Vec<DataFrame>, right: Vec<DataFrame>) -> Sent {
+        let running = self.node.hook_state() == 0;
+        assert!((running || left.is_empty()) && (!self.ended || right.is_empty()));
+        let pipe = || PhysicalPipe::new(self.ways.pipelines, LogicalPipeKey::null(), Default::default(), None);
+        let (mut left_pipe, mut right_pipe, mut out_pipe) = (running.then(pipe), (!self.ended).then(pipe), pipe());
+        let sent = RefCell::new(Vec::new());
+        let handles = executor::task_scope(|scope| {
+            let mut handles = Vec::new();
+            handles.push(scope.spawn_task(TaskPriority::High, sink(out_pipe.recv_port().serial(), &sent)));
+            let mut recv = [left_pipe.as_mut().map(|p| p.recv_port()), right_pipe.as_mut().map(|p| p.recv_port())];
+            let mut send = [Some(out_pipe.send_port())];
+            self.node.spawn(scope, &mut recv, &mut send, &StreamingExecutionState, &mut handles);
+            assert!(recv.iter().all(|p| p.is_none()) && send.iter().all(|p| p.is_none()));
+            for (pipe, frames) in [(&mut left_pipe, left), (&mut right_pipe, right)] {
+                if let Some(pipe) = pipe {
+                    handles.push(scope.spawn_task(TaskPriority::High, source(pipe.send_port().serial(), frames)));
+                }
+            }
+            out_pipe.spawn(scope, &mut handles);
+            handles
+        });
+        let errors: Vec<_> = handles.into_iter().filter_map(|h| h.take().err()).collect();
+        only_order_errors(&errors);
+        sent.into_inner()
+    }
+
+    /// 01, The join: held rows. The node itself takes right frames into its buffer when no left frame is there.
+    fn buffer_right(&mut self, frames: Vec<DataFrame>) {
+        let held = self.node.hook_held() + frames.iter().map(|f| f.height()).sum::<usize>();
+        let queue = std::mem::take(self.node.hook_left_buffer());
+        let sent = self.phase(vec![], frames);
+        assert!(sent.is_empty() && self.node.hook_left_buffer().is_empty() && self.node.hook_held() == held);
+        *self.node.hook_left_buffer() = queue;
+    }
+
+    /// 01, Turn: one phase in which only the front frame waits.
+    pub fn turn(&mut self) -> Answer {
+        let mut queue = std::mem::take(self.node.hook_left_buffer());
+        let front = queue.pop_front();
+        let height = front.as_ref().map(|f| f.height());
+        let mut left = vec![];
+        if self.ways.left_pipe && self.node.hook_state() == 0 {
+            left.extend(front);
+        } else {
+            self.node.hook_left_buffer().extend(front);
+        }
+        let right = std::mem::take(&mut self.right_waiting);
+        let sent = self.phase(left, right);
+        self.spoiled = take_spoiled(sent.len());
+        if let Some(spoiled) = self.spoiled {
+            return Answer::Refused(if spoiled.left { 8 } else { 9 });
+        }
+        let back = self.node.hook_left_buffer().len();
+        self.node.hook_left_buffer().extend(queue);
+        match (&sent[..], height, back) {
+            ([], None, 0) => Answer::Idle,
+            ([], Some(_), 1) if !self.ended => Answer::Wants,
+            ([(seq, df)], Some(n), 0) if df.height() == n => Answer::Wrote(*seq, written(df)),
+            _ => panic!("turn: {height:?} rows, {back} frames back, sent {sent:?}"),
+        }
+    }
+
+    /// 01, Ports: the node's own `update_state`.
+    fn ports(&mut self, ports: [u8; 3]) -> Answer {
+        let [left, right, send] = ports.map(|p| [PortState::Blocked, PortState::Ready, PortState::Done][p as usize]);
+        let (mut recv, mut send) = ([left, right], [send]);
+        self.node.update_state(&mut recv, &mut send, &StreamingExecutionState).unwrap();
+        Answer::Ports([recv[0] as u8, recv[1] as u8, send[0] as u8], self.node.hook_state())
+    }
+
+    /// 01, left: the frame joins the waiting ones. One that 01 refuses has no counterpart and is not taken.
+    fn left(&mut self, words: &[i64]) {
+        if !self.failed() && self.node.hook_state() == 0 {
+            let frame = LEFT.frame(words, self.b, 0);
+            self.node.hook_left_buffer().extend(frame);
+        }
+    }
+
+    /// 01, right: the frame's rows are held. One that 01 refuses has no counterpart and is not taken.
+    fn right(&mut self, words: &[i64]) {
+        if self.failed() || self.ended || self.node.hook_state() == 2 {
+            return;
+        }
+        let Some(df) = RIGHT.frame(words, self.b, self.accepted) else { return };
+        self.accepted += df.height();
+        if self.ways.right_pipe {
+            self.right_waiting.push(df);
+        } else {
+            self.buffer_right(vec![df]);
+        }
+    }
+
+    /// 01, Ports: "Ending right stands for `recv_right` being none." What is still in the pipe is taken first.
+    fn end(&mut self) {
+        if self.failed() || self.ended || self.node.hook_state() == 2 {
+            return;
+        }
+        let rest = std::mem::take(&mut self.right_waiting);
+        if !rest.is_empty() {
+            self.buffer_right(rest);
+        }
+        self.ended = true;
+    }
+
+    /// What the node holds and remembers, for a closer look than answers give.
+    pub fn inside(&self) -> Inside {
+        let row = |df: &DataFrame| df.columns().iter().map(|c| c.values()[0]).collect();
+        let waiting = self.right_waiting.iter().map(|f| f.height()).sum::<usize>();
+        let held = self.node.hook_held() + waiting;
+        let [left, right] = self.node.hook_remembered().map(|r| r.map(row));
+        Inside { held, pruned: (self.accepted - held) as u64, left, right }
+    }
+
+    /// Sets the next sequence, to see what the Rust does at its end.
+    pub fn set_sequence(&mut self, turns: u64) {
+        self.node.hook_set_seq(MorselSeq::new(turns));
+    }
+
+    /// Whether an order fault has stopped the join; the node is then not used again.
+    pub fn failed(&self) -> bool {
+        self.spoiled.is_some()
+    }
+
+    /// What was seen of the turn that stopped the join.
+    pub fn spoiled(&self) -> Option<Spoiled> {
+        self.spoiled
+    }
+
+    /// All these frames in one phase, and a second one with right ended: what the Rust writes when nobody counts turns,
+    /// or none at an order fault.
+    pub fn burst(&mut self, left: &[Vec<i64>], right: &[Vec<i64>]) -> Option<Vec<Answer>> {
+        let left = left.iter().map(|w| LEFT.frame(w, self.b, 0)).collect::<Option<_>>()?;
+        let number = |at: &mut usize, w: &Vec<i64>| {
+            *at += w[0] as usize;
+            Some(RIGHT.frame(w, self.b, *at - w[0] as usize))
+        };
+        let right = right.iter().scan(0, number).collect::<Option<_>>()?;
+        let mut sent = self.phase(left, right);
+        if take_spoiled(0).is_some() {
+            return None;
+        }
+        self.ended = true;
+        sent.extend(self.phase(vec![], vec![]));
+        let wrote = sent.iter().map(|(seq, df)| Answer::Wrote(*seq, written(df))).collect();
+        take_spoiled(0).is_none().then_some(wrote)
+    }
+
+    /// The answer to a call on an open join. Where 01 refuses, the Rust has no counterpart: `left`, `right` and `end`
+    /// say ok and nothing changes; `turn` and `ports` say nothing.
+    pub fn call(&mut self, call: &Call) -> Answer {
+        match call {
+            Call::Left(w) => self.left(w),
+            Call::Right(w) => self.right(w),
+            Call::End => self.end(),
+            Call::Ports(p) if !self.failed() => return self.ports(*p),
+            Call::Turn(_) if !self.failed() && self.node.hook_state() != 2 => return self.turn(),
+            _ => return Answer::Nothing,
+        }
+        Answer::Ok
+    }
+}
+
+/// Every error of a phase must be the Rust's one order error, and come with a check that said no.
+fn only_order_errors(errors: &[PolarsError]) {
+    let unsorted = |e: &PolarsError| matches!(e, PolarsError::InvalidOperation(t) if t.contains("is not sorted"));
+    assert!(errors.iter().all(unsorted), "{errors:?}");
+    assert_eq!(errors.len(), FAULTS.with_borrow(|f| f.len()));
+}
+
+/// 01, refusals 8 and 9, told by the side whose check said no. Where both did it is 8: the Rust's two tasks fail side
+/// by side, 01 has an order.
+fn take_spoiled(sent: usize) -> Option<Spoiled> {
+    let faults = FAULTS.take();
+    let left = faults.contains(&KEY_LEFT);
+    let right = faults.iter().any(|f| *f != KEY_LEFT);
+    (left || right).then_some(Spoiled { left, right, sent })
+}
+
+/// 01, Turn: "Written: n, 1, n right numbers, n marks (none: 0 and 0)".
+fn written(df: &DataFrame) -> Vec<i64> {
+    let numbers = df.column(&NUMBER).unwrap().values();
+    let mut out = vec![df.height() as i64, 1];
+    out.extend(numbers.iter().map(|x| x.unwrap_or(0)));
+    out.extend(numbers.iter().map(|x| x.is_some() as i64));
+    out
+}
+
+/// The judge that answers by the Rust.
+#[derive(Default)]
+pub struct Rust {
+    pub ways: Ways,
+    pub join: Option<Join>,
+}
+
+impl Judge for Rust {
+    /// Opens, or asks the open join.
+    fn call(&mut self, call: &Call) -> Answer {
+        match (call, &mut self.join) {
+            (Call::Open(o), join) => {
+                FAULTS.take();
+                *join = Join::open(o, self.ways);
+                if join.is_some() { Answer::Ok } else { Answer::Nothing }
+            },
+            (_, None) => Answer::NoJoin,
+            (call, Some(join)) => join.call(call),
+        }
+    }
+}

@@ -1,0 +1,263 @@
+//! The oracle's test of itself, which needs no port: the Rust against 01's cases, against the whole-table rule and
+//! against the step rules. Every step prints its counts and fails where they show that nothing was tested.
+use std::time::Instant;
+
+use judges::exhaustive;
+use judges::generate::{COMPARED, Kind, script};
+use judges::rules::{Rules, frame_rows};
+use judges::script::{Answer, Call, Judge, parse_script};
+use judges::whole_table::{self, Counts};
+
+use crate::compare::{self, Difference, Tally};
+use crate::rust::{Rust, Ways};
+
+/// How a step ends: what it counted, or what went wrong.
+type Step = Result<String, String>;
+
+/// A step's name, and what it does.
+type Named = (&'static str, Box<dyn FnOnce() -> Step>);
+
+/// A failed script with what went wrong, for the reader to run again.
+fn failure(what: &str, calls: &[Call], why: &str) -> String {
+    let lines: Vec<String> = calls.iter().map(|c| c.to_string()).collect();
+    format!("{what}: {why}\n{}", lines.join("\n"))
+}
+
+/// The answers that 01 gives to its counter cases, line by line.
+fn expected_answers(text: &str) -> Vec<&str> {
+    text.lines().filter_map(|l| l.strip_prefix("= ")).collect()
+}
+
+/// Whether an expected answer is one that the Rust can give.
+fn known_to_rust(expected: &str) -> bool {
+    !expected.starts_with("refused") && !expected.starts_with("base")
+}
+
+/// 01, At the counter, by the Rust and by the rules.
+pub fn counter_cases() -> Step {
+    let text = include_str!("../counter.txt");
+    let lines: Vec<&str> = text.lines().filter(|l| !l.starts_with('=')).collect();
+    let calls = parse_script(&lines.join("\n"))?;
+    let expected = expected_answers(text);
+    assert_eq!(calls.len(), expected.len());
+    let (mut rust, mut rules, mut asked) = (Rust::default(), Rules::default(), 0);
+    for (call, want) in calls.iter().zip(&expected) {
+        let (said, ruled) = (rust.call(call).to_string(), rules.call(call).to_string());
+        if ruled != *want || (known_to_rust(want) && said != *want) {
+            return Err(format!("{call}: wanted {want}, the Rust says {said}, the rules say {ruled}"));
+        }
+        asked += known_to_rust(want) as usize;
+    }
+    Ok(format!("{} calls, {asked} of them answered by the Rust", calls.len()))
+}
+
+/// 01, At the counter: "4,096 rows pass, 4,097 are refusal 5".
+pub fn longest_frames() -> Step {
+    let frame = |n: i64| [vec![n, 1], (0..n).collect(), vec![1; n as usize]].concat();
+    let open = parse_script("open 0 0 1 -1 1 8194 8192")?;
+    let turn = Call::Turn(8194);
+    let calls = [open, vec![Call::Right(frame(4096)), Call::Left(frame(4096)), Call::End, turn]].concat();
+    let mut tally = Tally::default();
+    compare::with_rules(&calls, Ways::default(), &mut tally).map_err(|d| format!("{d:?}"))?;
+    let mut rules = Rules::default();
+    let said = compare::answers(&mut rules, &[calls[0].clone(), Call::Left(frame(4097)), Call::Right(frame(4097))]);
+    if tally.matched != 4096 || said[1..] != [Answer::Refused(5), Answer::Refused(5)] {
+        return Err(format!("4,096 rows: {} matched; 4,097 rows: {} {}", tally.matched, said[1], said[2]));
+    }
+    Ok("4,096 rows match, 4,097 are refused".into())
+}
+
+/// Random scripts of sorted sides over random cuts, by the whole-table rule.
+pub fn whole(seed: u64, count: u64, ways: Ways) -> Step {
+    let mut counts = Counts::default();
+    for i in 0..count {
+        let calls = script(Kind::Whole, seed, i);
+        let judged = compare::with_whole_table(&calls, ways, &mut counts);
+        judged.map_err(|why| failure(&format!("whole table, seed {seed}, script {i}"), &calls, &why))?;
+    }
+    if counts.matched == 0 || counts.wants == 0 || counts.matched == counts.rows {
+        return Err("nothing was tested".into());
+    }
+    let Counts { rows, matched, wants } = counts;
+    let said = "0 faults, all as the whole table says";
+    Ok(format!("{count} scripts, {rows} rows turned, {matched} matched, {wants} wants, {said}"))
+}
+
+/// The two judges against each other: the rules' answers, by the whole-table rule.
+pub fn judges(seed: u64, count: u64) -> Step {
+    let mut matched = 0;
+    for i in 0..count {
+        let calls = script(Kind::Whole, seed, i);
+        let judged = whole_table::judge(&calls, &compare::answers(&mut Rules::default(), &calls));
+        matched += judged.map_err(|why| failure("rules by the whole table", &calls, &why))?.matched;
+    }
+    Ok(format!("{count} scripts, {matched} rows matched: the rules keep the whole-table rule"))
+}
+
+/// The difference's text, whichever it is.
+fn text(d: Difference) -> String {
+    match d {
+        Difference::Answer(t) | Difference::Inside(t) => t,
+    }
+}
+
+/// Random scripts of one kind, by the step rules.
+pub fn steps(kind: Kind, seed: u64, count: u64, ways: Ways) -> Result<Tally, String> {
+    let mut tally = Tally::default();
+    for i in 0..count {
+        let calls = script(kind, seed, i);
+        let compared = compare::with_rules(&calls, ways, &mut tally);
+        compared.map_err(|d| failure(&format!("{kind:?}, seed {seed}, script {i}"), &calls, &text(d)))?;
+    }
+    Ok(tally)
+}
+
+/// Random scripts of all kinds, by the step rules; each kind must reach what it is made for.
+pub fn all_kinds(seed: u64, count: u64) -> Step {
+    let mut all = Tally::default();
+    for kind in COMPARED {
+        let tally = steps(kind, seed, count, Ways::default())?;
+        println!("  {kind:?}: {tally}");
+        all.add(&tally);
+    }
+    let [continuity, frame, held, split] = all.faults;
+    let reached = [all.matched, all.wants, all.idle, all.in_flush, continuity, frame, held];
+    if reached.contains(&0) || all.states.contains(&0) {
+        return Err("nothing was tested".into());
+    } else if split != 0 {
+        return Err("a fault at the split alone, which docs/DIFFERENCES.md calls impossible".into());
+    }
+    Ok(format!("{all}"))
+}
+
+/// All short scripts, by the step rules.
+pub fn short_scripts() -> Step {
+    let mut tally = Tally::default();
+    let mut wrong = None;
+    exhaustive::all(&mut |calls| {
+        let compared = compare::with_rules(calls, Ways::default(), &mut tally);
+        wrong = compared.err().map(|d| failure("short script", calls, &text(d)));
+        wrong.is_none()
+    });
+    wrong.map_or(Ok(format!("{tally}")), Err)
+}
+
+/// The same answers however the node is fed and its tasks are scheduled; with right frames pulled as the node asks for
+/// them, and with all frames in one phase, on sorted sides.
+pub fn ways(seed: u64, count: u64) -> Step {
+    let many = Ways { pipelines: 3, left_pipe: true, right_pipe: false };
+    let pulled = Ways { pipelines: 2, left_pipe: true, right_pipe: true };
+    let mut all = Tally::default();
+    for (order, ways) in [(0, many), (seed, many), (seed, Ways::default())] {
+        polars_async::executor::shuffle(order);
+        for kind in [Kind::Mixed, Kind::Flush, Kind::Order] {
+            all.add(&steps(kind, seed, count, ways)?);
+        }
+    }
+    whole(seed, count, pulled)?;
+    all.add(&steps(Kind::Whole, seed, count, pulled)?);
+    for i in 0..count {
+        let calls = script(Kind::Whole, seed, i);
+        burst(&calls).map_err(|why| failure("all frames in one phase", &calls, &why))?;
+    }
+    polars_async::executor::shuffle(0);
+    let fed = "scripts fed by pipes, to several tasks, in random order";
+    Ok(format!("{} {fed}; {count} pulled; {count} in one phase", all.scripts))
+}
+
+/// All left and right frames of a sorted script in one phase, as the Rust runs them when nobody counts turns.
+fn burst(calls: &[Call]) -> Result<(), String> {
+    let [Call::Open(open), rest @ ..] = calls else { panic!("a script opens first") };
+    let frames = |pick: fn(&Call) -> Option<&Vec<i64>>| rest.iter().filter_map(pick).cloned().collect::<Vec<_>>();
+    let left = frames(|c| if let Call::Left(w) = c { Some(w) } else { None });
+    let right = frames(|c| if let Call::Right(w) = c { Some(w) } else { None });
+    let ways = Ways { pipelines: 3, ..Ways::default() };
+    let mut join = crate::rust::Join::open(open, ways).ok_or("refused")?;
+    let wrote = join.burst(&left, &right).ok_or("an order fault")?;
+    let handed = left.into_iter().map(Call::Left).chain(right.into_iter().map(Call::Right));
+    let turns = vec![Call::Turn(0); wrote.len()];
+    let calls: Vec<Call> = [calls[0].clone()].into_iter().chain(handed).chain(turns).collect();
+    let oks = vec![Answer::Ok; calls.len() - wrote.len()];
+    whole_table::judge(&calls, &[oks, wrote].concat()).map(|_| ())
+}
+
+/// 01, Lists: "accepted right rows = pruned + held, and accepted left rows = rows written in the outputs + rows in the
+/// queue", and "changes nothing" of each refusal: the rules' own promises, over scripts full of refusals.
+pub fn refusals(seed: u64, count: u64) -> Step {
+    let mut refused = [0u64; 10];
+    for i in 0..count {
+        let calls = script(Kind::Refusals, seed, i);
+        let judged = keeps_count(&calls, &mut refused);
+        judged.map_err(|why| failure(&format!("refusals, seed {seed}, script {i}"), &calls, &why))?;
+    }
+    if [1, 3, 4, 5, 6, 8, 9].iter().any(|n| refused[*n] == 0) {
+        return Err(format!("a refusal never came: {refused:?}"));
+    }
+    Ok(format!("{count} scripts, refused by 1 to 9: {:?} (2 and 7 cannot be reached by scripts)", &refused[1..]))
+}
+
+/// Counts one script's accepted rows beside the rules.
+fn keeps_count(calls: &[Call], refused: &mut [u64; 10]) -> Result<(), String> {
+    let mut rules = Rules::default();
+    let (mut right, mut left, mut written, mut waiting) = (0, 0, 0, std::collections::VecDeque::new());
+    for call in calls {
+        let before = rules.look().cloned();
+        let answer = rules.call(call);
+        let Some(look) = rules.look() else {
+            refused[1] += 1;
+            return Ok(());
+        };
+        match (call, &answer) {
+            (Call::Right(w), Answer::Ok) => right += frame_rows(w[1] as usize, w).len() as u64,
+            (Call::Left(w), Answer::Ok) => {
+                left += w[0];
+                waiting.push_back(w[0]);
+            },
+            (_, Answer::Wrote(_, w)) => {
+                written += w[0];
+                waiting.pop_front();
+            },
+            (_, Answer::Refused(n)) => {
+                refused[*n as usize] += 1;
+                let mut same = before.unwrap();
+                same.failed |= *n >= 8;
+                if same != *look {
+                    return Err(format!("{call}: {answer} changed the join"));
+                }
+            },
+            _ => {},
+        }
+        if right != look.pruned + look.held as u64 || left != written + waiting.iter().sum::<i64>() {
+            return Err(format!("{call}: rows are lost"));
+        }
+    }
+    Ok(())
+}
+
+/// Runs the steps in order, each with its time; whether all went well.
+pub fn run(steps: Vec<Named>) -> bool {
+    let mut well = true;
+    for (name, step) in steps {
+        let start = Instant::now();
+        let said = step();
+        let mark = if said.is_ok() { "ok  " } else { "FAIL" };
+        println!("{mark} {name}: {} ({:.1} s)", said.as_ref().unwrap_or_else(|e| e), start.elapsed().as_secs_f64());
+        well &= said.is_ok();
+    }
+    well
+}
+
+/// The whole self-test with so many random scripts a kind.
+pub fn all(seed: u64, count: u64) -> bool {
+    run(vec![
+        ("01's counter cases", Box::new(counter_cases)),
+        ("longest frames", Box::new(longest_frames)),
+        ("findings", Box::new(crate::findings::all)),
+        ("all short scripts", Box::new(short_scripts)),
+        ("whole-table rule", Box::new(move || whole(seed, 2 * count, Ways::default()))),
+        ("the two judges", Box::new(move || judges(seed, count))),
+        ("step rules", Box::new(move || all_kinds(seed, count))),
+        ("ways of feeding", Box::new(move || ways(seed, count / 4))),
+        ("refusals", Box::new(move || refusals(seed, count))),
+    ])
+}

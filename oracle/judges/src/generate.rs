@@ -1,0 +1,471 @@
+//! Random scripts, made from a seed and a number alone, so that every one can be made again.
+use crate::rules::{Row, Rules, compare_rows};
+use crate::script::{Answer, Call, Judge, Open};
+
+/// What a script is made to reach.
+#[derive(Clone, Copy, Debug, PartialEq)]
+pub enum Kind {
+    /// Both sides sorted, everything handed in and turned: for the whole-table rule.
+    Whole,
+    /// Sorted, nearly sorted and unsorted sides, all options, ports and ends of right at any moment.
+    Mixed,
+    /// Turns in Flush: frames wait when left is done.
+    Flush,
+    /// One by-column with nulls last over unsorted rows, many null groups.
+    NullsLast,
+    /// The order check on, rows out of order here and there: faults at each place.
+    Order,
+    /// Keys, groups and tolerances at both ends of the 64-bit range.
+    Ends,
+    /// Small areas, broken frames, calls at the wrong time: what 01 refuses, and the Rust does not know.
+    Refusals,
+}
+
+/// All kinds that the Rust and the rules are compared on.
+pub const COMPARED: [Kind; 6] = [Kind::Whole, Kind::Mixed, Kind::Flush, Kind::NullsLast, Kind::Order, Kind::Ends];
+
+impl Kind {
+    /// The kind of a name, as the command line gives it.
+    pub fn named(name: &str) -> Option<Kind> {
+        let all = COMPARED.into_iter().chain([Kind::Refusals]);
+        all.into_iter().find(|k| format!("{k:?}").eq_ignore_ascii_case(name))
+    }
+}
+
+/// A source of random numbers (splitmix64).
+pub struct Random(u64);
+
+impl Random {
+    /// The source of a script: its seed, kind and number.
+    fn new(seed: u64, kind: Kind, number: u64) -> Self {
+        let mut out = Random(seed ^ ((kind as u64 + 1) << 56));
+        out.0 = out.next() ^ number.wrapping_mul(0x9E37_79B9_7F4A_7C15);
+        out.next();
+        out
+    }
+
+    /// Any 64 bits.
+    fn next(&mut self) -> u64 {
+        self.0 = self.0.wrapping_add(0x9E37_79B9_7F4A_7C15);
+        let mut z = self.0;
+        z = (z ^ (z >> 30)).wrapping_mul(0xBF58_476D_1CE4_E5B9);
+        z = (z ^ (z >> 27)).wrapping_mul(0x94D0_49BB_1331_11EB);
+        z ^ (z >> 31)
+    }
+
+    /// A number below n.
+    fn below(&mut self, n: usize) -> usize {
+        (self.next() >> 11) as usize % n
+    }
+
+    /// True in so many of a hundred cases.
+    fn percent(&mut self, n: usize) -> bool {
+        self.below(100) < n
+    }
+
+    /// One of these.
+    fn pick<T: Copy>(&mut self, from: &[T]) -> T {
+        from[self.below(from.len())]
+    }
+}
+
+/// Where values come from.
+#[derive(Clone, Copy)]
+enum Pool {
+    /// 0 to this less 1, so that equal values are common.
+    Below(usize),
+    /// Both ends of the 64-bit range, and around 0.
+    Ends,
+}
+
+impl Pool {
+    /// A value of the pool.
+    fn value(self, r: &mut Random) -> i64 {
+        const ENDS: [i64; 9] = [i64::MIN, i64::MIN + 1, i64::MIN + 2, -1, 0, 1, i64::MAX - 2, i64::MAX - 1, i64::MAX];
+        match self {
+            Pool::Below(n) => r.below(n) as i64,
+            Pool::Ends => r.pick(&ENDS),
+        }
+    }
+}
+
+/// How a side's rows stand.
+#[derive(Clone, Copy, PartialEq)]
+enum Arrangement {
+    Sorted,
+    Nearly,
+    Unsorted,
+}
+
+/// What a script's tables are made of.
+struct Shape {
+    open: Open,
+    keys: Pool,
+    groups: Pool,
+    null_keys: usize,
+    null_groups: usize,
+    rows: usize,
+}
+
+/// A tolerance: none, 0, the greatest, or near the distances of the keys.
+fn tolerance(r: &mut Random, keys: Pool) -> i64 {
+    match (r.below(10), keys) {
+        (0..=3, _) => -1,
+        (4, _) => 0,
+        (5, _) => i64::MAX,
+        (6, Pool::Ends) => r.pick(&[i64::MAX - 1, i64::MAX - 2, 1 << 62]),
+        _ => 1 + r.below(4) as i64,
+    }
+}
+
+/// Options with this many by-columns; the areas are set once the frames are known.
+fn open(r: &mut Random, b: usize, keys: Pool) -> Open {
+    let strategy = r.below(3) as i64;
+    Open {
+        b,
+        strategy,
+        eq: strategy == 2 || r.percent(60),
+        tolerance: tolerance(r, keys),
+        check: r.percent(50),
+        descending: (0..b).map(|_| r.percent(50)).collect(),
+        nulls_last: (0..b).map(|_| r.percent(50)).collect(),
+        left_words: 0,
+        right_words: 0,
+    }
+}
+
+/// The shape of a kind's scripts.
+fn shape(r: &mut Random, kind: Kind) -> Shape {
+    let b = match kind {
+        Kind::NullsLast => 1,
+        _ => r.pick(&[0, 0, 0, 1, 1, 1, 2, 2, 3, 4]),
+    };
+    let small = [Pool::Below(3), Pool::Below(6), Pool::Below(12), Pool::Below(40), Pool::Ends];
+    let keys = if kind == Kind::Ends { Pool::Ends } else { r.pick(&small) };
+    let groups = match b {
+        _ if kind == Kind::Ends || r.percent(5) => Pool::Ends,
+        3 | 4 => Pool::Below(2),
+        _ => r.pick(&[Pool::Below(2), Pool::Below(3)]),
+    };
+    let mut open = open(r, b, keys);
+    let (mut null_keys, mut null_groups) = (r.pick(&[0, 0, 10, 30]), r.pick(&[0, 0, 10, 25]));
+    match kind {
+        Kind::NullsLast => {
+            (open.nulls_last[0], open.check, null_groups) = (true, r.percent(15), 30);
+        },
+        Kind::Order => (open.check, null_keys) = (true, r.pick(&[0, 20, 40])),
+        _ => {},
+    }
+    let rows = if r.percent(2) { 60 } else { r.pick(&[3, 6, 10, 16, 24]) };
+    Shape { open, keys, groups, null_keys, null_groups, rows }
+}
+
+/// A row of the shape.
+fn row(r: &mut Random, s: &Shape) -> Row {
+    let mut out: Row = vec![];
+    for _ in 0..s.open.b {
+        out.push(if r.percent(s.null_groups) { None } else { Some(s.groups.value(r)) });
+    }
+    out.push(if r.percent(s.null_keys) { None } else { Some(s.keys.value(r)) });
+    out
+}
+
+/// A side's whole table.
+fn table(r: &mut Random, s: &Shape, how: Arrangement) -> Vec<Row> {
+    let count = r.below(s.rows + 1);
+    let mut rows: Vec<Row> = (0..count).map(|_| row(r, s)).collect();
+    if how != Arrangement::Unsorted {
+        rows.sort_by(|x, y| compare_rows(&s.open, x, y));
+    }
+    if how == Arrangement::Nearly && !rows.is_empty() {
+        let (i, j) = (r.below(rows.len()), r.below(rows.len()));
+        match r.below(3) {
+            0 => rows.swap(i, j),
+            1 => rows[i] = row(r, s),
+            _ => rows[i..].rotate_left(1),
+        }
+    }
+    rows
+}
+
+/// A frame's words.
+fn words(rows: &[Row], c: usize) -> Vec<i64> {
+    let cells = || rows.iter().flatten();
+    let mut out = vec![rows.len() as i64, c as i64];
+    out.extend(cells().map(|x| x.unwrap_or(0)));
+    out.extend(cells().map(|x| x.is_some() as i64));
+    out
+}
+
+/// A table cut into frames: whole, row by row, or anywhere, with empty ones among them.
+fn cut(r: &mut Random, rows: &[Row], c: usize) -> Vec<Vec<i64>> {
+    let widest = r.pick(&[1, 3, 3, 6, usize::MAX]).min(rows.len().max(1));
+    let mut frames = vec![];
+    let mut rest = rows;
+    while !rest.is_empty() || r.percent(10) {
+        let n = if r.percent(8) { 0 } else { (1 + r.below(widest)).min(rest.len()) };
+        let (frame, after) = rest.split_at(n);
+        frames.push(words(frame, c));
+        rest = after;
+    }
+    frames
+}
+
+/// What is still to be handed in, and the script so far. The rules' join stands beside it, to know when a turn would be
+/// idle and what 01 refuses.
+struct Draft {
+    left: Vec<Vec<i64>>,
+    right: Vec<Vec<i64>>,
+    output: usize,
+    calls: Vec<Call>,
+    rules: Rules,
+    /// Whether calls that 01 refuses stay in the script.
+    keep_refused: bool,
+}
+
+impl Draft {
+    /// Cuts both tables, and opens with areas for all of them, so that 6 never arises.
+    fn new(r: &mut Random, mut s: Shape, left: &[Row], right: &[Row]) -> Self {
+        let c = s.open.b + 1;
+        let (mut left, mut right) = (cut(r, left, c), cut(r, right, c));
+        s.open.left_words = left.iter().map(Vec::len).sum();
+        s.open.right_words = right.iter().map(|f| 2 * c * f[0] as usize).sum();
+        let output = 2 + 2 * left.iter().map(|f| f[0] as usize).max().unwrap_or(0);
+        left.reverse();
+        right.reverse();
+        let mut out = Draft { left, right, output, calls: vec![], rules: Rules::default(), keep_refused: false };
+        out.push(Call::Open(s.open));
+        out
+    }
+
+    /// Adds a call, unless 01 refuses it and such calls are left out.
+    fn push(&mut self, call: Call) {
+        let answer = self.rules.call(&call);
+        if self.keep_refused || !matches!(answer, Answer::Refused(1..=7)) {
+            self.calls.push(call);
+        }
+    }
+
+    /// Whether a left frame waits.
+    fn waits(&self) -> bool {
+        self.rules.look().is_some_and(|l| l.queue_words > 0)
+    }
+
+    /// Hands in the next left frame, if one is left.
+    fn left(&mut self) {
+        if let Some(frame) = self.left.pop() {
+            self.push(Call::Left(frame));
+        }
+    }
+
+    /// Hands in the next right frame, if one is left.
+    fn right(&mut self) {
+        if let Some(frame) = self.right.pop() {
+            self.push(Call::Right(frame));
+        }
+    }
+
+    /// A turn with output enough for any frame; an idle one now and then only.
+    fn turn(&mut self, r: &mut Random) {
+        if self.waits() || r.percent(15) {
+            self.push(Call::Turn(self.output));
+        }
+    }
+
+    /// A port call, its ports Done in so many of a hundred cases.
+    fn ports(&mut self, r: &mut Random, left_done: usize, send_done: usize) {
+        let port = |r: &mut Random, done: usize| if r.percent(done) { 2 } else { r.pick(&[0, 1, 1]) };
+        let ports = [port(r, left_done), port(r, 20), port(r, send_done)];
+        self.push(Call::Ports(ports));
+    }
+
+    /// Whether frames are still to be handed in.
+    fn open_ends(&self) -> bool {
+        !self.left.is_empty() || !self.right.is_empty()
+    }
+
+    /// Ends right and turns what waits, until nothing does or an order fault ends it.
+    fn finish(&mut self, r: &mut Random) {
+        self.push(Call::End);
+        let stopped = |d: &Draft| d.rules.look().is_none_or(|l| l.failed || l.state == 2);
+        while self.waits() && !stopped(self) {
+            self.turn(r);
+        }
+        self.turn(r);
+    }
+}
+
+/// Hands everything in at random, with turns between, then ends right and makes a turn for each frame: enough, whatever
+/// the earlier turns did.
+fn whole(r: &mut Random, mut d: Draft) -> Vec<Call> {
+    let frames = d.left.len();
+    while d.open_ends() {
+        match r.below(7) {
+            0 | 1 => d.left(),
+            2 | 3 => d.right(),
+            4 if d.right.is_empty() => d.push(Call::End),
+            _ => d.turn(r),
+        }
+    }
+    d.push(Call::End);
+    (0..frames).for_each(|_| d.push(Call::Turn(d.output)));
+    d.calls
+}
+
+/// Anything at any moment.
+fn mixed(r: &mut Random, mut d: Draft) -> Vec<Call> {
+    let (early_end, ports) = (r.pick(&[0, 0, 4]), r.pick(&[0, 10, 25]));
+    d.keep_refused = r.percent(10);
+    let mut steps = 60;
+    while steps > 0 && (d.open_ends() || r.percent(70)) {
+        steps -= 1;
+        let left_done = if d.left.is_empty() { 30 } else { 3 };
+        match r.below(100) {
+            0..=21 => d.left(),
+            22..=45 => d.right(),
+            46..=53 if d.right.is_empty() => d.push(Call::End),
+            x if x < 46 + early_end => d.push(Call::End),
+            x if x < 54 + ports => d.ports(r, left_done, 3),
+            _ => d.turn(r),
+        }
+    }
+    if r.percent(80) {
+        d.finish(r);
+    }
+    d.ports(r, 50, 10);
+    d.calls
+}
+
+/// Frames that wait when left is done, then turns, right frames, ports and the end of right in Flush, to Done.
+fn flush(r: &mut Random, mut d: Draft) -> Vec<Call> {
+    while !d.left.is_empty() {
+        d.left();
+        if r.percent(40) {
+            d.right();
+        }
+        if r.percent(15) {
+            d.turn(r);
+        }
+    }
+    d.push(Call::Ports([2, r.below(3) as u8, r.below(2) as u8]));
+    for _ in 0..2 + r.below(20) {
+        match r.below(10) {
+            0..=2 => d.right(),
+            3 => d.ports(r, 60, 2),
+            4 if d.right.is_empty() || r.percent(20) => d.push(Call::End),
+            _ => d.turn(r),
+        }
+    }
+    d.finish(r);
+    d.ports(r, 90, 5);
+    d.calls
+}
+
+/// Frames on both sides with turns between, most often with the end of right and a turn for each.
+fn plain(r: &mut Random, mut d: Draft) -> Vec<Call> {
+    while d.open_ends() {
+        match r.below(5) {
+            0 => d.left(),
+            1..=3 => d.right(),
+            _ => d.turn(r),
+        }
+    }
+    if r.percent(90) {
+        d.finish(r);
+    }
+    d.calls
+}
+
+/// A frame that breaks the frame rule, most of the time.
+fn broken_frame(r: &mut Random, c: usize) -> Vec<i64> {
+    let mut out = words(&vec![vec![Some(1); c]; r.below(3)], c);
+    match r.below(6) {
+        0 => out.truncate(r.below(out.len() + 1)),
+        1 => out.push(0),
+        2 => out[0] = r.pick(&[-1, 4097, i64::MIN, i64::MAX]),
+        3 => out[1] = r.pick(&[0, 1, 2, 6, -1]),
+        4 => *out.last_mut().unwrap() = r.pick(&[2, -1, 0]),
+        _ => (0..out.len()).for_each(|i| out[i] = r.below(3) as i64),
+    }
+    out
+}
+
+/// Other options than a draft began with: small areas, and now and then ones that 01 refuses.
+fn small_open(r: &mut Random, mut o: Open) -> Open {
+    o.left_words = r.below(o.left_words + 8);
+    o.right_words = r.below(o.right_words + 8);
+    match r.below(40) {
+        0 => o.strategy = r.pick(&[-1, 3]),
+        1 => o.tolerance = r.pick(&[-2, i64::MIN]),
+        2 => (o.strategy, o.eq) = (2, false),
+        _ => {},
+    }
+    o
+}
+
+/// Small areas, short outputs, broken frames and calls at the wrong time.
+fn refusals(r: &mut Random, mut d: Draft) -> Vec<Call> {
+    let Some(Call::Open(o)) = d.calls.pop() else { unreachable!() };
+    let c = o.b + 1;
+    d.keep_refused = true;
+    d.push(Call::Open(small_open(r, o)));
+    for _ in 0..10 + r.below(30) {
+        match r.below(20) {
+            0..=4 => d.left(),
+            5..=9 => d.right(),
+            10 => d.push(Call::Left(broken_frame(r, c))),
+            11 => d.push(Call::Right(broken_frame(r, c))),
+            12 if r.percent(30) => d.push(Call::End),
+            13 => d.ports(r, 10, 3),
+            14 => d.push(Call::Turn(r.below(d.output + 1))),
+            15 => d.push(Call::State),
+            _ => d.turn(r),
+        }
+    }
+    d.calls
+}
+
+/// How both sides of a kind's scripts stand.
+fn arrangements(r: &mut Random, kind: Kind) -> [Arrangement; 2] {
+    use Arrangement::*;
+    match kind {
+        Kind::Whole => [Sorted, Sorted],
+        Kind::NullsLast => [r.pick(&[Unsorted, Unsorted, Nearly]), Unsorted],
+        Kind::Order => r.pick(&[[Nearly, Sorted], [Sorted, Nearly], [Nearly, Nearly], [Sorted, Sorted]]),
+        _ => [r.pick(&[Sorted, Sorted, Nearly, Unsorted]), r.pick(&[Sorted, Sorted, Nearly, Unsorted])],
+    }
+}
+
+/// Makes the areas just large enough: 6 still never arises, and live rows and frames must move to the front.
+fn tighten(r: &mut Random, calls: &mut [Call]) {
+    let mut rules = Rules::default();
+    let (mut left, mut held) = (0, 0);
+    for call in calls.iter() {
+        rules.call(call);
+        let look = rules.look().expect("a script opens first");
+        (left, held) = (left.max(look.queue_words), held.max(look.held));
+    }
+    if let Call::Open(o) = &mut calls[0] {
+        let row = 2 * (o.b + 1);
+        (o.left_words, o.right_words) = (left, row * held + r.below(row));
+    }
+}
+
+/// The script of this number among a seed's scripts of a kind.
+pub fn script(kind: Kind, seed: u64, number: u64) -> Vec<Call> {
+    let r = &mut Random::new(seed, kind, number);
+    let s = shape(r, kind);
+    let [left, right] = arrangements(r, kind).map(|how| table(r, &s, how));
+    let d = Draft::new(r, s, &left, &right);
+    let mut calls = match kind {
+        Kind::Whole => whole(r, d),
+        Kind::Mixed | Kind::Ends => mixed(r, d),
+        Kind::Flush => flush(r, d),
+        Kind::NullsLast | Kind::Order => plain(r, d),
+        Kind::Refusals => return refusals(r, d),
+    };
+    if r.percent(50) {
+        tighten(r, &mut calls);
+    }
+    calls
+}

@@ -1,0 +1,562 @@
+//! A judge that knows nothing of the Rust: 01's step rules, sentence by sentence, as plainly as they can be said. It
+//! speaks the whole script language, with areas, all refusals and `state`. It shares no code with the Rust's driver,
+//! with the stand-ins or with the judge of the whole-table rule.
+use std::cmp::Ordering;
+
+use crate::script::{Answer, Call, Judge, Look, Open};
+
+/// A cell: null, or a number.
+pub type Cell = Option<i64>;
+
+/// A row: b by-values, then the key.
+pub type Row = Vec<Cell>;
+
+/// "Null equals null; it stands before every value, or after where nulls last is set, whatever the direction. Values
+/// compare as numbers, reversed if descending."
+fn compare_cells(x: Cell, y: Cell, descending: bool, nulls_last: bool) -> Ordering {
+    match (x, y) {
+        (Some(x), Some(y)) if descending => y.cmp(&x),
+        (Some(x), Some(y)) => x.cmp(&y),
+        (None, None) => Ordering::Equal,
+        (None, Some(_)) => {
+            if nulls_last {
+                Ordering::Greater
+            } else {
+                Ordering::Less
+            }
+        },
+        (Some(_), None) => {
+            if nulls_last {
+                Ordering::Less
+            } else {
+                Ordering::Greater
+            }
+        },
+    }
+}
+
+/// "Rows compare by by-columns in order": two rows' groups.
+fn compare_groups(o: &Open, x: &Row, y: &Row) -> Ordering {
+    for j in 0..o.b {
+        let by = compare_cells(x[j], y[j], o.descending[j], o.nulls_last[j]);
+        if by != Ordering::Equal {
+            return by;
+        }
+    }
+    Ordering::Equal
+}
+
+/// "The key is ascending, nulls first."
+fn compare_keys(x: Cell, y: Cell) -> Ordering {
+    compare_cells(x, y, false, false)
+}
+
+/// "Rows compare by by-columns in order, then key."
+pub fn compare_rows(o: &Open, x: &Row, y: &Row) -> Ordering {
+    compare_groups(o, x, y).then(compare_keys(x[o.b], y[o.b]))
+}
+
+/// "Sorted: no row is greater than the next."
+pub fn sorted(o: &Open, rows: &[Row]) -> bool {
+    rows.windows(2).all(|two| compare_rows(o, &two[0], &two[1]) != Ordering::Greater)
+}
+
+/// "Over lower..upper, probe (lower + upper) ÷ 2 rounded down; true moves upper to it, false moves lower past it; the
+/// answer is lower."
+fn search(mut lower: usize, mut upper: usize, test: impl Fn(usize) -> bool) -> usize {
+    while lower < upper {
+        let probe = (lower + upper) / 2;
+        if test(probe) { upper = probe } else { lower = probe + 1 }
+    }
+    lower
+}
+
+/// "narrow start and end by each by-value of the last left row": the first held row that is not before the value, and
+/// the first that is after it, column by column.
+fn narrow(o: &Open, held: &[Row], by: &Row) -> (usize, usize) {
+    let (mut start, mut end) = (0, held.len());
+    for j in 0..o.b {
+        let at = |i: usize| compare_cells(held[i][j], by[j], o.descending[j], o.nulls_last[j]);
+        start = search(start, end, |i| at(i) != Ordering::Less);
+        end = search(start, end, |i| at(i) == Ordering::Greater);
+    }
+    (start, end)
+}
+
+/// "Need more": whether the held rows may not be enough for this left frame.
+fn need_more(o: &Open, left: &[Row], held: &[Row]) -> bool {
+    let Some(last) = left.last() else { return false };
+    if held.is_empty() {
+        return true;
+    }
+    let (start, end) = narrow(o, held, last);
+    if start == held.len() || end < held.len() {
+        return start == held.len();
+    }
+    let first_at_least = |v: Cell, from: usize| search(from, end, |i| compare_keys(held[i][o.b], v) != Ordering::Less);
+    let first_above = |v: Cell, from: usize| search(from, end, |i| compare_keys(held[i][o.b], v) == Ordering::Greater);
+    let v = last[o.b];
+    let find = match (o.strategy, o.eq) {
+        (1, true) | (0, false) => first_at_least(v, start),
+        (1, false) | (0, true) => first_above(v, start),
+        _ => {
+            let above = first_above(v, start);
+            if above == held.len() { above } else { first_above(held[above][o.b], above) }
+        },
+    };
+    find >= held.len()
+}
+
+/// "the frame's first row with a key".
+fn first_keyed<'a>(o: &Open, rows: &'a [Row]) -> Option<&'a Row> {
+    rows.iter().find(|r| r[o.b].is_some())
+}
+
+/// "the frame's last row with a key".
+fn last_keyed<'a>(o: &Open, rows: &'a [Row]) -> Option<&'a Row> {
+    rows.iter().rev().find(|r| r[o.b].is_some())
+}
+
+/// Whether the earlier row, if any, is greater than the later one, if any.
+fn out_of_order(o: &Open, earlier: Option<&Row>, later: Option<&Row>) -> bool {
+    earlier.zip(later).is_some_and(|(e, l)| compare_rows(o, e, l) == Ordering::Greater)
+}
+
+/// "A group is null if any by-value is."
+fn null_group(o: &Open, row: &Row) -> bool {
+    row[..o.b].contains(&None)
+}
+
+/// "A run is consecutive rows of equal group; neighbouring null groups form one run.": where each run starts and ends.
+fn runs(o: &Open, rows: &[Row]) -> Vec<(usize, usize)> {
+    let mut out: Vec<(usize, usize)> = vec![];
+    for (i, row) in rows.iter().enumerate() {
+        let same = |before: &Row| match (null_group(o, before), null_group(o, row)) {
+            (false, false) => compare_groups(o, before, row) == Ordering::Equal,
+            (x, y) => x && y,
+        };
+        match out.last_mut() {
+            Some(run) if same(&rows[run.1 - 1]) => run.1 = i + 1,
+            _ => out.push((i, i + 1)),
+        }
+    }
+    out
+}
+
+/// "The distance of two keys is the greater less the smaller".
+fn distance(x: i64, y: i64) -> i128 {
+    (x as i128 - y as i128).abs()
+}
+
+/// "Nearest: least distance, then greater key, then last position.": whether a later row is chosen over an earlier one.
+fn nearer(v: i64, earlier: i64, later: i64) -> bool {
+    match distance(later, v).cmp(&distance(earlier, v)) {
+        Ordering::Less => true,
+        Ordering::Equal => later >= earlier,
+        Ordering::Greater => false,
+    }
+}
+
+/// "Matching": the place of the chosen row among rows of one group, for a left key.
+fn choose(o: &Open, key: Cell, rows: &[Row]) -> Option<usize> {
+    let v = key?;
+    let mut chosen: Option<(usize, i64)> = None;
+    for (i, row) in rows.iter().enumerate() {
+        let Some(k) = row[o.b] else { continue };
+        let better = match o.strategy {
+            0 => k < v || (o.eq && k == v),
+            1 => (k > v || (o.eq && k == v)) && chosen.is_none(),
+            _ => chosen.is_none_or(|(_, c)| nearer(v, c, k)),
+        };
+        if better {
+            chosen = Some((i, k));
+        }
+    }
+    let (i, k) = chosen?;
+    (o.tolerance < 0 || distance(k, v) <= o.tolerance as i128).then_some(i)
+}
+
+/// "One right cursor serves the frame: for each left run that isn't null it passes null runs and runs before the left
+/// group; an equal run is used, else an empty one.": each left row's place among the held rows.
+fn match_frame(o: &Open, left: &[Row], held: &[Row]) -> Vec<Option<usize>> {
+    if o.b == 0 {
+        return left.iter().map(|x| choose(o, x[0], held)).collect();
+    }
+    let right_runs = runs(o, held);
+    let mut cursor = right_runs.iter().peekable();
+    let mut out = vec![];
+    for (from, to) in runs(o, left) {
+        let group = &left[from];
+        let mut used = (0, 0);
+        if !null_group(o, group) {
+            let passed = |r: &Row| null_group(o, r) || compare_groups(o, r, group) == Ordering::Less;
+            while cursor.next_if(|run| passed(&held[run.0])).is_some() {}
+            let equal = cursor.peek().filter(|run| compare_groups(o, &held[run.0], group) == Ordering::Equal);
+            used = equal.map_or((0, 0), |run| **run);
+        }
+        let rows = &held[used.0..used.1];
+        out.extend(left[from..to].iter().map(|x| choose(o, x[o.b], rows).map(|i| used.0 + i)));
+    }
+    out
+}
+
+/// "Prune": how many held rows stand before the split by this left row.
+fn split(o: &Open, by: &Row, held: &[Row]) -> usize {
+    let (start, end) = narrow(o, held, by);
+    let first = search(start, end, |i| compare_keys(held[i][o.b], by[o.b]) != Ordering::Less);
+    if o.strategy == 1 || first == start { first } else { first - 1 }
+}
+
+/// 1: "Opening with b above 4, strategy outside 0 to 2, tolerance below −1, or Nearest without equality gives no join."
+fn bad_options(o: &Open) -> bool {
+    o.b > 4 || !(0..=2).contains(&o.strategy) || o.tolerance < -1 || (o.strategy == 2 && !o.eq)
+}
+
+/// "Mark 1 is present, 0 is null with value 0; no other mark. Its length is exactly 2 + 2nc words."
+fn frame_ok(c: usize, words: &[i64]) -> bool {
+    if words.len() < 2 || words[0] < 0 || words[0] > 4096 || words[1] != c as i64 {
+        return false;
+    }
+    let nc = words[0] as usize * c;
+    words.len() == 2 + 2 * nc && (2..2 + nc).all(|i| words[i + nc] == 1 || (words[i + nc] == 0 && words[i] == 0))
+}
+
+/// Rows from two parallel arrays: "any nonzero mark is present, and a null's value is not read".
+fn rows_of(c: usize, n: usize, values: &[i64], marks: &[i64]) -> Vec<Row> {
+    let cell = |at: usize| if marks[at] == 0 { None } else { Some(values[at]) };
+    (0..n).map(|i| (0..c).map(|j| cell(i * c + j)).collect()).collect()
+}
+
+/// The rows of a frame that keeps the frame rule.
+pub fn frame_rows(c: usize, words: &[i64]) -> Vec<Row> {
+    let n = words[0] as usize;
+    rows_of(c, n, &words[2..], &words[2 + n * c..])
+}
+
+/// Where an order fault was seen, for the counts of a run.
+#[derive(Clone, Copy, Debug, PartialEq)]
+pub enum Fault {
+    LeftContinuity,
+    LeftFrame,
+    Held,
+    Split,
+}
+
+impl Fault {
+    /// "8. Left out of order", "9. Right out of order, held rows or split".
+    fn number(self) -> u8 {
+        match self {
+            Fault::LeftContinuity | Fault::LeftFrame => 8,
+            Fault::Held | Fault::Split => 9,
+        }
+    }
+}
+
+/// What a turn that writes changes.
+struct Written {
+    matches: Vec<Option<u64>>,
+    dropped: usize,
+    left: Option<Row>,
+    right: Option<Row>,
+}
+
+/// An open join with its two areas.
+pub struct Join {
+    o: Open,
+    left_area: Vec<i64>,
+    right_area: Vec<i64>,
+    look: Look,
+    fault: Option<Fault>,
+}
+
+impl Join {
+    /// "A fresh join is Running, right not ended, not failed, no row remembered, counters 0"; the areas' words are
+    /// those that scripts begin with.
+    fn open(o: &Open) -> Option<Join> {
+        if bad_options(o) {
+            return None;
+        }
+        let look = Look {
+            base: 0,
+            held: 0,
+            pruned: 0,
+            queue_start: 0,
+            queue_words: 0,
+            state: 0,
+            ended: false,
+            failed: false,
+            sequence: 0,
+            left: None,
+            right: None,
+        };
+        let left_area = (0..o.left_words as i64).map(|i| (7 * i) % 11 - 5).collect();
+        let right_area = (0..o.right_words as i64).map(|i| (5 * i) % 13 - 6).collect();
+        Some(Join { o: o.clone(), left_area, right_area, look, fault: None })
+    }
+
+    /// "c = b + 1".
+    fn c(&self) -> usize {
+        self.o.b + 1
+    }
+
+    /// "Right capacity R is the area's words ÷ 2c, rounded down."
+    fn capacity(&self) -> usize {
+        self.right_area.len() / (2 * self.c())
+    }
+
+    /// "Held row i has values from word (base + i) × c and marks from (R + base + i) × c."
+    fn held_rows(&self) -> Vec<Row> {
+        let (c, base) = (self.c(), self.look.base);
+        let values = &self.right_area[base * c..];
+        let marks = &self.right_area[(self.capacity() + base) * c..];
+        rows_of(c, self.look.held, values, marks)
+    }
+
+    /// 2: whether the fields cannot be those of a join. No script reaches it; a port's host can.
+    fn broken(&self) -> bool {
+        let l = &self.look;
+        bad_options(&self.o)
+            || l.base as u128 + l.held as u128 > self.capacity() as u128
+            || l.queue_start as u128 + l.queue_words as u128 > self.left_area.len() as u128
+            || l.pruned as u128 + l.held as u128 > i64::MAX as u128
+            || l.sequence % 2 == 1
+    }
+
+    /// A left call: refusals 4, 5, 6, then "Waiting left frames stand back to back".
+    fn left(&mut self, words: &[i64]) -> Answer {
+        let (room, waiting) = (self.left_area.len(), self.look.queue_words);
+        if self.look.state != 0 {
+            return Answer::Refused(4);
+        } else if !frame_ok(self.c(), words) {
+            return Answer::Refused(5);
+        } else if waiting + words.len() > room {
+            return Answer::Refused(6);
+        }
+        let start = self.look.queue_start;
+        if start + waiting + words.len() > room {
+            self.left_area.copy_within(start..start + waiting, 0);
+            self.look.queue_start = 0;
+        }
+        let to = self.look.queue_start + waiting;
+        self.left_area[to..to + words.len()].copy_from_slice(words);
+        self.look.queue_words += words.len();
+        Answer::Ok
+    }
+
+    /// A right call: refusals 4, 5, 6, 7, then its rows are held.
+    fn right(&mut self, words: &[i64]) -> Answer {
+        if self.look.ended || self.look.state == 2 {
+            return Answer::Refused(4);
+        } else if !frame_ok(self.c(), words) {
+            return Answer::Refused(5);
+        }
+        let n = words[0] as usize;
+        if self.look.held + n > self.capacity() {
+            return Answer::Refused(6);
+        } else if self.look.pruned as u128 + self.look.held as u128 + n as u128 > i64::MAX as u128 {
+            return Answer::Refused(7);
+        }
+        self.append_right(n, &words[2..]);
+        Answer::Ok
+    }
+
+    /// "Where an append would pass the end, the live rows or frames move to the front first".
+    fn append_right(&mut self, n: usize, cells: &[i64]) {
+        let (c, r, held) = (self.c(), self.capacity(), self.look.held);
+        if self.look.base + held + n > r {
+            let from = self.look.base * c;
+            self.right_area.copy_within(from..from + held * c, 0);
+            self.right_area.copy_within(r * c + from..r * c + from + held * c, r * c);
+            self.look.base = 0;
+        }
+        let to = (self.look.base + held) * c;
+        self.right_area[to..to + n * c].copy_from_slice(&cells[..n * c]);
+        self.right_area[r * c + to..r * c + to + n * c].copy_from_slice(&cells[n * c..]);
+        self.look.held += n;
+    }
+
+    /// An end-of-right call: refusal 4, then right has ended.
+    fn end(&mut self) -> Answer {
+        if self.look.ended || self.look.state == 2 {
+            return Answer::Refused(4);
+        }
+        self.look.ended = true;
+        Answer::Ok
+    }
+
+    /// "Ports", for left, right, send; refused by 2 and 3 alone.
+    fn ports(&mut self, [left, right, send]: [u8; 3]) -> Answer {
+        const BLOCKED: u8 = 0;
+        const DONE: u8 = 2;
+        let look = &mut self.look;
+        if send == DONE {
+            look.state = 2;
+        } else if look.state == 0 && left == DONE {
+            look.state = 1;
+        }
+        if look.state == 1 && look.queue_words == 0 {
+            look.state = 2;
+        }
+        let ready_unless = |others: &[u8]| if others.contains(&BLOCKED) { 0 } else { 1 };
+        let ports = match look.state {
+            0 => [ready_unless(&[right, send]), ready_unless(&[left, send]), ready_unless(&[left, right])],
+            1 => [2, ready_unless(&[send]), ready_unless(&[right])],
+            _ => [2, 2, 2],
+        };
+        Answer::Ports(ports, look.state)
+    }
+
+    /// 5: "The front's length is what its n and c give; it breaks the rule if that exceeds the queue words or these are
+    /// below 2." The waiting front frame's words, or none where they break the rule.
+    fn front(&self) -> Option<&[i64]> {
+        let queue = &self.left_area[self.look.queue_start..][..self.look.queue_words];
+        let rows = queue.first().filter(|n| (0..=4096).contains(*n))?;
+        let length = 2 + 2 * *rows as usize * self.c();
+        queue.get(..length).filter(|frame| frame_ok(self.c(), frame))
+    }
+
+    /// "Left: the remembered row must not be greater than the frame's first row with a key; … Then frame and held rows
+    /// must each be sorted."
+    fn order_check(&self, left: &[Row], held: &[Row]) -> Result<(), Fault> {
+        let o = &self.o;
+        if out_of_order(o, self.look.left.as_ref(), first_keyed(o, left)) {
+            return Err(Fault::LeftContinuity);
+        } else if !sorted(o, left) {
+            return Err(Fault::LeftFrame);
+        } else if !sorted(o, held) {
+            return Err(Fault::Held);
+        }
+        Ok(())
+    }
+
+    /// "With the check on: the row before the split is the last row with a key in the part before it, or else the
+    /// remembered row; it must not be greater than the first row with a key after the split, and is then remembered."
+    fn split_check(&self, held: &[Row], at: usize) -> Result<Option<Row>, Fault> {
+        let before = last_keyed(&self.o, &held[..at]).or(self.look.right.as_ref());
+        if out_of_order(&self.o, before, first_keyed(&self.o, &held[at..])) {
+            return Err(Fault::Split);
+        }
+        Ok(before.cloned())
+    }
+
+    /// "Otherwise: left continuity; prune by row 0 if the check is off; sorted checks; match; prune by the last row".
+    fn work(&self, left: &[Row], mut held: &[Row]) -> Result<Written, Fault> {
+        let o = &self.o;
+        if o.check {
+            self.order_check(left, held)?;
+        }
+        let mut dropped = 0;
+        if let (false, Some(first), false) = (o.check, left.first(), held.is_empty()) {
+            dropped = split(o, first, held);
+            held = &held[dropped..];
+        }
+        let number = |i: usize| self.look.pruned + (dropped + i) as u64;
+        let matches = match_frame(o, left, held).into_iter().map(|m| m.map(number)).collect();
+        let mut right = self.look.right.clone();
+        if let (Some(last), false) = (left.last(), held.is_empty()) {
+            let at = split(o, last, held);
+            if o.check {
+                right = self.split_check(held, at)?;
+            }
+            dropped += at;
+        }
+        let keyed = last_keyed(o, left).filter(|_| o.check).cloned();
+        Ok(Written { matches, dropped, left: keyed.or(self.look.left.clone()), right })
+    }
+
+    /// "Turn": refusals 4 to 9 in order, Idle, Wants right, or what it writes.
+    fn turn(&mut self, output: usize) -> Answer {
+        if self.look.state == 2 {
+            return Answer::Refused(4);
+        } else if self.look.queue_words == 0 {
+            return Answer::Idle;
+        }
+        let Some(front) = self.front() else { return Answer::Refused(5) };
+        let (length, left, held) = (front.len(), frame_rows(self.c(), front), self.held_rows());
+        if !self.look.ended && need_more(&self.o, &left, &held) {
+            return Answer::Wants;
+        } else if output < 2 + 2 * left.len() {
+            return Answer::Refused(6);
+        } else if self.look.sequence == u64::MAX - 1 {
+            return Answer::Refused(7);
+        }
+        match self.work(&left, &held) {
+            Ok(written) => self.leave(length, written),
+            Err(fault) => {
+                self.look.failed = true;
+                self.fault = Some(fault);
+                Answer::Refused(fault.number())
+            },
+        }
+    }
+
+    /// "the frame leaves the queue, sequence + 2"; "Written: n, 1, n right numbers, n marks (none: 0 and 0)".
+    fn leave(&mut self, length: usize, written: Written) -> Answer {
+        let look = &mut self.look;
+        let sequence = look.sequence;
+        look.base += written.dropped;
+        look.held -= written.dropped;
+        look.pruned += written.dropped as u64;
+        look.queue_start += length;
+        look.queue_words -= length;
+        look.sequence += 2;
+        (look.left, look.right) = (written.left, written.right);
+        let mut words = vec![written.matches.len() as i64, 1];
+        words.extend(written.matches.iter().map(|m| m.map_or(0, |number| number as i64)));
+        words.extend(written.matches.iter().map(|m| m.is_some() as i64));
+        Answer::Wrote(sequence, words)
+    }
+
+    /// "numbers in checking order": 2 and 3 come first in every call.
+    fn call(&mut self, call: &Call) -> Answer {
+        if let Call::State = call {
+            return Answer::State(Box::new(self.look.clone()));
+        } else if let Call::Areas = call {
+            return Answer::Areas(self.left_area.clone(), self.right_area.clone());
+        } else if self.broken() {
+            return Answer::Refused(2);
+        } else if self.look.failed {
+            return Answer::Refused(3);
+        }
+        match call {
+            Call::Left(words) => self.left(words),
+            Call::Right(words) => self.right(words),
+            Call::End => self.end(),
+            Call::Ports(ports) => self.ports(*ports),
+            Call::Turn(output) => self.turn(*output),
+            Call::Open(_) | Call::State | Call::Areas => unreachable!(),
+        }
+    }
+}
+
+/// The judge that answers by 01's step rules.
+#[derive(Default)]
+pub struct Rules {
+    join: Option<Join>,
+}
+
+impl Rules {
+    /// What `state` would tell, if a join is open.
+    pub fn look(&self) -> Option<&Look> {
+        self.join.as_ref().map(|j| &j.look)
+    }
+
+    /// Where the fault that stopped the join was seen.
+    pub fn fault(&self) -> Option<Fault> {
+        self.join.as_ref().and_then(|j| j.fault)
+    }
+}
+
+impl Judge for Rules {
+    /// Opens, or asks the open join.
+    fn call(&mut self, call: &Call) -> Answer {
+        match (call, &mut self.join) {
+            (Call::Open(o), join) => {
+                *join = Join::open(o);
+                if join.is_some() { Answer::Ok } else { Answer::Refused(1) }
+            },
+            (_, None) => Answer::NoJoin,
+            (call, Some(join)) => join.call(call),
+        }
+    }
+}

@@ -1,0 +1,155 @@
+//! Stand-in: the functions whose meaning 01 gives under Order, Groups and Matching.
+
+pub mod series {
+    use polars_core::prelude::*;
+
+    /// The lengths of the runs of equal neighbours.
+    fn lengths<T: PartialEq>(values: &[T], out: &mut Vec<IdxSize>) {
+        out.clear();
+        out.extend(values.chunk_by(|a, b| a == b).map(|run| run.len() as IdxSize));
+    }
+
+    /// 01, Groups: "A run is consecutive rows of equal group; neighbouring null groups form one run." For one
+    /// by-column.
+    pub fn rle_lengths(col: &Column, out: &mut Vec<IdxSize>) -> PolarsResult<()> {
+        lengths(col.values(), out);
+        Ok(())
+    }
+
+    /// The same sentence of 01, for several by-columns, encoded.
+    pub fn rle_lengths_helper_ca(ca: &ChunkedArray<BinaryOffsetType>, out: &mut Vec<IdxSize>) {
+        lengths(ca.values(), out);
+    }
+}
+
+pub mod frame {
+    use polars_core::prelude::*;
+
+    /// 01, Options: "Strategy 0 Backward, 1 Forward, 2 Nearest".
+    #[derive(Clone, Copy, Debug, PartialEq)]
+    pub enum AsofStrategy {
+        Backward,
+        Forward,
+        Nearest,
+    }
+
+    /// 01, Options: strategy, tolerance, by-columns, equality and order check.
+    #[derive(Clone, Debug)]
+    pub struct AsOfOptions {
+        pub strategy: AsofStrategy,
+        pub tolerance: Option<Scalar>,
+        pub left_by: Option<Vec<PlSmallStr>>,
+        pub right_by: Option<Vec<PlSmallStr>>,
+        pub allow_eq: bool,
+        pub check_sortedness: bool,
+    }
+
+    /// The kinds of join; the node unpacks the as-of one.
+    #[derive(Clone, Debug)]
+    pub enum JoinType {
+        Inner,
+        AsOf(Box<AsOfOptions>),
+    }
+
+    /// A join's kind, and the suffix of its columns' names, which stays out of 01.
+    #[derive(Clone, Debug)]
+    pub struct JoinArgs {
+        pub how: JoinType,
+        pub suffix: Option<PlSmallStr>,
+    }
+
+    impl JoinArgs {
+        /// Whether two key columns of one name become one; the driver's have two names, so it is not seen.
+        pub fn should_coalesce(&self) -> bool {
+            true
+        }
+    }
+
+    /// Whether two columns can be joined at all: all are numbers here. The node asks for no order check in it.
+    pub fn _check_asof_columns(
+        _left: &Series,
+        _right: &Series,
+        _has_tolerance: bool,
+        check_sortedness: bool,
+        _by_groups_present: bool,
+    ) -> PolarsResult<()> {
+        assert!(!check_sortedness);
+        Ok(())
+    }
+
+    /// The left columns with the right ones beside them; suffixes stay out of 01.
+    pub fn _finish_join(left: DataFrame, right: DataFrame, _suffix: Option<PlSmallStr>) -> PolarsResult<DataFrame> {
+        left.hstack(&right)
+    }
+
+    /// 01, Matching: "Backward: last row by position with key ≤ v (< v without equality). Forward: first ≥ v (> v).
+    /// Nearest: least distance, then greater key, then last position."
+    fn choice(right: &[Option<i64>], v: i64, strategy: AsofStrategy, allow_eq: bool) -> Option<(usize, i64)> {
+        let mut keys = right.iter().enumerate().filter_map(|(i, k)| k.map(|k| (i, k)));
+        match strategy {
+            AsofStrategy::Backward => keys.rfind(|&(_, k)| k < v || (allow_eq && k == v)),
+            AsofStrategy::Forward => keys.find(|&(_, k)| k > v || (allow_eq && k == v)),
+            AsofStrategy::Nearest => {
+                assert!(allow_eq, "01 gives Nearest without equality no meaning");
+                keys.max_by_key(|&(i, k)| (std::cmp::Reverse(k.abs_diff(v)), k, i))
+            },
+        }
+    }
+
+    /// 01, Matching: "A left null key gets none; right null keys never qualify." and "A choice at distance above the
+    /// tolerance becomes none."
+    pub fn _join_asof_dispatch(
+        left: &Series,
+        right: &Series,
+        strategy: AsofStrategy,
+        tolerance: Option<AnyValue<'static>>,
+        allow_eq: bool,
+    ) -> PolarsResult<IdxCa> {
+        let tolerance = tolerance.map(|t| match t {
+            AnyValue::Int64(t) => u64::try_from(t).unwrap(),
+            _ => unreachable!(),
+        });
+        let find = |v: i64| {
+            let (at, key) = choice(right.values(), v, strategy, allow_eq)?;
+            tolerance.is_none_or(|t| key.abs_diff(v) <= t).then_some(at as IdxSize)
+        };
+        Ok(IdxCa::new(left.values().iter().map(|v| v.and_then(find)).collect()))
+    }
+
+    pub mod is_sorted {
+        use std::cell::RefCell;
+        use std::cmp::Ordering;
+
+        use polars_core::prelude::*;
+        use polars_utils::sort::reorder_cmp;
+
+        thread_local! {
+            /// The key column of every check that said no: the Rust's one error does not say which side it was.
+            pub static FAULTS: RefCell<Vec<PlSmallStr>> = const { RefCell::new(Vec::new()) };
+        }
+
+        /// Frames whose order can be asked for.
+        pub trait DataFrameIsSorted {
+            /// Whether the rows are in order by these columns.
+            fn is_sorted(&self, by: &[PlSmallStr], descending: &[bool], nulls_last: &[bool]) -> PolarsResult<bool>;
+        }
+
+        impl DataFrameIsSorted for DataFrame {
+            /// 01, Order: "Rows compare by by-columns in order, then key. Sorted: no row is greater than the next."
+            fn is_sorted(&self, by: &[PlSmallStr], descending: &[bool], nulls_last: &[bool]) -> PolarsResult<bool> {
+                assert!(by.len() == descending.len() && by.len() == nulls_last.len());
+                let columns = by.iter().map(|n| self.column(n)).collect::<PolarsResult<Vec<_>>>()?;
+                let cmp = |i: usize, j: usize| {
+                    let cells = columns.iter().zip(descending).zip(nulls_last);
+                    let ords = cells.map(|((c, d), l)| reorder_cmp(&c.values()[i], &c.values()[j], *d, *l));
+                    ords.fold(Ordering::Equal, Ordering::then)
+                };
+                let sorted = (1..self.height()).all(|i| cmp(i - 1, i).is_le());
+                if !sorted {
+                    FAULTS.with_borrow_mut(|f| f.push(*by.last().unwrap()));
+                }
+                Ok(sorted)
+            }
+        }
+    }
+}
