@@ -12,69 +12,139 @@ use Rattle.node.proofs.Script.{ok, refused, wrote, wants, idle, noJoin, looks, 
 use Rattle.node.specs.declared.PortState.the-variants.{Blocked, Ready, Done as PortDone}
 
 list-1 : script
-    (opens (options 3 2 true (pos 2) true (true ∷ true ∷ false ∷ []) (true ∷ false ∷ false ∷ [])) 44 32
-    ∷ call (right (pos 2 ∷ pos 4 ∷ pos 1 ∷ pos 0 ∷ pos 0 ∷ pos 9223372036854775807 ∷ pos 1 ∷ pos 0 ∷ pos 1 ∷ pos 0 ∷ pos 1 ∷ pos 1 ∷ pos 1 ∷ pos 1 ∷ pos 1 ∷ pos 1 ∷ pos 1 ∷ pos 1 ∷ []))
-    ∷ call (left (pos 1 ∷ pos 4 ∷ pos 1 ∷ pos 0 ∷ pos 0 ∷ negsuc 9223372036854775806 ∷ pos 1 ∷ pos 0 ∷ pos 1 ∷ pos 1 ∷ []))
-    ∷ call (turn (space 10))
-    ∷ call (left (pos 4 ∷ pos 4 ∷ pos 1 ∷ pos 1 ∷ pos 0 ∷ pos 1 ∷ pos 0 ∷ pos 0 ∷ pos 1 ∷ pos 0 ∷ pos 0 ∷ pos 1 ∷ pos 1 ∷ pos 0 ∷ pos 0 ∷ pos 0 ∷ pos 0 ∷ negsuc 9223372036854775806 ∷ pos 1 ∷ pos 1 ∷ pos 1 ∷ pos 1 ∷ pos 1 ∷ pos 0 ∷ pos 1 ∷ pos 1 ∷ pos 1 ∷ pos 1 ∷ pos 1 ∷ pos 1 ∷ pos 0 ∷ pos 1 ∷ pos 1 ∷ pos 1 ∷ []))
-    ∷ call (right (pos 1 ∷ pos 4 ∷ pos 0 ∷ pos 0 ∷ pos 0 ∷ negsuc 9223372036854775807 ∷ pos 1 ∷ pos 1 ∷ pos 1 ∷ pos 1 ∷ []))
-    ∷ call (turn (space 10))
-    ∷ call (ports Blocked Ready Ready)
-    ∷ call (right (pos 1 ∷ pos 4 ∷ pos 0 ∷ pos 0 ∷ pos 0 ∷ pos 0 ∷ pos 0 ∷ pos 1 ∷ pos 1 ∷ pos 0 ∷ []))
-    ∷ call (turn (space 10))
-    ∷ call (right (pos 0 ∷ pos 4 ∷ []))
-    ∷ call (turn (space 10))
-    ∷ call (turn (space 10))
+    (opens (options 2 1 false (negsuc 0) true (false ∷ false ∷ []) (false ∷ false ∷ [])) 22 84
+    ∷ call (ports Blocked Blocked Ready)
+    ∷ call (left (pos 2 ∷ pos 3 ∷ pos 0 ∷ pos 0 ∷ pos 3 ∷ pos 1 ∷ pos 0 ∷ pos 4 ∷ pos 1 ∷ pos 1 ∷ pos 1 ∷ pos 1 ∷ pos 1 ∷ pos 1 ∷ []))
+    ∷ call (right (pos 3 ∷ pos 3 ∷ pos 0 ∷ pos 0 ∷ pos 0 ∷ pos 0 ∷ pos 0 ∷ pos 1 ∷ pos 0 ∷ pos 0 ∷ pos 4 ∷ pos 1 ∷ pos 1 ∷ pos 1 ∷ pos 1 ∷ pos 1 ∷ pos 1 ∷ pos 1 ∷ pos 1 ∷ pos 1 ∷ []))
+    ∷ call (right (pos 1 ∷ pos 3 ∷ pos 0 ∷ pos 0 ∷ pos 4 ∷ pos 1 ∷ pos 1 ∷ pos 1 ∷ []))
+    ∷ call (turn (space 6))
+    ∷ call (left (pos 1 ∷ pos 3 ∷ pos 1 ∷ pos 0 ∷ pos 2 ∷ pos 1 ∷ pos 1 ∷ pos 1 ∷ []))
+    ∷ call (turn (space 6))
+    ∷ call (right (pos 2 ∷ pos 3 ∷ pos 0 ∷ pos 1 ∷ pos 2 ∷ pos 0 ∷ pos 1 ∷ pos 3 ∷ pos 1 ∷ pos 1 ∷ pos 1 ∷ pos 1 ∷ pos 1 ∷ pos 1 ∷ []))
+    ∷ call (right (pos 3 ∷ pos 3 ∷ pos 0 ∷ pos 1 ∷ pos 4 ∷ pos 1 ∷ pos 0 ∷ pos 0 ∷ pos 1 ∷ pos 0 ∷ pos 0 ∷ pos 1 ∷ pos 1 ∷ pos 1 ∷ pos 1 ∷ pos 1 ∷ pos 1 ∷ pos 1 ∷ pos 1 ∷ pos 1 ∷ []))
+    ∷ call (right (pos 3 ∷ pos 3 ∷ pos 1 ∷ pos 1 ∷ pos 0 ∷ pos 1 ∷ pos 1 ∷ pos 0 ∷ pos 1 ∷ pos 1 ∷ pos 0 ∷ pos 1 ∷ pos 1 ∷ pos 1 ∷ pos 1 ∷ pos 1 ∷ pos 1 ∷ pos 1 ∷ pos 1 ∷ pos 1 ∷ []))
+    ∷ call (turn (space 6))
+    ∷ call (turn (space 6))
+    ∷ call (turn (space 6))
+    ∷ call (turn (space 6))
+    ∷ call (right (pos 1 ∷ pos 3 ∷ pos 1 ∷ pos 1 ∷ pos 3 ∷ pos 1 ∷ pos 1 ∷ pos 1 ∷ []))
+    ∷ call (turn (space 6))
+    ∷ call (right (pos 1 ∷ pos 3 ∷ pos 1 ∷ pos 1 ∷ pos 4 ∷ pos 1 ∷ pos 1 ∷ pos 1 ∷ []))
     ∷ call end
-    ∷ call (turn (space 10))
-    ∷ call (ports PortDone Blocked PortDone)
+    ∷ call (turn (space 6))
+    ∷ call (ports Ready Ready Ready)
     ∷ state
     ∷ dump
     ∷ [])
     ≡ ok
+    ∷ said-ports 0 0 0 0
     ∷ ok
     ∷ ok
-    ∷ wrote 0 (pos 1 ∷ pos 1 ∷ pos 0 ∷ pos 0 ∷ [])
-    ∷ ok
-    ∷ ok
-    ∷ wants
-    ∷ said-ports 1 0 0 0
     ∷ ok
     ∷ wants
     ∷ ok
     ∷ wants
-    ∷ wants
     ∷ ok
-    ∷ wrote 2 (pos 4 ∷ pos 1 ∷ pos 0 ∷ pos 0 ∷ pos 0 ∷ pos 0 ∷ pos 0 ∷ pos 0 ∷ pos 0 ∷ pos 0 ∷ [])
-    ∷ said-ports 2 2 2 2
-    ∷ looks (3 ∷ 1 ∷ 3 ∷ 44 ∷ 0 ∷ 2 ∷ 1 ∷ 0 ∷ 4 ∷ []) (some (null ∷ value (pos 0) ∷ value (pos 0) ∷ value (negsuc 9223372036854775806) ∷ [])) (some (value (pos 0) ∷ value (pos 0) ∷ value (pos 0) ∷ value (negsuc 9223372036854775807) ∷ []))
-    ∷ areas (pos 1 ∷ pos 4 ∷ pos 1 ∷ pos 0 ∷ pos 0 ∷ negsuc 9223372036854775806 ∷ pos 1 ∷ pos 0 ∷ pos 1 ∷ pos 1 ∷ pos 4 ∷ pos 4 ∷ pos 1 ∷ pos 1 ∷ pos 0 ∷ pos 1 ∷ pos 0 ∷ pos 0 ∷ pos 1 ∷ pos 0 ∷ pos 0 ∷ pos 1 ∷ pos 1 ∷ pos 0 ∷ pos 0 ∷ pos 0 ∷ pos 0 ∷ negsuc 9223372036854775806 ∷ pos 1 ∷ pos 1 ∷ pos 1 ∷ pos 1 ∷ pos 1 ∷ pos 0 ∷ pos 1 ∷ pos 1 ∷ pos 1 ∷ pos 1 ∷ pos 1 ∷ pos 1 ∷ pos 0 ∷ pos 1 ∷ pos 1 ∷ pos 1 ∷ []) (pos 1 ∷ pos 0 ∷ pos 0 ∷ pos 9223372036854775807 ∷ pos 1 ∷ pos 0 ∷ pos 1 ∷ pos 0 ∷ pos 0 ∷ pos 0 ∷ pos 0 ∷ negsuc 9223372036854775807 ∷ pos 0 ∷ pos 0 ∷ pos 0 ∷ pos 0 ∷ pos 1 ∷ pos 1 ∷ pos 1 ∷ pos 1 ∷ pos 1 ∷ pos 1 ∷ pos 1 ∷ pos 1 ∷ pos 1 ∷ pos 1 ∷ pos 1 ∷ pos 1 ∷ pos 0 ∷ pos 1 ∷ pos 1 ∷ pos 0 ∷ [])
+    ∷ ok
+    ∷ ok
+    ∷ wrote 0 (pos 2 ∷ pos 1 ∷ pos 2 ∷ pos 0 ∷ pos 1 ∷ pos 0 ∷ [])
+    ∷ refused 8
+    ∷ refused 3
+    ∷ refused 3
+    ∷ refused 3
+    ∷ refused 3
+    ∷ refused 3
+    ∷ refused 3
+    ∷ refused 3
+    ∷ refused 3
+    ∷ looks (9 ∷ 3 ∷ 9 ∷ 14 ∷ 8 ∷ 0 ∷ 0 ∷ 1 ∷ 2 ∷ []) (some (value (pos 1) ∷ value (pos 0) ∷ value (pos 4) ∷ [])) (some (value (pos 1) ∷ value (pos 0) ∷ value (pos 0) ∷ []))
+    ∷ areas (pos 2 ∷ pos 3 ∷ pos 0 ∷ pos 0 ∷ pos 3 ∷ pos 1 ∷ pos 0 ∷ pos 4 ∷ pos 1 ∷ pos 1 ∷ pos 1 ∷ pos 1 ∷ pos 1 ∷ pos 1 ∷ pos 1 ∷ pos 3 ∷ pos 1 ∷ pos 0 ∷ pos 2 ∷ pos 1 ∷ pos 1 ∷ pos 1 ∷ []) (pos 0 ∷ pos 0 ∷ pos 0 ∷ pos 0 ∷ pos 0 ∷ pos 1 ∷ pos 0 ∷ pos 0 ∷ pos 4 ∷ pos 0 ∷ pos 0 ∷ pos 4 ∷ pos 0 ∷ pos 1 ∷ pos 2 ∷ pos 0 ∷ pos 1 ∷ pos 3 ∷ pos 0 ∷ pos 1 ∷ pos 4 ∷ pos 1 ∷ pos 0 ∷ pos 0 ∷ pos 1 ∷ pos 0 ∷ pos 0 ∷ pos 1 ∷ pos 1 ∷ pos 0 ∷ pos 1 ∷ pos 1 ∷ pos 0 ∷ pos 1 ∷ pos 1 ∷ pos 0 ∷ pos 5 ∷ negsuc 2 ∷ pos 2 ∷ negsuc 5 ∷ negsuc 0 ∷ pos 4 ∷ pos 1 ∷ pos 1 ∷ pos 1 ∷ pos 1 ∷ pos 1 ∷ pos 1 ∷ pos 1 ∷ pos 1 ∷ pos 1 ∷ pos 1 ∷ pos 1 ∷ pos 1 ∷ pos 1 ∷ pos 1 ∷ pos 1 ∷ pos 1 ∷ pos 1 ∷ pos 1 ∷ pos 1 ∷ pos 1 ∷ pos 1 ∷ pos 1 ∷ pos 1 ∷ pos 1 ∷ pos 1 ∷ pos 1 ∷ pos 1 ∷ pos 1 ∷ pos 1 ∷ pos 1 ∷ pos 1 ∷ pos 1 ∷ pos 1 ∷ pos 1 ∷ pos 1 ∷ pos 1 ∷ negsuc 5 ∷ negsuc 0 ∷ pos 4 ∷ negsuc 3 ∷ pos 1 ∷ pos 6 ∷ [])
     ∷ []
 unfolding script
 list-1 = refl
 
 list-2 : script
-    (opens (options 2 0 true (pos 9223372036854775807) true (true ∷ false ∷ []) (true ∷ false ∷ [])) 8 18
-    ∷ call (ports Blocked Ready Ready)
-    ∷ call (right (pos 3 ∷ pos 3 ∷ pos 1 ∷ pos 2 ∷ pos 4 ∷ pos 0 ∷ pos 0 ∷ pos 5 ∷ pos 0 ∷ pos 1 ∷ pos 1 ∷ pos 1 ∷ pos 1 ∷ pos 1 ∷ pos 1 ∷ pos 1 ∷ pos 1 ∷ pos 1 ∷ pos 1 ∷ pos 1 ∷ []))
-    ∷ call (left (pos 1 ∷ pos 3 ∷ pos 1 ∷ pos 0 ∷ pos 6 ∷ pos 1 ∷ pos 1 ∷ pos 1 ∷ []))
-    ∷ call (turn (space 4))
+    (opens (options 3 2 true (negsuc 0) false (true ∷ true ∷ false ∷ []) (true ∷ true ∷ true ∷ [])) 64 176
+    ∷ call (left (pos 1 ∷ pos 4 ∷ pos 1 ∷ pos 0 ∷ pos 0 ∷ negsuc 9223372036854775807 ∷ pos 1 ∷ pos 1 ∷ pos 1 ∷ pos 1 ∷ []))
+    ∷ call (left (pos 3 ∷ pos 4 ∷ pos 1 ∷ pos 0 ∷ pos 0 ∷ negsuc 9223372036854775806 ∷ pos 1 ∷ pos 0 ∷ pos 0 ∷ negsuc 9223372036854775805 ∷ pos 1 ∷ pos 0 ∷ pos 1 ∷ negsuc 0 ∷ pos 1 ∷ pos 1 ∷ pos 1 ∷ pos 1 ∷ pos 1 ∷ pos 1 ∷ pos 1 ∷ pos 1 ∷ pos 1 ∷ pos 1 ∷ pos 1 ∷ pos 1 ∷ []))
+    ∷ call (turn (space 8))
+    ∷ call (left (pos 2 ∷ pos 4 ∷ pos 1 ∷ pos 0 ∷ pos 1 ∷ pos 9223372036854775806 ∷ pos 0 ∷ pos 1 ∷ pos 1 ∷ pos 0 ∷ pos 1 ∷ pos 1 ∷ pos 1 ∷ pos 1 ∷ pos 1 ∷ pos 1 ∷ pos 1 ∷ pos 1 ∷ []))
+    ∷ call (turn (space 8))
+    ∷ call (turn (space 8))
+    ∷ call (turn (space 8))
     ∷ call end
-    ∷ call (turn (space 4))
-    ∷ call (ports PortDone Blocked Ready)
+    ∷ call (turn (space 8))
+    ∷ call (turn (space 8))
+    ∷ call (right (pos 1 ∷ pos 4 ∷ pos 1 ∷ pos 1 ∷ pos 0 ∷ negsuc 9223372036854775806 ∷ pos 1 ∷ pos 1 ∷ pos 1 ∷ pos 1 ∷ []))
+    ∷ call (right (pos 3 ∷ pos 4 ∷ pos 1 ∷ pos 1 ∷ pos 0 ∷ negsuc 9223372036854775806 ∷ pos 1 ∷ pos 1 ∷ pos 0 ∷ negsuc 9223372036854775805 ∷ pos 1 ∷ pos 1 ∷ pos 0 ∷ pos 0 ∷ pos 1 ∷ pos 1 ∷ pos 1 ∷ pos 1 ∷ pos 1 ∷ pos 1 ∷ pos 1 ∷ pos 1 ∷ pos 1 ∷ pos 1 ∷ pos 1 ∷ pos 1 ∷ []))
+    ∷ call (turn (space 8))
+    ∷ call (turn (space 8))
+    ∷ call end
+    ∷ call (ports Blocked PortDone Ready)
+    ∷ call end
+    ∷ call (left (pos 1 ∷ pos 4 ∷ pos 0 ∷ pos 0 ∷ pos 1 ∷ negsuc 9223372036854775805 ∷ pos 1 ∷ pos 1 ∷ pos 1 ∷ pos 1 ∷ []))
+    ∷ call (turn (space 8))
+    ∷ call (turn (space 8))
+    ∷ call end
+    ∷ call (ports Blocked PortDone Ready)
+    ∷ call (right (pos 3 ∷ pos 4 ∷ pos 1 ∷ pos 1 ∷ pos 0 ∷ pos 9223372036854775806 ∷ pos 1 ∷ pos 1 ∷ pos 1 ∷ negsuc 0 ∷ pos 1 ∷ pos 0 ∷ pos 0 ∷ pos 1 ∷ pos 1 ∷ pos 1 ∷ pos 1 ∷ pos 1 ∷ pos 1 ∷ pos 1 ∷ pos 1 ∷ pos 1 ∷ pos 1 ∷ pos 1 ∷ pos 1 ∷ pos 1 ∷ []))
+    ∷ call (turn (space 8))
+    ∷ call (turn (space 8))
+    ∷ call (right (pos 2 ∷ pos 4 ∷ pos 1 ∷ pos 0 ∷ pos 0 ∷ pos 9223372036854775805 ∷ pos 1 ∷ pos 0 ∷ pos 0 ∷ pos 9223372036854775806 ∷ pos 1 ∷ pos 1 ∷ pos 1 ∷ pos 1 ∷ pos 1 ∷ pos 1 ∷ pos 1 ∷ pos 1 ∷ []))
+    ∷ call (right (pos 1 ∷ pos 4 ∷ pos 1 ∷ pos 0 ∷ pos 0 ∷ pos 9223372036854775806 ∷ pos 1 ∷ pos 1 ∷ pos 1 ∷ pos 1 ∷ []))
+    ∷ call (turn (space 8))
+    ∷ call (right (pos 3 ∷ pos 4 ∷ pos 1 ∷ pos 0 ∷ pos 1 ∷ negsuc 9223372036854775806 ∷ pos 1 ∷ pos 0 ∷ pos 1 ∷ negsuc 0 ∷ pos 0 ∷ pos 1 ∷ pos 0 ∷ negsuc 9223372036854775805 ∷ pos 1 ∷ pos 1 ∷ pos 1 ∷ pos 1 ∷ pos 1 ∷ pos 1 ∷ pos 1 ∷ pos 1 ∷ pos 1 ∷ pos 1 ∷ pos 1 ∷ pos 1 ∷ []))
+    ∷ call (turn (space 8))
+    ∷ call (ports Ready Blocked Blocked)
+    ∷ call (turn (space 8))
+    ∷ call (turn (space 8))
+    ∷ call (turn (space 8))
+    ∷ call (turn (space 8))
+    ∷ call end
+    ∷ call (ports Ready Ready Ready)
     ∷ state
     ∷ dump
     ∷ [])
     ≡ ok
-    ∷ said-ports 1 0 0 0
     ∷ ok
+    ∷ ok
+    ∷ wants
+    ∷ ok
+    ∷ wants
+    ∷ wants
+    ∷ wants
     ∷ ok
     ∷ wrote 0 (pos 1 ∷ pos 1 ∷ pos 0 ∷ pos 0 ∷ [])
-    ∷ ok
+    ∷ wrote 2 (pos 3 ∷ pos 1 ∷ pos 0 ∷ pos 0 ∷ pos 0 ∷ pos 0 ∷ pos 0 ∷ pos 0 ∷ [])
+    ∷ refused 4
+    ∷ refused 4
+    ∷ wrote 4 (pos 2 ∷ pos 1 ∷ pos 0 ∷ pos 0 ∷ pos 0 ∷ pos 0 ∷ [])
     ∷ idle
-    ∷ said-ports 2 2 2 2
-    ∷ looks (0 ∷ 3 ∷ 0 ∷ 8 ∷ 0 ∷ 2 ∷ 1 ∷ 0 ∷ 2 ∷ []) (some (value (pos 1) ∷ value (pos 0) ∷ value (pos 6) ∷ [])) none
-    ∷ areas (pos 1 ∷ pos 3 ∷ pos 1 ∷ pos 0 ∷ pos 6 ∷ pos 1 ∷ pos 1 ∷ pos 1 ∷ []) (pos 1 ∷ pos 2 ∷ pos 4 ∷ pos 0 ∷ pos 0 ∷ pos 5 ∷ pos 0 ∷ pos 1 ∷ pos 1 ∷ pos 1 ∷ pos 1 ∷ pos 1 ∷ pos 1 ∷ pos 1 ∷ pos 1 ∷ pos 1 ∷ pos 1 ∷ pos 1 ∷ [])
+    ∷ refused 4
+    ∷ said-ports 1 0 0 0
+    ∷ refused 4
+    ∷ ok
+    ∷ wrote 6 (pos 1 ∷ pos 1 ∷ pos 0 ∷ pos 0 ∷ [])
+    ∷ idle
+    ∷ refused 4
+    ∷ said-ports 1 0 0 0
+    ∷ refused 4
+    ∷ idle
+    ∷ idle
+    ∷ refused 4
+    ∷ refused 4
+    ∷ idle
+    ∷ refused 4
+    ∷ idle
+    ∷ said-ports 0 0 0 0
+    ∷ idle
+    ∷ idle
+    ∷ idle
+    ∷ idle
+    ∷ refused 4
+    ∷ said-ports 1 1 1 0
+    ∷ looks (0 ∷ 0 ∷ 0 ∷ 64 ∷ 0 ∷ 0 ∷ 1 ∷ 0 ∷ 8 ∷ []) none none
+    ∷ areas (pos 1 ∷ pos 4 ∷ pos 1 ∷ pos 0 ∷ pos 0 ∷ negsuc 9223372036854775807 ∷ pos 1 ∷ pos 1 ∷ pos 1 ∷ pos 1 ∷ pos 3 ∷ pos 4 ∷ pos 1 ∷ pos 0 ∷ pos 0 ∷ negsuc 9223372036854775806 ∷ pos 1 ∷ pos 0 ∷ pos 0 ∷ negsuc 9223372036854775805 ∷ pos 1 ∷ pos 0 ∷ pos 1 ∷ negsuc 0 ∷ pos 1 ∷ pos 1 ∷ pos 1 ∷ pos 1 ∷ pos 1 ∷ pos 1 ∷ pos 1 ∷ pos 1 ∷ pos 1 ∷ pos 1 ∷ pos 1 ∷ pos 1 ∷ pos 2 ∷ pos 4 ∷ pos 1 ∷ pos 0 ∷ pos 1 ∷ pos 9223372036854775806 ∷ pos 0 ∷ pos 1 ∷ pos 1 ∷ pos 0 ∷ pos 1 ∷ pos 1 ∷ pos 1 ∷ pos 1 ∷ pos 1 ∷ pos 1 ∷ pos 1 ∷ pos 1 ∷ pos 1 ∷ pos 4 ∷ pos 0 ∷ pos 0 ∷ pos 1 ∷ negsuc 9223372036854775805 ∷ pos 1 ∷ pos 1 ∷ pos 1 ∷ pos 1 ∷ []) (negsuc 5 ∷ negsuc 0 ∷ pos 4 ∷ negsuc 3 ∷ pos 1 ∷ pos 6 ∷ negsuc 1 ∷ pos 3 ∷ negsuc 4 ∷ pos 0 ∷ pos 5 ∷ negsuc 2 ∷ pos 2 ∷ negsuc 5 ∷ negsuc 0 ∷ pos 4 ∷ negsuc 3 ∷ pos 1 ∷ pos 6 ∷ negsuc 1 ∷ pos 3 ∷ negsuc 4 ∷ pos 0 ∷ pos 5 ∷ negsuc 2 ∷ pos 2 ∷ negsuc 5 ∷ negsuc 0 ∷ pos 4 ∷ negsuc 3 ∷ pos 1 ∷ pos 6 ∷ negsuc 1 ∷ pos 3 ∷ negsuc 4 ∷ pos 0 ∷ pos 5 ∷ negsuc 2 ∷ pos 2 ∷ negsuc 5 ∷ negsuc 0 ∷ pos 4 ∷ negsuc 3 ∷ pos 1 ∷ pos 6 ∷ negsuc 1 ∷ pos 3 ∷ negsuc 4 ∷ pos 0 ∷ pos 5 ∷ negsuc 2 ∷ pos 2 ∷ negsuc 5 ∷ negsuc 0 ∷ pos 4 ∷ negsuc 3 ∷ pos 1 ∷ pos 6 ∷ negsuc 1 ∷ pos 3 ∷ negsuc 4 ∷ pos 0 ∷ pos 5 ∷ negsuc 2 ∷ pos 2 ∷ negsuc 5 ∷ negsuc 0 ∷ pos 4 ∷ negsuc 3 ∷ pos 1 ∷ pos 6 ∷ negsuc 1 ∷ pos 3 ∷ negsuc 4 ∷ pos 0 ∷ pos 5 ∷ negsuc 2 ∷ pos 2 ∷ negsuc 5 ∷ negsuc 0 ∷ pos 4 ∷ negsuc 3 ∷ pos 1 ∷ pos 6 ∷ negsuc 1 ∷ pos 3 ∷ negsuc 4 ∷ pos 0 ∷ pos 5 ∷ negsuc 2 ∷ pos 2 ∷ negsuc 5 ∷ negsuc 0 ∷ pos 4 ∷ negsuc 3 ∷ pos 1 ∷ pos 6 ∷ negsuc 1 ∷ pos 3 ∷ negsuc 4 ∷ pos 0 ∷ pos 5 ∷ negsuc 2 ∷ pos 2 ∷ negsuc 5 ∷ negsuc 0 ∷ pos 4 ∷ negsuc 3 ∷ pos 1 ∷ pos 6 ∷ negsuc 1 ∷ pos 3 ∷ negsuc 4 ∷ pos 0 ∷ pos 5 ∷ negsuc 2 ∷ pos 2 ∷ negsuc 5 ∷ negsuc 0 ∷ pos 4 ∷ negsuc 3 ∷ pos 1 ∷ pos 6 ∷ negsuc 1 ∷ pos 3 ∷ negsuc 4 ∷ pos 0 ∷ pos 5 ∷ negsuc 2 ∷ pos 2 ∷ negsuc 5 ∷ negsuc 0 ∷ pos 4 ∷ negsuc 3 ∷ pos 1 ∷ pos 6 ∷ negsuc 1 ∷ pos 3 ∷ negsuc 4 ∷ pos 0 ∷ pos 5 ∷ negsuc 2 ∷ pos 2 ∷ negsuc 5 ∷ negsuc 0 ∷ pos 4 ∷ negsuc 3 ∷ pos 1 ∷ pos 6 ∷ negsuc 1 ∷ pos 3 ∷ negsuc 4 ∷ pos 0 ∷ pos 5 ∷ negsuc 2 ∷ pos 2 ∷ negsuc 5 ∷ negsuc 0 ∷ pos 4 ∷ negsuc 3 ∷ pos 1 ∷ pos 6 ∷ negsuc 1 ∷ pos 3 ∷ negsuc 4 ∷ pos 0 ∷ pos 5 ∷ negsuc 2 ∷ pos 2 ∷ negsuc 5 ∷ negsuc 0 ∷ pos 4 ∷ negsuc 3 ∷ pos 1 ∷ pos 6 ∷ negsuc 1 ∷ [])
     ∷ []
 unfolding script
 list-2 = refl
@@ -126,100 +196,245 @@ unfolding script
 list-3 = refl
 
 list-4 : script
-    (opens (options 0 2 true (negsuc 0) true [] []) 14 4
-    ∷ call (right (pos 2 ∷ pos 1 ∷ pos 2 ∷ pos 5 ∷ pos 1 ∷ pos 1 ∷ []))
-    ∷ call (ports Blocked Blocked Blocked)
-    ∷ call (left (pos 1 ∷ pos 1 ∷ pos 0 ∷ pos 1 ∷ []))
-    ∷ call end
-    ∷ call (left (pos 1 ∷ pos 1 ∷ pos 1 ∷ pos 1 ∷ []))
-    ∷ call (ports Blocked Ready Ready)
-    ∷ call (ports Blocked Ready Ready)
-    ∷ call (ports Blocked Ready Blocked)
-    ∷ call (left (pos 1 ∷ pos 1 ∷ pos 4 ∷ pos 1 ∷ []))
-    ∷ call (ports Ready Ready Blocked)
-    ∷ call (ports Ready Blocked Ready)
-    ∷ call (turn (space 4))
-    ∷ call (turn (space 4))
-    ∷ call (turn (space 4))
-    ∷ call (left (pos 0 ∷ pos 1 ∷ []))
-    ∷ call (turn (space 4))
+    (opens (options 0 2 true (pos 1) false [] []) 0 0
+    ∷ call (ports PortDone Ready Blocked)
+    ∷ call (ports Ready Ready Ready)
+    ∷ call (right (pos 1 ∷ pos 1 ∷ pos 0 ∷ pos 1 ∷ []))
+    ∷ call (right (pos 3 ∷ pos 1 ∷ pos 0 ∷ pos 0 ∷ pos 9223372036854775805 ∷ pos 1 ∷ pos 1 ∷ pos 1 ∷ []))
+    ∷ call (ports Blocked Blocked PortDone)
+    ∷ call (ports Ready Ready Ready)
     ∷ call (ports PortDone PortDone Ready)
+    ∷ call (ports Ready Ready Ready)
+    ∷ call end
+    ∷ call (turn (space 2))
+    ∷ call (ports Ready Blocked Ready)
     ∷ state
     ∷ dump
     ∷ [])
     ≡ ok
-    ∷ ok
-    ∷ said-ports 0 0 0 0
-    ∷ ok
-    ∷ ok
-    ∷ ok
-    ∷ said-ports 1 0 0 0
-    ∷ said-ports 1 0 0 0
-    ∷ said-ports 0 0 0 0
-    ∷ ok
-    ∷ said-ports 0 0 1 0
-    ∷ said-ports 0 1 0 0
-    ∷ wrote 0 (pos 1 ∷ pos 1 ∷ pos 0 ∷ pos 1 ∷ [])
-    ∷ wrote 2 (pos 1 ∷ pos 1 ∷ pos 0 ∷ pos 1 ∷ [])
-    ∷ wrote 4 (pos 1 ∷ pos 1 ∷ pos 1 ∷ pos 1 ∷ [])
-    ∷ ok
-    ∷ wrote 6 (pos 0 ∷ pos 1 ∷ [])
     ∷ said-ports 2 2 2 2
-    ∷ looks (0 ∷ 2 ∷ 0 ∷ 14 ∷ 0 ∷ 2 ∷ 1 ∷ 0 ∷ 8 ∷ []) (some (value (pos 4) ∷ [])) none
-    ∷ areas (pos 1 ∷ pos 1 ∷ pos 0 ∷ pos 1 ∷ pos 1 ∷ pos 1 ∷ pos 1 ∷ pos 1 ∷ pos 1 ∷ pos 1 ∷ pos 4 ∷ pos 1 ∷ pos 0 ∷ pos 1 ∷ []) (pos 2 ∷ pos 5 ∷ pos 1 ∷ pos 1 ∷ [])
+    ∷ said-ports 2 2 2 2
+    ∷ refused 4
+    ∷ refused 4
+    ∷ said-ports 2 2 2 2
+    ∷ said-ports 2 2 2 2
+    ∷ said-ports 2 2 2 2
+    ∷ said-ports 2 2 2 2
+    ∷ refused 4
+    ∷ refused 4
+    ∷ said-ports 2 2 2 2
+    ∷ looks (0 ∷ 0 ∷ 0 ∷ 0 ∷ 0 ∷ 2 ∷ 0 ∷ 0 ∷ 0 ∷ []) none none
+    ∷ areas [] []
     ∷ []
 unfolding script
 list-4 = refl
 
 list-5 : script
-    (opens (options 0 1 false (pos 4611686018427387904) true [] []) 8 2
-    ∷ call (left (pos 1 ∷ pos 1 ∷ pos 0 ∷ pos 1 ∷ []))
-    ∷ call (turn (space 4))
-    ∷ call (turn (space 4))
-    ∷ call (right (pos 1 ∷ pos 1 ∷ pos 9223372036854775805 ∷ pos 1 ∷ []))
-    ∷ call (ports Blocked PortDone Ready)
-    ∷ call (turn (space 4))
-    ∷ call (right (pos 0 ∷ pos 1 ∷ []))
-    ∷ call (right (pos 0 ∷ pos 1 ∷ []))
-    ∷ call (left (pos 1 ∷ pos 1 ∷ pos 1 ∷ pos 1 ∷ []))
-    ∷ call end
-    ∷ call (turn (space 4))
-    ∷ call (ports Ready Blocked Blocked)
+    (opens (options 4 0 true (pos 2) false (true ∷ true ∷ false ∷ true ∷ []) (true ∷ false ∷ false ∷ false ∷ [])) 2 35
+    ∷ call (right (pos 1 ∷ pos 5 ∷ pos 0 ∷ pos 0 ∷ pos 0 ∷ pos 0 ∷ pos 7 ∷ pos 1 ∷ pos 1 ∷ pos 1 ∷ pos 1 ∷ pos 1 ∷ []))
+    ∷ call (right (pos 2 ∷ pos 5 ∷ pos 1 ∷ pos 1 ∷ pos 1 ∷ pos 1 ∷ pos 3 ∷ pos 0 ∷ pos 1 ∷ pos 1 ∷ pos 1 ∷ pos 6 ∷ pos 1 ∷ pos 1 ∷ pos 1 ∷ pos 1 ∷ pos 1 ∷ pos 1 ∷ pos 1 ∷ pos 1 ∷ pos 1 ∷ pos 1 ∷ []))
+    ∷ call (left (pos 0 ∷ pos 5 ∷ []))
+    ∷ call (turn (space 2))
+    ∷ call (ports PortDone Ready Ready)
+    ∷ call (ports Ready Ready Ready)
+    ∷ call (ports Ready Ready Ready)
     ∷ state
     ∷ dump
     ∷ [])
     ≡ ok
     ∷ ok
-    ∷ wants
-    ∷ wants
-    ∷ ok
-    ∷ said-ports 1 0 0 0
-    ∷ wrote 0 (pos 1 ∷ pos 1 ∷ pos 0 ∷ pos 0 ∷ [])
     ∷ ok
     ∷ ok
-    ∷ ok
-    ∷ ok
-    ∷ wrote 2 (pos 1 ∷ pos 1 ∷ pos 0 ∷ pos 0 ∷ [])
-    ∷ said-ports 0 0 0 0
-    ∷ looks (0 ∷ 1 ∷ 0 ∷ 8 ∷ 0 ∷ 0 ∷ 1 ∷ 0 ∷ 4 ∷ []) (some (value (pos 1) ∷ [])) none
-    ∷ areas (pos 1 ∷ pos 1 ∷ pos 0 ∷ pos 1 ∷ pos 1 ∷ pos 1 ∷ pos 1 ∷ pos 1 ∷ []) (pos 9223372036854775805 ∷ pos 1 ∷ [])
+    ∷ wrote 0 (pos 0 ∷ pos 1 ∷ [])
+    ∷ said-ports 2 2 2 2
+    ∷ said-ports 2 2 2 2
+    ∷ said-ports 2 2 2 2
+    ∷ looks (0 ∷ 3 ∷ 0 ∷ 2 ∷ 0 ∷ 2 ∷ 0 ∷ 0 ∷ 2 ∷ []) none none
+    ∷ areas (pos 0 ∷ pos 5 ∷ []) (pos 0 ∷ pos 0 ∷ pos 0 ∷ pos 0 ∷ pos 7 ∷ pos 1 ∷ pos 1 ∷ pos 1 ∷ pos 1 ∷ pos 3 ∷ pos 0 ∷ pos 1 ∷ pos 1 ∷ pos 1 ∷ pos 6 ∷ pos 1 ∷ pos 1 ∷ pos 1 ∷ pos 1 ∷ pos 1 ∷ pos 1 ∷ pos 1 ∷ pos 1 ∷ pos 1 ∷ pos 1 ∷ pos 1 ∷ pos 1 ∷ pos 1 ∷ pos 1 ∷ pos 1 ∷ pos 1 ∷ pos 6 ∷ negsuc 1 ∷ pos 3 ∷ negsuc 4 ∷ [])
     ∷ []
 unfolding script
 list-5 = refl
 
 list-6 : script
-    (opens (options 0 1 true (negsuc 0) false [] []) 18 5
-    ∷ call (right (pos 2 ∷ pos 1 ∷ pos 0 ∷ pos 2 ∷ pos 1 ∷ pos 1 ∷ []))
-    ∷ call (left (pos 6 ∷ pos 1 ∷ pos 0 ∷ pos 0 ∷ pos 0 ∷ pos 0 ∷ pos 0 ∷ pos 1 ∷ pos 1 ∷ pos 1 ∷ pos 1 ∷ pos 1 ∷ pos 1 ∷ pos 1 ∷ []))
-    ∷ call (left (pos 1 ∷ pos 1 ∷ pos 1 ∷ pos 1 ∷ []))
+    (opens (options 3 2 true (pos 2) true (true ∷ true ∷ false ∷ []) (true ∷ false ∷ false ∷ [])) 44 32
+    ∷ call (right (pos 2 ∷ pos 4 ∷ pos 1 ∷ pos 0 ∷ pos 0 ∷ pos 9223372036854775807 ∷ pos 1 ∷ pos 0 ∷ pos 1 ∷ pos 0 ∷ pos 1 ∷ pos 1 ∷ pos 1 ∷ pos 1 ∷ pos 1 ∷ pos 1 ∷ pos 1 ∷ pos 1 ∷ []))
+    ∷ call (left (pos 1 ∷ pos 4 ∷ pos 1 ∷ pos 0 ∷ pos 0 ∷ negsuc 9223372036854775806 ∷ pos 1 ∷ pos 0 ∷ pos 1 ∷ pos 1 ∷ []))
+    ∷ call (turn (space 10))
+    ∷ call (left (pos 4 ∷ pos 4 ∷ pos 1 ∷ pos 1 ∷ pos 0 ∷ pos 1 ∷ pos 0 ∷ pos 0 ∷ pos 1 ∷ pos 0 ∷ pos 0 ∷ pos 1 ∷ pos 1 ∷ pos 0 ∷ pos 0 ∷ pos 0 ∷ pos 0 ∷ negsuc 9223372036854775806 ∷ pos 1 ∷ pos 1 ∷ pos 1 ∷ pos 1 ∷ pos 1 ∷ pos 0 ∷ pos 1 ∷ pos 1 ∷ pos 1 ∷ pos 1 ∷ pos 1 ∷ pos 1 ∷ pos 0 ∷ pos 1 ∷ pos 1 ∷ pos 1 ∷ []))
+    ∷ call (right (pos 1 ∷ pos 4 ∷ pos 0 ∷ pos 0 ∷ pos 0 ∷ negsuc 9223372036854775807 ∷ pos 1 ∷ pos 1 ∷ pos 1 ∷ pos 1 ∷ []))
+    ∷ call (turn (space 10))
+    ∷ call (ports Blocked Ready Ready)
+    ∷ call (right (pos 1 ∷ pos 4 ∷ pos 0 ∷ pos 0 ∷ pos 0 ∷ pos 0 ∷ pos 0 ∷ pos 1 ∷ pos 1 ∷ pos 0 ∷ []))
+    ∷ call (turn (space 10))
+    ∷ call (right (pos 0 ∷ pos 4 ∷ []))
+    ∷ call (turn (space 10))
+    ∷ call (turn (space 10))
+    ∷ call end
+    ∷ call (turn (space 10))
+    ∷ call (ports PortDone Blocked PortDone)
+    ∷ state
+    ∷ dump
+    ∷ [])
+    ≡ ok
+    ∷ ok
+    ∷ ok
+    ∷ wrote 0 (pos 1 ∷ pos 1 ∷ pos 0 ∷ pos 0 ∷ [])
+    ∷ ok
+    ∷ ok
+    ∷ wants
+    ∷ said-ports 1 0 0 0
+    ∷ ok
+    ∷ wants
+    ∷ ok
+    ∷ wants
+    ∷ wants
+    ∷ ok
+    ∷ wrote 2 (pos 4 ∷ pos 1 ∷ pos 0 ∷ pos 0 ∷ pos 0 ∷ pos 0 ∷ pos 0 ∷ pos 0 ∷ pos 0 ∷ pos 0 ∷ [])
+    ∷ said-ports 2 2 2 2
+    ∷ looks (3 ∷ 1 ∷ 3 ∷ 44 ∷ 0 ∷ 2 ∷ 1 ∷ 0 ∷ 4 ∷ []) (some (null ∷ value (pos 0) ∷ value (pos 0) ∷ value (negsuc 9223372036854775806) ∷ [])) (some (value (pos 0) ∷ value (pos 0) ∷ value (pos 0) ∷ value (negsuc 9223372036854775807) ∷ []))
+    ∷ areas (pos 1 ∷ pos 4 ∷ pos 1 ∷ pos 0 ∷ pos 0 ∷ negsuc 9223372036854775806 ∷ pos 1 ∷ pos 0 ∷ pos 1 ∷ pos 1 ∷ pos 4 ∷ pos 4 ∷ pos 1 ∷ pos 1 ∷ pos 0 ∷ pos 1 ∷ pos 0 ∷ pos 0 ∷ pos 1 ∷ pos 0 ∷ pos 0 ∷ pos 1 ∷ pos 1 ∷ pos 0 ∷ pos 0 ∷ pos 0 ∷ pos 0 ∷ negsuc 9223372036854775806 ∷ pos 1 ∷ pos 1 ∷ pos 1 ∷ pos 1 ∷ pos 1 ∷ pos 0 ∷ pos 1 ∷ pos 1 ∷ pos 1 ∷ pos 1 ∷ pos 1 ∷ pos 1 ∷ pos 0 ∷ pos 1 ∷ pos 1 ∷ pos 1 ∷ []) (pos 1 ∷ pos 0 ∷ pos 0 ∷ pos 9223372036854775807 ∷ pos 1 ∷ pos 0 ∷ pos 1 ∷ pos 0 ∷ pos 0 ∷ pos 0 ∷ pos 0 ∷ negsuc 9223372036854775807 ∷ pos 0 ∷ pos 0 ∷ pos 0 ∷ pos 0 ∷ pos 1 ∷ pos 1 ∷ pos 1 ∷ pos 1 ∷ pos 1 ∷ pos 1 ∷ pos 1 ∷ pos 1 ∷ pos 1 ∷ pos 1 ∷ pos 1 ∷ pos 1 ∷ pos 0 ∷ pos 1 ∷ pos 1 ∷ pos 0 ∷ [])
+    ∷ []
+unfolding script
+list-6 = refl
+
+list-7 : script
+    (opens (options 1 2 false (negsuc 0) false (false ∷ []) (false ∷ [])) 19 13
+    ∷ call (left (pos 1 ∷ pos 2 ∷ pos 1 ∷ pos 0 ∷ pos 1 ∷ pos 1 ∷ []))
+    ∷ call end
+    ∷ call (left (pos 1 ∷ pos 2 ∷ pos 0 ∷ pos 0 ∷ pos 1 ∷ pos 0 ∷ []))
+    ∷ call (left (pos 2 ∷ pos 1 ∷ pos 1 ∷ pos 2 ∷ pos 2 ∷ pos 2 ∷ pos 0 ∷ pos 0 ∷ pos 0 ∷ pos 0 ∷ []))
+    ∷ call (turn (space 2))
+    ∷ call (right (negsuc 9223372036854775807 ∷ pos 2 ∷ []))
+    ∷ call (right (pos 2 ∷ pos 2 ∷ pos 0 ∷ pos 0 ∷ pos 1 ∷ pos 0 ∷ pos 1 ∷ pos 1 ∷ pos 1 ∷ pos 1 ∷ []))
+    ∷ call (left (pos 1 ∷ pos 2 ∷ pos 1 ∷ pos 1 ∷ pos 1 ∷ pos 1 ∷ []))
+    ∷ call (right (pos 1 ∷ pos 2 ∷ pos 1 ∷ pos 0 ∷ pos 1 ∷ pos 0 ∷ []))
+    ∷ state
+    ∷ call (turn (space 4))
+    ∷ state
+    ∷ state
+    ∷ dump
+    ∷ [])
+    ≡ refused 1
+    ∷ noJoin
+    ∷ noJoin
+    ∷ noJoin
+    ∷ noJoin
+    ∷ noJoin
+    ∷ noJoin
+    ∷ noJoin
+    ∷ noJoin
+    ∷ noJoin
+    ∷ noJoin
+    ∷ noJoin
+    ∷ noJoin
+    ∷ noJoin
+    ∷ noJoin
+    ∷ []
+unfolding script
+list-7 = refl
+
+list-8 : script
+    (opens (options 3 1 true (pos 2) true (false ∷ false ∷ false ∷ []) (false ∷ false ∷ false ∷ [])) 66 4
+    ∷ call (turn (space 10))
+    ∷ call (right (negsuc 0 ∷ pos 4 ∷ pos 1 ∷ pos 1 ∷ pos 1 ∷ pos 1 ∷ pos 1 ∷ pos 1 ∷ pos 1 ∷ pos 1 ∷ pos 1 ∷ pos 1 ∷ pos 1 ∷ pos 1 ∷ pos 1 ∷ pos 1 ∷ pos 1 ∷ pos 1 ∷ []))
+    ∷ call (left (pos 4 ∷ pos 4 ∷ pos 0 ∷ pos 1 ∷ pos 1 ∷ pos 0 ∷ pos 0 ∷ pos 0 ∷ pos 0 ∷ pos 1 ∷ pos 0 ∷ pos 0 ∷ pos 0 ∷ pos 5 ∷ pos 0 ∷ pos 0 ∷ pos 1 ∷ pos 1 ∷ pos 0 ∷ pos 1 ∷ pos 1 ∷ pos 0 ∷ pos 1 ∷ pos 0 ∷ pos 1 ∷ pos 1 ∷ pos 1 ∷ pos 0 ∷ pos 1 ∷ pos 1 ∷ pos 1 ∷ pos 1 ∷ pos 1 ∷ pos 1 ∷ []))
+    ∷ call (turn (space 4))
+    ∷ call (turn (space 10))
+    ∷ state
+    ∷ call (left (pos 1 ∷ pos 4 ∷ pos 0 ∷ pos 0 ∷ pos 1 ∷ pos 2 ∷ pos 1 ∷ pos 1 ∷ pos 1 ∷ pos 1 ∷ []))
+    ∷ state
+    ∷ call (right (pos 2 ∷ pos 4 ∷ pos 1 ∷ pos 1 ∷ pos 1 ∷ pos 1 ∷ pos 1 ∷ pos 1 ∷ pos 1 ∷ pos 1 ∷ pos 1 ∷ pos 1 ∷ pos 1 ∷ pos 1 ∷ pos 1 ∷ pos 1 ∷ pos 1 ∷ []))
+    ∷ call (right (pos 2 ∷ pos 2 ∷ []))
+    ∷ call (turn (space 10))
+    ∷ call (turn (space 10))
+    ∷ state
+    ∷ call (left (pos 3 ∷ pos 4 ∷ pos 0 ∷ pos 0 ∷ pos 1 ∷ pos 2 ∷ pos 1 ∷ pos 0 ∷ pos 0 ∷ pos 0 ∷ pos 1 ∷ pos 0 ∷ pos 0 ∷ pos 3 ∷ pos 1 ∷ pos 1 ∷ pos 1 ∷ pos 1 ∷ pos 1 ∷ pos 0 ∷ pos 1 ∷ pos 1 ∷ pos 1 ∷ pos 0 ∷ pos 1 ∷ pos 1 ∷ []))
+    ∷ call (ports Ready Blocked Blocked)
+    ∷ call (turn (space 10))
+    ∷ call (right (pos 1 ∷ pos 4 ∷ pos 0 ∷ pos 1 ∷ pos 1 ∷ pos 0 ∷ pos 0 ∷ pos 1 ∷ pos 1 ∷ pos 1 ∷ []))
+    ∷ call (left (pos 1 ∷ pos 4 ∷ pos 1 ∷ pos 1 ∷ pos 1 ∷ pos 1 ∷ pos 1 ∷ pos 1 ∷ pos 1 ∷ []))
+    ∷ call (left (pos 4 ∷ pos 4 ∷ pos 1 ∷ pos 0 ∷ pos 0 ∷ pos 1 ∷ pos 1 ∷ pos 0 ∷ pos 0 ∷ pos 4 ∷ pos 1 ∷ pos 0 ∷ pos 1 ∷ pos 0 ∷ pos 1 ∷ pos 0 ∷ pos 1 ∷ pos 4 ∷ pos 1 ∷ pos 1 ∷ pos 1 ∷ pos 1 ∷ pos 1 ∷ pos 1 ∷ pos 1 ∷ pos 1 ∷ pos 1 ∷ pos 1 ∷ pos 1 ∷ pos 0 ∷ pos 1 ∷ pos 1 ∷ pos 1 ∷ pos 1 ∷ []))
+    ∷ call (right (pos 3 ∷ pos 4 ∷ pos 0 ∷ pos 0 ∷ pos 0 ∷ pos 2 ∷ pos 0 ∷ pos 0 ∷ pos 1 ∷ pos 2 ∷ pos 0 ∷ pos 1 ∷ pos 1 ∷ pos 0 ∷ pos 1 ∷ pos 0 ∷ pos 1 ∷ pos 1 ∷ pos 1 ∷ pos 1 ∷ pos 1 ∷ pos 1 ∷ pos 1 ∷ pos 1 ∷ pos 1 ∷ pos 0 ∷ []))
+    ∷ call (right (pos 4097 ∷ pos 4 ∷ pos 1 ∷ pos 1 ∷ pos 1 ∷ pos 1 ∷ pos 1 ∷ pos 1 ∷ pos 1 ∷ pos 1 ∷ []))
+    ∷ call (turn (space 10))
+    ∷ call (ports PortDone Blocked Ready)
+    ∷ call (left (pos 2 ∷ pos 4 ∷ pos 1 ∷ pos 0 ∷ pos 1 ∷ pos 5 ∷ pos 1 ∷ pos 0 ∷ pos 1 ∷ pos 5 ∷ pos 1 ∷ pos 1 ∷ pos 1 ∷ pos 1 ∷ pos 1 ∷ pos 1 ∷ pos 1 ∷ pos 1 ∷ []))
+    ∷ call (turn (space 10))
+    ∷ call (left (pos 0 ∷ pos 4 ∷ []))
+    ∷ call (left (pos 1 ∷ pos 4 ∷ pos 1 ∷ pos 1 ∷ pos 0 ∷ pos 1 ∷ pos 1 ∷ pos 1 ∷ pos 1 ∷ pos 1 ∷ []))
+    ∷ call (right (pos 1 ∷ pos 4 ∷ pos 1 ∷ pos 1 ∷ pos 1 ∷ pos 1 ∷ pos 1 ∷ pos 1 ∷ pos 1 ∷ pos 0 ∷ []))
+    ∷ call (turn (space 4))
+    ∷ call end
+    ∷ call (turn (space 10))
+    ∷ call (right (pos 1 ∷ pos 4 ∷ pos 1 ∷ pos 1 ∷ pos 1 ∷ pos 1 ∷ pos 1 ∷ pos 1 ∷ pos 1 ∷ pos 1 ∷ pos 0 ∷ []))
+    ∷ state
+    ∷ dump
+    ∷ [])
+    ≡ ok
+    ∷ idle
+    ∷ refused 5
+    ∷ ok
+    ∷ wants
+    ∷ wants
+    ∷ looks (0 ∷ 0 ∷ 0 ∷ 0 ∷ 34 ∷ 0 ∷ 0 ∷ 0 ∷ 0 ∷ []) none none
+    ∷ ok
+    ∷ looks (0 ∷ 0 ∷ 0 ∷ 0 ∷ 44 ∷ 0 ∷ 0 ∷ 0 ∷ 0 ∷ []) none none
+    ∷ refused 5
+    ∷ refused 5
+    ∷ wants
+    ∷ wants
+    ∷ looks (0 ∷ 0 ∷ 0 ∷ 0 ∷ 44 ∷ 0 ∷ 0 ∷ 0 ∷ 0 ∷ []) none none
+    ∷ refused 6
+    ∷ said-ports 0 0 0 0
+    ∷ wants
+    ∷ refused 6
+    ∷ refused 5
+    ∷ refused 6
+    ∷ refused 6
+    ∷ refused 5
+    ∷ wants
+    ∷ said-ports 2 1 0 1
+    ∷ refused 4
+    ∷ wants
+    ∷ refused 4
+    ∷ refused 4
+    ∷ refused 5
+    ∷ wants
+    ∷ ok
+    ∷ wrote 0 (pos 4 ∷ pos 1 ∷ pos 0 ∷ pos 0 ∷ pos 0 ∷ pos 0 ∷ pos 0 ∷ pos 0 ∷ pos 0 ∷ pos 0 ∷ [])
+    ∷ refused 4
+    ∷ looks (0 ∷ 0 ∷ 0 ∷ 34 ∷ 10 ∷ 1 ∷ 1 ∷ 0 ∷ 2 ∷ []) (some (value (pos 0) ∷ value (pos 0) ∷ value (pos 1) ∷ value (pos 1) ∷ [])) none
+    ∷ areas (pos 4 ∷ pos 4 ∷ pos 0 ∷ pos 1 ∷ pos 1 ∷ pos 0 ∷ pos 0 ∷ pos 0 ∷ pos 0 ∷ pos 1 ∷ pos 0 ∷ pos 0 ∷ pos 0 ∷ pos 5 ∷ pos 0 ∷ pos 0 ∷ pos 1 ∷ pos 1 ∷ pos 0 ∷ pos 1 ∷ pos 1 ∷ pos 0 ∷ pos 1 ∷ pos 0 ∷ pos 1 ∷ pos 1 ∷ pos 1 ∷ pos 0 ∷ pos 1 ∷ pos 1 ∷ pos 1 ∷ pos 1 ∷ pos 1 ∷ pos 1 ∷ pos 1 ∷ pos 4 ∷ pos 0 ∷ pos 0 ∷ pos 1 ∷ pos 2 ∷ pos 1 ∷ pos 1 ∷ pos 1 ∷ pos 1 ∷ negsuc 4 ∷ pos 2 ∷ negsuc 1 ∷ pos 5 ∷ pos 1 ∷ negsuc 2 ∷ pos 4 ∷ pos 0 ∷ negsuc 3 ∷ pos 3 ∷ negsuc 0 ∷ negsuc 4 ∷ pos 2 ∷ negsuc 1 ∷ pos 5 ∷ pos 1 ∷ negsuc 2 ∷ pos 4 ∷ pos 0 ∷ negsuc 3 ∷ pos 3 ∷ negsuc 0 ∷ []) (negsuc 5 ∷ negsuc 0 ∷ pos 4 ∷ negsuc 3 ∷ [])
+    ∷ []
+unfolding script
+list-8 = refl
+
+list-9 : script
+    (opens (options 2 0 true (negsuc 0) true (false ∷ false ∷ []) (false ∷ true ∷ [])) 70 100
+    ∷ call (left (pos 2 ∷ pos 3 ∷ pos 0 ∷ pos 0 ∷ pos 6 ∷ pos 0 ∷ pos 0 ∷ pos 32 ∷ pos 0 ∷ pos 1 ∷ pos 1 ∷ pos 0 ∷ pos 1 ∷ pos 1 ∷ []))
+    ∷ call (right (pos 1 ∷ pos 3 ∷ pos 0 ∷ pos 0 ∷ pos 10 ∷ pos 0 ∷ pos 1 ∷ pos 1 ∷ []))
+    ∷ call (left (pos 1 ∷ pos 3 ∷ pos 0 ∷ pos 1 ∷ pos 0 ∷ pos 0 ∷ pos 1 ∷ pos 0 ∷ []))
     ∷ call (turn (space 14))
-    ∷ call (left (pos 0 ∷ pos 1 ∷ []))
+    ∷ state
+    ∷ call (right (pos 1 ∷ pos 3 ∷ pos 0 ∷ pos 0 ∷ pos 18 ∷ pos 0 ∷ pos 1 ∷ pos 1 ∷ []))
+    ∷ call (ports Ready Ready Ready)
+    ∷ call (right (pos 1 ∷ pos 3 ∷ pos 0 ∷ pos 1 ∷ pos 0 ∷ pos 0 ∷ pos 1 ∷ pos 0 ∷ []))
+    ∷ call (left (pos 3 ∷ pos 3 ∷ pos 0 ∷ pos 0 ∷ pos 18 ∷ pos 0 ∷ pos 1 ∷ pos 0 ∷ pos 0 ∷ pos 1 ∷ pos 0 ∷ pos 1 ∷ pos 1 ∷ pos 1 ∷ pos 1 ∷ pos 1 ∷ pos 0 ∷ pos 1 ∷ pos 1 ∷ pos 0 ∷ []))
+    ∷ call end
     ∷ call (turn (space 14))
-    ∷ call (left (pos 2 ∷ pos 1 ∷ pos 2 ∷ pos 2 ∷ pos 1 ∷ pos 1 ∷ []))
+    ∷ call (right (pos 1 ∷ pos 3 ∷ pos 0 ∷ pos 1 ∷ pos 6 ∷ pos 0 ∷ pos 1 ∷ pos 1 ∷ []))
+    ∷ call (right (pos 1 ∷ pos 3 ∷ pos 0 ∷ pos 1 ∷ pos 22 ∷ pos 0 ∷ pos 1 ∷ pos 1 ∷ []))
     ∷ call (turn (space 14))
     ∷ call (turn (space 14))
-    ∷ call (ports PortDone Ready Ready)
-    ∷ call (ports PortDone Ready Ready)
+    ∷ call (right (pos 0 ∷ pos 3 ∷ []))
+    ∷ call (left (pos 2 ∷ pos 2 ∷ pos 1 ∷ pos 1 ∷ pos 1 ∷ pos 1 ∷ pos 1 ∷ pos 1 ∷ pos 1 ∷ pos 1 ∷ pos 1 ∷ pos 1 ∷ pos 1 ∷ pos 1 ∷ []))
+    ∷ call (left (pos 6 ∷ pos 3 ∷ pos 0 ∷ pos 1 ∷ pos 0 ∷ pos 0 ∷ pos 1 ∷ pos 2 ∷ pos 0 ∷ pos 0 ∷ pos 28 ∷ pos 1 ∷ pos 1 ∷ pos 0 ∷ pos 1 ∷ pos 1 ∷ pos 6 ∷ pos 1 ∷ pos 1 ∷ pos 10 ∷ pos 1 ∷ pos 1 ∷ pos 0 ∷ pos 1 ∷ pos 1 ∷ pos 1 ∷ pos 1 ∷ pos 0 ∷ pos 1 ∷ pos 1 ∷ pos 1 ∷ pos 0 ∷ pos 1 ∷ pos 1 ∷ pos 1 ∷ pos 1 ∷ pos 1 ∷ pos 1 ∷ []))
+    ∷ call (left (pos 4 ∷ pos 3 ∷ pos 1 ∷ pos 1 ∷ pos 18 ∷ pos 1 ∷ pos 1 ∷ pos 27 ∷ pos 1 ∷ pos 1 ∷ pos 35 ∷ pos 1 ∷ pos 0 ∷ pos 33 ∷ pos 1 ∷ pos 1 ∷ pos 1 ∷ pos 1 ∷ pos 1 ∷ pos 1 ∷ pos 1 ∷ pos 1 ∷ pos 1 ∷ pos 1 ∷ pos 0 ∷ pos 1 ∷ []))
+    ∷ call (left (pos 2 ∷ pos 0 ∷ pos 1 ∷ pos 1 ∷ pos 1 ∷ pos 1 ∷ pos 1 ∷ pos 1 ∷ pos 1 ∷ pos 1 ∷ pos 1 ∷ pos 1 ∷ pos 1 ∷ pos 1 ∷ []))
+    ∷ call (turn (space 10))
+    ∷ call (turn (space 0))
+    ∷ call (ports Blocked PortDone Ready)
+    ∷ state
     ∷ state
     ∷ dump
     ∷ [])
@@ -227,21 +442,88 @@ list-6 : script
     ∷ ok
     ∷ ok
     ∷ ok
-    ∷ wrote 0 (pos 6 ∷ pos 1 ∷ pos 0 ∷ pos 0 ∷ pos 0 ∷ pos 0 ∷ pos 0 ∷ pos 1 ∷ pos 1 ∷ pos 1 ∷ pos 1 ∷ pos 1 ∷ pos 1 ∷ pos 1 ∷ [])
+    ∷ wants
+    ∷ looks (0 ∷ 1 ∷ 0 ∷ 0 ∷ 22 ∷ 0 ∷ 0 ∷ 0 ∷ 0 ∷ []) none none
     ∷ ok
-    ∷ wrote 2 (pos 1 ∷ pos 1 ∷ pos 1 ∷ pos 1 ∷ [])
+    ∷ said-ports 1 1 1 0
     ∷ ok
-    ∷ wrote 4 (pos 0 ∷ pos 1 ∷ [])
-    ∷ wrote 6 (pos 2 ∷ pos 1 ∷ pos 1 ∷ pos 1 ∷ pos 1 ∷ pos 1 ∷ [])
-    ∷ said-ports 2 2 2 2
-    ∷ said-ports 2 2 2 2
-    ∷ looks (1 ∷ 1 ∷ 1 ∷ 12 ∷ 0 ∷ 2 ∷ 0 ∷ 0 ∷ 8 ∷ []) none none
-    ∷ areas (pos 1 ∷ pos 1 ∷ pos 1 ∷ pos 1 ∷ pos 0 ∷ pos 1 ∷ pos 2 ∷ pos 1 ∷ pos 2 ∷ pos 2 ∷ pos 1 ∷ pos 1 ∷ pos 1 ∷ pos 1 ∷ pos 1 ∷ pos 1 ∷ pos 1 ∷ pos 1 ∷ []) (pos 0 ∷ pos 2 ∷ pos 1 ∷ pos 1 ∷ pos 1 ∷ [])
+    ∷ ok
+    ∷ ok
+    ∷ wrote 0 (pos 2 ∷ pos 1 ∷ pos 0 ∷ pos 0 ∷ pos 0 ∷ pos 0 ∷ [])
+    ∷ refused 4
+    ∷ refused 4
+    ∷ wrote 2 (pos 1 ∷ pos 1 ∷ pos 0 ∷ pos 0 ∷ [])
+    ∷ wrote 4 (pos 3 ∷ pos 1 ∷ pos 0 ∷ pos 0 ∷ pos 0 ∷ pos 0 ∷ pos 0 ∷ pos 0 ∷ [])
+    ∷ refused 4
+    ∷ refused 5
+    ∷ ok
+    ∷ ok
+    ∷ refused 5
+    ∷ refused 6
+    ∷ refused 6
+    ∷ said-ports 1 0 0 0
+    ∷ looks (3 ∷ 0 ∷ 3 ∷ 0 ∷ 64 ∷ 0 ∷ 1 ∷ 0 ∷ 6 ∷ []) (some (value (pos 0) ∷ value (pos 0) ∷ value (pos 18) ∷ [])) (some (null ∷ value (pos 0) ∷ value (pos 18) ∷ []))
+    ∷ looks (3 ∷ 0 ∷ 3 ∷ 0 ∷ 64 ∷ 0 ∷ 1 ∷ 0 ∷ 6 ∷ []) (some (value (pos 0) ∷ value (pos 0) ∷ value (pos 18) ∷ [])) (some (null ∷ value (pos 0) ∷ value (pos 18) ∷ []))
+    ∷ areas (pos 6 ∷ pos 3 ∷ pos 0 ∷ pos 1 ∷ pos 0 ∷ pos 0 ∷ pos 1 ∷ pos 2 ∷ pos 0 ∷ pos 0 ∷ pos 28 ∷ pos 1 ∷ pos 1 ∷ pos 0 ∷ pos 1 ∷ pos 1 ∷ pos 6 ∷ pos 1 ∷ pos 1 ∷ pos 10 ∷ pos 1 ∷ pos 1 ∷ pos 0 ∷ pos 1 ∷ pos 1 ∷ pos 1 ∷ pos 1 ∷ pos 0 ∷ pos 1 ∷ pos 1 ∷ pos 1 ∷ pos 0 ∷ pos 1 ∷ pos 1 ∷ pos 1 ∷ pos 1 ∷ pos 1 ∷ pos 1 ∷ pos 4 ∷ pos 3 ∷ pos 1 ∷ pos 1 ∷ pos 18 ∷ pos 1 ∷ pos 1 ∷ pos 27 ∷ pos 1 ∷ pos 1 ∷ pos 35 ∷ pos 1 ∷ pos 0 ∷ pos 33 ∷ pos 1 ∷ pos 1 ∷ pos 1 ∷ pos 1 ∷ pos 1 ∷ pos 1 ∷ pos 1 ∷ pos 1 ∷ pos 1 ∷ pos 1 ∷ pos 0 ∷ pos 1 ∷ pos 3 ∷ negsuc 0 ∷ negsuc 4 ∷ pos 2 ∷ negsuc 1 ∷ pos 5 ∷ []) (pos 0 ∷ pos 0 ∷ pos 10 ∷ pos 0 ∷ pos 0 ∷ pos 18 ∷ pos 0 ∷ pos 1 ∷ pos 0 ∷ pos 0 ∷ pos 5 ∷ negsuc 2 ∷ pos 2 ∷ negsuc 5 ∷ negsuc 0 ∷ pos 4 ∷ negsuc 3 ∷ pos 1 ∷ pos 6 ∷ negsuc 1 ∷ pos 3 ∷ negsuc 4 ∷ pos 0 ∷ pos 5 ∷ negsuc 2 ∷ pos 2 ∷ negsuc 5 ∷ negsuc 0 ∷ pos 4 ∷ negsuc 3 ∷ pos 1 ∷ pos 6 ∷ negsuc 1 ∷ pos 3 ∷ negsuc 4 ∷ pos 0 ∷ pos 5 ∷ negsuc 2 ∷ pos 2 ∷ negsuc 5 ∷ negsuc 0 ∷ pos 4 ∷ negsuc 3 ∷ pos 1 ∷ pos 6 ∷ negsuc 1 ∷ pos 3 ∷ negsuc 4 ∷ pos 0 ∷ pos 1 ∷ pos 1 ∷ pos 0 ∷ pos 1 ∷ pos 1 ∷ pos 0 ∷ pos 1 ∷ pos 0 ∷ pos 6 ∷ negsuc 1 ∷ pos 3 ∷ negsuc 4 ∷ pos 0 ∷ pos 5 ∷ negsuc 2 ∷ pos 2 ∷ negsuc 5 ∷ negsuc 0 ∷ pos 4 ∷ negsuc 3 ∷ pos 1 ∷ pos 6 ∷ negsuc 1 ∷ pos 3 ∷ negsuc 4 ∷ pos 0 ∷ pos 5 ∷ negsuc 2 ∷ pos 2 ∷ negsuc 5 ∷ negsuc 0 ∷ pos 4 ∷ negsuc 3 ∷ pos 1 ∷ pos 6 ∷ negsuc 1 ∷ pos 3 ∷ negsuc 4 ∷ pos 0 ∷ pos 5 ∷ negsuc 2 ∷ pos 2 ∷ negsuc 5 ∷ negsuc 0 ∷ pos 4 ∷ negsuc 3 ∷ pos 1 ∷ pos 6 ∷ negsuc 1 ∷ pos 3 ∷ negsuc 4 ∷ [])
     ∷ []
 unfolding script
-list-6 = refl
+list-9 = refl
 
-list-7 : script
+list-10 : script
+    (opens (options 1 1 true (negsuc 0) true (false ∷ []) (false ∷ [])) 37 64
+    ∷ call (right (pos 1 ∷ []))
+    ∷ call (left (pos 1 ∷ pos 2 ∷ pos 0 ∷ pos 0 ∷ pos 0 ∷ pos 1 ∷ []))
+    ∷ call (turn (space 4))
+    ∷ call (right (pos 5 ∷ pos 2 ∷ pos 0 ∷ pos 8 ∷ pos 0 ∷ pos 3 ∷ pos 0 ∷ pos 8 ∷ pos 1 ∷ pos 11 ∷ pos 0 ∷ pos 4 ∷ pos 1 ∷ pos 1 ∷ pos 1 ∷ pos 1 ∷ pos 1 ∷ pos 1 ∷ pos 1 ∷ pos 1 ∷ pos 0 ∷ pos 1 ∷ []))
+    ∷ call (turn (space 4))
+    ∷ call (ports Ready Ready Ready)
+    ∷ call (turn (space 4))
+    ∷ call (turn (space 4))
+    ∷ call (left (pos 1 ∷ pos 2 ∷ pos 0 ∷ pos 0 ∷ pos 0 ∷ pos 1 ∷ []))
+    ∷ call (right (pos 7 ∷ pos 2 ∷ pos 1 ∷ pos 11 ∷ pos 0 ∷ pos 6 ∷ pos 0 ∷ pos 8 ∷ pos 1 ∷ pos 7 ∷ pos 1 ∷ pos 11 ∷ pos 0 ∷ pos 9 ∷ pos 0 ∷ pos 1 ∷ pos 1 ∷ pos 1 ∷ pos 1 ∷ pos 1 ∷ pos 0 ∷ pos 1 ∷ pos 1 ∷ pos 1 ∷ pos 1 ∷ pos 1 ∷ pos 1 ∷ pos 1 ∷ pos 1 ∷ pos 1 ∷ []))
+    ∷ state
+    ∷ dump
+    ∷ [])
+    ≡ ok
+    ∷ refused 5
+    ∷ ok
+    ∷ wants
+    ∷ ok
+    ∷ refused 9
+    ∷ refused 3
+    ∷ refused 3
+    ∷ refused 3
+    ∷ refused 3
+    ∷ refused 3
+    ∷ looks (0 ∷ 5 ∷ 0 ∷ 0 ∷ 6 ∷ 0 ∷ 0 ∷ 1 ∷ 0 ∷ []) none none
+    ∷ areas (pos 1 ∷ pos 2 ∷ pos 0 ∷ pos 0 ∷ pos 0 ∷ pos 1 ∷ pos 4 ∷ pos 0 ∷ negsuc 3 ∷ pos 3 ∷ negsuc 0 ∷ negsuc 4 ∷ pos 2 ∷ negsuc 1 ∷ pos 5 ∷ pos 1 ∷ negsuc 2 ∷ pos 4 ∷ pos 0 ∷ negsuc 3 ∷ pos 3 ∷ negsuc 0 ∷ negsuc 4 ∷ pos 2 ∷ negsuc 1 ∷ pos 5 ∷ pos 1 ∷ negsuc 2 ∷ pos 4 ∷ pos 0 ∷ negsuc 3 ∷ pos 3 ∷ negsuc 0 ∷ negsuc 4 ∷ pos 2 ∷ negsuc 1 ∷ pos 5 ∷ []) (pos 0 ∷ pos 8 ∷ pos 0 ∷ pos 3 ∷ pos 0 ∷ pos 8 ∷ pos 1 ∷ pos 11 ∷ pos 0 ∷ pos 4 ∷ pos 5 ∷ negsuc 2 ∷ pos 2 ∷ negsuc 5 ∷ negsuc 0 ∷ pos 4 ∷ negsuc 3 ∷ pos 1 ∷ pos 6 ∷ negsuc 1 ∷ pos 3 ∷ negsuc 4 ∷ pos 0 ∷ pos 5 ∷ negsuc 2 ∷ pos 2 ∷ negsuc 5 ∷ negsuc 0 ∷ pos 4 ∷ negsuc 3 ∷ pos 1 ∷ pos 6 ∷ pos 1 ∷ pos 1 ∷ pos 1 ∷ pos 1 ∷ pos 1 ∷ pos 1 ∷ pos 1 ∷ pos 1 ∷ pos 0 ∷ pos 1 ∷ negsuc 3 ∷ pos 1 ∷ pos 6 ∷ negsuc 1 ∷ pos 3 ∷ negsuc 4 ∷ pos 0 ∷ pos 5 ∷ negsuc 2 ∷ pos 2 ∷ negsuc 5 ∷ negsuc 0 ∷ pos 4 ∷ negsuc 3 ∷ pos 1 ∷ pos 6 ∷ negsuc 1 ∷ pos 3 ∷ negsuc 4 ∷ pos 0 ∷ pos 5 ∷ negsuc 2 ∷ [])
+    ∷ []
+unfolding script
+list-10 = refl
+
+list-11 : script
+    (opens (options 3 3 false (negsuc 0) false (false ∷ true ∷ false ∷ []) (false ∷ true ∷ false ∷ [])) 3 20
+    ∷ call (right (pos 1 ∷ pos 4 ∷ pos 1 ∷ pos 1 ∷ pos 0 ∷ pos 1 ∷ pos 1 ∷ pos 1 ∷ pos 1 ∷ pos 1 ∷ []))
+    ∷ call (right (pos 1 ∷ pos 4 ∷ pos 1 ∷ pos 1 ∷ pos 1 ∷ pos 1 ∷ pos 1 ∷ []))
+    ∷ call (right (pos 1 ∷ pos 4 ∷ pos 1 ∷ pos 1 ∷ pos 1 ∷ pos 0 ∷ pos 1 ∷ pos 1 ∷ pos 1 ∷ pos 1 ∷ []))
+    ∷ call (left (pos 1 ∷ pos 2 ∷ pos 1 ∷ pos 1 ∷ pos 1 ∷ pos 1 ∷ pos 1 ∷ pos 1 ∷ pos 1 ∷ pos 1 ∷ []))
+    ∷ call (turn (space 2))
+    ∷ state
+    ∷ dump
+    ∷ [])
+    ≡ refused 1
+    ∷ noJoin
+    ∷ noJoin
+    ∷ noJoin
+    ∷ noJoin
+    ∷ noJoin
+    ∷ noJoin
+    ∷ noJoin
+    ∷ []
+unfolding script
+list-11 = refl
+
+list-12 : script
     (opens (options 1 2 true (negsuc 0) true (false ∷ []) (false ∷ [])) 3 91
     ∷ call (left (pos 4 ∷ pos 2 ∷ pos 0 ∷ pos 5 ∷ pos 0 ∷ pos 0 ∷ pos 0 ∷ pos 0 ∷ pos 0 ∷ pos 7 ∷ pos 0 ∷ pos 1 ∷ pos 1 ∷ pos 0 ∷ pos 1 ∷ pos 1 ∷ pos 1 ∷ pos 1 ∷ []))
     ∷ call (left (pos 5 ∷ pos 2 ∷ pos 1 ∷ pos 4 ∷ pos 1 ∷ pos 5 ∷ pos 1 ∷ pos 5 ∷ pos 2 ∷ pos 2 ∷ pos 2 ∷ pos 6 ∷ pos 1 ∷ pos 1 ∷ pos 1 ∷ pos 1 ∷ pos 1 ∷ pos 1 ∷ pos 1 ∷ pos 1 ∷ pos 1 ∷ pos 1 ∷ []))
@@ -273,204 +555,6 @@ list-7 : script
     ∷ said-ports 0 0 0 0
     ∷ looks (0 ∷ 4 ∷ 0 ∷ 2 ∷ 0 ∷ 0 ∷ 0 ∷ 0 ∷ 2 ∷ []) none none
     ∷ areas (pos 0 ∷ pos 2 ∷ negsuc 1 ∷ []) (pos 0 ∷ pos 5 ∷ pos 0 ∷ pos 7 ∷ pos 0 ∷ pos 8 ∷ pos 0 ∷ pos 10 ∷ negsuc 4 ∷ pos 0 ∷ pos 5 ∷ negsuc 2 ∷ pos 2 ∷ negsuc 5 ∷ negsuc 0 ∷ pos 4 ∷ negsuc 3 ∷ pos 1 ∷ pos 6 ∷ negsuc 1 ∷ pos 3 ∷ negsuc 4 ∷ pos 0 ∷ pos 5 ∷ negsuc 2 ∷ pos 2 ∷ negsuc 5 ∷ negsuc 0 ∷ pos 4 ∷ negsuc 3 ∷ pos 1 ∷ pos 6 ∷ negsuc 1 ∷ pos 3 ∷ negsuc 4 ∷ pos 0 ∷ pos 5 ∷ negsuc 2 ∷ pos 2 ∷ negsuc 5 ∷ negsuc 0 ∷ pos 4 ∷ negsuc 3 ∷ pos 1 ∷ pos 0 ∷ pos 1 ∷ pos 0 ∷ pos 1 ∷ pos 0 ∷ pos 1 ∷ pos 0 ∷ pos 1 ∷ negsuc 5 ∷ negsuc 0 ∷ pos 4 ∷ negsuc 3 ∷ pos 1 ∷ pos 6 ∷ negsuc 1 ∷ pos 3 ∷ negsuc 4 ∷ pos 0 ∷ pos 5 ∷ negsuc 2 ∷ pos 2 ∷ negsuc 5 ∷ negsuc 0 ∷ pos 4 ∷ negsuc 3 ∷ pos 1 ∷ pos 6 ∷ negsuc 1 ∷ pos 3 ∷ negsuc 4 ∷ pos 0 ∷ pos 5 ∷ negsuc 2 ∷ pos 2 ∷ negsuc 5 ∷ negsuc 0 ∷ pos 4 ∷ negsuc 3 ∷ pos 1 ∷ pos 6 ∷ negsuc 1 ∷ pos 3 ∷ negsuc 4 ∷ pos 0 ∷ pos 5 ∷ negsuc 2 ∷ pos 2 ∷ [])
-    ∷ []
-unfolding script
-list-7 = refl
-
-list-8 : script
-    (opens (options 4 2 true (negsuc 0) false (true ∷ false ∷ false ∷ true ∷ []) (false ∷ true ∷ true ∷ false ∷ [])) 107 104
-    ∷ call (right (pos 1 ∷ pos 5 ∷ pos 1 ∷ pos 0 ∷ pos 0 ∷ pos 1 ∷ pos 0 ∷ pos 1 ∷ pos 1 ∷ pos 1 ∷ pos 1 ∷ pos 1 ∷ []))
-    ∷ call (right (pos 1 ∷ pos 5 ∷ pos 1 ∷ pos 1 ∷ pos 1 ∷ pos 0 ∷ pos 0 ∷ pos 1 ∷ pos 1 ∷ pos 1 ∷ pos 1 ∷ pos 1 ∷ []))
-    ∷ call (right (pos 1 ∷ pos 2 ∷ []))
-    ∷ call (right (pos 1 ∷ pos 5 ∷ pos 1 ∷ pos 0 ∷ pos 0 ∷ pos 0 ∷ pos 0 ∷ pos 1 ∷ pos 1 ∷ pos 1 ∷ pos 1 ∷ pos 1 ∷ []))
-    ∷ call (left (pos 3 ∷ pos 5 ∷ pos 1 ∷ pos 0 ∷ pos 0 ∷ pos 1 ∷ pos 0 ∷ pos 1 ∷ pos 0 ∷ pos 0 ∷ pos 0 ∷ pos 1 ∷ pos 1 ∷ pos 0 ∷ pos 1 ∷ pos 0 ∷ pos 2 ∷ pos 1 ∷ pos 1 ∷ pos 1 ∷ pos 1 ∷ pos 1 ∷ pos 1 ∷ pos 1 ∷ pos 1 ∷ pos 1 ∷ pos 1 ∷ pos 1 ∷ pos 1 ∷ pos 1 ∷ pos 1 ∷ pos 1 ∷ []))
-    ∷ call (turn (space 8))
-    ∷ call (left (pos 3 ∷ pos 5 ∷ pos 1 ∷ pos 1 ∷ pos 0 ∷ pos 0 ∷ pos 2 ∷ pos 1 ∷ pos 1 ∷ pos 0 ∷ pos 0 ∷ pos 2 ∷ pos 1 ∷ pos 1 ∷ pos 1 ∷ pos 0 ∷ pos 0 ∷ pos 1 ∷ pos 1 ∷ pos 1 ∷ pos 1 ∷ pos 1 ∷ pos 1 ∷ pos 1 ∷ pos 1 ∷ pos 1 ∷ pos 1 ∷ pos 1 ∷ pos 1 ∷ pos 1 ∷ pos 1 ∷ pos 1 ∷ []))
-    ∷ state
-    ∷ call (right (pos 1 ∷ pos 5 ∷ pos 1 ∷ pos 0 ∷ pos 1 ∷ pos 1 ∷ pos 2 ∷ pos 1 ∷ pos 1 ∷ pos 1 ∷ pos 1 ∷ pos 1 ∷ []))
-    ∷ state
-    ∷ call (right (pos 1 ∷ pos 5 ∷ pos 1 ∷ pos 0 ∷ pos 1 ∷ pos 0 ∷ pos 1 ∷ pos 1 ∷ pos 1 ∷ pos 1 ∷ pos 1 ∷ pos 1 ∷ []))
-    ∷ call (left (pos 2 ∷ pos 5 ∷ pos 1 ∷ pos 1 ∷ pos 1 ∷ pos 0 ∷ pos 2 ∷ pos 0 ∷ pos 0 ∷ pos 0 ∷ pos 1 ∷ pos 0 ∷ pos 1 ∷ pos 1 ∷ pos 1 ∷ pos 1 ∷ pos 1 ∷ pos 1 ∷ pos 1 ∷ pos 1 ∷ pos 1 ∷ pos 1 ∷ []))
-    ∷ call end
-    ∷ call (turn (space 8))
-    ∷ call (left (pos 2 ∷ pos 5 ∷ pos 0 ∷ pos 0 ∷ pos 0 ∷ pos 1 ∷ pos 2 ∷ pos 0 ∷ pos 0 ∷ pos 0 ∷ pos 1 ∷ pos 2 ∷ pos 1 ∷ pos 1 ∷ pos 1 ∷ pos 1 ∷ pos 1 ∷ pos 1 ∷ pos 1 ∷ pos 1 ∷ pos 1 ∷ pos 1 ∷ []))
-    ∷ call (turn (space 8))
-    ∷ call (turn (space 8))
-    ∷ call (left (pos 1 ∷ pos 5 ∷ pos 0 ∷ pos 0 ∷ pos 1 ∷ pos 1 ∷ pos 2 ∷ pos 1 ∷ pos 1 ∷ pos 1 ∷ pos 1 ∷ pos 1 ∷ []))
-    ∷ call (ports Blocked Ready Ready)
-    ∷ state
-    ∷ dump
-    ∷ [])
-    ≡ ok
-    ∷ ok
-    ∷ ok
-    ∷ refused 5
-    ∷ ok
-    ∷ ok
-    ∷ wrote 0 (pos 3 ∷ pos 1 ∷ pos 0 ∷ pos 0 ∷ pos 0 ∷ pos 1 ∷ pos 0 ∷ pos 0 ∷ [])
-    ∷ ok
-    ∷ looks (1 ∷ 2 ∷ 1 ∷ 32 ∷ 32 ∷ 0 ∷ 0 ∷ 0 ∷ 2 ∷ []) none none
-    ∷ ok
-    ∷ looks (1 ∷ 3 ∷ 1 ∷ 32 ∷ 32 ∷ 0 ∷ 0 ∷ 0 ∷ 2 ∷ []) none none
-    ∷ ok
-    ∷ ok
-    ∷ ok
-    ∷ wrote 2 (pos 3 ∷ pos 1 ∷ pos 0 ∷ pos 0 ∷ pos 0 ∷ pos 0 ∷ pos 0 ∷ pos 0 ∷ [])
-    ∷ ok
-    ∷ wrote 4 (pos 2 ∷ pos 1 ∷ pos 0 ∷ pos 0 ∷ pos 0 ∷ pos 0 ∷ [])
-    ∷ wrote 6 (pos 2 ∷ pos 1 ∷ pos 0 ∷ pos 0 ∷ pos 0 ∷ pos 0 ∷ [])
-    ∷ ok
-    ∷ said-ports 1 0 0 0
-    ∷ looks (5 ∷ 0 ∷ 5 ∷ 44 ∷ 12 ∷ 0 ∷ 1 ∷ 0 ∷ 8 ∷ []) none none
-    ∷ areas (pos 2 ∷ pos 5 ∷ pos 1 ∷ pos 1 ∷ pos 1 ∷ pos 0 ∷ pos 2 ∷ pos 0 ∷ pos 0 ∷ pos 0 ∷ pos 1 ∷ pos 0 ∷ pos 1 ∷ pos 1 ∷ pos 1 ∷ pos 1 ∷ pos 1 ∷ pos 1 ∷ pos 1 ∷ pos 1 ∷ pos 1 ∷ pos 1 ∷ pos 2 ∷ pos 5 ∷ pos 0 ∷ pos 0 ∷ pos 0 ∷ pos 1 ∷ pos 2 ∷ pos 0 ∷ pos 0 ∷ pos 0 ∷ pos 1 ∷ pos 2 ∷ pos 1 ∷ pos 1 ∷ pos 1 ∷ pos 1 ∷ pos 1 ∷ pos 1 ∷ pos 1 ∷ pos 1 ∷ pos 1 ∷ pos 1 ∷ pos 1 ∷ pos 5 ∷ pos 0 ∷ pos 0 ∷ pos 1 ∷ pos 1 ∷ pos 2 ∷ pos 1 ∷ pos 1 ∷ pos 1 ∷ pos 1 ∷ pos 1 ∷ pos 1 ∷ pos 1 ∷ pos 1 ∷ pos 1 ∷ pos 1 ∷ pos 1 ∷ pos 1 ∷ pos 1 ∷ pos 2 ∷ pos 5 ∷ pos 1 ∷ pos 1 ∷ pos 1 ∷ pos 0 ∷ pos 2 ∷ pos 0 ∷ pos 0 ∷ pos 0 ∷ pos 1 ∷ pos 0 ∷ pos 1 ∷ pos 1 ∷ pos 1 ∷ pos 1 ∷ pos 1 ∷ pos 1 ∷ pos 1 ∷ pos 1 ∷ pos 1 ∷ pos 1 ∷ pos 3 ∷ negsuc 0 ∷ negsuc 4 ∷ pos 2 ∷ negsuc 1 ∷ pos 5 ∷ pos 1 ∷ negsuc 2 ∷ pos 4 ∷ pos 0 ∷ negsuc 3 ∷ pos 3 ∷ negsuc 0 ∷ negsuc 4 ∷ pos 2 ∷ negsuc 1 ∷ pos 5 ∷ pos 1 ∷ negsuc 2 ∷ pos 4 ∷ pos 0 ∷ []) (pos 1 ∷ pos 0 ∷ pos 0 ∷ pos 1 ∷ pos 0 ∷ pos 1 ∷ pos 1 ∷ pos 1 ∷ pos 0 ∷ pos 0 ∷ pos 1 ∷ pos 0 ∷ pos 0 ∷ pos 0 ∷ pos 0 ∷ pos 1 ∷ pos 0 ∷ pos 1 ∷ pos 1 ∷ pos 2 ∷ pos 1 ∷ pos 0 ∷ pos 1 ∷ pos 0 ∷ pos 1 ∷ pos 2 ∷ negsuc 5 ∷ negsuc 0 ∷ pos 4 ∷ negsuc 3 ∷ pos 1 ∷ pos 6 ∷ negsuc 1 ∷ pos 3 ∷ negsuc 4 ∷ pos 0 ∷ pos 5 ∷ negsuc 2 ∷ pos 2 ∷ negsuc 5 ∷ negsuc 0 ∷ pos 4 ∷ negsuc 3 ∷ pos 1 ∷ pos 6 ∷ negsuc 1 ∷ pos 3 ∷ negsuc 4 ∷ pos 0 ∷ pos 5 ∷ pos 1 ∷ pos 1 ∷ pos 1 ∷ pos 1 ∷ pos 1 ∷ pos 1 ∷ pos 1 ∷ pos 1 ∷ pos 1 ∷ pos 1 ∷ pos 1 ∷ pos 1 ∷ pos 1 ∷ pos 1 ∷ pos 1 ∷ pos 1 ∷ pos 1 ∷ pos 1 ∷ pos 1 ∷ pos 1 ∷ pos 1 ∷ pos 1 ∷ pos 1 ∷ pos 1 ∷ pos 1 ∷ pos 5 ∷ negsuc 2 ∷ pos 2 ∷ negsuc 5 ∷ negsuc 0 ∷ pos 4 ∷ negsuc 3 ∷ pos 1 ∷ pos 6 ∷ negsuc 1 ∷ pos 3 ∷ negsuc 4 ∷ pos 0 ∷ pos 5 ∷ negsuc 2 ∷ pos 2 ∷ negsuc 5 ∷ negsuc 0 ∷ pos 4 ∷ negsuc 3 ∷ pos 1 ∷ pos 6 ∷ negsuc 1 ∷ pos 3 ∷ negsuc 4 ∷ pos 0 ∷ pos 5 ∷ negsuc 2 ∷ pos 2 ∷ [])
-    ∷ []
-unfolding script
-list-8 = refl
-
-list-9 : script
-    (opens (options 4 1 true (pos 4) false (false ∷ true ∷ false ∷ false ∷ []) (false ∷ false ∷ true ∷ false ∷ [])) 29 10
-    ∷ call (left (pos 1 ∷ pos 5 ∷ pos 0 ∷ pos 0 ∷ pos 1 ∷ pos 1 ∷ pos 0 ∷ pos 1 ∷ pos 1 ∷ pos 1 ∷ pos 1 ∷ pos 0 ∷ []))
-    ∷ call (turn (space 4))
-    ∷ call (left (pos 2 ∷ pos 5 ∷ pos 1 ∷ pos 1 ∷ pos 1 ∷ pos 1 ∷ pos 1 ∷ pos 1 ∷ pos 1 ∷ pos 1 ∷ pos 1 ∷ pos 1 ∷ pos 1 ∷ pos 1 ∷ pos 1 ∷ pos 1 ∷ pos 1 ∷ pos 1 ∷ pos 1 ∷ pos 1 ∷ pos 1 ∷ pos 1 ∷ pos 0 ∷ []))
-    ∷ call (turn (space 4))
-    ∷ call (left (pos 1 ∷ pos 5 ∷ pos 1 ∷ pos 1 ∷ pos 0 ∷ pos 0 ∷ pos 25 ∷ pos 1 ∷ pos 1 ∷ pos 1 ∷ pos 1 ∷ pos 1 ∷ []))
-    ∷ call (right (pos 1 ∷ pos 5 ∷ pos 1 ∷ pos 0 ∷ pos 1 ∷ pos 0 ∷ pos 24 ∷ pos 1 ∷ pos 1 ∷ pos 1 ∷ pos 1 ∷ pos 1 ∷ []))
-    ∷ call (left (pos 1 ∷ pos 5 ∷ pos 1 ∷ pos 1 ∷ pos 1 ∷ pos 1 ∷ pos 1 ∷ pos 1 ∷ pos 1 ∷ pos 1 ∷ pos 1 ∷ pos 1 ∷ pos 0 ∷ []))
-    ∷ call end
-    ∷ call (turn (space 4))
-    ∷ call (ports Ready Blocked Ready)
-    ∷ call (turn (space 4))
-    ∷ call (turn (space 4))
-    ∷ call (turn (space 4))
-    ∷ call (turn (space 3))
-    ∷ call (turn (space 4))
-    ∷ call (left (pos 9223372036854775807 ∷ pos 5 ∷ pos 1 ∷ pos 1 ∷ pos 1 ∷ pos 1 ∷ pos 1 ∷ pos 1 ∷ pos 1 ∷ pos 1 ∷ pos 1 ∷ pos 1 ∷ []))
-    ∷ call (left (pos 0 ∷ pos 2 ∷ pos 2 ∷ pos 1 ∷ pos 0 ∷ pos 0 ∷ pos 0 ∷ pos 1 ∷ pos 0 ∷ pos 2 ∷ pos 2 ∷ pos 2 ∷ pos 1 ∷ pos 0 ∷ pos 0 ∷ pos 2 ∷ pos 1 ∷ pos 1 ∷ pos 1 ∷ pos 2 ∷ pos 2 ∷ pos 0 ∷ []))
-    ∷ state
-    ∷ dump
-    ∷ [])
-    ≡ ok
-    ∷ ok
-    ∷ wants
-    ∷ refused 5
-    ∷ wants
-    ∷ ok
-    ∷ ok
-    ∷ refused 5
-    ∷ ok
-    ∷ wrote 0 (pos 1 ∷ pos 1 ∷ pos 0 ∷ pos 0 ∷ [])
-    ∷ said-ports 0 1 0 0
-    ∷ wrote 2 (pos 1 ∷ pos 1 ∷ pos 0 ∷ pos 0 ∷ [])
-    ∷ idle
-    ∷ idle
-    ∷ idle
-    ∷ idle
-    ∷ refused 5
-    ∷ refused 5
-    ∷ looks (0 ∷ 1 ∷ 0 ∷ 24 ∷ 0 ∷ 0 ∷ 1 ∷ 0 ∷ 4 ∷ []) none none
-    ∷ areas (pos 1 ∷ pos 5 ∷ pos 0 ∷ pos 0 ∷ pos 1 ∷ pos 1 ∷ pos 0 ∷ pos 1 ∷ pos 1 ∷ pos 1 ∷ pos 1 ∷ pos 0 ∷ pos 1 ∷ pos 5 ∷ pos 1 ∷ pos 1 ∷ pos 0 ∷ pos 0 ∷ pos 25 ∷ pos 1 ∷ pos 1 ∷ pos 1 ∷ pos 1 ∷ pos 1 ∷ negsuc 1 ∷ pos 5 ∷ pos 1 ∷ negsuc 2 ∷ pos 4 ∷ []) (pos 1 ∷ pos 0 ∷ pos 1 ∷ pos 0 ∷ pos 24 ∷ pos 1 ∷ pos 1 ∷ pos 1 ∷ pos 1 ∷ pos 1 ∷ [])
-    ∷ []
-unfolding script
-list-9 = refl
-
-list-10 : script
-    (opens (options 2 1 true (pos 9223372036854775807) false (true ∷ false ∷ []) (true ∷ false ∷ [])) 1 19
-    ∷ call (right (pos 1 ∷ pos 3 ∷ pos 1 ∷ pos 0 ∷ pos 10 ∷ pos 1 ∷ pos 1 ∷ pos 1 ∷ []))
-    ∷ call (right (pos 2 ∷ pos 3 ∷ pos 1 ∷ pos 1 ∷ pos 1 ∷ pos 1 ∷ []))
-    ∷ call (right (pos 1 ∷ pos 3 ∷ pos 0 ∷ pos 0 ∷ pos 8 ∷ pos 1 ∷ pos 1 ∷ pos 1 ∷ []))
-    ∷ call (turn (space 0))
-    ∷ call (right (pos 1 ∷ pos 3 ∷ pos 0 ∷ pos 0 ∷ pos 10 ∷ pos 1 ∷ pos 1 ∷ pos 1 ∷ []))
-    ∷ call (left (pos 1 ∷ pos 0 ∷ pos 1 ∷ pos 2 ∷ pos 2 ∷ pos 2 ∷ pos 2 ∷ pos 0 ∷ []))
-    ∷ call (left (pos 1 ∷ pos 0 ∷ pos 1 ∷ pos 1 ∷ pos 1 ∷ pos 1 ∷ pos 1 ∷ pos 1 ∷ []))
-    ∷ state
-    ∷ dump
-    ∷ [])
-    ≡ ok
-    ∷ ok
-    ∷ refused 5
-    ∷ ok
-    ∷ idle
-    ∷ ok
-    ∷ refused 5
-    ∷ refused 5
-    ∷ looks (0 ∷ 3 ∷ 0 ∷ 0 ∷ 0 ∷ 0 ∷ 0 ∷ 0 ∷ 0 ∷ []) none none
-    ∷ areas (negsuc 4 ∷ []) (pos 1 ∷ pos 0 ∷ pos 10 ∷ pos 0 ∷ pos 0 ∷ pos 8 ∷ pos 0 ∷ pos 0 ∷ pos 10 ∷ pos 1 ∷ pos 1 ∷ pos 1 ∷ pos 1 ∷ pos 1 ∷ pos 1 ∷ pos 1 ∷ pos 1 ∷ pos 1 ∷ pos 6 ∷ [])
-    ∷ []
-unfolding script
-list-10 = refl
-
-list-11 : script
-    (opens (options 0 1 false (negsuc 0) false [] []) 17 13
-    ∷ call (turn (space 8))
-    ∷ call (right (negsuc 0 ∷ pos 1 ∷ []))
-    ∷ call (right (pos 3 ∷ pos 1 ∷ pos 0 ∷ pos 0 ∷ pos 0 ∷ pos 0 ∷ pos 0 ∷ pos 0 ∷ []))
-    ∷ call (right (pos 2 ∷ pos 1 ∷ pos 10 ∷ pos 13 ∷ pos 1 ∷ pos 1 ∷ []))
-    ∷ state
-    ∷ call (turn (space 8))
-    ∷ call (left (pos 3 ∷ pos 1 ∷ pos 0 ∷ pos 16 ∷ pos 36 ∷ pos 0 ∷ pos 1 ∷ pos 1 ∷ []))
-    ∷ call (left (pos 1 ∷ pos 1 ∷ pos 0 ∷ pos 0 ∷ []))
-    ∷ call (right [])
-    ∷ call (left (pos 1 ∷ pos 1 ∷ pos 17 ∷ pos 1 ∷ []))
-    ∷ call (right (pos 3 ∷ pos 1 ∷ pos 17 ∷ pos 18 ∷ pos 19 ∷ pos 1 ∷ pos 1 ∷ pos 1 ∷ []))
-    ∷ call (left (pos 2 ∷ pos 1 ∷ pos 39 ∷ pos 15 ∷ pos 1 ∷ pos 1 ∷ []))
-    ∷ call (left (pos 2 ∷ negsuc 0 ∷ pos 1 ∷ pos 1 ∷ pos 1 ∷ pos 1 ∷ []))
-    ∷ call (left (pos 1 ∷ pos 1 ∷ pos 25 ∷ pos 1 ∷ []))
-    ∷ call (right (pos 2 ∷ pos 1 ∷ pos 34 ∷ pos 38 ∷ pos 1 ∷ pos 1 ∷ []))
-    ∷ call (turn (space 4))
-    ∷ call (turn (space 8))
-    ∷ call (right [])
-    ∷ call (turn (space 8))
-    ∷ call (left (pos 0 ∷ pos 2 ∷ []))
-    ∷ call (turn (space 8))
-    ∷ state
-    ∷ dump
-    ∷ [])
-    ≡ ok
-    ∷ idle
-    ∷ refused 5
-    ∷ ok
-    ∷ ok
-    ∷ looks (0 ∷ 5 ∷ 0 ∷ 0 ∷ 0 ∷ 0 ∷ 0 ∷ 0 ∷ 0 ∷ []) none none
-    ∷ idle
-    ∷ ok
-    ∷ ok
-    ∷ refused 5
-    ∷ ok
-    ∷ refused 6
-    ∷ refused 6
-    ∷ refused 5
-    ∷ refused 6
-    ∷ refused 6
-    ∷ wants
-    ∷ wants
-    ∷ refused 5
-    ∷ wants
-    ∷ refused 5
-    ∷ wants
-    ∷ looks (0 ∷ 5 ∷ 0 ∷ 0 ∷ 16 ∷ 0 ∷ 0 ∷ 0 ∷ 0 ∷ []) none none
-    ∷ areas (pos 3 ∷ pos 1 ∷ pos 0 ∷ pos 16 ∷ pos 36 ∷ pos 0 ∷ pos 1 ∷ pos 1 ∷ pos 1 ∷ pos 1 ∷ pos 0 ∷ pos 0 ∷ pos 1 ∷ pos 1 ∷ pos 17 ∷ pos 1 ∷ negsuc 2 ∷ []) (pos 0 ∷ pos 0 ∷ pos 0 ∷ pos 10 ∷ pos 13 ∷ pos 6 ∷ pos 0 ∷ pos 0 ∷ pos 0 ∷ pos 1 ∷ pos 1 ∷ negsuc 2 ∷ pos 2 ∷ [])
-    ∷ []
-unfolding script
-list-11 = refl
-
-list-12 : script
-    (opens (options 0 1 true (negsuc 1) true [] []) 6 9
-    ∷ call (right (pos 3 ∷ pos 1 ∷ negsuc 9223372036854775806 ∷ negsuc 0 ∷ negsuc 9223372036854775806 ∷ pos 1 ∷ pos 1 ∷ pos 1 ∷ []))
-    ∷ call (right (pos 0 ∷ pos 1 ∷ []))
-    ∷ call (turn (space 0))
-    ∷ call (turn (space 2))
-    ∷ call (right (pos 2 ∷ pos 1 ∷ pos 1 ∷ pos 1 ∷ pos 1 ∷ pos 0 ∷ []))
-    ∷ state
-    ∷ dump
-    ∷ [])
-    ≡ refused 1
-    ∷ noJoin
-    ∷ noJoin
-    ∷ noJoin
-    ∷ noJoin
-    ∷ noJoin
-    ∷ noJoin
-    ∷ noJoin
     ∷ []
 unfolding script
 list-12 = refl
@@ -1032,15 +1116,37 @@ unfolding script
 list-29 = refl
 
 list-30 : script
-    (opens (options 4 0 false (pos 0) true (false ∷ false ∷ true ∷ true ∷ []) (false ∷ false ∷ true ∷ false ∷ [])) 34 10
-    ∷ call (right (pos 0 ∷ pos 5 ∷ []))
-    ∷ call (right (pos 0 ∷ pos 5 ∷ []))
-    ∷ call (right (pos 1 ∷ pos 5 ∷ pos 0 ∷ pos 0 ∷ pos 0 ∷ pos 1 ∷ pos 0 ∷ pos 1 ∷ pos 1 ∷ pos 1 ∷ pos 1 ∷ pos 0 ∷ []))
-    ∷ call (left (pos 1 ∷ pos 5 ∷ pos 0 ∷ pos 0 ∷ pos 1 ∷ pos 0 ∷ pos 8 ∷ pos 1 ∷ pos 1 ∷ pos 1 ∷ pos 1 ∷ pos 1 ∷ []))
-    ∷ call (left (pos 2 ∷ pos 5 ∷ pos 0 ∷ pos 0 ∷ pos 0 ∷ pos 0 ∷ pos 0 ∷ pos 0 ∷ pos 1 ∷ pos 0 ∷ pos 0 ∷ pos 0 ∷ pos 1 ∷ pos 1 ∷ pos 1 ∷ pos 1 ∷ pos 1 ∷ pos 1 ∷ pos 1 ∷ pos 1 ∷ pos 1 ∷ pos 0 ∷ []))
+    (opens (options 2 0 true (negsuc 0) true (true ∷ false ∷ []) (true ∷ false ∷ [])) 120 96
+    ∷ call (right (pos 2 ∷ pos 3 ∷ pos 1 ∷ pos 0 ∷ pos 0 ∷ pos 1 ∷ pos 0 ∷ pos 1 ∷ pos 1 ∷ pos 1 ∷ pos 1 ∷ pos 1 ∷ pos 1 ∷ pos 1 ∷ []))
+    ∷ call (right (pos 0 ∷ pos 3 ∷ []))
+    ∷ call (right (pos 2 ∷ pos 3 ∷ pos 1 ∷ pos 0 ∷ pos 1 ∷ pos 1 ∷ pos 0 ∷ pos 2 ∷ pos 1 ∷ pos 1 ∷ pos 1 ∷ pos 1 ∷ pos 1 ∷ pos 1 ∷ []))
+    ∷ call (left (pos 1 ∷ pos 3 ∷ pos 1 ∷ pos 0 ∷ pos 0 ∷ pos 1 ∷ pos 1 ∷ pos 1 ∷ []))
+    ∷ call (turn (space 8))
+    ∷ call (right (pos 1 ∷ pos 3 ∷ pos 1 ∷ pos 0 ∷ pos 2 ∷ pos 1 ∷ pos 1 ∷ pos 1 ∷ []))
+    ∷ call (right (pos 3 ∷ pos 3 ∷ pos 1 ∷ pos 0 ∷ pos 3 ∷ pos 1 ∷ pos 0 ∷ pos 3 ∷ pos 1 ∷ pos 1 ∷ pos 4 ∷ pos 1 ∷ pos 1 ∷ pos 1 ∷ pos 1 ∷ pos 1 ∷ pos 1 ∷ pos 1 ∷ pos 1 ∷ pos 1 ∷ []))
+    ∷ call (left (pos 2 ∷ pos 3 ∷ pos 1 ∷ pos 0 ∷ pos 1 ∷ pos 1 ∷ pos 0 ∷ pos 5 ∷ pos 1 ∷ pos 1 ∷ pos 1 ∷ pos 1 ∷ pos 1 ∷ pos 1 ∷ []))
+    ∷ call (right (pos 0 ∷ pos 3 ∷ []))
+    ∷ call (turn (space 8))
+    ∷ call (right (pos 2 ∷ pos 3 ∷ pos 0 ∷ pos 0 ∷ pos 1 ∷ pos 0 ∷ pos 0 ∷ pos 4 ∷ pos 1 ∷ pos 1 ∷ pos 1 ∷ pos 1 ∷ pos 1 ∷ pos 1 ∷ []))
+    ∷ call (left (pos 3 ∷ pos 3 ∷ pos 1 ∷ pos 1 ∷ pos 0 ∷ pos 1 ∷ pos 1 ∷ pos 0 ∷ pos 1 ∷ pos 1 ∷ pos 2 ∷ pos 1 ∷ pos 1 ∷ pos 1 ∷ pos 1 ∷ pos 1 ∷ pos 1 ∷ pos 1 ∷ pos 1 ∷ pos 1 ∷ []))
+    ∷ call (turn (space 8))
+    ∷ call (right (pos 1 ∷ pos 3 ∷ pos 0 ∷ pos 0 ∷ pos 5 ∷ pos 1 ∷ pos 1 ∷ pos 1 ∷ []))
+    ∷ call (right (pos 2 ∷ pos 3 ∷ pos 0 ∷ pos 0 ∷ pos 5 ∷ pos 0 ∷ pos 1 ∷ pos 1 ∷ pos 1 ∷ pos 1 ∷ pos 1 ∷ pos 1 ∷ pos 1 ∷ pos 1 ∷ []))
+    ∷ call (left (pos 3 ∷ pos 3 ∷ pos 1 ∷ pos 1 ∷ pos 3 ∷ pos 1 ∷ pos 1 ∷ pos 3 ∷ pos 1 ∷ pos 1 ∷ pos 3 ∷ pos 1 ∷ pos 1 ∷ pos 1 ∷ pos 1 ∷ pos 1 ∷ pos 1 ∷ pos 1 ∷ pos 1 ∷ pos 1 ∷ []))
+    ∷ call (right (pos 2 ∷ pos 3 ∷ pos 0 ∷ pos 1 ∷ pos 2 ∷ pos 0 ∷ pos 1 ∷ pos 3 ∷ pos 1 ∷ pos 1 ∷ pos 1 ∷ pos 1 ∷ pos 1 ∷ pos 1 ∷ []))
+    ∷ call (right (pos 1 ∷ pos 3 ∷ pos 0 ∷ pos 1 ∷ pos 5 ∷ pos 0 ∷ pos 1 ∷ pos 1 ∷ []))
+    ∷ call (left (pos 0 ∷ pos 3 ∷ []))
+    ∷ call (turn (space 8))
+    ∷ call (left (pos 3 ∷ pos 3 ∷ pos 0 ∷ pos 0 ∷ pos 4 ∷ pos 0 ∷ pos 1 ∷ pos 2 ∷ pos 0 ∷ pos 1 ∷ pos 2 ∷ pos 1 ∷ pos 1 ∷ pos 1 ∷ pos 1 ∷ pos 1 ∷ pos 1 ∷ pos 1 ∷ pos 1 ∷ pos 1 ∷ []))
+    ∷ call (left (pos 0 ∷ pos 3 ∷ []))
+    ∷ call (turn (space 8))
+    ∷ call (left (pos 3 ∷ pos 3 ∷ pos 0 ∷ pos 1 ∷ pos 5 ∷ pos 0 ∷ pos 1 ∷ pos 5 ∷ pos 0 ∷ pos 1 ∷ pos 1 ∷ pos 1 ∷ pos 1 ∷ pos 1 ∷ pos 1 ∷ pos 1 ∷ pos 1 ∷ pos 0 ∷ pos 1 ∷ pos 1 ∷ []))
+    ∷ call (turn (space 8))
+    ∷ call (turn (space 8))
+    ∷ call (turn (space 8))
+    ∷ call (left (pos 2 ∷ pos 3 ∷ pos 0 ∷ pos 1 ∷ pos 2 ∷ pos 0 ∷ pos 1 ∷ pos 5 ∷ pos 0 ∷ pos 1 ∷ pos 1 ∷ pos 1 ∷ pos 1 ∷ pos 1 ∷ []))
     ∷ call end
-    ∷ call (turn (space 6))
-    ∷ call (turn (space 6))
+    ∷ call (turn (space 8))
     ∷ state
     ∷ dump
     ∷ [])
@@ -1049,12 +1155,34 @@ list-30 : script
     ∷ ok
     ∷ ok
     ∷ ok
+    ∷ wrote 0 (pos 1 ∷ pos 1 ∷ pos 0 ∷ pos 1 ∷ [])
     ∷ ok
     ∷ ok
-    ∷ wrote 0 (pos 1 ∷ pos 1 ∷ pos 0 ∷ pos 0 ∷ [])
-    ∷ wrote 2 (pos 2 ∷ pos 1 ∷ pos 0 ∷ pos 0 ∷ pos 0 ∷ pos 0 ∷ [])
-    ∷ looks (1 ∷ 0 ∷ 1 ∷ 34 ∷ 0 ∷ 0 ∷ 1 ∷ 0 ∷ 4 ∷ []) (some (value (pos 0) ∷ value (pos 0) ∷ value (pos 0) ∷ value (pos 0) ∷ value (pos 0) ∷ [])) none
-    ∷ areas (pos 1 ∷ pos 5 ∷ pos 0 ∷ pos 0 ∷ pos 1 ∷ pos 0 ∷ pos 8 ∷ pos 1 ∷ pos 1 ∷ pos 1 ∷ pos 1 ∷ pos 1 ∷ pos 2 ∷ pos 5 ∷ pos 0 ∷ pos 0 ∷ pos 0 ∷ pos 0 ∷ pos 0 ∷ pos 0 ∷ pos 1 ∷ pos 0 ∷ pos 0 ∷ pos 0 ∷ pos 1 ∷ pos 1 ∷ pos 1 ∷ pos 1 ∷ pos 1 ∷ pos 1 ∷ pos 1 ∷ pos 1 ∷ pos 1 ∷ pos 0 ∷ []) (pos 0 ∷ pos 0 ∷ pos 0 ∷ pos 1 ∷ pos 0 ∷ pos 1 ∷ pos 1 ∷ pos 1 ∷ pos 1 ∷ pos 0 ∷ [])
+    ∷ ok
+    ∷ ok
+    ∷ wrote 2 (pos 2 ∷ pos 1 ∷ pos 2 ∷ pos 6 ∷ pos 1 ∷ pos 1 ∷ [])
+    ∷ ok
+    ∷ ok
+    ∷ wrote 4 (pos 3 ∷ pos 1 ∷ pos 0 ∷ pos 0 ∷ pos 0 ∷ pos 0 ∷ pos 0 ∷ pos 0 ∷ [])
+    ∷ ok
+    ∷ ok
+    ∷ ok
+    ∷ ok
+    ∷ ok
+    ∷ ok
+    ∷ wrote 6 (pos 3 ∷ pos 1 ∷ pos 0 ∷ pos 0 ∷ pos 0 ∷ pos 0 ∷ pos 0 ∷ pos 0 ∷ [])
+    ∷ ok
+    ∷ ok
+    ∷ wrote 8 (pos 0 ∷ pos 1 ∷ [])
+    ∷ ok
+    ∷ wrote 10 (pos 3 ∷ pos 1 ∷ pos 9 ∷ pos 13 ∷ pos 13 ∷ pos 1 ∷ pos 1 ∷ pos 1 ∷ [])
+    ∷ wrote 12 (pos 0 ∷ pos 1 ∷ [])
+    ∷ wrote 14 (pos 3 ∷ pos 1 ∷ pos 14 ∷ pos 14 ∷ pos 0 ∷ pos 1 ∷ pos 1 ∷ pos 0 ∷ [])
+    ∷ ok
+    ∷ ok
+    ∷ refused 8
+    ∷ looks (15 ∷ 1 ∷ 15 ∷ 106 ∷ 14 ∷ 0 ∷ 1 ∷ 1 ∷ 16 ∷ []) (some (null ∷ value (pos 1) ∷ value (pos 1) ∷ [])) (some (value (pos 0) ∷ value (pos 1) ∷ value (pos 3) ∷ []))
+    ∷ areas (pos 1 ∷ pos 3 ∷ pos 1 ∷ pos 0 ∷ pos 0 ∷ pos 1 ∷ pos 1 ∷ pos 1 ∷ pos 2 ∷ pos 3 ∷ pos 1 ∷ pos 0 ∷ pos 1 ∷ pos 1 ∷ pos 0 ∷ pos 5 ∷ pos 1 ∷ pos 1 ∷ pos 1 ∷ pos 1 ∷ pos 1 ∷ pos 1 ∷ pos 3 ∷ pos 3 ∷ pos 1 ∷ pos 1 ∷ pos 0 ∷ pos 1 ∷ pos 1 ∷ pos 0 ∷ pos 1 ∷ pos 1 ∷ pos 2 ∷ pos 1 ∷ pos 1 ∷ pos 1 ∷ pos 1 ∷ pos 1 ∷ pos 1 ∷ pos 1 ∷ pos 1 ∷ pos 1 ∷ pos 3 ∷ pos 3 ∷ pos 1 ∷ pos 1 ∷ pos 3 ∷ pos 1 ∷ pos 1 ∷ pos 3 ∷ pos 1 ∷ pos 1 ∷ pos 3 ∷ pos 1 ∷ pos 1 ∷ pos 1 ∷ pos 1 ∷ pos 1 ∷ pos 1 ∷ pos 1 ∷ pos 1 ∷ pos 1 ∷ pos 0 ∷ pos 3 ∷ pos 3 ∷ pos 3 ∷ pos 0 ∷ pos 0 ∷ pos 4 ∷ pos 0 ∷ pos 1 ∷ pos 2 ∷ pos 0 ∷ pos 1 ∷ pos 2 ∷ pos 1 ∷ pos 1 ∷ pos 1 ∷ pos 1 ∷ pos 1 ∷ pos 1 ∷ pos 1 ∷ pos 1 ∷ pos 1 ∷ pos 0 ∷ pos 3 ∷ pos 3 ∷ pos 3 ∷ pos 0 ∷ pos 1 ∷ pos 5 ∷ pos 0 ∷ pos 1 ∷ pos 5 ∷ pos 0 ∷ pos 1 ∷ pos 1 ∷ pos 1 ∷ pos 1 ∷ pos 1 ∷ pos 1 ∷ pos 1 ∷ pos 1 ∷ pos 0 ∷ pos 1 ∷ pos 1 ∷ pos 2 ∷ pos 3 ∷ pos 0 ∷ pos 1 ∷ pos 2 ∷ pos 0 ∷ pos 1 ∷ pos 5 ∷ pos 0 ∷ pos 1 ∷ pos 1 ∷ pos 1 ∷ pos 1 ∷ pos 1 ∷ []) (pos 1 ∷ pos 0 ∷ pos 0 ∷ pos 1 ∷ pos 0 ∷ pos 1 ∷ pos 1 ∷ pos 0 ∷ pos 1 ∷ pos 1 ∷ pos 0 ∷ pos 2 ∷ pos 1 ∷ pos 0 ∷ pos 2 ∷ pos 1 ∷ pos 0 ∷ pos 3 ∷ pos 1 ∷ pos 0 ∷ pos 3 ∷ pos 1 ∷ pos 1 ∷ pos 4 ∷ pos 0 ∷ pos 0 ∷ pos 1 ∷ pos 0 ∷ pos 0 ∷ pos 4 ∷ pos 0 ∷ pos 0 ∷ pos 5 ∷ pos 0 ∷ pos 0 ∷ pos 5 ∷ pos 0 ∷ pos 1 ∷ pos 1 ∷ pos 0 ∷ pos 1 ∷ pos 2 ∷ pos 0 ∷ pos 1 ∷ pos 3 ∷ pos 0 ∷ pos 1 ∷ pos 5 ∷ pos 1 ∷ pos 1 ∷ pos 1 ∷ pos 1 ∷ pos 1 ∷ pos 1 ∷ pos 1 ∷ pos 1 ∷ pos 1 ∷ pos 1 ∷ pos 1 ∷ pos 1 ∷ pos 1 ∷ pos 1 ∷ pos 1 ∷ pos 1 ∷ pos 1 ∷ pos 1 ∷ pos 1 ∷ pos 1 ∷ pos 1 ∷ pos 1 ∷ pos 1 ∷ pos 1 ∷ pos 1 ∷ pos 1 ∷ pos 1 ∷ pos 1 ∷ pos 1 ∷ pos 1 ∷ pos 1 ∷ pos 1 ∷ pos 1 ∷ pos 1 ∷ pos 1 ∷ pos 1 ∷ pos 1 ∷ pos 1 ∷ pos 1 ∷ pos 1 ∷ pos 1 ∷ pos 1 ∷ pos 1 ∷ pos 1 ∷ pos 1 ∷ pos 0 ∷ pos 1 ∷ pos 1 ∷ [])
     ∷ []
 unfolding script
 list-30 = refl
