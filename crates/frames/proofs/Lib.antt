@@ -3,3 +3,7 @@ pub mod OrderLaws
 pub mod SortedLaws
 pub mod WordLaws
 pub mod FrameLaws
+pub mod Signed
+pub mod Apart
+pub mod RowLaws
+pub mod FrontLaws

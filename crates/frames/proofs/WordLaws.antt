@@ -83,8 +83,14 @@ rows-append w (suc n) m vs us ms ns a p =
     let ha : w ≤ length vs = omega arith in
     let hp : w ≤ length ms = omega arith in
     let e : suc n + m ≡ suc (n + m) = omega arith in
-    rw (e, take-append-le w vs us ha, take-append-le w ms ns hp, drop-append-le w vs us ha, drop-append-le w ms ns hp,
-    rows-append w n m (drop w vs) us (drop w ms) ns (length-drop w vs ∙ omega arith) (length-drop w ms ∙ omega arith))
+    rw (
+      e,
+      take-append-le w vs us ha,
+      take-append-le w ms ns hp,
+      drop-append-le w vs us ha,
+      drop-append-le w ms ns hp,
+      rows-append w n m (drop w vs) us (drop w ms) ns (length-drop w vs ∙ omega arith) (length-drop w ms ∙ omega arith),
+    )
 
 -- Rows left out are words left out.
 pub rows-drop : (w n k : ℕ) (vs ms : Words) → k ≤ n → rowsOf w (n - k) (drop (k * w) vs) (drop (k * w) ms) ≡ drop k (rowsOf w n vs ms)
