@@ -210,3 +210,41 @@ module _ (c : ℕ) (ws : Words) where
   pub front-no : (k : ℕ) → frontLength c ws ≡ Long k → isFrame c (take k ws) ≡ false → frontOf c ws ≡ Nothing
   unfolding frontOf
   front-no k e h = let p = front-is k e in rw (p .0, h)
+
+-- ---- what a caller has in hand
+-- A frame's first word is a number of rows.
+pub frame-count : (c : ℕ) (f : Words) → isFrame c f ≡ true → HasCount f
+frame-count c f h = let p = frame-parts c f h in record { long = omega (arith, p .long); few = p .few }
+
+pub frame-few : (c : ℕ) (f : Words) → isFrame c f ≡ true → rowCount f ≤ 4096
+frame-few c f h = few-count (getD f 0 (pos 0)) (frame-parts c f h .few) .1
+
+-- The front that was answered: a frame of so many of the first words.
+pub record Fronted (c : ℕ) (ws : Words) (k : ℕ) : Type 0 where
+  pub is : isFrame c (front c ws) ≡ true
+  pub here : front c ws ≡ take k ws
+  pub within : k ≤ length ws
+  pub exact : k ≡ frameWords (rowCount ws) c
+  pub count : HasCount ws
+
+module _ (c : ℕ) (ws : Words) where
+  answered-by : (b : Bool) (m k : ℕ) → cond b (Long m) Nothing ≡ Long k → (b ≡ true) × (m ≡ k)
+  answered-by true m k e = (refl, (cc))
+  answered-by false m k e = let z : _≡_ {A = ℕ} 0 1 = cc in absurd (omega arith)
+
+  pub front-told : (k : ℕ) → frontOf c ws ≡ Long k → Fronted c ws k
+  unfolding frontOf
+  front-told k e =
+      let p = answered-by (isFrame c (front c ws)) (length (front c ws)) k e in
+      let l = front-frame c ws (p .0) in
+      let q = front-is c ws (frameWords (rowCount ws) c) l in
+      let g = front-found c ws (frameWords (rowCount ws) c) l in
+      let x : frameWords (rowCount ws) c ≡ k = sym (q .1) ∙ p .1 in
+      record { is = p .0; here = rw x at (q .0); within = omega (arith, g .2); exact = sym x; count = record { long = omega (arith, g .0); few = g .1 } }
+
+-- The parts that a caller lends of a frame, values and marks.
+pub values-part : (c : ℕ) (f : Words) (e : ℕ) → e ≡ 2 + rowCount f * c → take (e - 2) (drop 2 f) ≡ valuesIn c f
+values-part c f e h = let x : e - 2 ≡ rowCount f * c = omega arith in rw x
+
+pub marks-part : (c : ℕ) (f : Words) (e : ℕ) → e ≡ 2 + rowCount f * c → take (length f - e) (drop e f) ≡ marksIn c f
+marks-part c f e h = rw h (take-all (length f - (2 + rowCount f * c)) (drop (2 + rowCount f * c) f) (rw (length-drop (2 + rowCount f * c) f) (omega arith)))
