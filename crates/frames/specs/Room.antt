@@ -20,9 +20,9 @@ pub record CellIn (k : ℕ) (vs ms : Words) : Type 0 where
   pub values : k < length vs
   pub marks : k < length ms
 
--- The marks of the by-values of the row at place p are there.
-pub record GroupAt (o : Options) (p : ℕ) (ms : Words) : Type 0 where
-  pub marks : p + o .by ≤ length ms
+-- The marks of the by-values and the key of the row at place p are there.
+pub record MarksAt (o : Options) (p : ℕ) (ms : Words) : Type 0 where
+  pub marks : p + o .by < length ms
 
 -- By-values and key of the row at place p are there; there are at most 4 by-columns.
 pub record RowAt (o : Options) (p : ℕ) (vs ms : Words) : Type 0 where

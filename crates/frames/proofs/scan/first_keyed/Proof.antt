@@ -1,16 +1,15 @@
 -- `frames::scan::first_keyed` meets its contract. Assumes nothing.
-use mathlib.Core.Path.{_≡_, refl, sym, ap, _∙_}
+use mathlib.Core.Path.{_≡_, sym, ap, _∙_}
 use mathlib.Core.Bool.{Bool, true, false}
-use Prim.Native.Nat.{ℕ, _+_, _-_, _*_, _≤_, _<_}
+use Prim.Native.Nat.{_+_, _-_, _*_, _≤_}
 use native.Mathlib.Omega.{arith}
-use borrow.Author.Needs.{needs}
 use borrow.Author.Tests.{not-true, not-false}
 use denote.Ref.{now}
 use lib.ListN.{length}
-use Rattle.frames.specs.Cells.{Words, rowFrom, rowsOf, isNull}
+use Rattle.frames.specs.Cells.{Words, rowFrom, rowsOf}
 use Rattle.frames.specs.Order.{nullKey}
 use Rattle.frames.specs.Keyed.{firstKeyed, firstFrom}
-use Rattle.frames.proofs.RowLaws.{row-cell, row-room, rest, rest-all, first-none, first-found, first-passed}
+use Rattle.frames.proofs.RowLaws.{row-room, rest, rest-all, first-none, first-found, first-passed}
 use Rattle.frames.proofs.scan.first_keyed.Statement.{statement}
 use Rattle.frames.proofs.scan.first_keyed.Tie as tie
 
@@ -30,30 +29,26 @@ loop-holds c =
 room : (c : tie.In-loop Inv-loop μ-loop) → let a = c .before .before .args in c .before .loop .p + a .w ≤ a .n * a .w
 room c = omega (arith, row-room (c .before .loop .i) (c .before .before .args .n) (c .before .before .args .w) (c .loop-test .taken))
 
-add-null-at : tie.Need-add-null-at Inv-loop μ-loop
-add-null-at c = omega (arith, room (c .before))
+null-key-requires : tie.Need-null-key-requires Inv-loop μ-loop
+null-key-requires c κs = record { marks = omega (arith, room c) }
 
-null-at-requires : tie.Need-null-at-requires Inv-loop μ-loop
-null-at-requires c κs = record { marks = omega (arith, room (c .before)) }
-
--- what `null_at` says is what the row says of its key
-told : (c : tie.After-null-at Inv-loop μ-loop) (t : Bool) → c .null-at .result ≡ t → (vs : Words) →
-    let a = c .before .before .before .before .args in
-    a .n * a .w ≤ length vs → nullKey (a .o) (rowFrom (a .w) (c .before .before .before .loop .p) vs (now (a .marks))) ≡ t
+-- what `null_key` says is what row i says of its key
+told : (c : tie.After-null-key Inv-loop μ-loop) (t : Bool) → c .null-key .result ≡ t → (vs : Words) →
+    let a = c .before .before .before .args in
+    a .n * a .w ≤ length vs → nullKey (a .o) (rowFrom (a .w) (c .before .before .loop .p) vs (now (a .marks))) ≡ t
 told c t e vs h =
-    let s = c .before .before .before .before in
-    let a = s .args in
-    let r = room (c .before .before) in
-    ap isNull (row-cell (a .w) (c .before .before .before .loop .p) (a .o .by) vs (now (a .marks)) (s .pre .wide) (omega (arith, s .pre .wide))) ∙ sym (c .null-at .ensures vs) ∙ e
+    let s = c .before .before .before in
+    let r = room (c .before) in
+    sym (c .null-key .ensures (s .args .w) vs (s .pre .wide) (omega (arith, s .pre .wide))) ∙ e
 
 returns : tie.Need-returns Inv-loop μ-loop
 returns c = λ vs h.
-    let l = c .before .before .before .before in
-    let t = c .before .before .before .loop-test .taken in
+    let l = c .before .before .before in
+    let t = c .before .before .loop-test .taken in
     sym (l .loop .inv .2 vs h ∙ first-found _ _ _ _ _ (l .loop .p) _ (omega arith) (told (c .before) false (not-true _ (c .if1 .taken)) vs h))
 
 add-p : tie.Need-add-p Inv-loop μ-loop
-add-p c = omega (arith, room (c .before .before .before))
+add-p c = omega (arith, room (c .before .before))
 
 add-i : tie.Need-add-i Inv-loop μ-loop
 add-i c = omega arith
@@ -63,9 +58,9 @@ loop-less c = omega arith
 
 loop-again : tie.Need-loop-again Inv-loop μ-loop
 loop-again c =
-    let l = c .before .before .before .before in
+    let l = c .before .before .before in
     let a = l .before .args in
-    let t = c .before .before .before .loop-test .taken in (
+    let t = c .before .before .loop-test .taken in (
       omega arith,
       omega arith,
       λ vs h.
@@ -87,8 +82,7 @@ first-keyed-spec =
     Inv-loop
     μ-loop
     loop-holds
-    add-null-at
-    null-at-requires
+    null-key-requires
     returns
     add-p
     add-i

@@ -2,17 +2,16 @@
 use mathlib.Core.Path.{_≡_, refl, sym, ap, _∙_}
 use mathlib.Core.Bool.{Bool, true, false}
 use mathlib.Core.List.{[]}
-use Prim.Native.Nat.{ℕ, _+_, _-_, _*_, _≤_, _<_}
+use Prim.Native.Nat.{_+_, _-_, _*_, _≤_}
 use native.Mathlib.Omega.{arith}
-use borrow.Author.Needs.{needs}
 use borrow.Author.Tests.{not-true, not-false}
 use denote.Ref.{now}
 use lib.ListN.{length, getD}
-use Rattle.frames.specs.Cells.{Words, rowFrom, rowsOf, isNull}
+use Rattle.frames.specs.Cells.{Words, rowsOf}
 use Rattle.frames.specs.Order.{nullKey}
 use Rattle.frames.specs.Keyed.{lastKeyed, lastBelow}
 use Rattle.frames.proofs.WordLaws.{rows-length}
-use Rattle.frames.proofs.RowLaws.{row-cell, row-room, rows-from, one-row, last-none, last-found, last-passed}
+use Rattle.frames.proofs.RowLaws.{row-room, rows-from, one-row, last-none, last-found, last-passed}
 use Rattle.frames.proofs.scan.last_keyed.Statement.{statement}
 use Rattle.frames.proofs.scan.last_keyed.Tie as tie
 
@@ -45,38 +44,35 @@ sub-p c = let r = place c in omega arith
 sub-i : tie.Need-sub-i Inv-loop μ-loop
 sub-i c = omega arith
 
-add-null-at : tie.Need-add-null-at Inv-loop μ-loop
-add-null-at c = let r = place (c .before) in omega arith
+null-key-requires : tie.Need-null-key-requires Inv-loop μ-loop
+null-key-requires c κs = let r = place c in record { marks = omega arith }
 
-null-at-requires : tie.Need-null-at-requires Inv-loop μ-loop
-null-at-requires c κs = let r = place (c .before) in record { marks = omega arith }
-
--- what `null_at` says is what row i - 1 says of its key
-told : (c : tie.After-null-at Inv-loop μ-loop) (t : Bool) → c .null-at .result ≡ t → (vs : Words) →
-    let a = c .before .before .before .before .args in
-    a .n * a .w ≤ length vs → nullKey (a .o) (getD (rowsOf (a .w) (a .n) vs (now (a .marks))) (c .before .before .before .loop .i - 1) []) ≡ t
+-- what `null_key` says is what row i - 1 says of its key
+told : (c : tie.After-null-key Inv-loop μ-loop) (t : Bool) → c .null-key .result ≡ t → (vs : Words) →
+    let a = c .before .before .before .args in
+    a .n * a .w ≤ length vs → nullKey (a .o) (getD (rowsOf (a .w) (a .n) vs (now (a .marks))) (c .before .before .loop .i - 1) []) ≡ t
 told c t e vs h =
-    let s = c .before .before .before .before in
+    let s = c .before .before .before in
     let a = s .args in
-    let l = c .before .before .before .loop in
-    let r = place (c .before .before) in
-    let g = c .before .before .loop-test .taken in
-    let q : l .p - a .w ≡ (l .i - 1) * a .w = omega arith in
-    rw (rows-from (a .w) (a .n) (l .i - 1) vs (now (a .marks)) (omega arith)) (ap isNull (row-cell (a .w) ((l .i - 1) * a .w) (a .o .by) vs (now (a .marks)) (s .pre .wide) (omega (arith, s .pre .wide))) ∙ sym (rw q at (c .null-at .ensures vs)) ∙ e)
+    let l = c .before .before .loop in
+    let r = place (c .before) in
+    let g = c .before .loop-test .taken in
+    let q : (l .i - 1) * a .w ≡ l .p - a .w = omega arith in
+    rw (rows-from (a .w) (a .n) (l .i - 1) vs (now (a .marks)) (omega arith), q) (sym (c .null-key .ensures (a .w) vs (s .pre .wide) (omega (arith, s .pre .wide))) ∙ e)
 
 returns : tie.Need-returns Inv-loop μ-loop
 returns c = λ vs h.
-    let l = c .before .before .before .before in
-    sym (l .loop .inv .2 vs h ∙ last-found _ _ _ (c .before .before .before .loop-test .taken) (told (c .before) false (not-true _ (c .if1 .taken)) vs h))
+    let l = c .before .before .before in
+    sym (l .loop .inv .2 vs h ∙ last-found _ _ _ (c .before .before .loop-test .taken) (told (c .before) false (not-true _ (c .if1 .taken)) vs h))
 
 loop-less : tie.Need-loop-less Inv-loop μ-loop
 loop-less c = omega arith
 
 loop-again : tie.Need-loop-again Inv-loop μ-loop
 loop-again c =
-    let l = c .before .before .before .before in
-    let t = c .before .before .before .loop-test .taken in
-    let r = place (c .before .before .before) in (
+    let l = c .before .before .before in
+    let t = c .before .before .loop-test .taken in
+    let r = place (c .before .before) in (
       omega arith,
       omega arith,
       λ vs h. l .loop .inv .2 vs h ∙ last-passed _ _ _ t (told (c .before) true (not-false _ (c .if1 .left)) vs h),
@@ -98,8 +94,7 @@ last-keyed-spec =
     loop-holds
     sub-p
     sub-i
-    add-null-at
-    null-at-requires
+    null-key-requires
     returns
     loop-less
     loop-again

@@ -14,7 +14,7 @@ use Rattle.frames.proofs.scan.null_group.Tie as tie
 
 abbrev Inv-loop : tie.InvT-loop
 Inv-loop marks p by j₀ j =
-    (j ≤ by) × ((w : ℕ) (vs : Words) → by ≤ w → p + by ≤ length vs → nullIn j (rowFrom w p vs marks) ≡ false)
+    (j ≤ by) × ((w : ℕ) (vs : Words) → by < w → p + by < length vs → nullIn j (rowFrom w p vs marks) ≡ false)
 
 abbrev μ-loop : tie.MeasureT-loop
 μ-loop marks p by j₀ j = by - j
@@ -32,7 +32,7 @@ null-at-requires c κs = search needs
 -- what `null_at` says is what the row says of column j
 told : (c : tie.After-null-at Inv-loop μ-loop) (t : Bool) → c .null-at .result ≡ t → (w : ℕ) (vs : Words) →
     let a = c .before .before .before .args in
-    a .o .by ≤ w → a .p + a .o .by ≤ length vs → isNull (cell (c .before .before .loop .j) (rowFrom w (a .p) vs (now (a .marks)))) ≡ t
+    a .o .by < w → a .p + a .o .by < length vs → isNull (cell (c .before .before .loop .j) (rowFrom w (a .p) vs (now (a .marks)))) ≡ t
 told c t e w vs h l =
     let a = c .before .before .before .args in
     let g = c .before .loop-test .taken in
