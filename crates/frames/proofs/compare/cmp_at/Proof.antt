@@ -1,5 +1,4 @@
 -- `frames::compare::cmp_at` meets its contract. Assumes nothing.
-use mathlib.Core.Path.{_∙_}
 use lib.IntN.{pos}
 use lib.ListN.{getD}
 use denote.Ref.{now}
@@ -38,13 +37,13 @@ cmp-cell-requires c κs = search needs
 returns : tie.Need-returns
 returns c =
     let a = c .before .before .before .before .before .args in
-    c .cmp-cell .ensures
-    ∙ rw (
+    rw (
       back (getD (now (a .va)) (a .ka) (pos 0)) (c .before .before .before .before .cmp-cell-arg .given),
       back (getD (now (a .ma)) (a .ka) (pos 0)) (c .before .before .before .cmp-cell-arg2 .given),
       back (getD (now (a .vb)) (a .kb) (pos 0)) (c .before .before .cmp-cell-arg3 .given),
       back (getD (now (a .mb)) (a .kb) (pos 0)) (c .before .cmp-cell-arg4 .given),
     )
+    at (c .cmp-cell .ensures)
 
 pub cmp-at-spec : {M : Type 1} → statement M
 cmp-at-spec =

@@ -24,13 +24,16 @@ loop-holds c =
     (omega arith, omega arith, ap (sorted (a .o)) (rest-all (a .o) (a .w) (now (a .values)) (now (a .marks)) (a .n)))
 
 add-q : tie.Need-add-q Inv-loop μ-loop
-add-q c = omega (arith, two-rows (c .before .loop .left) (c .before .before .args .w) (c .loop-test .taken))
+add-q c =
+    let t = c .loop-test .taken in
+    omega (arith, two-rows (c .before .loop .left) (c .before .before .args .w) (omega arith))
 
 cmp-row-requires : tie.Need-cmp-row-requires Inv-loop μ-loop
 cmp-row-requires c κs =
     let a = c .before .before .args in
     let p = c .before .before .pre in
-    let h = two-rows (c .before .loop .left) (a .w) (c .loop-test .taken) in
+    let t = c .loop-test .taken in
+    let h = two-rows (c .before .loop .left) (a .w) (omega arith) in
     (record { few = p .few; values = omega arith; marks = omega arith }, record { few = p .few; values = omega arith; marks = omega arith })
 
 enum-told : tie.Need-enum-told Inv-loop μ-loop
@@ -41,8 +44,9 @@ returns c =
     let l = c .before .before .before .before in
     let a = l .before .args in
     let p = l .before .pre in
-    let e = sym (c .before .before .cmp-row .ensures (a .w) (a .w) (p .wide) (p .wide)) ∙ c .enum-told .given .1 in
-    sym (l .loop .inv .2 ∙ sorted-more (a .o) (a .w) (now (a .values)) (now (a .marks)) (l .loop .p) (l .loop .left) (c .before .before .before .loop-test .taken) ∙ rw e)
+    let t = c .before .before .before .loop-test .taken in
+    let e = rw (c .enum-told .given .1) at (c .before .before .cmp-row .ensures (a .w) (a .w) (p .wide) (p .wide)) in
+    sym (l .loop .inv .2 ∙ sorted-more (a .o) (a .w) (now (a .values)) (now (a .marks)) (l .loop .p) (l .loop .left) (omega arith) ∙ rw (← e))
 
 sub-left : tie.Need-sub-left Inv-loop μ-loop
 sub-left c = omega arith
@@ -60,14 +64,14 @@ loop-again c =
     let g = not-greater-arm (c .before .cmp-row .result) (c .match .keys2) in (
       omega arith,
       omega (arith, one-row (l .loop .left) (a .w) (omega arith)),
-      l .loop .inv .2 ∙ sorted-more (a .o) (a .w) (now (a .values)) (now (a .marks)) (l .loop .p) (l .loop .left) t ∙ rw (← e, g),
+      l .loop .inv .2 ∙ sorted-more (a .o) (a .w) (now (a .values)) (now (a .marks)) (l .loop .p) (l .loop .left) (omega arith) ∙ rw (← e, g),
     )
 
 returns-2 : tie.Need-returns-2 Inv-loop μ-loop
 returns-2 c =
     let l = c .before in
     let a = l .before .args in
-    sym (l .loop .inv .2 ∙ sorted-few (a .o) (a .w) (now (a .values)) (now (a .marks)) (l .loop .p) (l .loop .left) (c .loop-test .left))
+    sym (l .loop .inv .2 ∙ sorted-few (a .o) (a .w) (now (a .values)) (now (a .marks)) (l .loop .p) (l .loop .left) (omega arith))
 
 pub is-sorted-spec : {M : Type 1} → statement M
 is-sorted-spec =

@@ -36,7 +36,10 @@ long : (c : tie.After-known-told) → 2 ≤ length (now (c .before .before .befo
 long c = front-found _ _ _ (found c) .0
 
 returns-2 : tie.Need-returns-2
-returns-2 c = sym (other-length _ _ _ (found (c .before)) (c .if1 .taken))
+returns-2 c =
+    let k = c .before .before .k .given .0 .0 in
+    let t = c .if1 .taken in
+    sym (other-length _ _ _ (found (c .before)) (λ (e : k ≡ length (now (c .before .before .before .before .before .args .words))). omega arith))
 
 shared-slice-copy-out-same-count : tie.Need-shared-slice-copy-out-same-count
 shared-slice-copy-out-same-count c = omega (arith, long (c .before))
@@ -83,8 +86,10 @@ pairs-fine-requires c κs = search needs
 returns-4 : tie.Need-returns-4
 returns-4 c =
     let e = c .before .before .before in
+    let f = e .before .before .before in
+    let n : f .before .before .k .given .0 .0 ≡ length (now (f .before .before .before .before .before .args .words)) = omega (arith, f .if1 .left) in
     c .pairs-fine .ensures
-    ∙ sym (frame-halves _ _ _ (found (e .before .before .before .before)) (e .before .before .before .if1 .left) (sym (columns (e .before)) ∙ not-false (e .before .same-count .result) (e .if2 .left)))
+    ∙ sym (frame-halves _ _ _ (found (f .before)) n (sym (columns (e .before)) ∙ not-false (e .before .same-count .result) (e .if2 .left)))
 
 pub is-frame-spec : {M : Type 1} → statement M
 is-frame-spec =

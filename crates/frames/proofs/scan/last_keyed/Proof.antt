@@ -36,7 +36,7 @@ place c =
     let l = c .before .loop in
     let a = c .before .before .args in
     let t = c .loop-test .taken in
-    (omega (arith, one-row (l .i) (a .w) t), row-room (l .i - 1) (a .n) (a .w) (omega arith))
+    (omega (arith, one-row (l .i) (a .w) (omega arith)), row-room (l .i - 1) (a .n) (a .w) (omega arith))
 
 sub-p : tie.Need-sub-p Inv-loop μ-loop
 sub-p c = let r = place c in omega arith
@@ -63,7 +63,8 @@ told c t e vs h =
 returns : tie.Need-returns Inv-loop μ-loop
 returns c = λ vs h.
     let l = c .before .before .before in
-    sym (l .loop .inv .2 vs h ∙ last-found _ _ _ (c .before .before .loop-test .taken) (told (c .before) false (not-true _ (c .if1 .taken)) vs h))
+    let t = c .before .before .loop-test .taken in
+    sym (l .loop .inv .2 vs h ∙ last-found _ _ (l .loop .i) (omega arith) (told (c .before) false (not-true _ (c .if1 .taken)) vs h))
 
 loop-less : tie.Need-loop-less Inv-loop μ-loop
 loop-less c = omega arith
@@ -75,7 +76,7 @@ loop-again c =
     let r = place (c .before .before) in (
       omega arith,
       omega arith,
-      λ vs h. l .loop .inv .2 vs h ∙ last-passed _ _ _ t (told (c .before) true (not-false _ (c .if1 .left)) vs h),
+      λ vs h. l .loop .inv .2 vs h ∙ last-passed _ _ (l .loop .i) (omega arith) (told (c .before) true (not-false _ (c .if1 .left)) vs h),
     )
 
 returns-2 : tie.Need-returns-2 Inv-loop μ-loop
