@@ -1,27 +1,24 @@
 -- The parts of the frame rule as the code tests them: words that are counts, marks that fit, a length that n and c give; and the front of words. Assumes nothing.
-use mathlib.Core.Path.{_≡_, refl, sym, ap, _∙_, subst}
-use mathlib.Core.Bool.{Bool, true, false, cond, not, _&&_, _||_}
-use mathlib.Core.List.{List, [], _∷_}
-use Prim.Native.Nat.{ℕ, zero, suc, _+_, _-_, _*_, _/_, _≤_, _<_, _^_, min}
+use mathlib.Core.Path.{_≡_, refl, sym, ap, _∙_}
+use mathlib.Core.Bool.{Bool, true, false, cond, _&&_}
+use Prim.Native.Nat.{ℕ, suc, _+_, _-_, _*_, _/_, _≤_, _<_, _^_, min}
 use native.Mathlib.Omega.{arith}
 use native.Mathlib.Numerals.{add-one}
-use native.Mathlib.Nat.{div-lt-iff-lt-mul, le-div-iff-mul-le, mul-zero, zero-mul}
+use native.Mathlib.Nat.{div-lt-iff-lt-mul, le-div-iff-mul-le, zero-mul}
 use borrow.Author.Tests.{ltb-true, leb-true, eqb-true, le-leb, lt-leb, eq-eqb, ne-eqb}
 use lib.Dec.{T, leb, eqb}
 use lib.IntN.{ℤ, pos, negsuc, natAbs}
-use lib.Signed.{ltZ, leZ, mag, nonNeg}
+use lib.Signed.{ltZ, leZ, nonNeg}
 use lib.ListN.{length, take, drop, getD, length-take, length-drop, drop-of-length-le}
 use lib.Seq.{drop-cons, length-take-le, getD-take, take-all}
 use mir.Syntax.{w64}
-use mir.Val.{SFits, Fits, toZ, ofZ}
+use mir.Val.{SFits, ofZ}
 use Rattle.frames.specs.Cells.{Words}
 use Rattle.frames.specs.Frame.{sameZ, rowCount, frameWords, pairFine, pairsFine, valuesIn, marksIn, isFrame, front}
 use Rattle.frames.specs.Front.{frontOf, fewRows, fitting, frontLength}
 use Rattle.frames.specs.Room.{HasCount}
-use Rattle.frames.specs.declared.Front.{Front}
 use Rattle.frames.specs.declared.Front.the-variants.{Words as Long, Nothing}
 use Rattle.frames.proofs.SortedLaws.{and-true}
-use Rattle.frames.proofs.FrameLaws.{frame-length}
 
 -- ---- a word that is a number of rows, or a count
 pub few-negative : (z : ℤ) → ltZ z (pos 0) ≡ true → fewRows z ≡ false

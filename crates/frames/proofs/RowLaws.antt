@@ -1,10 +1,10 @@
 -- Rows by the places of their words: the cells of a row, the rows of a stretch, and what a walk over the columns or the rows has left to do. Assumes nothing.
-use mathlib.Core.Path.{_≡_, refl, sym, ap, _∙_, subst}
+use mathlib.Core.Path.{_≡_, refl, sym, _∙_, subst}
 use mathlib.Core.Bool.{Bool, true, false, cond, not, _&&_, _||_}
 use mathlib.Core.List.{List, [], _∷_, _++_, map, append-assoc}
 use mathlib.Core.Logic.{_⊎_, ⊎-elim}
 use Prim.Native.Nat.{ℕ, zero, suc, _+_, _-_, _*_, _≤_, _<_}
-use native.Mathlib.Nat.{add-zero, sub-zero, mul-le-mul-right}
+use native.Mathlib.Nat.{mul-le-mul-right}
 use native.Mathlib.Numerals.{add-one}
 use native.Mathlib.Omega.{arith}
 use native.Mathlib.Decide.{ℕ-discrete}
@@ -12,18 +12,17 @@ use denote.Enum.Declared.{tagOf}
 use lib.IntN.{ℤ, pos}
 use lib.ListN.{length, take, drop, getD, set, length-take, length-drop, length-map, length-append, replicate}
 use lib.Seq.{getD-drop, getD-take, drop-drop, length-take-le, take-suc, set-at}
-use Rattle.frames.specs.Cells.{Cell, null, value, isZero, cellOf, cellsOf, rowsOf, rowFrom, cell, isNull, valueWord, markWord, Rows, Words}
+use Rattle.frames.specs.Cells.{Cell, null, value, isZero, cellOf, cellsOf, rowsOf, rowFrom, cell, isNull, Rows, Words}
 use Rattle.frames.specs.Options.{byRule}
 use Rattle.frames.specs.Order.{next, cmpCell, cmpFirst, cmpRow, isGreater, sorted, nullIn, nullKey}
-use Rattle.frames.specs.Keyed.{firstFrom, lastBelow, lastKeyed, five}
+use Rattle.frames.specs.Keyed.{firstFrom, lastBelow, five}
 use Rattle.frames.specs.Room.{cellAt}
 use Rattle.frames.specs.declared.Options.{Options}
 use Rattle.frames.specs.declared.Order.{Order}
 use Rattle.frames.specs.declared.Order.the-variants.{Less, Equal, Greater}
-use Rattle.frames.specs.declared.Keyed.{Keyed}
 use Rattle.frames.specs.declared.Keyed.the-variants.{At, Nothing}
 use Rattle.frames.proofs.Order.{the-type}
-use Rattle.frames.proofs.WordLaws.{rows-at, rows-length, cells-length, map-append}
+use Rattle.frames.proofs.WordLaws.{rows-at, cells-length, map-append}
 
 -- ---- the cells of a row
 cells-at : (vs ms : Words) (j : ℕ) → j < length vs → cell j (cellsOf vs ms) ≡ cellOf (getD vs j (pos 0)) (getD ms j (pos 0))

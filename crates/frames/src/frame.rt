@@ -1,11 +1,9 @@
 // The frame rule: rows n, columns c, then n * c values, then n * c marks; for any words of any length.
 use crate::Front;
 ghost use mathlib.Core.Path.{_≡_};
-ghost use mathlib.Core.Bool.{_&&_};
-ghost use Prim.Native.Nat.{_≤_, _<_};
+ghost use Prim.Native.Nat.{_≤_};
 ghost use lib.IntN.{pos};
-ghost use lib.ListN.{length, getD};
-ghost use lib.Signed.{leZ};
+ghost use lib.ListN.{length};
 ghost use Rattle.frames.specs.Frame.{isFrame, rowCount, sameZ, pairFine, pairsFine};
 ghost use Rattle.frames.specs.Room.{HasCount};
 ghost use Rattle.frames.specs.Front.{fewRows, frontOf, frontLength, fitting};

@@ -139,8 +139,8 @@ module _ (o : Options) (l r : Words) (L R Os : List Words) (j : Join) (left righ
         sequence = s .sequence;
         gone = rw (length-append L (f ∷ [])) (omega (arith, s .gone));
         waits =
-            append-part left (j .«queue_start») start (j .«queue_words») f nb (s .queue-room)
-            ∙ rw (s .waits, drop-more (length Os) L (f ∷ []) (s .gone), words-append (drop (length Os) L) (f ∷ []), append-nil f);
+          append-part left (j .«queue_start») start (j .«queue_words») f nb (s .queue-room)
+          ∙ rw (s .waits, drop-more (length Os) L (f ∷ []) (s .gone), words-append (drop (length Os) L) (f ∷ []), append-nil f);
         values = s .values;
         marks = s .marks;
         left-frames = frames-join (columns o) L (f ∷ []) (s .left-frames) (h, tt);

@@ -1,5 +1,4 @@
 -- `frames::compare::cmp_key` meets its contract. Assumes nothing.
-use native.Mathlib.Omega.{arith}
 use denote.Ref.{now}
 use Rattle.frames.proofs.RowLaws.{row-cell}
 use borrow.Author.Needs.{needs}

@@ -4,7 +4,6 @@ use mir.Syntax.{w64}
 use mir.Facts.{toZ-ofZ}
 use mir.ValLaws.{toZ-pos}
 use Rattle.frames.proofs.Apart.{low, in-word, whole, same}
-use Rattle.frames.proofs.Signed.{lt-flag}
 use Rattle.frames.proofs.compare.image.Statement.{statement}
 use Rattle.frames.proofs.compare.image.Tie as tie
 

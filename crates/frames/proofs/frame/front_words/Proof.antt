@@ -1,9 +1,6 @@
 -- `frames::frame::front_words` meets its contract. Assumes nothing.
 use mathlib.Core.Path.{_≡_, sym, _∙_}
-use Prim.Native.Nat.{_≤_}
-use native.Mathlib.Omega.{arith}
 use denote.Ref.{now}
-use lib.ListN.{length}
 use lib.Seq.{length-take-le}
 use Rattle.frames.specs.Front.{frontLength}
 use Rattle.frames.specs.declared.Front.the-variants.{Words as Long}

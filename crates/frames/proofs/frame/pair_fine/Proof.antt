@@ -1,5 +1,4 @@
 -- `frames::frame::pair_fine` meets its contract. Assumes nothing.
-use native.Mathlib.Omega.{arith}
 use lib.Dec.{lit<}
 use Rattle.frames.proofs.FrontLaws.{word-is, word-not, word-flag}
 use Rattle.frames.proofs.frame.pair_fine.Statement.{statement}

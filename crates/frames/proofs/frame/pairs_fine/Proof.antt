@@ -8,7 +8,7 @@ use borrow.Author.Tests.{not-true, not-false}
 use denote.Ref.{now}
 use lib.IntN.{pos}
 use lib.ListN.{length, drop, getD}
-use Rattle.frames.specs.Frame.{pairFine, pairsFine}
+use Rattle.frames.specs.Frame.{pairsFine}
 use Rattle.frames.proofs.Signed.{back}
 use Rattle.frames.proofs.FrontLaws.{pairs-more, pairs-done}
 use Rattle.frames.proofs.frame.pairs_fine.Statement.{statement}
