@@ -26,16 +26,18 @@ fn front(name: &[u8], words: &[i64], c: usize) {
     io::write_all(1, b"\n");
 }
 
-// Rows 0 to 4,096 and one more; a length one short and one over. Each value is 1, and so is each mark.
-fn rows() {
+// No row and one row; a length one short and one over.
+fn few_rows() {
+    frame(b"0 rows", &[0, 1], 1);
+    frame(b"0 rows, one word over", &[0, 1, 1], 1);
+    frame(b"1 row", &[1, 1, 1, 1], 1);
+    frame(b"1 row, one word short", &[1, 1, 1], 1);
+    frame(b"1 row, one word over", &[1, 1, 1, 1, 1], 1);
+}
+
+// 4,095 and 4,096 rows. Each value is 1, and so is each mark.
+fn all_rows() {
     let mut words = [1i64; 8197];
-    words[0] = 0;
-    frame(b"0 rows", &words[..2], 1);
-    frame(b"0 rows, one word over", &words[..3], 1);
-    words[0] = 1;
-    frame(b"1 row", &words[..4], 1);
-    frame(b"1 row, one word short", &words[..3], 1);
-    frame(b"1 row, one word over", &words[..5], 1);
     words[0] = 4095;
     frame(b"4095 rows", &words[..8192], 1);
     words[0] = 4096;
@@ -43,6 +45,11 @@ fn rows() {
     frame(b"4096 rows, one word short", &words[..8193], 1);
     frame(b"4096 rows, one word over", &words[..8195], 1);
     front(b"4096 rows, then words", &words, 1);
+}
+
+// 4,097 rows.
+fn too_many_rows() {
+    let mut words = [1i64; 8197];
     words[0] = 4097;
     frame(b"4097 rows", &words[..8196], 1);
     frame(b"4097 rows, one word over", &words, 1);
@@ -77,7 +84,7 @@ fn counts(c: usize) {
     );
 }
 
-// c at the ends of the range, and products that would wrap to the words' length.
+// c at the ends of the range.
 fn ends() {
     frame(b"c -1", &[0, -1], 18446744073709551615);
     frame(b"c -2^63", &[0, -9223372036854775808], 9223372036854775808);
@@ -93,6 +100,10 @@ fn ends() {
     );
     frame(b"c 0, 5 rows", &[5, 0], 0);
     frame(b"c 0, one word over", &[5, 0, 0], 0);
+}
+
+// Products that would wrap to the words' length.
+fn products() {
     frame(
         b"4096 rows, c 2^52",
         &[4096, 4503599627370496],
@@ -134,6 +145,10 @@ fn marks() {
     frame(b"mark 2", &[1, 1, 9, 2], 1);
     frame(b"mark -1", &[1, 1, 9, -1], 1);
     frame(b"the second mark 2", &[2, 1, 9, 9, 1, 2], 1);
+}
+
+// The front of words that wait.
+fn fronts() {
     front(b"two frames", &[1, 1, 9, 1, 1, 1, 0, 0], 1);
     front(b"a frame, then one word", &[1, 1, 9, 1, 5], 1);
     front(b"one word short at the front", &[1, 1, 9], 1);
@@ -142,9 +157,13 @@ fn marks() {
 }
 
 fn main() {
-    rows();
+    few_rows();
+    all_rows();
+    too_many_rows();
     columns();
     counts(1);
     ends();
+    products();
     marks();
+    fronts();
 }
