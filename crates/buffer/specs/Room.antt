@@ -34,6 +34,17 @@ pub record Appended (start live : ℕ) (ws area : Words) (base : ℕ) (after : W
   pub base-is : base ≡ newBase start live (length ws) (length area)
   pub area-is : after ≡ written ws (base + live) (moved start base live area)
 
+-- The same of the values and the marks of an area, which stand alike in its two halves.
+pub record BothIn (half start live : ℕ) (vs ms area : Words) : Type 0 where
+  pub halves : half + half ≤ length area
+  pub paired : length ms ≡ length vs
+  pub within : start + live ≤ half
+  pub room : live + length vs ≤ half
+
+pub record AppendedBoth (half start live : ℕ) (vs ms area : Words) (base : ℕ) (after : Words) : Type 0 where
+  pub base-is : base ≡ newBase start live (length vs) half
+  pub area-is : after ≡ written ms (half + (base + live)) (written vs (base + live) (moved (half + start) (half + base) live (moved start base live area)))
+
 -- The held rows are there, and the frame's rows have room beside them.
 pub record PushIn (c base held : ℕ) (f area : Words) : Type 0 where
   pub columns : Columns c

@@ -4,7 +4,7 @@ ghost use mathlib.Core.Path.{_≡_};
 ghost use Prim.Native.Nat.{_+_, _*_};
 ghost use lib.ListN.{length, drop};
 ghost use Rattle.buffer.specs.Area.{capacity, moved, written};
-ghost use Rattle.buffer.specs.Room.{Columns, BaseIn, WordsIn, AppendIn, Appended, PushIn, Pushed};
+ghost use Rattle.buffer.specs.Room.{Columns, BaseIn, WordsIn, AppendIn, Appended, BothIn, AppendedBoth, PushIn, Pushed};
 
 // Right capacity R: how many rows of c columns the area has room for, values and marks.
 pub fn capacity(area: &[i64], c: usize) -> usize
@@ -74,16 +74,29 @@ pub fn append(area: &mut [i64], start: usize, live: usize, words: &[i64]) -> usi
     start
 }
 
-// Puts a frame's rows behind the held ones: its values into the area's first half, its marks into the second. Returns the new base.
+// Appends values to the live words of the area's first half, and marks to those of its second, which stand alike. Returns where they start now.
+fn append_both(
+    area: &mut [i64],
+    half: usize,
+    start: usize,
+    live: usize,
+    values: &[i64],
+    marks: &[i64],
+) -> usize
+    requires { ⌜ BothIn half start live (now values) (now marks) (now area) ⌝ }
+    ensures { λ r. ⌜ AppendedBoth half start live (now (values .entry)) (now (marks .entry)) (now (area .entry)) r (now (area .exit)) ⌝ }
+{
+    let both = half + half;
+    append(&mut area[..half], start, live, values);
+    append(&mut area[half..both], start, live, marks)
+}
+
+// Puts a frame's rows behind the held ones. Where they would pass the end, the held rows move to the front first. Returns the new base.
 pub fn push(area: &mut [i64], base: usize, held: usize, frame: &[i64], c: usize) -> usize
     requires { ⌜ PushIn c base held (now frame) (now area) ⌝ }
     ensures { λ r. ⌜ Pushed c base held (now (frame .entry)) (now (area .entry)) r (now (area .exit)) ⌝ }
 {
     let half = capacity(area, c) * c;
-    let both = half + half;
-    let start = base * c;
-    let live = held * c;
     let e = 2 + row_count(frame) * c;
-    append(&mut area[..half], start, live, &frame[2..e]);
-    append(&mut area[half..both], start, live, &frame[e..]) / c
+    append_both(area, half, base * c, held * c, &frame[2..e], &frame[e..]) / c
 }

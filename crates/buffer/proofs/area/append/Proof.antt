@@ -1,4 +1,6 @@
 use borrow.Author.Needs.{needs}
+use denote.Ref.{now}
+use Rattle.buffer.proofs.AreaLaws.{append-moved, append-kept}
 use Rattle.buffer.proofs.area.append.Statement.{statement}
 use Rattle.buffer.proofs.area.append.Tie as tie
 use Rattle.buffer.proofs.area.append.Reads as reads
@@ -28,7 +30,9 @@ same-length c = search needs
 
 -- src/area.rt:71:9
 returns : tie.Need-returns
-returns c = ?
+returns c =
+    let a = c .before .before .before .before .before .before .before .args in
+    append-moved (a .start) (a .live) (now (a .words)) (now (a .area)) _ _ (c .before .before .before .before .before .before .if1 .taken) (c .before .before .before .before .move-front .ensures) (c .before .write-words .ensures)
 
 -- src/area.rt:73:23
 add-write-words : tie.Need-add-write-words
@@ -44,7 +48,9 @@ same-length-2 c = search needs
 
 -- src/area.rt:64:1
 returns-2 : tie.Need-returns-2
-returns-2 c = ?
+returns-2 c =
+    let a = c .before .before .before .before .args in
+    append-kept (a .start) (a .live) (now (a .words)) (now (a .area)) _ (c .before .before .before .if1 .left) (c .before .write-words2 .ensures)
 
 pub append-spec : {M : Type 1} → statement M
 append-spec =

@@ -1,115 +1,106 @@
+use mathlib.Core.Path.{refl}
+use native.Mathlib.Omega.{arith}
 use borrow.Author.Needs.{needs}
+use denote.Ref.{now}
+use Rattle.frames.specs.Frame.{rowCount}
+use Rattle.buffer.proofs.AreaLaws.{push-sizes, push-counts, push-both, push-done, Sizes}
 use Rattle.buffer.proofs.area.push.Statement.{statement}
 use Rattle.buffer.proofs.area.push.Tie as tie
 use Rattle.buffer.proofs.area.push.Reads as reads
 use Rattle.buffer.proofs.area.push.Lts as lts
-use Rattle.buffer.proofs.area.append.Reads as append-reads
+use Rattle.buffer.proofs.area.append_both.Reads as append-both-reads
 use Rattle.buffer.proofs.area.capacity.Reads as capacity-reads
 use Rattle.frames.proofs.row_count.Reads as row-count-reads
 
--- src/area.rt:82:16
+-- src/area.rt:99:16
 capacity-requires : tie.Need-capacity-requires
 capacity-requires c κs = search needs
 
--- src/area.rt:82:16
+-- src/area.rt:99:16
 mul-half : tie.Need-mul-half
-mul-half c = ?
+mul-half c =
+    let a = c .before .before .args in
+    omega (arith, push-sizes (a .c) (a .base) (a .held) (now (a .frame)) (now (a .area)) (c .before .before .pre) (c .capacity .result) (rowCount (now (a .frame))) (c .capacity .ensures) refl .area-long)
 
--- src/area.rt:83:16
-add-both : tie.Need-add-both
-add-both c = ?
-
--- src/area.rt:84:17
-mul-start : tie.Need-mul-start
-mul-start c = ?
-
--- src/area.rt:85:16
-mul-live : tie.Need-mul-live
-mul-live c = ?
-
--- src/area.rt:86:17
+-- src/area.rt:100:17
 row-count-requires : tie.Need-row-count-requires
-row-count-requires c κs = ?
+row-count-requires c κs = let a = c .before .before .args in push-counts (a .c) (a .base) (a .held) (now (a .frame)) (now (a .area)) (c .before .before .pre)
 
--- src/area.rt:86:17
+-- src/area.rt:100:17
+-- how long the frame is, and where in the area its rows go
+sizes : (c : tie.After-row-count) → let a = c .before .before .before .args in Sizes (a .c) (a .base) (a .held) (now (a .frame)) (now (a .area)) (c .before .before .before .pre) (c .before .capacity .result) (c .row-count .result)
+sizes c =
+    let s = c .before .before .before in
+    let a = s .args in
+    push-sizes (a .c) (a .base) (a .held) (now (a .frame)) (now (a .area)) (s .pre) _ _ (c .before .capacity .ensures) (c .row-count .ensures)
+
+-- src/area.rt:100:17
 mul-e : tie.Need-mul-e
-mul-e c = ?
+mul-e c = let z = sizes c in omega (arith, z .frame-long, z .live-in, z .fits, z .area-long)
 
--- src/area.rt:86:13
+-- src/area.rt:100:13
 add-e : tie.Need-add-e
-add-e c = ?
+add-e c = let z = sizes c in omega (arith, z .frame-long, z .live-in, z .fits, z .area-long)
 
--- src/area.rt:87:12
-slice-relend-prefix-append : tie.Need-slice-relend-prefix-append
-slice-relend-prefix-append c = ?
+-- src/area.rt:101:29
+mul-append-both : tie.Need-mul-append-both
+mul-append-both c = let z = sizes (c .before) in omega (arith, z .frame-long, z .live-in, z .fits, z .area-long)
 
--- src/area.rt:87:12
-slice-aggregate-append : tie.Need-slice-aggregate-append
-slice-aggregate-append c = ?
+-- src/area.rt:101:39
+mul-append-both-2 : tie.Need-mul-append-both-2
+mul-append-both-2 c = let z = sizes (c .before) in omega (arith, z .frame-long, z .live-in, z .fits, z .area-long)
 
--- src/area.rt:87:44
-sub-append : tie.Need-sub-append
-sub-append c = search needs
+-- src/area.rt:101:49
+sub-append-both : tie.Need-sub-append-both
+sub-append-both c = search needs
 
--- src/area.rt:87:44
-part-append-start : tie.Need-part-append-start
-part-append-start c = search needs
+-- src/area.rt:101:49
+part-append-both-start : tie.Need-part-append-both-start
+part-append-both-start c = search needs
 
--- src/area.rt:87:44
-part-append-end : tie.Need-part-append-end
-part-append-end c = ?
+-- src/area.rt:101:49
+part-append-both-end : tie.Need-part-append-both-end
+part-append-both-end c = let z = sizes (c .before) in omega (arith, z .frame-long, z .live-in, z .fits, z .area-long)
 
--- src/area.rt:87:5
-append-requires : tie.Need-append-requires
-append-requires c κs = ?
+-- src/area.rt:101:63
+mul-append-both-3 : tie.Need-mul-append-both-3
+mul-append-both-3 c = let z = sizes (c .before .before) in omega (arith, z .frame-long, z .live-in, z .fits, z .area-long)
 
--- src/area.rt:88:12
-mul-append : tie.Need-mul-append
-mul-append c = ?
+-- src/area.rt:101:63
+sub-append-both-2 : tie.Need-sub-append-both-2
+sub-append-both-2 c = let z = sizes (c .before .before) in omega (arith, z .frame-long, z .live-in, z .fits, z .area-long)
 
--- src/area.rt:88:12
-sub-append-2 : tie.Need-sub-append-2
-sub-append-2 c = search needs
+-- src/area.rt:101:63
+part-append-both-start-2 : tie.Need-part-append-both-start-2
+part-append-both-start-2 c = let z = sizes (c .before .before) in omega (arith, z .frame-long, z .live-in, z .fits, z .area-long)
 
--- src/area.rt:88:12
-part-append-start-2 : tie.Need-part-append-start-2
-part-append-start-2 c = search needs
+-- src/area.rt:101:63
+part-append-both-end-2 : tie.Need-part-append-both-end-2
+part-append-both-end-2 c = search needs
 
--- src/area.rt:88:12
-part-append-end-2 : tie.Need-part-append-end-2
-part-append-end-2 c = ?
+-- src/area.rt:101:5
+append-both-requires : tie.Need-append-both-requires
+append-both-requires c κs =
+    let r = c .before .before .before in
+    let s = r .before .before .before in
+    let a = s .args in
+    push-both (a .c) (a .base) (a .held) (now (a .frame)) (now (a .area)) (s .pre) _ _ (r .before .capacity .ensures) (r .row-count .ensures)
 
--- src/area.rt:88:48
-mul-append-2 : tie.Need-mul-append-2
-mul-append-2 c = ?
-
--- src/area.rt:88:48
-sub-append-3 : tie.Need-sub-append-3
-sub-append-3 c = ?
-
--- src/area.rt:88:48
-part-append-start-3 : tie.Need-part-append-start-3
-part-append-start-3 c = ?
-
--- src/area.rt:88:48
-part-append-end-3 : tie.Need-part-append-end-3
-part-append-end-3 c = search needs
-
--- src/area.rt:88:5
-append-requires-2 : tie.Need-append-requires-2
-append-requires-2 c κs = ?
-
--- src/area.rt:88:5
+-- src/area.rt:101:5
 div-result : tie.Need-div-result
 div-result c = search needs
 
--- src/area.rt:78:1
+-- src/area.rt:95:1
 same-length : tie.Need-same-length
 same-length c = search needs
 
--- src/area.rt:78:1
+-- src/area.rt:95:1
 returns : tie.Need-returns
-returns c = ?
+returns c =
+    let r = c .before .before .before .before .before in
+    let s = r .before .before .before in
+    let a = s .args in
+    push-done (a .c) (a .base) (a .held) (now (a .frame)) (now (a .area)) (s .pre) _ _ (r .before .capacity .ensures) (r .row-count .ensures) _ _ (c .before .append-both .ensures)
 
 pub push-spec : {M : Type 1} → statement M
 push-spec =
@@ -117,27 +108,19 @@ push-spec =
     (tie.spec
     capacity-requires
     mul-half
-    add-both
-    mul-start
-    mul-live
     row-count-requires
     mul-e
     add-e
-    slice-relend-prefix-append
-    slice-aggregate-append
-    sub-append
-    part-append-start
-    part-append-end
-    append-requires
-    mul-append
-    sub-append-2
-    part-append-start-2
-    part-append-end-2
-    mul-append-2
-    sub-append-3
-    part-append-start-3
-    part-append-end-3
-    append-requires-2
+    mul-append-both
+    mul-append-both-2
+    sub-append-both
+    part-append-both-start
+    part-append-both-end
+    mul-append-both-3
+    sub-append-both-2
+    part-append-both-start-2
+    part-append-both-end-2
+    append-both-requires
     div-result
     same-length
     returns)
