@@ -8,3 +8,5 @@ pub mod EnoughLaw
 pub mod CheckLaw
 pub mod AreaLaws
 pub mod FindLaws
+pub mod ReachLaws
+pub mod BeforeLaws

@@ -5,9 +5,10 @@ use Prim.Native.Nat.{ℕ, _+_, _*_, _≤_, _<_}
 use lib.ListN.{length}
 use Rattle.frames.specs.Cells.{Words}
 use Rattle.frames.specs.Frame.{rowCount, isFrame}
+use Rattle.frames.specs.Room.{RowsIn}
 use Rattle.frames.specs.declared.Options.{Options}
 use Rattle.frames.specs.declared.Keyed.{Keyed}
-use Rattle.frames.specs.declared.Keyed.the-variants.{At, Nothing}
+use Rattle.frames.specs.declared.Keyed.the-variants.{At}
 use Rattle.buffer.specs.Area.{capacity, moved, written, newBase, pushed}
 
 -- b by-columns, 0 to 4, and the key.
@@ -68,7 +69,16 @@ pub record BeforeIn (w : ℕ) (found : Keyed) (held remembered : Words) : Type 0
   pub inside : (i : ℕ) → found ≡ At i → i * w + w ≤ length held
   pub other : w ≤ length remembered
 
--- A row of at most five words, with the key among its columns.
-pub record FewWords (o : Options) (w : ℕ) : Type 0 where
-  pub wide : o .by < w
-  pub few : w ≤ 5
+-- Row i is one of n, where there are any.
+pub record PlaceIn (i n : ℕ) : Type 0 where
+  pub row : 0 < n → i < n
+
+-- n rows are there that can be remembered: at most five words wide, with the key among their columns.
+pub record LastIn (o : Options) (w n : ℕ) (vs ms : Words) : Type 0 where
+  pub rows : RowsIn o w n vs ms
+  pub narrow : w ≤ 5
+
+-- The same, and s is a place among them or their end.
+pub record SplitIn (o : Options) (s w n : ℕ) (vs ms : Words) : Type 0 where
+  pub last : LastIn o w n vs ms
+  pub place : s ≤ n
