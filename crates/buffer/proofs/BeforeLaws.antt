@@ -11,7 +11,7 @@ use Rattle.frames.specs.Cells.{Cell, cellsOf, rowsOf, rowFrom, Rows, Words}
 use Rattle.frames.specs.Options.{columns}
 use Rattle.frames.specs.Order.{cmpRow, isGreater}
 use Rattle.frames.specs.Keyed.{firstKeyed, lastKeyed, rowAt, recall, remember, rememberLast, rememberAt, outOfOrder}
-use Rattle.frames.specs.Room.{RowAt, RowsIn}
+use Rattle.frames.specs.Room.{RowAt, RowsIn, KeysIn}
 use Rattle.frames.specs.declared.Options.{Options}
 use Rattle.frames.specs.declared.Row.{Row}
 use Rattle.frames.specs.declared.Order.{Order}
@@ -94,11 +94,14 @@ unfolding badSplit outOfOrderAt
 bad-split-is o m i left held = refl
 
 module _ (o : Options) (m : Row) (s w n : ℕ) (vs ms : Words) (p : SplitIn o s w n vs ms) where
-  long : (xs : Words) → n * w ≤ length xs → (s * w ≤ length xs) × ((n - s) * w ≤ length xs - s * w)
+  pub long : (xs : Words) → n * w ≤ length xs → (s * w ≤ length xs) × ((n - s) * w ≤ length xs - s * w)
   long xs h =
       let e : n ≡ s + (n - s) = omega (arith, p .place) in
       let f : n * w ≡ (s + (n - s)) * w = ap (λ (z : ℕ). z * w) e in
       (omega arith, omega arith)
+
+  pub keys-in : KeysIn o w s ms
+  keys-in = record { few = p .last .rows .few; wide = p .last .rows .wide; marks = long ms (p .last .rows .marks) .0 }
 
   pub before-in : (k : Keyed) (xs remembered : Words) → lastKeyed o (rowsOf w s vs ms) ≡ k → n * w ≤ length xs → w ≤ length remembered → BeforeIn w k xs remembered
   before-in k xs remembered e h l = record {

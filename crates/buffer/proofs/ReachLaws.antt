@@ -3,21 +3,37 @@ use mathlib.Core.Path.{_≡_, refl, sym, ap, _∙_}
 use mathlib.Core.Bool.{Bool, true, false, cond, _||_}
 use mathlib.Core.List.{List, []}
 use Prim.Native.Nat.{ℕ, zero, suc, _+_, _-_, _*_, _≤_, _<_}
+use native.Mathlib.Nat.{mul-le-mul-right}
 use native.Mathlib.Numerals.{add-one}
 use native.Mathlib.Omega.{arith}
 use borrow.Author.Tests.{lt-ltb, le-ltb, le-leb, lt-leb, eq-eqb, ne-eqb}
 use lib.Dec.{leb}
 use lib.ListN.{length, getD}
-use Rattle.frames.specs.Cells.{Cell, cell, Rows}
+use Rattle.frames.specs.Cells.{Cell, cell, Rows, Words}
 use Rattle.frames.specs.Options.{byRule, strategyOf}
 use Rattle.frames.specs.Order.{keyOf}
+use Rattle.frames.specs.Room.{RowAt, RowsIn}
+use Rattle.frames.proofs.RowLaws.{row-room}
 use Rattle.frames.specs.declared.Options.{Options}
 use Rattle.frames.specs.declared.Strategy.{Strategy}
 use Rattle.frames.specs.declared.Strategy.the-variants.{Backward, Forward, Nearest}
 use Rattle.buffer.specs.Search.{find}
 use Rattle.buffer.specs.Reach.{Range, narrowBy, narrow, narrowed, findKey, seekOf, keyNeedsMore, rowNeedsMore, needMore, stepBack, splitAt, pruneBy}
 use Rattle.buffer.specs.declared.Seek.the-variants.{AtLeast, Above}
+use Rattle.buffer.specs.Room.{ColumnIn}
 use Rattle.buffer.proofs.Bounds.{narrow-inside}
+
+-- ---- rows that are there
+module _ {o : Options} {w n : ℕ} {vs ms : Words} (p : RowsIn o w n vs ms) where
+  pub row-at : (i : ℕ) → i < n → RowAt o (i * w) vs ms
+  row-at i h =
+      let r = row-room i n w h in
+      record { few = p .few; values = omega (arith, p .wide, p .values); marks = omega (arith, p .wide, p .marks) }
+
+  pub column-in : (j e : ℕ) → j < w → e ≤ n → ColumnIn j w e vs ms
+  column-in j e h l =
+      let k = mul-le-mul-right {m = e} {n = n} w l in
+      record { wide = h; values = omega (arith, p .values); marks = omega (arith, p .marks) }
 
 -- ---- narrowing
 module _ (o : Options) (held : Rows) (t : List Cell) where

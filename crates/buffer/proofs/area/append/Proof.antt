@@ -3,50 +3,36 @@ use denote.Ref.{now}
 use Rattle.buffer.proofs.AreaLaws.{append-moved, append-kept}
 use Rattle.buffer.proofs.area.append.Statement.{statement}
 use Rattle.buffer.proofs.area.append.Tie as tie
-use Rattle.buffer.proofs.area.append.Reads as reads
-use Rattle.buffer.proofs.area.append.Lts as lts
-use Rattle.buffer.proofs.area.move_front.Reads as move-front-reads
-use Rattle.buffer.proofs.area.write_words.Reads as write-words-reads
 
--- src/area.rt:68:21
 add-if1 : tie.Need-add-if1
 add-if1 c = search needs
 
--- src/area.rt:68:21
 add-if1-2 : tie.Need-add-if1-2
 add-if1-2 c = search needs
 
--- src/area.rt:69:9
 move-front-requires : tie.Need-move-front-requires
 move-front-requires c κs = search needs
 
--- src/area.rt:70:9
 write-words-requires : tie.Need-write-words-requires
 write-words-requires c κs = search needs
 
--- src/area.rt:71:9
 same-length : tie.Need-same-length
 same-length c = search needs
 
--- src/area.rt:71:9
 returns : tie.Need-returns
 returns c =
     let a = c .before .before .before .before .before .before .before .args in
     append-moved (a .start) (a .live) (now (a .words)) (now (a .area)) _ _ (c .before .before .before .before .before .before .if1 .taken) (c .before .before .before .before .move-front .ensures) (c .before .write-words .ensures)
 
--- src/area.rt:73:23
 add-write-words : tie.Need-add-write-words
 add-write-words c = search needs
 
--- src/area.rt:73:5
 write-words-requires-2 : tie.Need-write-words-requires-2
 write-words-requires-2 c κs = search needs
 
--- src/area.rt:64:1
 same-length-2 : tie.Need-same-length-2
 same-length-2 c = search needs
 
--- src/area.rt:64:1
 returns-2 : tie.Need-returns-2
 returns-2 c =
     let a = c .before .before .before .before .args in

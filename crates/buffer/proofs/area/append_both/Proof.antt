@@ -6,54 +6,40 @@ use lib.Seq.{length-take-le}
 use Rattle.buffer.proofs.AreaLaws.{both-appended}
 use Rattle.buffer.proofs.area.append_both.Statement.{statement}
 use Rattle.buffer.proofs.area.append_both.Tie as tie
-use Rattle.buffer.proofs.area.append_both.Reads as reads
-use Rattle.buffer.proofs.area.append_both.Lts as lts
-use Rattle.buffer.proofs.area.append.Reads as append-reads
 
--- src/area.rt:89:16
 add-both : tie.Need-add-both
 add-both c = search needs
 
--- src/area.rt:90:12
 slice-relend-prefix-append : tie.Need-slice-relend-prefix-append
 slice-relend-prefix-append c = search needs
 
--- src/area.rt:90:12
 slice-aggregate-append : tie.Need-slice-aggregate-append
 slice-aggregate-append c = let s = c .before in sym (length-take-le (s .args .half) (now (s .args .area)) (omega (arith, s .pre .halves)))
 
--- src/area.rt:90:5
 append-requires : tie.Need-append-requires
 append-requires c κs =
     let s = c .before in
     let e = length-take-le (s .args .half) (now (s .args .area)) (omega (arith, s .pre .halves)) in
     record { within = omega arith; room = omega arith }
 
--- src/area.rt:91:12
 mul-append : tie.Need-mul-append
 mul-append c = search needs
 
--- src/area.rt:91:12
 sub-append : tie.Need-sub-append
 sub-append c = search needs
 
--- src/area.rt:91:12
 part-append-start : tie.Need-part-append-start
 part-append-start c = search needs
 
--- src/area.rt:91:12
 part-append-end : tie.Need-part-append-end
 part-append-end c = search needs
 
--- src/area.rt:91:5
 append-requires-2 : tie.Need-append-requires-2
 append-requires-2 c κs = search needs
 
--- src/area.rt:78:1
 same-length : tie.Need-same-length
 same-length c = search needs
 
--- src/area.rt:78:1
 returns : tie.Need-returns
 returns c =
     let s = c .before .before .before .before .before .before in

@@ -1,49 +1,55 @@
+use Prim.Native.Nat.{_+_}
+use native.Mathlib.Omega.{arith}
+use denote.Ref.{now}
+use lib.IntN.{pos}
+use lib.ListN.{getD}
+use Rattle.frames.specs.Room.{cellAt}
+use Rattle.frames.proofs.Signed.{back}
+use Rattle.frames.proofs.RowLaws.{row-cell}
+use Rattle.buffer.proofs.ReachLaws.{narrow-column}
 use borrow.Author.Needs.{needs}
 use Rattle.buffer.proofs.reach.narrow_by.Statement.{statement}
 use Rattle.buffer.proofs.reach.narrow_by.Tie as tie
-use Rattle.buffer.proofs.reach.narrow_by.Reads as reads
-use Rattle.buffer.proofs.reach.narrow_by.Lts as lts
-use Rattle.buffer.proofs.search.find.Reads as find-reads
 
--- src/reach.rt:34:16
 array-read-down : tie.Need-array-read-down
 array-read-down c = search needs
 
--- src/reach.rt:35:16
 array-read-late : tie.Need-array-read-late
 array-read-late c = search needs
 
--- src/reach.rt:36:13
 add-k : tie.Need-add-k
 add-k c = search needs
 
--- src/reach.rt:37:17
 mul-value : tie.Need-mul-value
 mul-value c = search needs
 
--- src/reach.rt:37:17
 shared-slice-copy-out-value : tie.Need-shared-slice-copy-out-value
 shared-slice-copy-out-value c = search needs
 
--- src/reach.rt:38:16
 mul-mark : tie.Need-mul-mark
 mul-mark c = search needs
 
--- src/reach.rt:38:16
 shared-slice-copy-out-mark : tie.Need-shared-slice-copy-out-mark
 shared-slice-copy-out-mark c = search needs
 
--- src/reach.rt:39:9
 find-requires : tie.Need-find-requires
 find-requires c κs = search needs
 
--- src/reach.rt:40:9
 find-requires-2 : tie.Need-find-requires-2
 find-requires-2 c κs = search needs
 
--- src/reach.rt:18:1
 returns : tie.Need-returns
-returns c = ?
+returns c = λ n wl h k.
+    let s = c .before .before .before .before .before .before in
+    let a = s .args in
+    let q = s .pre .0 in
+    let j = s .pre .2 in
+    let ev = back (getD (now (a .lv)) (a .p + a .j) (pos 0)) (c .before .before .before .value .given) in
+    let em = back (getD (now (a .lm)) (a .p + a .j) (pos 0)) (c .before .before .mark .given) in
+    narrow-column (a .o) _ _ (a .j) (cellAt (a .p + a .j) (now (a .lv)) (now (a .lm))) _ _ _
+    (row-cell wl (a .p) (a .j) (now (a .lv)) (now (a .lm)) (omega arith) (omega (arith, q .values)))
+    (rw (ev, em) at (c .before .find .ensures n h))
+    (rw (ev, em) at (c .find2 .ensures n h))
 
 pub narrow-by-spec : {M : Type 1} → statement M
 narrow-by-spec =

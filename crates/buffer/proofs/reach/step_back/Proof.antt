@@ -1,41 +1,31 @@
+use mathlib.Core.Path.{_∙_}
 use borrow.Author.Needs.{needs}
 use Rattle.buffer.proofs.reach.step_back.Statement.{statement}
 use Rattle.buffer.proofs.reach.step_back.Tie as tie
-use Rattle.buffer.proofs.reach.step_back.Reads as reads
-use Rattle.buffer.proofs.reach.step_back.Lts as lts
-use Rattle.buffer.proofs.reach.one_back.Reads as one-back-reads
 
--- src/reach.rt:200:31
 enum-told : tie.Need-enum-told
 enum-told c = search needs
 
--- src/reach.rt:200:31
 one-back-requires : tie.Need-one-back-requires
 one-back-requires c κs = search needs
 
--- src/reach.rt:201:30
 enum-told-2 : tie.Need-enum-told-2
 enum-told-2 c = search needs
 
--- src/reach.rt:202:30
 enum-told-3 : tie.Need-enum-told-3
 enum-told-3 c = search needs
 
--- src/reach.rt:202:30
 one-back-requires-2 : tie.Need-one-back-requires-2
 one-back-requires-2 c κs = search needs
 
--- src/reach.rt:196:1
 returns : tie.Need-returns
-returns c = ?
+returns c = c .one-back .ensures ∙ rw (c .before .enum-told .given .1)
 
--- src/reach.rt:196:1
 returns-2 : tie.Need-returns-2
 returns-2 c = search needs
 
--- src/reach.rt:196:1
 returns-3 : tie.Need-returns-3
-returns-3 c = ?
+returns-3 c = c .one-back2 .ensures ∙ rw (c .before .enum-told3 .given .1)
 
 pub step-back-spec : {M : Type 1} → statement M
 step-back-spec =

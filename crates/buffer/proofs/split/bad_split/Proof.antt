@@ -1,88 +1,119 @@
+use mathlib.Core.Path.{_≡_, sym, _∙_}
+use Prim.Native.Nat.{_*_, _≤_}
+use native.Mathlib.Omega.{arith}
+use borrow.Author.Tests.{not-true, not-false}
+use denote.Ref.{now}
+use lib.ListN.{length}
+use Rattle.frames.specs.Cells.{rowsOf}
+use Rattle.frames.specs.Keyed.{lastKeyed}
+use Rattle.buffer.proofs.BeforeLaws.{long, keys-in, before-in, behind-in, front-in, split-none, split-says}
 use borrow.Author.Needs.{needs}
 use Rattle.buffer.proofs.split.bad_split.Statement.{statement}
 use Rattle.buffer.proofs.split.bad_split.Tie as tie
-use Rattle.buffer.proofs.split.bad_split.Reads as reads
-use Rattle.buffer.proofs.split.bad_split.Lts as lts
-use Rattle.buffer.proofs.split.above_first.Reads as above-first-reads
-use Rattle.buffer.proofs.split.before_split.Reads as before-split-reads
-use Rattle.buffer.proofs.split.has_before.Reads as has-before-reads
-use Rattle.frames.proofs.last_keyed.Reads as last-keyed-reads
 
--- src/split.rt:104:9
 last-keyed-requires : tie.Need-last-keyed-requires
-last-keyed-requires c κs = ?
+last-keyed-requires c κs = let a = c .args in keys-in (a .o) (a .m) (a .s) (a .w) (a .n) (now (a .rv)) (now (a .rm)) (c .pre)
 
--- src/split.rt:105:9
 has-before-requires : tie.Need-has-before-requires
 has-before-requires c κs = search needs
 
--- src/split.rt:106:9
-returns : tie.Need-returns
-returns c = ?
+-- the last row with a key before the split; and as many words as the row has are remembered, and there
+found : (c : tie.After-last-keyed) → let a = c .before .args in lastKeyed (a .o) (rowsOf (a .w) (a .s) (now (a .rv)) (now (a .rm))) ≡ c .last-keyed .result
+found c =
+    let s = c .before in
+    let a = s .args in
+    sym (c .last-keyed .ensures (now (a .rv)) (long (a .o) (a .m) (a .s) (a .w) (a .n) (now (a .rv)) (now (a .rm)) (s .pre) (now (a .rv)) (s .pre .last .rows .values) .0))
 
--- src/split.rt:110:35
+long-values : (c : tie.Start) → c .args .w ≤ length (c .args .m .values)
+long-values c = let g : length (c .args .m .values) ≡ 5 = search needs in omega (arith, c .pre .last .narrow)
+
+long-marks : (c : tie.Start) → c .args .w ≤ length (c .args .m .marks)
+long-marks c = let g : length (c .args .m .marks) ≡ 5 = search needs in omega (arith, c .pre .last .narrow)
+
+room : (c : tie.After-last-keyed) → let a = c .before .args in (a .s * a .w ≤ length (now (a .rv))) × (a .s * a .w ≤ length (now (a .rm)))
+room c =
+    let s = c .before in
+    let a = s .args in (
+      long (a .o) (a .m) (a .s) (a .w) (a .n) (now (a .rv)) (now (a .rm)) (s .pre) (now (a .rv)) (s .pre .last .rows .values) .0,
+      long (a .o) (a .m) (a .s) (a .w) (a .n) (now (a .rv)) (now (a .rm)) (s .pre) (now (a .rm)) (s .pre .last .rows .marks) .0,
+    )
+
+returns : tie.Need-returns
+returns c =
+    let k = c .before .before in
+    let a = k .before .args in
+    split-none (a .o) (a .m) (a .s) (a .w) (a .n) (now (a .rv)) (now (a .rm)) (k .before .pre) _ (found k) (sym (c .before .has-before .ensures) ∙ not-true _ (c .if1 .taken))
+
 slice-aggregate-before-split : tie.Need-slice-aggregate-before-split
 slice-aggregate-before-split c = search needs
 
--- src/split.rt:110:9
 before-split-requires : tie.Need-before-split-requires
-before-split-requires c κs = ?
+before-split-requires c κs =
+    let k = c .before .before .before .before .before in
+    let s = k .before in
+    let a = s .args in
+    before-in (a .o) (a .m) (a .s) (a .w) (a .n) (now (a .rv)) (now (a .rm)) (s .pre) _ (now (a .rv)) (a .m .values) (found k) (s .pre .last .rows .values) (long-values s)
 
--- src/split.rt:111:34
 slice-aggregate-before-split-2 : tie.Need-slice-aggregate-before-split-2
 slice-aggregate-before-split-2 c = search needs
 
--- src/split.rt:111:9
 before-split-requires-2 : tie.Need-before-split-requires-2
-before-split-requires-2 c κs = ?
+before-split-requires-2 c κs =
+    let k = c .before .before .before .before .before .before .before in
+    let s = k .before in
+    let a = s .args in
+    before-in (a .o) (a .m) (a .s) (a .w) (a .n) (now (a .rv)) (now (a .rm)) (s .pre) _ (now (a .rm)) (a .m .marks) (found k) (s .pre .last .rows .marks) (long-marks s)
 
--- src/split.rt:112:13
 mul-p : tie.Need-mul-p
-mul-p c = ?
+mul-p c = omega (arith, room (c .before .before .before .before .before .before .before .before))
 
--- src/split.rt:113:32
 mul-above-first : tie.Need-mul-above-first
-mul-above-first c = ?
+mul-above-first c = omega (arith, room (c .before .before .before .before .before .before .before .before))
 
--- src/split.rt:113:32
 sub-above-first : tie.Need-sub-above-first
-sub-above-first c = ?
+sub-above-first c = omega (arith, room (c .before .before .before .before .before .before .before .before))
 
--- src/split.rt:113:32
 part-above-first-start : tie.Need-part-above-first-start
-part-above-first-start c = ?
+part-above-first-start c = omega (arith, room (c .before .before .before .before .before .before .before .before))
 
--- src/split.rt:113:32
 part-above-first-end : tie.Need-part-above-first-end
 part-above-first-end c = search needs
 
--- src/split.rt:113:42
 mul-above-first-2 : tie.Need-mul-above-first-2
-mul-above-first-2 c = ?
+mul-above-first-2 c = omega (arith, room (c .before .before .before .before .before .before .before .before .before))
 
--- src/split.rt:113:42
 sub-above-first-2 : tie.Need-sub-above-first-2
-sub-above-first-2 c = ?
+sub-above-first-2 c = omega (arith, room (c .before .before .before .before .before .before .before .before .before))
 
--- src/split.rt:113:42
 part-above-first-start-2 : tie.Need-part-above-first-start-2
-part-above-first-start-2 c = ?
+part-above-first-start-2 c = omega (arith, room (c .before .before .before .before .before .before .before .before .before))
 
--- src/split.rt:113:42
 part-above-first-end-2 : tie.Need-part-above-first-end-2
 part-above-first-end-2 c = search needs
 
--- src/split.rt:113:52
 sub-above-first-3 : tie.Need-sub-above-first-3
 sub-above-first-3 c = search needs
 
--- src/split.rt:113:5
 above-first-requires : tie.Need-above-first-requires
-above-first-requires c κs = ?
+above-first-requires c κs =
+    let b = c .before .before in
+    let d = b .before .before in
+    let k = d .before .before .before .before .before .before in
+    let s = k .before in
+    let a = s .args in (
+      front-in (a .o) (a .m) (a .s) (a .w) (a .n) (now (a .rv)) (now (a .rm)) (s .pre) _ _ _ (found k) (long-values s) (long-marks s) (d .before-split .ensures) (b .before-split2 .ensures),
+      behind-in (a .o) (a .m) (a .s) (a .w) (a .n) (now (a .rv)) (now (a .rm)) (s .pre),
+    )
 
--- src/split.rt:92:1
 returns-2 : tie.Need-returns-2
-returns-2 c = ?
+returns-2 c =
+    let b = c .before .before .before in
+    let d = b .before .before in
+    let t = d .before .before .before .before in
+    let k = t .before .before in
+    let s = k .before in
+    let a = s .args in
+    split-says (a .o) (a .m) (a .s) (a .w) (a .n) (now (a .rv)) (now (a .rm)) (s .pre) _ _ _ _ (found k) (sym (t .before .has-before .ensures) ∙ not-false _ (t .if1 .left)) (d .before-split .ensures) (b .before-split2 .ensures) (c .above-first .ensures)
 
 pub bad-split-spec : {M : Type 1} → statement M
 bad-split-spec =

@@ -1,52 +1,54 @@
+use mathlib.Core.Path.{_≡_, sym}
+use Prim.Native.Nat.{_+_, _-_, _*_, _≤_}
+use native.Mathlib.Omega.{arith}
+use denote.Ref.{now}
+use lib.ListN.{length}
+use lib.Seq.{length-take-le}
 use borrow.Author.Needs.{needs}
 use Rattle.buffer.proofs.split.before_split.Statement.{statement}
 use Rattle.buffer.proofs.split.before_split.Tie as tie
-use Rattle.buffer.proofs.split.before_split.Reads as reads
-use Rattle.buffer.proofs.split.before_split.Lts as lts
 
--- src/split.rt:31:19
 enum-known-found : tie.Need-enum-known-found
 enum-known-found c = search needs
 
--- src/split.rt:32:16
 enum-told : tie.Need-enum-told
 enum-told c = search needs
 
--- src/split.rt:32:9
 slice-aggregate-result : tie.Need-slice-aggregate-result
-slice-aggregate-result c = ?
+slice-aggregate-result c = let s = c .before .before .before in sym (length-take-le (s .args .w) (now (s .args .remembered)) (s .pre .other))
 
--- src/split.rt:32:9
 returns : tie.Need-returns
-returns c = ?
+returns c = rw (c .before .enum-told .given .1)
 
--- src/split.rt:34:13
+-- the row that was found is there
+inside : (c : tie.After-known-told) → let a = c .before .before .before .args in c .before .found .given .0 .0 * a .w + a .w ≤ length (now (a .held))
+inside c = c .before .before .before .pre .inside (c .before .found .given .0 .0) (c .before .found .given .1)
+
 mul-p : tie.Need-mul-p
-mul-p c = ?
+mul-p c = let r = inside c in omega arith
 
--- src/split.rt:35:13
 add-e : tie.Need-add-e
-add-e c = ?
+add-e c = let r = inside c in omega arith
 
--- src/split.rt:36:5
 mul-result : tie.Need-mul-result
-mul-result c = ?
+mul-result c = let r = inside c in omega arith
 
--- src/split.rt:36:5
 sub-result : tie.Need-sub-result
 sub-result c = search needs
 
--- src/split.rt:36:5
 part-result-start : tie.Need-part-result-start
 part-result-start c = search needs
 
--- src/split.rt:36:5
 part-result-end : tie.Need-part-result-end
-part-result-end c = ?
+part-result-end c = omega (arith, inside c)
 
--- src/split.rt:22:1
 returns-2 : tie.Need-returns-2
-returns-2 c = ?
+returns-2 c =
+    let k = c .before in
+    let a = k .before .before .before .args in
+    let i = k .before .found .given .0 .0 in
+    let e : i * a .w + a .w - i * a .w ≡ a .w = omega arith in
+    rw (k .before .found .given .1, e)
 
 pub before-split-spec : {M : Type 1} → statement M
 before-split-spec =

@@ -1,29 +1,36 @@
+use mathlib.Core.Path.{_≡_}
+use native.Mathlib.Omega.{arith}
+use borrow.Author.Tests.{not-true, not-false}
+use lib.ListN.{length}
+use Rattle.buffer.proofs.BeforeLaws.{recall-none, recall-some}
 use borrow.Author.Needs.{needs}
 use Rattle.buffer.proofs.split.out_of_order.Statement.{statement}
 use Rattle.buffer.proofs.split.out_of_order.Tie as tie
-use Rattle.buffer.proofs.split.out_of_order.Reads as reads
-use Rattle.buffer.proofs.split.out_of_order.Lts as lts
-use Rattle.buffer.proofs.split.above_first.Reads as above-first-reads
 
--- src/split.rt:84:9
 returns : tie.Need-returns
-returns c = ?
+returns c = let a = c .before .before .args in rw (recall-none (a .w) (a .m) (not-true _ (c .if1 .taken)))
 
--- src/split.rt:88:17
 slice-aggregate-above-first : tie.Need-slice-aggregate-above-first
 slice-aggregate-above-first c = search needs
 
--- src/split.rt:88:22
 slice-aggregate-above-first-2 : tie.Need-slice-aggregate-above-first-2
 slice-aggregate-above-first-2 c = search needs
 
--- src/split.rt:88:5
-above-first-requires : tie.Need-above-first-requires
-above-first-requires c κs = ?
+-- five words are remembered
+long : (c : tie.Start) → (length (c .args .m .values) ≡ 5) × (length (c .args .m .marks) ≡ 5)
+long c = (search needs, search needs)
 
--- src/split.rt:79:1
+above-first-requires : tie.Need-above-first-requires
+above-first-requires c κs =
+    let s = c .before .before .before .before .before .before in
+    let l = long s in
+    (record { few = s .pre .few; values = omega (arith, s .pre .few); marks = omega (arith, s .pre .few) }, s .pre)
+
 returns-2 : tie.Need-returns-2
-returns-2 c = ?
+returns-2 c =
+    let s = c .before .before .before .before .before .before .before in
+    let a = s .args in
+    rw (recall-some (a .w) (a .m) (not-false _ (c .before .before .before .before .before .if1 .left))) (c .above-first .ensures (a .w) (s .pre .wide))
 
 pub out-of-order-spec : {M : Type 1} → statement M
 out-of-order-spec =
