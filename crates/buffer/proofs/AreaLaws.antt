@@ -128,7 +128,7 @@ module _ (us ms xs vs ws : Words) (half start to live : ℕ) (lu : length us ≡
       ∙ paste-right u₂ (m₁ ++ xs) half (to + live) (length ws) ws l₂
       ∙ ap (λ (z : Words). u₂ ++ z) (paste-left m₁ xs (to + live) (length ws) ws (omega (arith, l₃)))
 
-module _ (half start live : ℕ) (vs ms area : Words) (p : BothIn half start live vs ms area) where
+module _ {half start live : ℕ} {vs ms area : Words} (p : BothIn half start live vs ms area) where
   abbrev behind-half : Words → Words
   behind-half v = drop half (v ++ drop half area)
 
@@ -139,34 +139,49 @@ module _ (half start live : ℕ) (vs ms area : Words) (p : BothIn half start liv
     where
       k : half + half - half ≡ half
       k = omega arith
+
       us : Words
       us = take half area
+
       xs : Words
       xs = drop half area
+
       lu : length (take half area) ≡ half
       lu = length-take-le half area (omega (arith, p .halves))
+
       lx : half ≤ length (drop half area)
       lx = rw (length-drop half area) (omega (arith, p .halves))
+
       lm : length (take half (drop half area)) ≡ half
       lm = length-take-le half (drop half area) lx
+
       ba : a ≡ newBase start live (length vs) half
       ba = e .base-is ∙ ap (λ (n : ℕ). newBase start live (length vs) n) lu
+
       to-room : a + live + length vs ≤ half
       to-room = rw ba (newBase-room start live (length vs) half (p .room))
+
       lv : length v ≡ half
       lv = ap length (e .area-is) ∙ append-length (take half area) start a live vs (omega (arith, lu, to-room)) (omega (arith, lu, p .within)) ∙ lu
+
       tv : take half (v ++ drop half area) ≡ v
       tv = take-at v (drop half area) half lv
+
       dv : drop half (v ++ drop half area) ≡ drop half area
       dv = drop-at v (drop half area) half lv
+
       f′ : Appended start live ms (take half (drop half area)) b m
       f′ = rw (k, dv) at f
+
       bb : b ≡ newBase start live (length vs) half
       bb = f′ .base-is ∙ rw (lm, p .paired)
+
       same : a ≡ b
       same = ba ∙ sym bb
+
       whole : area ≡ take half area ++ (take half (drop half area) ++ drop half (drop half area))
       whole = rw (take-append-drop half (drop half area), take-append-drop half area)
+
       go : take half (v ++ drop half area) ++ (m ++ drop (half + half - half) (behind-half v))
           ≡ written ms (half + (b + live)) (written vs (b + live) (moved (half + start) (half + b) live (moved start b live area)))
       go =
@@ -193,7 +208,7 @@ same-words : (area : Words) (u l : ℕ) (vs vs′ ms ms′ : Words) (x x′ y y�
     → written ms x (written vs y (moved z t l (moved u b l area))) ≡ written ms′ x′ (written vs′ y′ (moved z′ t′ l (moved u b′ l area)))
 same-words area u l vs vs′ ms ms′ x x′ y y′ z z′ t t′ b b′ e₁ e₂ e₃ e₄ e₅ e₆ e₇ = rw (e₁, e₂, e₃, e₄, e₅, e₆, e₇)
 
-module _ (c base held : ℕ) (f area : Words) (p : PushIn c base held f area) where
+module _ {c base held : ℕ} {f area : Words} (p : PushIn c base held f area) where
   -- How long the frame is, and where in the area its rows go.
   pub record Sizes (room n : ℕ) : Type 0 where
     pub frame-long : length f ≡ 2 + 2 * (n * c)
@@ -239,14 +254,19 @@ module _ (c base held : ℕ) (f area : Words) (p : PushIn c base held f area) wh
       where
         to : ℕ
         to = newBase base held (rowCount f) (capacity c area)
+
         lv : length valuesPart ≡ rowCount f * c
         lv = ap length values-are ∙ values-length c f (p .frame)
+
         bw : b ≡ newBase base held (rowCount f) (capacity c area) * c
         bw = d .base-is ∙ rw (lv, e) (words-newBase c base held (rowCount f) (capacity c area) (p .columns .some))
+
         at : b / c ≡ newBase base held (rowCount f) (capacity c area)
         at = rw bw (mul-div-cancel (newBase base held (rowCount f) (capacity c area)) (p .columns .some))
+
         rc : room * c ≡ capacity c area * c
         rc = rw e
+
         words : written marksPart (room * c + (b + held * c)) (written valuesPart (b + held * c) (moved (room * c + base * c) (room * c + b) (held * c) (moved (base * c) b (held * c) area)))
             ≡ pushed c base held f area
         words =

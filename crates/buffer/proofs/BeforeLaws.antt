@@ -93,7 +93,7 @@ pub bad-split-is : (o : Options) (m : Row) (i : ℕ) (left held : Rows) → badS
 unfolding badSplit outOfOrderAt
 bad-split-is o m i left held = refl
 
-module _ (o : Options) (m : Row) (s w n : ℕ) (vs ms : Words) (p : SplitIn o s w n vs ms) where
+module _ {o : Options} {s w n : ℕ} {vs ms : Words} (p : SplitIn o s w n vs ms) where
   pub long : (xs : Words) → n * w ≤ length xs → (s * w ≤ length xs) × ((n - s) * w ≤ length xs - s * w)
   long xs h =
       let e : n ≡ s + (n - s) = omega (arith, p .place) in
@@ -127,25 +127,25 @@ module _ (o : Options) (m : Row) (s w n : ℕ) (vs ms : Words) (p : SplitIn o s 
   behind-rows : rowsOf w (n - s) (lent vs) (lent ms) ≡ drop s (rowsOf w n vs ms)
   behind-rows = rw (to-end (s * w) vs, to-end (s * w) ms) (rows-drop w n s vs ms (p .place))
 
-  pub front-in : (k : Keyed) (v x : Words) → lastKeyed o (rowsOf w s vs ms) ≡ k → w ≤ length (m .values) → w ≤ length (m .marks)
+  pub front-in : (m : Row) (k : Keyed) (v x : Words) → lastKeyed o (rowsOf w s vs ms) ≡ k → w ≤ length (m .values) → w ≤ length (m .marks)
       → v ≡ wordsBefore w vs (m .values) k → x ≡ wordsBefore w ms (m .marks) k → RowAt o 0 v x
-  front-in k v x e hv hm ev em =
+  front-in m k v x e hv hm ev em =
       let a = ap length ev ∙ words-long w k vs (m .values) (before-in k vs (m .values) e (p .last .rows .values) hv) in
       let b = ap length em ∙ words-long w k ms (m .marks) (before-in k ms (m .marks) e (p .last .rows .marks) hm) in
       record { few = p .last .rows .few; values = omega (arith, p .last .rows .wide, a); marks = omega (arith, p .last .rows .wide, b) }
 
-  pub split-none : (k : Keyed) → lastKeyed o (rowsOf w s vs ms) ≡ k → hasBefore k (m .some) ≡ false → false ≡ outOfOrderAt o m s (rowsOf w n vs ms)
+  pub split-none : (m : Row) (k : Keyed) → lastKeyed o (rowsOf w s vs ms) ≡ k → hasBefore k (m .some) ≡ false → false ≡ outOfOrderAt o m s (rowsOf w n vs ms)
   unfolding outOfOrderAt rowBefore
-  split-none (At i) e h = cc
-  split-none Nothing e h = rw (rows-take w n s vs ms (p .place), e, recall-none (columns o) m h)
+  split-none m (At i) e h = cc
+  split-none m Nothing e h = rw (rows-take w n s vs ms (p .place), e, recall-none (columns o) m h)
 
   -- What the row of those words is to the rows behind the split decides.
-  pub split-says : (k : Keyed) (v x : Words) (b : Bool) → lastKeyed o (rowsOf w s vs ms) ≡ k → hasBefore k (m .some) ≡ true
+  pub split-says : (m : Row) (k : Keyed) (v x : Words) (b : Bool) → lastKeyed o (rowsOf w s vs ms) ≡ k → hasBefore k (m .some) ≡ true
       → v ≡ wordsBefore w vs (m .values) k → x ≡ wordsBefore w ms (m .marks) k
       → ((wp : ℕ) → o .by < wp → b ≡ outOfOrder o (some (rowFrom wp 0 v x)) (rowAt (rowsOf w (n - s) (lent vs) (lent ms)) (firstKeyed o (rowsOf w (n - s) (lent vs) (lent ms)))))
       → b ≡ outOfOrderAt o m s (rowsOf w n vs ms)
   unfolding outOfOrderAt rowBefore
-  split-says (At i) v x b e h ev em f =
+  split-says m (At i) v x b e h ev em f =
       rw (rows-take w n s vs ms (p .place), e, ← behind-rows, ← found-row w s vs ms m i (last-in o w s i vs ms e), ← ev, ← em) (f w (p .last .rows .wide))
-  split-says Nothing v x b e h ev em f =
+  split-says m Nothing v x b e h ev em f =
       rw (rows-take w n s vs ms (p .place), e, ← behind-rows, ← other-row w s vs ms m (columns o) (p .last .rows .wide) h, ← ev, ← em) (f (columns o) (omega arith))

@@ -36,8 +36,32 @@ fn narrow_by(
     let k = p + j;
     let value = lv[k];
     let mark = lm[k];
-    let start = find(Seek::AtLeast, down, late, j, value, mark, rv, rm, w, s.start, s.end);
-    let end = find(Seek::Above, down, late, j, value, mark, rv, rm, w, start, s.end);
+    let start = find(
+        Seek::AtLeast,
+        down,
+        late,
+        j,
+        value,
+        mark,
+        rv,
+        rm,
+        w,
+        s.start,
+        s.end,
+    );
+    let end = find(
+        Seek::Above,
+        down,
+        late,
+        j,
+        value,
+        mark,
+        rv,
+        rm,
+        w,
+        start,
+        s.end,
+    );
     Stretch {
         start: start,
         end: end,
@@ -218,7 +242,18 @@ fn split_at(
     ensures { λ r. ⌜ ((wl : ℕ) → o .by < wl → r ≡ splitAt o (rowFrom wl p (now (lv .entry)) (now (lm .entry))) (rowsOf w n (now (rv .entry)) (now (rm .entry)))) ⌝ }
 {
     let s = narrow(lv, lm, p, rv, rm, n, w, o);
-    let at = find_key(Seek::AtLeast, lv, lm, p + o.by, rv, rm, w, s.start, s.end, o);
+    let at = find_key(
+        Seek::AtLeast,
+        lv,
+        lm,
+        p + o.by,
+        rv,
+        rm,
+        w,
+        s.start,
+        s.end,
+        o,
+    );
     step_back(strategy_of(o), s.start, at)
 }
 

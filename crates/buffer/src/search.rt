@@ -69,7 +69,16 @@ pub fn find(
     let mut high = upper;
     while low < high {
         let mid = (low + high) / 2;
-        if probe(seek, descending, nulls_last, value, mark, values, marks, mid * w + j) {
+        if probe(
+            seek,
+            descending,
+            nulls_last,
+            value,
+            mark,
+            values,
+            marks,
+            mid * w + j,
+        ) {
             high = mid;
         } else {
             low = mid + 1;

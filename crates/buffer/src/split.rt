@@ -19,12 +19,7 @@ ghost use Rattle.buffer.specs.Split.{wordsBefore, hasBefore, outOfOrderA
 ghost use Rattle.buffer.specs.Room.{BeforeIn, SplitIn, LastIn};
 
 // The row before the split, its values or its marks: the last row with a key in the part before it, or else the remembered row.
-pub fn before_split<'a>(
-    held: &'a [i64],
-    remembered: &'a [i64],
-    found: Keyed,
-    w: usize,
-) -> &'a [i64]
+pub fn before_split<'a>(held: &'a [i64], remembered: &'a [i64], found: Keyed, w: usize) -> &'a [i64]
     requires { ⌜ BeforeIn w found (now held) (now remembered) ⌝ }
     ensures { λ r. ⌜ now r ≡ wordsBefore w (now (held .entry)) (now (remembered .entry)) found ⌝ }
 {
@@ -89,15 +84,7 @@ pub fn out_of_order(m: Row, values: &[i64], marks: &[i64], n: usize, w: usize, o
 }
 
 // Whether the row before the split s of n held rows is greater than the first row with a key after it.
-pub fn bad_split(
-    m: Row,
-    s: usize,
-    rv: &[i64],
-    rm: &[i64],
-    n: usize,
-    w: usize,
-    o: Options,
-) -> bool
+pub fn bad_split(m: Row, s: usize, rv: &[i64], rm: &[i64], n: usize, w: usize, o: Options) -> bool
     requires { ⌜ SplitIn o s w n (now rv) (now rm) ⌝ }
     ensures { λ r. ⌜ r ≡ outOfOrderAt o m s (rowsOf w n (now (rv .entry)) (now (rm .entry))) ⌝ }
 {

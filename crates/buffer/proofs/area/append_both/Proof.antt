@@ -43,8 +43,7 @@ same-length c = search needs
 returns : tie.Need-returns
 returns c =
     let s = c .before .before .before .before .before .before in
-    let a = s .args in
-    both-appended (a .half) (a .start) (a .live) (now (a .values)) (now (a .marks)) (now (a .area)) (s .pre) _ _ _ _ (c .before .before .before .before .append .ensures) (c .before .append2 .ensures)
+    both-appended (s .pre) _ _ _ _ (c .before .before .before .before .append .ensures) (c .before .append2 .ensures)
 
 pub append-both-spec : {M : Type 1} → statement M
 append-both-spec =

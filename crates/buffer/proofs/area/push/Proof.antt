@@ -13,17 +13,17 @@ capacity-requires c κs = search needs
 mul-half : tie.Need-mul-half
 mul-half c =
     let a = c .before .before .args in
-    omega (arith, push-sizes (a .c) (a .base) (a .held) (now (a .frame)) (now (a .area)) (c .before .before .pre) (c .capacity .result) (rowCount (now (a .frame))) (c .capacity .ensures) refl .area-long)
+    omega (arith, push-sizes (c .before .before .pre) (c .capacity .result) (rowCount (now (a .frame))) (c .capacity .ensures) refl .area-long)
 
 row-count-requires : tie.Need-row-count-requires
-row-count-requires c κs = let a = c .before .before .args in push-counts (a .c) (a .base) (a .held) (now (a .frame)) (now (a .area)) (c .before .before .pre)
+row-count-requires c κs = let a = c .before .before .args in push-counts (c .before .before .pre)
 
 -- how long the frame is, and where in the area its rows go
-sizes : (c : tie.After-row-count) → let a = c .before .before .before .args in Sizes (a .c) (a .base) (a .held) (now (a .frame)) (now (a .area)) (c .before .before .before .pre) (c .before .capacity .result) (c .row-count .result)
+sizes : (c : tie.After-row-count) → let a = c .before .before .before .args in Sizes (c .before .before .before .pre) (c .before .capacity .result) (c .row-count .result)
 sizes c =
     let s = c .before .before .before in
     let a = s .args in
-    push-sizes (a .c) (a .base) (a .held) (now (a .frame)) (now (a .area)) (s .pre) _ _ (c .before .capacity .ensures) (c .row-count .ensures)
+    push-sizes (s .pre) _ _ (c .before .capacity .ensures) (c .row-count .ensures)
 
 mul-e : tie.Need-mul-e
 mul-e c = let z = sizes c in omega (arith, z .frame-long, z .live-in, z .fits, z .area-long)
@@ -63,7 +63,7 @@ append-both-requires c κs =
     let r = c .before .before .before in
     let s = r .before .before .before in
     let a = s .args in
-    push-both (a .c) (a .base) (a .held) (now (a .frame)) (now (a .area)) (s .pre) _ _ (r .before .capacity .ensures) (r .row-count .ensures)
+    push-both (s .pre) _ _ (r .before .capacity .ensures) (r .row-count .ensures)
 
 div-result : tie.Need-div-result
 div-result c = search needs
@@ -76,7 +76,7 @@ returns c =
     let r = c .before .before .before .before .before in
     let s = r .before .before .before in
     let a = s .args in
-    push-done (a .c) (a .base) (a .held) (now (a .frame)) (now (a .area)) (s .pre) _ _ (r .before .capacity .ensures) (r .row-count .ensures) _ _ (c .before .append-both .ensures)
+    push-done (s .pre) _ _ (r .before .capacity .ensures) (r .row-count .ensures) _ _ (c .before .append-both .ensures)
 
 pub push-spec : {M : Type 1} → statement M
 push-spec =

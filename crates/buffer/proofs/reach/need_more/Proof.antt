@@ -75,7 +75,7 @@ returns-5 c =
     let q = row-at (s .pre .0) (a .nl - 1) (omega (arith, e .before .if1 .left)) in
     c .key-needs-more .ensures
     ∙ more-key _ _ _ _ _ (many-left s) (many s) (e .before .if1 .left) (e .if2 .left) _ (last-row e) _ (f .narrow .ensures (a .wl) (s .pre .0 .wide)) (c .before .before .before .before .if3 .left) (c .before .before .if4 .left) _
-      (row-cell (a .wl) ((a .nl - 1) * a .wl) (a .o .by) (now (a .lv)) (now (a .lm)) (s .pre .0 .wide) (q .values))
+    (row-cell (a .wl) ((a .nl - 1) * a .wl) (a .o .by) (now (a .lv)) (now (a .lm)) (s .pre .0 .wide) (q .values))
 
 pub need-more-spec : {M : Type 1} → statement M
 need-more-spec =

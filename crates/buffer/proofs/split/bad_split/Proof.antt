@@ -12,7 +12,7 @@ use Rattle.buffer.proofs.split.bad_split.Statement.{statement}
 use Rattle.buffer.proofs.split.bad_split.Tie as tie
 
 last-keyed-requires : tie.Need-last-keyed-requires
-last-keyed-requires c κs = let a = c .args in keys-in (a .o) (a .m) (a .s) (a .w) (a .n) (now (a .rv)) (now (a .rm)) (c .pre)
+last-keyed-requires c κs = let a = c .args in keys-in (c .pre)
 
 has-before-requires : tie.Need-has-before-requires
 has-before-requires c κs = search needs
@@ -22,7 +22,7 @@ found : (c : tie.After-last-keyed) → let a = c .before .args in lastKeyed (a .
 found c =
     let s = c .before in
     let a = s .args in
-    sym (c .last-keyed .ensures (now (a .rv)) (long (a .o) (a .m) (a .s) (a .w) (a .n) (now (a .rv)) (now (a .rm)) (s .pre) (now (a .rv)) (s .pre .last .rows .values) .0))
+    sym (c .last-keyed .ensures (now (a .rv)) (long (s .pre) (now (a .rv)) (s .pre .last .rows .values) .0))
 
 long-values : (c : tie.Start) → c .args .w ≤ length (c .args .m .values)
 long-values c = let g : length (c .args .m .values) ≡ 5 = search needs in omega (arith, c .pre .last .narrow)
@@ -34,15 +34,15 @@ room : (c : tie.After-last-keyed) → let a = c .before .args in (a .s * a .w �
 room c =
     let s = c .before in
     let a = s .args in (
-      long (a .o) (a .m) (a .s) (a .w) (a .n) (now (a .rv)) (now (a .rm)) (s .pre) (now (a .rv)) (s .pre .last .rows .values) .0,
-      long (a .o) (a .m) (a .s) (a .w) (a .n) (now (a .rv)) (now (a .rm)) (s .pre) (now (a .rm)) (s .pre .last .rows .marks) .0,
+      long (s .pre) (now (a .rv)) (s .pre .last .rows .values) .0,
+      long (s .pre) (now (a .rm)) (s .pre .last .rows .marks) .0,
     )
 
 returns : tie.Need-returns
 returns c =
     let k = c .before .before in
     let a = k .before .args in
-    split-none (a .o) (a .m) (a .s) (a .w) (a .n) (now (a .rv)) (now (a .rm)) (k .before .pre) _ (found k) (sym (c .before .has-before .ensures) ∙ not-true _ (c .if1 .taken))
+    split-none (k .before .pre) (a .m) _ (found k) (sym (c .before .has-before .ensures) ∙ not-true _ (c .if1 .taken))
 
 slice-aggregate-before-split : tie.Need-slice-aggregate-before-split
 slice-aggregate-before-split c = search needs
@@ -52,7 +52,7 @@ before-split-requires c κs =
     let k = c .before .before .before .before .before in
     let s = k .before in
     let a = s .args in
-    before-in (a .o) (a .m) (a .s) (a .w) (a .n) (now (a .rv)) (now (a .rm)) (s .pre) _ (now (a .rv)) (a .m .values) (found k) (s .pre .last .rows .values) (long-values s)
+    before-in (s .pre) _ (now (a .rv)) (a .m .values) (found k) (s .pre .last .rows .values) (long-values s)
 
 slice-aggregate-before-split-2 : tie.Need-slice-aggregate-before-split-2
 slice-aggregate-before-split-2 c = search needs
@@ -62,7 +62,7 @@ before-split-requires-2 c κs =
     let k = c .before .before .before .before .before .before .before in
     let s = k .before in
     let a = s .args in
-    before-in (a .o) (a .m) (a .s) (a .w) (a .n) (now (a .rv)) (now (a .rm)) (s .pre) _ (now (a .rm)) (a .m .marks) (found k) (s .pre .last .rows .marks) (long-marks s)
+    before-in (s .pre) _ (now (a .rm)) (a .m .marks) (found k) (s .pre .last .rows .marks) (long-marks s)
 
 mul-p : tie.Need-mul-p
 mul-p c = omega (arith, room (c .before .before .before .before .before .before .before .before))
@@ -101,8 +101,8 @@ above-first-requires c κs =
     let k = d .before .before .before .before .before .before in
     let s = k .before in
     let a = s .args in (
-      front-in (a .o) (a .m) (a .s) (a .w) (a .n) (now (a .rv)) (now (a .rm)) (s .pre) _ _ _ (found k) (long-values s) (long-marks s) (d .before-split .ensures) (b .before-split2 .ensures),
-      behind-in (a .o) (a .m) (a .s) (a .w) (a .n) (now (a .rv)) (now (a .rm)) (s .pre),
+      front-in (s .pre) (a .m) _ _ _ (found k) (long-values s) (long-marks s) (d .before-split .ensures) (b .before-split2 .ensures),
+      behind-in (s .pre),
     )
 
 returns-2 : tie.Need-returns-2
@@ -113,7 +113,7 @@ returns-2 c =
     let k = t .before .before in
     let s = k .before in
     let a = s .args in
-    split-says (a .o) (a .m) (a .s) (a .w) (a .n) (now (a .rv)) (now (a .rm)) (s .pre) _ _ _ _ (found k) (sym (t .before .has-before .ensures) ∙ not-false _ (t .if1 .left)) (d .before-split .ensures) (b .before-split2 .ensures) (c .above-first .ensures)
+    split-says (s .pre) (a .m) _ _ _ _ (found k) (sym (t .before .has-before .ensures) ∙ not-false _ (t .if1 .left)) (d .before-split .ensures) (b .before-split2 .ensures) (c .above-first .ensures)
 
 pub bad-split-spec : {M : Type 1} → statement M
 bad-split-spec =

@@ -54,7 +54,7 @@ returns-2 c =
     let i = k .before .i .given .0 .0 in
     c .copy-row .ensures
     ∙ remember-at (a .o) _ _ i (rowFrom (a .w) (i * a .w) (now (a .values)) (now (a .marks))) (found k)
-      (rows-from (a .w) (a .n) i (now (a .values)) (now (a .marks)) (last-in (a .o) (a .w) (a .n) i (now (a .values)) (now (a .marks)) (found k)))
+    (rows-from (a .w) (a .n) i (now (a .values)) (now (a .marks)) (last-in (a .o) (a .w) (a .n) i (now (a .values)) (now (a .marks)) (found k)))
 
 pub remember-last-spec : {M : Type 1} → statement M
 remember-last-spec =
