@@ -6,3 +6,7 @@ pub mod Bounds
 pub mod SplitLaw
 pub mod EnoughLaw
 pub mod CheckLaw
+pub mod AreaLaws
+pub mod FindLaws
+pub mod ReachLaws
+pub mod BeforeLaws

@@ -1,3 +1,5 @@
 pub mod Area
 pub mod Search
 pub mod Reach
+pub mod Split
+pub mod Room
