@@ -1,0 +1,26 @@
+use borrow.Author.Needs.{needs}
+use Rattle.matching.proofs.group.serve.Statement.{statement}
+use Rattle.matching.proofs.group.serve.Tie as tie
+use Rattle.matching.proofs.group.serve.Reads as reads
+use Rattle.matching.proofs.group.serve.Lts as lts
+use Rattle.frames.proofs.null_group.Reads as null-group-reads
+use Rattle.matching.proofs.group.pass_runs.Reads as pass-runs-reads
+
+-- src/group.rt:116:8
+null-group-requires : tie.Need-null-group-requires
+null-group-requires c κs = search needs
+
+-- src/group.rt:117:9
+returns : tie.Need-returns
+returns c = ?
+
+-- src/group.rt:119:5
+pass-runs-requires : tie.Need-pass-runs-requires
+pass-runs-requires c κs = search needs
+
+-- src/group.rt:101:1
+returns-2 : tie.Need-returns-2
+returns-2 c = ?
+
+pub serve-spec : {M : Type 1} → statement M
+serve-spec = tie.close (tie.spec null-group-requires returns pass-runs-requires returns-2)
