@@ -2,7 +2,7 @@
 use mathlib.Core.Path.{_≡_, refl, sym, ap, _∙_}
 use mathlib.Core.Bool.{Bool, true, false, cond, not, _&&_}
 use mathlib.Core.List.{List, [], _∷_}
-use Prim.Native.Nat.{ℕ, suc, _+_, _*_, _≤_, _<_}
+use Prim.Native.Nat.{ℕ, suc, _+_, _*_, _^_, _≤_, _<_}
 use native.Mathlib.Numerals.{add-one}
 use native.Mathlib.Omega.{arith}
 use borrow.Author.Tests.{lt-ltb, le-ltb, not-true}
@@ -20,10 +20,10 @@ use Rattle.frames.specs.declared.Options.{Options}
 use Rattle.frames.specs.declared.Strategy.{Strategy}
 use Rattle.matching.specs.Match.{Hit, nobody, hit, onSide, fits, takesOver, meet, choose, tooFar, tolerate, matchIn}
 use Rattle.matching.specs.Walk.{between, hitAt}
-use Rattle.matching.specs.Room.{BestIn, TakesOver, Meets, Met}
+use Rattle.matching.specs.Room.{Small, BestIn, TakesOver, Meets, Met}
 use Rattle.matching.specs.declared.Choice.{Choice}
 use Rattle.matching.specs.declared.Choice.the-variants.{Row, Nothing}
-use Rattle.matching.proofs.ChoiceLaws.{choose-dead}
+use Rattle.matching.proofs.ChoiceLaws.{cond-ind, choose-dead}
 use Rattle.matching.proofs.WalkLaws.{between-more, between-none}
 use Rattle.matching.proofs.ScanLaws.{present}
 
@@ -92,12 +92,12 @@ module _ (o : Options) (x : List Cell) (w to : ℕ) (vs ms : Words) where
   scan-end first c = rw (between-none w vs ms to)
 
 -- ---- the choice, after the tolerance
-module _ (o : Options) (x : List Cell) (first w to : ℕ) (vs ms : Words) (rows : Rows) where
-  -- A left null key gets none.
-  pub none-null : nullKey o x ≡ true → matchIn o first rows x ≡ Nothing
-  unfolding matchIn tolerate fits
-  none-null e = rw (choose-dead o x (fits o x) nobody first rows (all-by _ rows (λ i h. rw e)))
+-- A left null key gets none.
+pub none-null : (o : Options) (x : List Cell) (i : ℕ) (rows : Rows) → nullKey o x ≡ true → matchIn o i rows x ≡ Nothing
+unfolding matchIn tolerate fits
+none-null o x i rows e = rw (choose-dead o x (fits o x) nobody i rows (all-by _ rows (λ k h. rw e)))
 
+module _ (o : Options) (x : List Cell) (first w to : ℕ) (vs ms : Words) (rows : Rows) where
   module _ (from best : ℕ) (e : hitAt first w to vs ms best ≡ choose o x (fits o x) nobody from rows) where
     pub none-best : best ≡ to → matchIn o from rows x ≡ Nothing
     unfolding matchIn tolerate
@@ -113,3 +113,34 @@ module _ (o : Options) (x : List Cell) (first w to : ℕ) (vs ms : Words) (rows 
       pub row-near : t ≡ false → matchIn o from rows x ≡ Row (first + best)
       unfolding matchIn tolerate
       row-near d = rw (← e, hit-some first w to vs ms best h, ex, ea, ← q, d)
+
+-- ---- the number that is chosen is one of the rows'
+abbrev Below : ℕ → Hit → Type 0
+Below m nobody = Unit {0}
+Below m (hit k r) = k < m
+
+below-more : (m n : ℕ) → m ≤ n → (c : Hit) → Below m c → Below n c
+below-more m n h nobody b = tt
+below-more m n h (hit k r) b = omega arith
+
+module _ (o : Options) (x : List Cell) (may : List Cell → Bool) where
+  meet-below : (i : ℕ) (r : List Cell) (c : Hit) → Below i c → Below (suc i) (meet o x i r c)
+  meet-below i r nobody b = omega arith
+  meet-below i r (hit k c) b = cond-ind (Below (suc i)) (takesOver o (strategyOf o) x r c) (λ t. omega arith) (λ t. omega arith)
+
+  choose-below : (c : Hit) (i : ℕ) (rs : Rows) → Below i c → Below (i + length rs) (choose o x may c i rs)
+  unfolding choose
+  choose-below c i [] b = below-more i (i + 0) (omega arith) c b
+  choose-below c i (r ∷ rs) b =
+      let d = cond (may r) (meet o x i r c) c in
+      let s : Below (suc i) d = cond-ind (Below (suc i)) (may r) (λ t. meet-below i r c b) (λ t. below-more i (suc i) (omega arith) c b) in
+      below-more (suc i + length rs) (i + suc (length rs)) (omega arith) (choose o x may d (suc i) rs) (choose-below d (suc i) rs s)
+
+-- So it fits a word where theirs do.
+pub match-small : (o : Options) (i : ℕ) (rows : Rows) (x : List Cell) → i + length rows ≤ 2 ^ 63 → Small (matchIn o i rows x)
+unfolding matchIn tolerate
+match-small o i rows x h = by (choose o x (fits o x) nobody i rows) (choose-below o x (fits o x) nobody i rows tt)
+  where
+    by : (c : Hit) → Below (i + length rows) c → Small (tolerate o x c)
+    by nobody b = tt
+    by (hit k r) b = cond-ind Small (tooFar o x r) (λ t. tt) (λ t. omega arith)

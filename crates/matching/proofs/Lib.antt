@@ -10,3 +10,4 @@ pub mod PickedLaw
 pub mod WalkLaws
 pub mod ScanLaws
 pub mod BestLaws
+pub mod LayLaws

@@ -16,6 +16,14 @@ use Rattle.frames.specs.declared.Order.the-variants.{Less, Equal, Greater}
 use Rattle.matching.specs.Match.{Hit, nobody, hit, fits, meet, choose, matchIn}
 use Rattle.matching.specs.Groups.{Cursor, sameRun, joinRun, runs, headOf, passes, pass, used, byRuns}
 use Rattle.matching.specs.Walk.{between, runOn, runLength, standing, hitAt}
+use Rattle.matching.specs.Room.{Passed, Serves}
+use Rattle.matching.specs.declared.Right.{Right}
+use Rattle.matching.specs.declared.Choice.{Choice}
+
+-- A way by a test, from a fact of each way.
+pick-ind {ℓ κ} : {A : Type ℓ} (P : A → Type κ) (b : Bool) {x y : A} → (b ≡ true → P x) → (b ≡ false → P y) → P (elim b [ true ↦ x | false ↦ y ])
+pick-ind P true f g = f refl
+pick-ind P false f g = g refl
 
 -- ---- the rows of a stretch
 rows-split : (w n m : ℕ) (vs ms : Words) → rowsOf w (n + m) vs ms ≡ rowsOf w n vs ms ++ rowsOf w m (drop (n * w) vs) (drop (n * w) ms)
@@ -182,8 +190,8 @@ module _ (o : Options) (x : List Cell) where
         let f : (nullGroup o (headOf g) || isLess (cmpGroup o (headOf g) x)) ≡ true = rw run-head (stand-less (rowFrom w (i * w) vs ms) s) in
         let a : k + i + (e - i) ≡ k + e = omega arith in
         rw (run-first o w n vs ms i e h q)
-        (subst (λ (b : Bool). _≡_ {A = Cursor} (elim b [ true ↦ pass o x (k + i + length g) (runs o (between w e n vs ms)) | false ↦ record { at = k + i; rest = g ∷ runs o (between w e n vs ms) } ]) (pass o x (k + e) (runs o (between w e n vs ms))))
-        (sym f) (rw (between-length w vs ms i e, a)))
+        (pick-ind (λ (z : Cursor). z ≡ pass o x (k + e) (runs o (between w e n vs ms))) (nullGroup o (headOf g) || isLess (cmpGroup o (headOf g) x))
+        (λ t. rw (between-length w vs ms i e, a)) (λ t. cc))
 
     pub pass-stop : (k : ℕ) (y : Order) → isLess y ≡ false → standing o x (rowFrom w (i * w) vs ms) ≡ y → pass o x k (runs o (between w i n vs ms)) ≡ record { at = k; rest = runs o (between w i n vs ms) }
     unfolding pass passes
@@ -192,7 +200,7 @@ module _ (o : Options) (x : List Cell) where
         let f : (nullGroup o (headOf g) || isLess (cmpGroup o (headOf g) x)) ≡ false = rw run-head (stand-not (rowFrom w (i * w) vs ms) y l s .0) in
         let t : List Rows = runs o (between w e n vs ms) in
         rw (run-first o w n vs ms i e h q)
-        (subst (λ (b : Bool). _≡_ {A = Cursor} (elim b [ true ↦ pass o x (k + length g) t | false ↦ record { at = k; rest = g ∷ t } ]) (record { at = k; rest = g ∷ t })) (sym f) refl)
+        (pick-ind (λ (z : Cursor). z ≡ record { at = k; rest = g ∷ t }) (nullGroup o (headOf g) || isLess (cmpGroup o (headOf g) x)) (λ y. cc) (λ y. refl))
 
     -- The run is used where its group is equal; else none of it.
     pub used-run : standing o x (rowFrom w (i * w) vs ms) ≡ Equal → used o x (runs o (between w i n vs ms)) ≡ between w i e vs ms
@@ -215,3 +223,26 @@ module _ (o : Options) (x : List Cell) where
     pub used-end : used o x (runs o (between w n n vs ms)) ≡ between w n n vs ms
     unfolding used
     used-end = rw (runs-past o w n vs ms, between-none w vs ms n)
+
+-- ---- a left run: null, or matched over what is used
+module _ (o : Options) (i : ℕ) (rights : List Rows) (l : Rows) (ls : List Rows) where
+  by-null : nullGroup o (headOf l) ≡ true → byRuns o i rights (l ∷ ls) ≡ map (matchIn o i []) l ++ byRuns o i rights ls
+  unfolding byRuns
+  by-null e = pick-ind (λ (z : List Choice). z ≡ map (matchIn o i []) l ++ byRuns o i rights ls) (nullGroup o (headOf l)) (λ t. refl) (λ t. cc)
+
+  by-some : (c : Cursor) → nullGroup o (headOf l) ≡ false → pass o (headOf l) i rights ≡ c
+      → byRuns o i rights (l ∷ ls) ≡ map (matchIn o (c .at) (used o (headOf l) (c .rest))) l ++ byRuns o (c .at) (c .rest) ls
+  unfolding byRuns
+  by-some c e q =
+      pick-ind (λ (z : List Choice). z ≡ map (matchIn o (c .at) (used o (headOf l) (c .rest))) l ++ byRuns o (c .at) (c .rest) ls) (nullGroup o (headOf l)) (λ t. cc) (λ t. rw q)
+
+module _ (o : Options) (w n : ℕ) (vs ms : Words) (i : ℕ) (x : List Cell) where
+  pub serve-null : (e : ℕ) → nullGroup o x ≡ true → Serves o w n vs ms i x (record { at = i; end = e; used = i })
+  serve-null e h = record { step = λ first l ls q. rw (between-none w vs ms i) (by-null o (first + i) (runs o (between w i n vs ms)) l ls (ap (nullGroup o) q ∙ h)) }
+
+  pub serve-pass : (r : Right) → nullGroup o x ≡ false → Passed o w n vs ms i x r → Serves o w n vs ms i x r
+  serve-pass r h p =
+      record {
+        step = λ first l ls q.
+          rw (← p .uses, ← q) (by-some o (first + i) (runs o (between w i n vs ms)) l ls (record { at = first + r .at; rest = runs o (between w (r .at) n vs ms) }) (ap (nullGroup o) q ∙ h) (rw q (p .cursor first)));
+      }
