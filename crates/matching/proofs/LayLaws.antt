@@ -5,15 +5,23 @@ use Prim.Native.Nat.{ℕ, zero, suc, _+_, _-_, _*_, _≤_, _<_}
 use native.Mathlib.Numerals.{add-one}
 use native.Mathlib.Nat.{add-zero}
 use native.Mathlib.Omega.{arith}
+use borrow.Author.Tests.{eq-eqb, ne-eqb}
 use lib.IntN.{pos}
 use lib.ListN.{length, take, drop, set, length-append, length-map, length-take, length-drop, take-append-drop}
 use lib.Seq.{set-at, length-take-le, drop-drop}
-use Rattle.frames.specs.Cells.{Cell, Words, rowFrom}
+use Rattle.frames.specs.Cells.{Cell, Rows, Words, rowsOf, rowFrom}
+use Rattle.frames.proofs.WordLaws.{rows-length}
+use Rattle.frames.specs.declared.Options.{Options}
+use Rattle.matching.specs.Match.{matchIn}
+use Rattle.matching.specs.Groups.{runs, byRuns, matchFrame}
 use Rattle.matching.specs.Answer.{numberWord, choiceMark, answered}
-use Rattle.matching.specs.Walk.{between, lay}
+use Rattle.matching.specs.Walk.{between, runLength, lay}
+use Rattle.matching.specs.Room.{Serves}
+use Rattle.matching.specs.declared.Right.{Right}
 use Rattle.matching.specs.declared.Choice.{Choice}
 use Rattle.matching.proofs.AnswerLaws.{answered-is}
-use Rattle.matching.proofs.WalkLaws.{between-more, between-none}
+use Rattle.matching.proofs.GroupLaws.{frame-length}
+use Rattle.matching.proofs.WalkLaws.{between-all, between-more, between-none, between-length, run-up, run-first, run-head, runs-past}
 
 module _ (n : ℕ) where
   pub lay-append : (i : ℕ) (A B : List Choice) (out : Words) → lay n i (A ++ B) out ≡ lay n (i + length A) B (lay n i A out)
@@ -88,3 +96,48 @@ module _ (n : ℕ) where
       heads (x ∷ []) a rest = absurd (omega arith)
       heads (x ∷ y ∷ []) a rest = refl
       heads (x ∷ y ∷ z ∷ A) a rest = absurd (omega arith)
+
+-- ---- the left runs from row i on, with the cursor at row `at` of the right rows
+module _ (o : Options) (number wl nl : ℕ) (lv lm : Words) (wr nr : ℕ) (rv rm : Words) where
+  abbrev pub groupsFrom : ℕ → ℕ → List Choice
+  groupsFrom at i = byRuns o (number + at) (runs o (between wr at nr rv rm)) (runs o (between wl i nl lv lm))
+
+  pub groups-all : byRuns o number (runs o (rowsOf wr nr rv rm)) (runs o (rowsOf wl nl lv lm)) ≡ groupsFrom 0 0
+  groups-all =
+      let z : number + 0 ≡ number = omega arith in
+      rw (z, between-all wr rv rm nr, between-all wl lv lm nl)
+
+  -- The run i..e is laid, over what the cursor serves.
+  pub groups-more : (at i e : ℕ) (r : Right) (out : Words) → i < nl → e ≡ i + runLength o (between wl i nl lv lm) → Serves o wr nr rv rm at (rowFrom wl (i * wl) lv lm) r
+      → lay nl i (groupsFrom at i) out
+      ≡ lay nl e (groupsFrom (r .at) e) (lay nl i (map (matchIn o (number + r .at) (between wr (r .at) (r .used) rv rm)) (between wl i e lv lm)) out)
+  groups-more at i e r out h q s =
+      let g : Rows = between wl i e lv lm in
+      let f = matchIn o (number + r .at) (between wr (r .at) (r .used) rv rm) in
+      let u = run-up o wl nl lv lm i h in
+      let n : i + length (map f g) ≡ e = (let l = length-map g f in let k = between-length wl lv lm i e in omega arith) in
+      ap (λ (ls : List Rows). lay nl i (byRuns o (number + at) (runs o (between wr at nr rv rm)) ls) out) (run-first o wl nl lv lm i e h q)
+      ∙ ap (λ (ms : List Choice). lay nl i ms out) (s .step number g (runs o (between wl e nl lv lm)) (run-head o [] wl nl lv lm i e h q))
+      ∙ lay-append nl i (map f g) (groupsFrom (r .at) e) out
+      ∙ ap (λ (k : ℕ). lay nl k (groupsFrom (r .at) e) (lay nl i (map f g) out)) n
+
+  pub groups-end : (at : ℕ) (out : Words) → lay nl nl (groupsFrom at nl) out ≡ out
+  unfolding byRuns lay
+  groups-end at out = rw (runs-past o wl nl lv lm)
+
+  -- ---- the frame: with no by-columns one run, all against all
+  pub frame-plain : o .by ≡ 0 → map (matchIn o (number + 0) (between wr 0 nr rv rm)) (between wl 0 nl lv lm) ≡ matchFrame o number (rowsOf wr nr rv rm) (rowsOf wl nl lv lm)
+  unfolding matchFrame
+  frame-plain e =
+      let z : number + 0 ≡ number = omega arith in
+      rw (eq-eqb (o .by) 0 e, z, between-all wr rv rm nr, between-all wl lv lm nl)
+
+  pub frame-grouped : (o .by ≡ 0 → ⊥) → byRuns o number (runs o (rowsOf wr nr rv rm)) (runs o (rowsOf wl nl lv lm)) ≡ matchFrame o number (rowsOf wr nr rv rm) (rowsOf wl nl lv lm)
+  unfolding matchFrame
+  frame-grouped e = rw (ne-eqb (o .by) 0 e)
+
+  -- Its rows and the two head words are the answer.
+  pub frame-answer : (out : Words) → 2 + 2 * nl ≤ length out
+      → set (set (lay nl 0 (matchFrame o number (rowsOf wr nr rv rm) (rowsOf wl nl lv lm)) out) 0 (pos nl)) 1 (pos 1) ≡ answered (matchFrame o number (rowsOf wr nr rv rm) (rowsOf wl nl lv lm)) out
+  frame-answer out h =
+      lay-all nl (matchFrame o number (rowsOf wr nr rv rm) (rowsOf wl nl lv lm)) out (frame-length o number (rowsOf wr nr rv rm) (rowsOf wl nl lv lm) ∙ rows-length wl nl lv lm) h

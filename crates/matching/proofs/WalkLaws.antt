@@ -177,7 +177,7 @@ module _ (o : Options) (x : List Cell) where
       by false c y n e = (rw e n, e)
 
   module _ (w n : ℕ) (vs ms : Words) (i e : ℕ) (h : i < n) (q : e ≡ i + runLength o (between w i n vs ms)) where
-    run-head : headOf (between w i e vs ms) ≡ rowFrom w (i * w) vs ms
+    pub run-head : headOf (between w i e vs ms) ≡ rowFrom w (i * w) vs ms
     run-head =
         let u = run-up o w n vs ms i h in
         rw (between-more w vs ms i e (omega arith))
