@@ -7,3 +7,7 @@ pub mod MayLaws
 pub mod PruneLaw
 pub mod EnoughLaw
 pub mod PickedLaw
+pub mod WalkLaws
+pub mod ScanLaws
+pub mod BestLaws
+pub mod LayLaws

@@ -1,0 +1,72 @@
+-- The tests of the leaves: of a key's side, of two distances, of the tolerance, of two rows' runs. Assumes nothing.
+use mathlib.Core.Path.{_≡_, refl, sym, ap, _∙_}
+use mathlib.Core.Bool.{Bool, true, false, cond, not, _&&_, _||_, or-true, or-false}
+use mathlib.Core.List.{List}
+use mathlib.Core.Logic.{_⊎_}
+use Prim.Native.Nat.{ℕ, zero, suc, _≤_, _<_}
+use native.Mathlib.Omega.{arith}
+use borrow.Author.Tests.{lt-ltb, le-ltb, eq-eqb, ne-eqb, ltb-true}
+use denote.Enum.Declared.{tagOf}
+use lib.Dec.{ltb, eqb, leb·zero}
+use lib.IntN.{ℤ, pos, negsuc}
+use lib.Signed.{ltZ, leZ}
+use Rattle.frames.specs.Cells.{Cell, null, value, isZero, cellOf, isNull}
+use Rattle.frames.specs.Order.{cmpZ, cmpGroup, nullGroup, isLess, isEqual}
+use Rattle.frames.specs.declared.Options.{Options}
+use Rattle.frames.specs.declared.Order.{Order}
+use Rattle.frames.specs.declared.Order.the-variants.{Less, Equal, Greater}
+use Rattle.frames.proofs.Order.{the-type}
+use Rattle.frames.proofs.RowLaws.{next-stop}
+use Rattle.matching.specs.Groups.{sameRun}
+
+-- A cell that is not null is its value.
+pub present : (v m : ℤ) → isNull (cellOf v m) ≡ false → cellOf v m ≡ value v
+present v m = by (isZero m)
+  where
+    by : (z : Bool) → isNull (cond z null (value v)) ≡ false → cond z null (value v) ≡ value v
+    by true e = cc
+    by false e = refl
+
+-- ---- two distances, and what decides a tie
+module _ (x y : ℕ) (z : Bool) where
+  pub near-first : x < y → true ≡ (ltb x y || (eqb x y && z))
+  near-first h = rw (lt-ltb x y h)
+
+  pub near-behind : y < x → false ≡ (ltb x y || (eqb x y && z))
+  near-behind h = rw (le-ltb x y (omega arith), ne-eqb x y (λ (e : x ≡ y). omega arith))
+
+  pub near-tie : x ≤ y → y ≤ x → z ≡ (ltb x y || (eqb x y && z))
+  near-tie h k = rw (le-ltb x y k, eq-eqb x y (omega arith))
+
+pub not-less : (a b : ℤ) → ltZ a b ≡ false → isLess (cmpZ a b) ≡ false
+not-less a b h = rw h (by (ltZ b a))
+  where
+    by : (t : Bool) → isLess (cond t Greater Equal) ≡ false
+    by true = refl
+    by false = refl
+
+-- ---- the tolerance: below 0 it is none
+pub far-none : (t : ℤ) (b : Bool) → ltZ t (pos 0) ≡ true → false ≡ (leZ (pos 0) t && b)
+far-none (pos n) b h = let l = ltb-true n 0 h in absurd (omega arith)
+far-none (negsuc n) b h = refl
+
+pub far-some : (t : ℤ) (b : Bool) → ltZ t (pos 0) ≡ false → b ≡ (leZ (pos 0) t && b)
+far-some (pos n) b h = rw (leb·zero n)
+far-some (negsuc n) b h = cc
+
+-- ---- one run: equal groups, or both null
+module _ (o : Options) (r s : List Cell) where
+  pub same-yes : cmpGroup o r s ≡ Equal → true ≡ sameRun o r s
+  same-yes e = rw e (sym (or-true (nullGroup o r && nullGroup o s)))
+
+  pub same-no : isEqual (cmpGroup o r s) ≡ false → nullGroup o r ≡ false → false ≡ sameRun o r s
+  same-no e q = rw (q, e)
+
+  pub same-nulls : isEqual (cmpGroup o r s) ≡ false → nullGroup o r ≡ true → nullGroup o s ≡ sameRun o r s
+  same-nulls e q = rw (q, e) (sym (or-false (nullGroup o s)))
+
+-- Where Equal has an arm of its own.
+pub not-equal-arm : (x : Order) → (tagOf the-type x ≡ 0) ⊎ (tagOf the-type x ≡ 2) → isEqual x ≡ false
+not-equal-arm Less t = refl
+not-equal-arm Equal t = let e = next-stop Equal Less t in cc
+not-equal-arm Greater t = refl

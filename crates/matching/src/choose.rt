@@ -1,0 +1,178 @@
+// Matching: the right row that the strategy chooses for a left key, among the rows of a run, sorted or not.
+use crate::Choice;
+use frames::cmp_cell;
+use frames::distance;
+use frames::null_at;
+use frames::strategy_of;
+use frames::Options;
+use frames::Order;
+use frames::Strategy;
+ghost use mathlib.Core.Path.{_≡_};
+ghost use mathlib.Core.Bool.{not, _&&_};
+ghost use mathlib.Core.List.{List};
+ghost use Prim.Native.Nat.{ℕ, _+_, _<_, _≤_};
+ghost use lib.Dec.{ltb};
+ghost use lib.IntN.{pos, natAbs, _-ℤ_};
+ghost use lib.Signed.{leZ};
+ghost use Rattle.frames.specs.Cells.{Cell, value, isNull, rowFrom};
+ghost use Rattle.frames.specs.Options.{keyRule};
+ghost use Rattle.frames.specs.Order.{cmpCell, keyOf};
+ghost use Rattle.frames.specs.Room.{cellAt, CellIn, RowsIn};
+ghost use Rattle.matching.specs.Match.{nobody, onSide, fits, nearer, choose, matchIn};
+ghost use Rattle.matching.specs.Walk.{between, hitAt};
+ghost use Rattle.matching.specs.Room.{TakesOver, BestIn, Meets, Met, RowRoom};
+
+// Whether a right key lies on the strategy's side of a left one, by its order to it.
+fn on_side(s: Strategy, eq: bool, c: Order) -> bool
+    ensures { λ r. ⌜ r ≡ onSide s eq c ⌝ }
+{
+    match s {
+        Strategy::Backward => match c {
+            Order::Less => true,
+            Order::Equal => eq,
+            Order::Greater => false,
+        },
+        Strategy::Forward => match c {
+            Order::Less => false,
+            Order::Equal => eq,
+            Order::Greater => true,
+        },
+        Strategy::Nearest => true,
+    }
+}
+
+// Whether the right key at place k may be chosen for the left key v: it is not null and lies on the strategy's side.
+fn fits_key(rv: &[i64], rm: &[i64], k: usize, v: i64, s: Strategy, eq: bool) -> bool
+    requires { ⌜ CellIn k (now rv) (now rm) ⌝ }
+    ensures { λ r. ⌜ r ≡ (not (isNull (cellAt k (now (rv .entry)) (now (rm .entry)))) && onSide s eq (cmpCell keyRule (cellAt k (now (rv .entry)) (now (rm .entry))) (value v))) ⌝ }
+{
+    if null_at(rm, k) {
+        return false;
+    }
+    on_side(s, eq, cmp_cell(rv[k], 1, v, 1, false, false))
+}
+
+// Whether a is nearer to v than b, which stands before it: by distance, then the greater key, then the last position.
+fn nearer_key(v: i64, a: i64, b: i64) -> bool
+    ensures { λ r. ⌜ r ≡ nearer (value v) (value a) (value b) ⌝ }
+{
+    let x = distance(a, v);
+    let y = distance(b, v);
+    if x < y {
+        return true;
+    }
+    if y < x {
+        return false;
+    }
+    if a < b {
+        return false;
+    }
+    true
+}
+
+// Whether a row with key a takes the place of one with key b, which stands before it.
+fn takes_over(s: Strategy, v: i64, a: i64, b: i64) -> bool
+    ensures { λ r. ⌜ TakesOver s v a b r ⌝ }
+{
+    match s {
+        Strategy::Backward => true,
+        Strategy::Forward => false,
+        Strategy::Nearest => nearer_key(v, a, b),
+    }
+}
+
+// The best of what was the best and row j, which stands behind it; `to` stands for none.
+fn meet_row(
+    rv: &[i64],
+    rm: &[i64],
+    best: usize,
+    j: usize,
+    to: usize,
+    w: usize,
+    v: i64,
+    s: Strategy,
+    o: Options,
+) -> usize
+    requires { ⌜ Meets o s w to (now rv) (now rm) best j ⌝ }
+    ensures { λ r. ⌜ Met o w to (now (rv .entry)) (now (rm .entry)) best j v r ⌝ }
+{
+    let by = o.by;
+    let k = j * w + by;
+    if !fits_key(rv, rm, k, v, s, o.allow_eq) {
+        return best;
+    }
+    if best == to {
+        return j;
+    }
+    let b = best * w + by;
+    if takes_over(s, v, rv[k], rv[b]) {
+        return j;
+    }
+    best
+}
+
+// The best row of from..to for the left key v, by its index; `to` where there is none.
+fn choose_row(
+    rv: &[i64],
+    rm: &[i64],
+    from: usize,
+    to: usize,
+    w: usize,
+    v: i64,
+    o: Options,
+) -> usize
+    requires { ⌜ RowsIn o w to (now rv) (now rm) × (from ≤ to) ⌝ }
+    ensures { λ r. ⌜ BestIn o w to (now (rv .entry)) (now (rm .entry)) r × ((first : ℕ) (x : List Cell) → keyOf o x ≡ value v → hitAt first w to (now (rv .entry)) (now (rm .entry)) r ≡ choose o x (fits o x) nobody (first + from) (between w from to (now (rv .entry)) (now (rm .entry)))) ⌝ }
+{
+    let s = strategy_of(o);
+    let mut best = to;
+    let mut j = from;
+    while j < to {
+        best = meet_row(rv, rm, best, j, to, w, v, s, o);
+        j += 1;
+    }
+    best
+}
+
+// Whether the distance of two keys is above the tolerance; below 0 there is none.
+fn too_far(a: i64, v: i64, tolerance: i64) -> bool
+    ensures { λ r. ⌜ r ≡ (leZ (pos 0) tolerance && ltb (natAbs tolerance) (natAbs (a -ℤ v))) ⌝ }
+{
+    if tolerance < 0 {
+        return false;
+    }
+    (tolerance as u64) < distance(a, v)
+}
+
+// The choice for the left row at p among right rows from..to, each w wide; row i of them has the number `number` + i.
+pub fn match_row(
+    lv: &[i64],
+    lm: &[i64],
+    p: usize,
+    rv: &[i64],
+    rm: &[i64],
+    from: usize,
+    to: usize,
+    w: usize,
+    number: usize,
+    o: Options,
+) -> Choice
+    requires { ⌜ RowRoom o p (now lv) (now lm) w from to (now rv) (now rm) number ⌝ }
+    ensures { λ r. ⌜ ((wl : ℕ) → o .by < wl → r ≡ matchIn o (number + from) (between w from to (now (rv .entry)) (now (rm .entry))) (rowFrom wl p (now (lv .entry)) (now (lm .entry)))) ⌝ }
+{
+    let by = o.by;
+    let k = p + by;
+    if null_at(lm, k) {
+        return Choice::Nothing;
+    }
+    let v = lv[k];
+    let best = choose_row(rv, rm, from, to, w, v, o);
+    if best == to {
+        return Choice::Nothing;
+    }
+    let q = best * w + by;
+    if too_far(rv[q], v, o.tolerance) {
+        return Choice::Nothing;
+    }
+    Choice::Row(number + best)
+}
