@@ -10,7 +10,7 @@ ghost use Rattle.frames.specs.Keyed.{firstKeyed, lastKeyed};
 ghost use Rattle.frames.specs.Room.{cellAt, MarkIn, MarksAt, KeysIn};
 
 // Whether the cell at place k is null.
-fn null_at(marks: &[i64], k: usize) -> bool
+pub fn null_at(marks: &[i64], k: usize) -> bool
     requires { ⌜ MarkIn k (now marks) ⌝ }
     ensures { λ r. ⌜ ((vs : Words) → r ≡ isNull (cellAt k vs (now (marks .entry)))) ⌝ }
 {
