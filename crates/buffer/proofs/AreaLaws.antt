@@ -17,7 +17,8 @@ use mir.Syntax.{w64}
 use mir.Val.{toZ, ofZ}
 use Rattle.frames.specs.Cells.{Words}
 use Rattle.frames.specs.Frame.{rowCount, valuesIn, marksIn, isFrame}
-use Rattle.frames.specs.Room.{HasCount}
+use Rattle.frames.specs.Room.{HasCount, RowsIn}
+use Rattle.frames.specs.declared.Options.{Options}
 use Rattle.frames.proofs.Signed.{back}
 use Rattle.frames.proofs.FrameLaws.{frame-length, values-length, marks-length}
 use Rattle.frames.proofs.FrontLaws.{frame-parts}
@@ -78,6 +79,14 @@ base-room c base area h =
     let r = capacity-room c area in
     let b = mul-le-mul-right c h in
     (omega arith, omega arith)
+
+-- The held rows, as parts that `held_values` and `held_marks` give: all of them are there.
+pub held-in : (o : Options) (c base held : ℕ) (area : Words) → o .by ≤ 4 → o .by < c → base + held ≤ capacity c area
+    → RowsIn o c held (drop (base * c) area) (drop ((capacity c area + base) * c) area)
+held-in o c base held area few wide h =
+    let r = capacity-room c area in
+    let b = mul-le-mul-right {m = base + held} {n = capacity c area} c h in
+    record { few = few; wide = wide; values = rw (length-drop (base * c) area) (omega arith); marks = rw (length-drop ((capacity c area + base) * c) area) (omega arith) }
 
 -- No more rows than words.
 pub rows-words : (n w : ℕ) → 1 ≤ w → n ≤ n * w

@@ -16,26 +16,23 @@ mul-half c =
     omega (arith, push-sizes (c .before .before .pre) (c .capacity .result) (rowCount (now (a .frame))) (c .capacity .ensures) refl .area-long)
 
 row-count-requires : tie.Need-row-count-requires
-row-count-requires c κs = let a = c .before .before .args in push-counts (c .before .before .pre)
+row-count-requires c κs = push-counts (c .before .before .pre)
 
 -- how long the frame is, and where in the area its rows go
-sizes : (c : tie.After-row-count) → let a = c .before .before .before .args in Sizes (c .before .before .before .pre) (c .before .capacity .result) (c .row-count .result)
-sizes c =
-    let s = c .before .before .before in
-    let a = s .args in
-    push-sizes (s .pre) _ _ (c .before .capacity .ensures) (c .row-count .ensures)
+sizes : (c : tie.After-row-count) → Sizes (c .before .before .before .pre) (c .before .capacity .result) (c .row-count .result)
+sizes c = push-sizes (c .before .before .before .pre) _ _ (c .before .capacity .ensures) (c .row-count .ensures)
 
 mul-e : tie.Need-mul-e
-mul-e c = let z = sizes c in omega (arith, z .frame-long, z .live-in, z .fits, z .area-long)
+mul-e c = omega (arith, sizes c)
 
 add-e : tie.Need-add-e
-add-e c = let z = sizes c in omega (arith, z .frame-long, z .live-in, z .fits, z .area-long)
+add-e c = omega (arith, sizes c)
 
 mul-append-both : tie.Need-mul-append-both
-mul-append-both c = let z = sizes (c .before) in omega (arith, z .frame-long, z .live-in, z .fits, z .area-long)
+mul-append-both c = omega (arith, sizes (c .before))
 
 mul-append-both-2 : tie.Need-mul-append-both-2
-mul-append-both-2 c = let z = sizes (c .before) in omega (arith, z .frame-long, z .live-in, z .fits, z .area-long)
+mul-append-both-2 c = omega (arith, sizes (c .before))
 
 sub-append-both : tie.Need-sub-append-both
 sub-append-both c = search needs
@@ -44,16 +41,16 @@ part-append-both-start : tie.Need-part-append-both-start
 part-append-both-start c = search needs
 
 part-append-both-end : tie.Need-part-append-both-end
-part-append-both-end c = let z = sizes (c .before) in omega (arith, z .frame-long, z .live-in, z .fits, z .area-long)
+part-append-both-end c = omega (arith, sizes (c .before))
 
 mul-append-both-3 : tie.Need-mul-append-both-3
-mul-append-both-3 c = let z = sizes (c .before .before) in omega (arith, z .frame-long, z .live-in, z .fits, z .area-long)
+mul-append-both-3 c = omega (arith, sizes (c .before .before))
 
 sub-append-both-2 : tie.Need-sub-append-both-2
-sub-append-both-2 c = let z = sizes (c .before .before) in omega (arith, z .frame-long, z .live-in, z .fits, z .area-long)
+sub-append-both-2 c = omega (arith, sizes (c .before .before))
 
 part-append-both-start-2 : tie.Need-part-append-both-start-2
-part-append-both-start-2 c = let z = sizes (c .before .before) in omega (arith, z .frame-long, z .live-in, z .fits, z .area-long)
+part-append-both-start-2 c = omega (arith, sizes (c .before .before))
 
 part-append-both-end-2 : tie.Need-part-append-both-end-2
 part-append-both-end-2 c = search needs
@@ -61,9 +58,7 @@ part-append-both-end-2 c = search needs
 append-both-requires : tie.Need-append-both-requires
 append-both-requires c κs =
     let r = c .before .before .before in
-    let s = r .before .before .before in
-    let a = s .args in
-    push-both (s .pre) _ _ (r .before .capacity .ensures) (r .row-count .ensures)
+    push-both (r .before .before .before .pre) _ _ (r .before .capacity .ensures) (r .row-count .ensures)
 
 div-result : tie.Need-div-result
 div-result c = search needs
@@ -74,9 +69,7 @@ same-length c = search needs
 returns : tie.Need-returns
 returns c =
     let r = c .before .before .before .before .before in
-    let s = r .before .before .before in
-    let a = s .args in
-    push-done (s .pre) _ _ (r .before .capacity .ensures) (r .row-count .ensures) _ _ (c .before .append-both .ensures)
+    push-done (r .before .before .before .pre) _ _ (r .before .capacity .ensures) (r .row-count .ensures) _ _ (c .before .append-both .ensures)
 
 pub push-spec : {M : Type 1} → statement M
 push-spec =

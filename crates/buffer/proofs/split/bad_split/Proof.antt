@@ -12,24 +12,12 @@ use Rattle.buffer.proofs.split.bad_split.Statement.{statement}
 use Rattle.buffer.proofs.split.bad_split.Tie as tie
 
 last-keyed-requires : tie.Need-last-keyed-requires
-last-keyed-requires c κs = let a = c .args in keys-in (c .pre)
+last-keyed-requires c κs = keys-in (c .pre)
 
 has-before-requires : tie.Need-has-before-requires
 has-before-requires c κs = search needs
 
--- the last row with a key before the split; and as many words as the row has are remembered, and there
-found : (c : tie.After-last-keyed) → let a = c .before .args in lastKeyed (a .o) (rowsOf (a .w) (a .s) (now (a .rv)) (now (a .rm))) ≡ c .last-keyed .result
-found c =
-    let s = c .before in
-    let a = s .args in
-    sym (c .last-keyed .ensures (now (a .rv)) (long (s .pre) (now (a .rv)) (s .pre .last .rows .values) .0))
-
-long-values : (c : tie.Start) → c .args .w ≤ length (c .args .m .values)
-long-values c = let g : length (c .args .m .values) ≡ 5 = search needs in omega (arith, c .pre .last .narrow)
-
-long-marks : (c : tie.Start) → c .args .w ≤ length (c .args .m .marks)
-long-marks c = let g : length (c .args .m .marks) ≡ 5 = search needs in omega (arith, c .pre .last .narrow)
-
+-- the part before the split is there
 room : (c : tie.After-last-keyed) → let a = c .before .args in (a .s * a .w ≤ length (now (a .rv))) × (a .s * a .w ≤ length (now (a .rm)))
 room c =
     let s = c .before in
@@ -37,6 +25,17 @@ room c =
       long (s .pre) (now (a .rv)) (s .pre .last .rows .values) .0,
       long (s .pre) (now (a .rm)) (s .pre .last .rows .marks) .0,
     )
+
+-- the last row with a key in it
+found : (c : tie.After-last-keyed) → let a = c .before .args in lastKeyed (a .o) (rowsOf (a .w) (a .s) (now (a .rv)) (now (a .rm))) ≡ c .last-keyed .result
+found c = sym (c .last-keyed .ensures (now (c .before .args .rv)) (room c .0))
+
+-- as many words as a row has are remembered
+long-values : (c : tie.Start) → c .args .w ≤ length (c .args .m .values)
+long-values c = let g : length (c .args .m .values) ≡ 5 = search needs in omega (arith, c .pre .last .narrow)
+
+long-marks : (c : tie.Start) → c .args .w ≤ length (c .args .m .marks)
+long-marks c = let g : length (c .args .m .marks) ≡ 5 = search needs in omega (arith, c .pre .last .narrow)
 
 returns : tie.Need-returns
 returns c =
