@@ -5,3 +5,7 @@ pub mod WordLaws
 pub mod FrameLaws
 pub mod KeyLaws
 pub mod KeyedLaws
+pub mod Signed
+pub mod Apart
+pub mod RowLaws
+pub mod FrontLaws

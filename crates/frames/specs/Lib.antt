@@ -3,3 +3,5 @@ pub mod Frame
 pub mod Options
 pub mod Order
 pub mod Keyed
+pub mod Front
+pub mod Room

@@ -1,0 +1,35 @@
+use mathlib.Core.Path.{sym}
+use Rattle.frames.specs.Order.{cmpRow}
+use Rattle.frames.proofs.RowLaws.{next-stop}
+use borrow.Author.Needs.{needs}
+use Rattle.frames.proofs.compare.cmp_row.Statement.{statement}
+use Rattle.frames.proofs.compare.cmp_row.Tie as tie
+use Rattle.frames.proofs.compare.cmp_row.Reads as reads
+use Rattle.frames.proofs.compare.cmp_row.Lts as lts
+use Rattle.frames.proofs.compare.cmp_group.Reads as cmp-group-reads
+use Rattle.frames.proofs.compare.cmp_key.Reads as cmp-key-reads
+
+-- src/compare.rt:144:9
+cmp-group-requires : tie.Need-cmp-group-requires
+cmp-group-requires c κs = search needs
+
+-- src/compare.rt:146:25
+enum-told : tie.Need-enum-told
+enum-told c = search needs
+
+-- src/compare.rt:146:25
+cmp-key-requires : tie.Need-cmp-key-requires
+cmp-key-requires c κs = search needs
+
+-- src/compare.rt:132:1
+returns : tie.Need-returns
+unfolding cmpRow
+returns c = λ wa wb ha hb. rw (← (c .before .before .before .cmp-group .ensures wa wb ha hb), c .before .enum-told .given .1) (c .cmp-key .ensures wa wb ha hb)
+
+-- src/compare.rt:132:1
+returns-2 : tie.Need-returns-2
+unfolding cmpRow
+returns-2 c = λ wa wb ha hb. rw (← (c .before .cmp-group .ensures wa wb ha hb)) (sym (next-stop (c .before .cmp-group .result) _ (c .match .keys2)))
+
+pub cmp-row-spec : {M : Type 1} → statement M
+cmp-row-spec = tie.close (tie.spec cmp-group-requires enum-told cmp-key-requires returns returns-2)

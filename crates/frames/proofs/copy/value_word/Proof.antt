@@ -1,0 +1,17 @@
+use mir.Facts.{toZ-ofZ}
+use Rattle.frames.proofs.Signed.{zero-yes, zero-no}
+use Rattle.frames.proofs.copy.value_word.Statement.{statement}
+use Rattle.frames.proofs.copy.value_word.Tie as tie
+use Rattle.frames.proofs.copy.value_word.Reads as reads
+use Rattle.frames.proofs.copy.value_word.Lts as lts
+
+-- src/copy.rt:14:9
+returns : tie.Need-returns
+returns c = simp (zero-yes (c .before .fits .mark) (c .if1 .taken))
+
+-- src/copy.rt:10:1
+returns-2 : tie.Need-returns-2
+returns-2 c = simp (toZ-ofZ (c .before .fits .value), zero-no (c .before .fits .mark) (c .if1 .left))
+
+pub value-word-spec : {M : Type 1} → statement M
+value-word-spec = tie.close (tie.spec returns returns-2)

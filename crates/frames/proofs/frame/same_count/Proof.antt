@@ -1,0 +1,27 @@
+use mathlib.Core.Path.{sym}
+use mir.Facts.{toZ-ofZ}
+use Rattle.frames.proofs.Apart.{whole}
+use Rattle.frames.proofs.FrontLaws.{same-negative, same-from-zero}
+use Rattle.frames.proofs.frame.same_count.Statement.{statement}
+use Rattle.frames.proofs.frame.same_count.Tie as tie
+use Rattle.frames.proofs.frame.same_count.Reads as reads
+use Rattle.frames.proofs.frame.same_count.Lts as lts
+
+-- src/frame.rt:28:9
+returns : tie.Need-returns
+returns c = sym (same-negative (c .before .args .word) (c .before .args .c) (rw (toZ-ofZ (c .before .fits .word)) at (c .if1 .taken)))
+
+-- src/frame.rt:30:5
+cast-result : tie.Need-cast-result
+cast-result c =
+    let f = toZ-ofZ (c .before .fits .word) in
+    rw f (whole (c .before .args .word) (c .before .fits .word) (rw f at (c .if1 .left)))
+
+-- src/frame.rt:24:1
+returns-2 : tie.Need-returns-2
+returns-2 c =
+    let f = toZ-ofZ (c .before .fits .word) in
+    rw f (same-from-zero (c .before .args .word) (c .before .args .c) (rw f at (c .if1 .left)))
+
+pub same-count-spec : {M : Type 1} → statement M
+same-count-spec = tie.close (tie.spec returns cast-result returns-2)

@@ -1,0 +1,47 @@
+use borrow.Author.Tests.{lt-ltb, le-ltb, eq-eqb, ne-eqb}
+use Rattle.frames.specs.Options.{badOptions}
+use Rattle.frames.proofs.Signed.{back}
+use Rattle.frames.proofs.setup.bad_options.Statement.{statement}
+use Rattle.frames.proofs.setup.bad_options.Tie as tie
+use Rattle.frames.proofs.setup.bad_options.Reads as reads
+use Rattle.frames.proofs.setup.bad_options.Lts as lts
+
+-- src/setup.rt:13:9
+returns : tie.Need-returns
+unfolding badOptions
+returns c = simp (lt-ltb _ _ (c .if1 .taken))
+
+-- src/setup.rt:16:9
+returns-2 : tie.Need-returns-2
+unfolding badOptions
+returns-2 c = simp (le-ltb _ _ (c .before .before .if1 .left), lt-ltb _ _ (c .if2 .taken))
+
+-- src/setup.rt:19:9
+returns-3 : tie.Need-returns-3
+unfolding badOptions
+returns-3 c =
+    let t = c .before in
+    let a = t .before .before .before .before .before .before .args in
+    let e = rw (back (a .o .tolerance) (t .struct-told .given .1 .1 .1 .0 .1)) at (c .if3 .taken) in
+    simp (le-ltb _ _ (t .before .before .before .before .if1 .left), le-ltb _ _ (t .before .before .if2 .left), e)
+
+-- src/setup.rt:22:9
+returns-4 : tie.Need-returns-4
+unfolding badOptions
+returns-4 c =
+    let t = c .before .before .before .before in
+    let a = t .before .before .before .before .before .before .args in
+    let e = rw (back (a .o .tolerance) (t .struct-told .given .1 .1 .1 .0 .1)) at (c .before .before .before .if3 .left) in
+    simp (le-ltb _ _ (t .before .before .before .before .if1 .left), le-ltb _ _ (t .before .before .if2 .left), e, eq-eqb _ _ (c .before .if4 .taken))
+
+-- src/setup.rt:9:1
+returns-5 : tie.Need-returns-5
+unfolding badOptions
+returns-5 c =
+    let t = c .before .before .before in
+    let a = t .before .before .before .before .before .before .args in
+    let e = rw (back (a .o .tolerance) (t .struct-told .given .1 .1 .1 .0 .1)) at (c .before .before .if3 .left) in
+    simp (le-ltb _ _ (t .before .before .before .before .if1 .left), le-ltb _ _ (t .before .before .if2 .left), e, ne-eqb _ _ (c .if4 .left))
+
+pub bad-options-spec : {M : Type 1} → statement M
+bad-options-spec = tie.close (tie.spec returns returns-2 returns-3 returns-4 returns-5)

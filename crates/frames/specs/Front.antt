@@ -1,0 +1,26 @@
+-- The front of words that wait, as an answer: its length, or nothing. Assumes nothing.
+use mathlib.Core.Bool.{Bool, true, false, cond, _&&_}
+use Prim.Native.Nat.{ℕ}
+use lib.Dec.{leb}
+use lib.IntN.{ℤ, pos}
+use lib.Signed.{leZ}
+use lib.ListN.{length, getD}
+use Rattle.frames.specs.Cells.{Words}
+use Rattle.frames.specs.Frame.{rowCount, frameWords, isFrame, front}
+use Rattle.frames.specs.declared.Front.{Front}
+use Rattle.frames.specs.declared.Front.the-variants.{Words as Long, Nothing}
+
+-- The front's length is what its n and c give; it breaks the rule if that exceeds the queue words or these are below 2.
+unfoldable pub frontOf : ℕ → Words → Front
+frontOf c ws = cond (isFrame c (front c ws)) (Long (length (front c ws))) Nothing
+
+-- A word is a number of rows.
+abbrev pub fewRows : ℤ → Bool
+fewRows z = leZ (pos 0) z && leZ z (pos 4096)
+
+-- The length that n and c give, where there is room for so many words.
+unfoldable pub fitting : ℕ → ℕ → ℕ → Front
+fitting n c room = cond (leb (frameWords n c) room) (Long (frameWords n c)) Nothing
+
+unfoldable pub frontLength : ℕ → Words → Front
+frontLength c ws = cond (leb 2 (length ws) && fewRows (getD ws 0 (pos 0))) (fitting (rowCount ws) c (length ws)) Nothing
