@@ -7,6 +7,9 @@ ghost use Prim.Native.Nat.{_+_};
 ghost use lib.Dec.{ltb};
 ghost use Rattle.node.specs.State.{badJoin, isRunning, isDone};
 
+// The greatest number of right rows.
+pub(crate) const MOST_ROWS: usize = 9223372036854775807;
+
 // Whether a + b is above the limit, with no sum that might wrap.
 pub(crate) fn above(a: usize, b: usize, limit: usize) -> bool
     ensures { λ r. ⌜ r ≡ ltb limit (a + b) ⌝ }
@@ -32,7 +35,7 @@ pub(crate) fn bad_join(j: Join, left: &[i64], right: &[i64]) -> bool
     if above(j.queue_start, j.queue_words, left.len()) {
         return true;
     }
-    if above(j.pruned, j.held, 9223372036854775807) {
+    if above(j.pruned, j.held, MOST_ROWS) {
         return true;
     }
     j.sequence % 2 == 1

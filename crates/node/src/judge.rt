@@ -2,6 +2,7 @@
 use crate::Join;
 use crate::Refusal;
 use crate::Took;
+use crate::check::MOST_ROWS;
 use crate::check::above;
 use crate::check::bad_join;
 use crate::check::is_done;
@@ -9,8 +10,9 @@ use crate::check::is_running;
 use frames::Options;
 use frames::bad_options;
 use frames::is_frame;
+use frames::row_count;
 ghost use mathlib.Core.Path.{_≡_};
-ghost use Rattle.node.specs.Calls.{openAnswer, leftAnswer, endAnswer};
+ghost use Rattle.node.specs.Calls.{openAnswer, leftAnswer, rightAnswer, endAnswer};
 
 // Opening: refused for its options, or accepted.
 pub(crate) fn judge_open(o: Options) -> Took
@@ -62,6 +64,28 @@ pub(crate) fn judge_end(j: Join, left: &[i64], right: &[i64]) -> Took
     let state = j.state;
     if is_done(state) {
         return Took::Refused(Refusal::Closed);
+    }
+    Took::Accepted
+}
+
+// A right frame: it is refused where the end of right is, and then for its words, for room and for its rows' numbers.
+pub(crate) fn judge_right(j: Join, left: &[i64], right: &[i64], frame: &[i64]) -> Took
+    ensures { λ r. ⌜ r ≡ rightAnswer j (now (left .entry)) (now (right .entry)) (now (frame .entry)) ⌝ }
+{
+    let open = judge_end(j, left, right);
+    if let Took::Refused(_) = open {
+        return open;
+    }
+    let c = j.options.by + 1;
+    if !is_frame(frame, c) {
+        return Took::Refused(Refusal::BadFrame);
+    }
+    let n = row_count(frame);
+    if above(j.held, n, right.len() / (2 * c)) {
+        return Took::Refused(Refusal::NoRoom);
+    }
+    if above(j.pruned + j.held, n, MOST_ROWS) {
+        return Took::Refused(Refusal::UsedUp);
     }
     Took::Accepted
 }

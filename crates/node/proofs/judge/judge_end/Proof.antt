@@ -1,3 +1,8 @@
+use mathlib.Core.Path.{_≡_, sym, _∙_}
+use mathlib.Core.Bool.{false}
+use denote.Ref.{now}
+use Rattle.node.specs.State.{badJoin}
+use Rattle.node.specs.Calls.{endAnswer}
 use borrow.Author.Needs.{needs}
 use Rattle.node.proofs.judge.judge_end.Statement.{statement}
 use Rattle.node.proofs.judge.judge_end.Tie as tie
@@ -6,33 +11,38 @@ use Rattle.node.proofs.judge.judge_end.Lts as lts
 use Rattle.node.proofs.check.bad_join.Reads as bad-join-reads
 use Rattle.node.proofs.check.is_done.Reads as is-done-reads
 
--- src/judge.rt:53:8
 bad-join-requires : tie.Need-bad-join-requires
 bad-join-requires c κs = search needs
 
--- src/judge.rt:54:9
 returns : tie.Need-returns
-returns c = ?
+unfolding endAnswer
+returns c = simp (← c .before .bad-join .ensures, c .if1 .taken)
 
--- src/judge.rt:57:9
+unbroken : (c : tie.Else1) → let a = c .before .before .args in badJoin (a .j) (now (a .left)) (now (a .right)) ≡ false
+unbroken c = sym (c .before .bad-join .ensures) ∙ c .if1 .left
+
 returns-2 : tie.Need-returns-2
-returns-2 c = ?
+unfolding endAnswer
+returns-2 c = simp (unbroken (c .before), c .if2 .taken)
 
--- src/judge.rt:60:9
 returns-3 : tie.Need-returns-3
-returns-3 c = ?
+unfolding endAnswer
+returns-3 c = simp (unbroken (c .before .before), c .before .if2 .left, c .if3 .taken)
 
--- src/judge.rt:63:8
 is-done-requires : tie.Need-is-done-requires
 is-done-requires c κs = search needs
 
--- src/judge.rt:64:9
 returns-4 : tie.Need-returns-4
-returns-4 c = ?
+unfolding endAnswer
+returns-4 c =
+    let e = c .before .before in
+    simp (unbroken (e .before .before), e .before .if2 .left, e .if3 .left, ← c .before .is-done .ensures, c .if4 .taken)
 
--- src/judge.rt:50:1
 returns-5 : tie.Need-returns-5
-returns-5 c = ?
+unfolding endAnswer
+returns-5 c =
+    let e = c .before .before in
+    simp (unbroken (e .before .before), e .before .if2 .left, e .if3 .left, ← c .before .is-done .ensures, c .if4 .left)
 
 pub judge-end-spec : {M : Type 1} → statement M
 judge-end-spec =

@@ -1,3 +1,12 @@
+use mathlib.Core.Path.{_≡_, sym, _∙_}
+use mathlib.Core.Bool.{false}
+use native.Mathlib.Numerals.{add-one}
+use native.Mathlib.Omega.{arith}
+use denote.Ref.{now}
+use Rattle.frames.specs.Frame.{isFrame}
+use Rattle.node.specs.State.{badJoin, widthOf}
+use Rattle.node.specs.Calls.{leftAnswer}
+use Rattle.node.proofs.Good.{good}
 use borrow.Author.Needs.{needs}
 use Rattle.node.proofs.judge.judge_left.Statement.{statement}
 use Rattle.node.proofs.judge.judge_left.Tie as tie
@@ -8,49 +17,63 @@ use Rattle.node.proofs.check.above.Reads as above-reads
 use Rattle.node.proofs.check.bad_join.Reads as bad-join-reads
 use Rattle.node.proofs.check.is_running.Reads as is-running-reads
 
--- src/judge.rt:29:8
 bad-join-requires : tie.Need-bad-join-requires
 bad-join-requires c κs = search needs
 
--- src/judge.rt:30:9
 returns : tie.Need-returns
-returns c = ?
+unfolding leftAnswer
+returns c = simp (← c .before .bad-join .ensures, c .if1 .taken)
 
--- src/judge.rt:33:9
+unbroken : (c : tie.Else1) → let a = c .before .before .args in badJoin (a .j) (now (a .left)) (now (a .right)) ≡ false
+unbroken c = sym (c .before .bad-join .ensures) ∙ c .if1 .left
+
+frame : (c : tie.After-is-frame) → let a = c .before .before .before .before .before .before .before .args in c .is-frame .result ≡ isFrame (widthOf (a .j)) (now (a .frame))
+frame c = rw add-one at (c .is-frame .ensures)
+
 returns-2 : tie.Need-returns-2
-returns-2 c = ?
+unfolding leftAnswer
+returns-2 c = simp (unbroken (c .before), c .if2 .taken)
 
--- src/judge.rt:36:9
 is-running-requires : tie.Need-is-running-requires
 is-running-requires c κs = search needs
 
--- src/judge.rt:37:9
 returns-3 : tie.Need-returns-3
-returns-3 c = ?
+unfolding leftAnswer
+returns-3 c =
+    let e = c .before .before in
+    simp (unbroken (e .before), e .if2 .left, ← c .before .is-running .ensures, c .if3 .taken)
 
--- src/judge.rt:39:13
 add-c : tie.Need-add-c
-add-c c = ?
+add-c c = omega (arith, good _ _ _ (unbroken (c .before .before .before .before)) .few)
 
--- src/judge.rt:40:9
 is-frame-requires : tie.Need-is-frame-requires
 is-frame-requires c κs = search needs
 
--- src/judge.rt:41:9
 returns-4 : tie.Need-returns-4
-returns-4 c = ?
+unfolding leftAnswer
+returns-4 c =
+    let r = c .before .before .before in
+    let e = r .before .before in
+    simp (unbroken (e .before), e .if2 .left, ← r .before .is-running .ensures, r .if3 .left, ← frame (c .before), c .if4 .taken)
 
--- src/judge.rt:43:8
 above-requires : tie.Need-above-requires
 above-requires c κs = search needs
 
--- src/judge.rt:44:9
 returns-5 : tie.Need-returns-5
-returns-5 c = ?
+unfolding leftAnswer
+returns-5 c =
+    let f = c .before .before in
+    let r = f .before .before .before in
+    let e = r .before .before in
+    simp (unbroken (e .before), e .if2 .left, ← r .before .is-running .ensures, r .if3 .left, ← frame (f .before), f .if4 .left, ← c .before .above .ensures, c .if5 .taken)
 
--- src/judge.rt:26:1
 returns-6 : tie.Need-returns-6
-returns-6 c = ?
+unfolding leftAnswer
+returns-6 c =
+    let f = c .before .before in
+    let r = f .before .before .before in
+    let e = r .before .before in
+    simp (unbroken (e .before), e .if2 .left, ← r .before .is-running .ensures, r .if3 .left, ← frame (f .before), f .if4 .left, ← c .before .above .ensures, c .if5 .left)
 
 pub judge-left-spec : {M : Type 1} → statement M
 judge-left-spec =
