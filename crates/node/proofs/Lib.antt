@@ -11,3 +11,4 @@ pub mod Example
 pub mod Good
 pub mod CallLaws
 pub mod Tests
+pub mod PortRule
