@@ -181,10 +181,10 @@ module _ (ps : List Port) (came told : Port → PortState) (p : Port) (h : ready
   ready-unless : ReadyUnless ps came told p
   ready-unless = record {
     ready = λ none. rw (any-none ps (λ q. not (eqb (place q) (place p)) && isPort (came q) Blocked)
-    (λ q i e. let both = and-true (not (eqb (place q) (place p))) (isPort (came q) Blocked) e in
-    none q i (λ is. eqb-false (place q) (place p) (not-true (eqb (place q) (place p)) (both .0)) (ap place is)) (same-port (came q) Blocked (both .1)))) at is-told;
+        (λ q i e. let both = and-true (not (eqb (place q) (place p))) (isPort (came q) Blocked) e in
+        none q i (λ is. eqb-false (place q) (place p) (not-true (eqb (place q) (place p)) (both .0)) (ap place is)) (same-port (came q) Blocked (both .1)))) at is-told;
     blocked = λ q i other is. rw (any-at ps (λ q. not (eqb (place q) (place p)) && isPort (came q) Blocked) q i
-    (rw (ne-eqb (place q) (place p) (λ e. other (same-place q p (eq-eqb (place q) (place p) e))), is))) at is-told;
+        (rw (ne-eqb (place q) (place p) (λ e. other (same-place q p (eq-eqb (place q) (place p) e))), is))) at is-told;
   }
 
 told-by : (t : NodeState) (came told : Port → PortState) → toldTest t came told ≡ true → Told t came told
@@ -278,7 +278,7 @@ moved-by t l s words u h =
       empty = λ e n. same-state u Done (then-by (endsTest t l && some) (isState u Done) (q .0) (rw (ends-by t l e, eq-eqb words 0 n)));
       waits = λ e n o. same-state u Flush (then-by (endsTest t l && not some && not sent) (isState u Flush) (r .0) (rw (ends-by t l e, ne-eqb words 0 n, not-port s PortDone o)));
       runs = λ e n o. same-state u Running
-      (then-by (isState t Running && not (isPort l PortDone) && not sent) (isState u Running) (v .0) (rw (e, not-port l PortDone n, not-port s PortDone o)));
+          (then-by (isState t Running && not (isPort l PortDone) && not sent) (isState u Running) (v .0) (rw (e, not-port l PortDone n, not-port s PortDone o)));
       stays = λ e. same-state u Done (then-by (isState t Done) (isState u Done) (w .0) (rw e));
     }
 
@@ -309,6 +309,7 @@ ports-meet j areaL areaR l r s x h a b d is = go (portsAnswer j areaL areaR l r 
   where
     apart : (n : Refusal) (a b d : PortState) → Refused n ≡ Ports a b d → ⊥
     apart n a b d e = let z : _≡_ {A = ℕ} 0 1 = cc in omega arith
+
     go : (y : Ported) → portsAnswer j areaL areaR l r s ≡ y → PortsMeet j l r s (x .join .state) a b d
     go (Refused n) e = absurd (apart n a b d (sym (rw (e, portsCall) at (h .answer)) ∙ is))
     go (Ports a′ b′ d′) e =

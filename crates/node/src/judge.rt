@@ -2,6 +2,7 @@
 use crate::Join;
 use crate::Refusal;
 use crate::Took;
+use crate::TookJoin;
 use crate::check::MOST_ROWS;
 use crate::check::above;
 use crate::check::bad_join;
@@ -13,6 +14,16 @@ use frames::is_frame;
 use frames::row_count;
 ghost use mathlib.Core.Path.{_≡_};
 ghost use Rattle.node.specs.Calls.{openAnswer, leftAnswer, rightAnswer, endAnswer};
+
+// What a refused call hands back: the join as it came.
+pub(crate) fn kept(answer: Took, before: Join) -> TookJoin
+    ensures { λ r. ⌜ r ≡ record { answer = answer; join = before } ⌝ }
+{
+    TookJoin {
+        answer: answer,
+        join: before,
+    }
+}
 
 // Opening: refused for its options, or accepted.
 pub(crate) fn judge_open(o: Options) -> Took

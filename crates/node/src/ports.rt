@@ -34,7 +34,12 @@ fn while_sending(state: NodeState, left: PortState, words: usize) -> NodeState
 }
 
 // The node's state after a port call that comes with left and send, with so many words waiting.
-pub(crate) fn next_state(state: NodeState, left: PortState, send: PortState, words: usize) -> NodeState
+pub(crate) fn next_state(
+    state: NodeState,
+    left: PortState,
+    send: PortState,
+    words: usize,
+) -> NodeState
     ensures { λ r. ⌜ r ≡ toDone (toFlush state left send) words ⌝ }
 {
     match send {

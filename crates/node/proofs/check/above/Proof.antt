@@ -9,12 +9,12 @@ use Rattle.node.proofs.check.above.Reads as reads
 use Rattle.node.proofs.check.above.Lts as lts
 
 returns : tie.Need-returns
-returns c = 
+returns c =
     let a = c .before .args in
     sym (lt-ltb (a .limit) (a .a + a .b) (omega arith))
 
 returns-2 : tie.Need-returns-2
-returns-2 c = 
+returns-2 c =
     let a = c .before .args in
     ltb-same (a .limit - a .a) (a .b) (a .limit) (a .a + a .b) (λ h. omega arith) (λ h. omega arith)
 

@@ -54,7 +54,7 @@ above-requires-2 c κs = search needs
 
 returns-3 : tie.Need-returns-3
 unfolding badJoin
-returns-3 c = 
+returns-3 c =
     let a = c .before .before .before in
     simp (fine (a .before .before), ← rows a, c .before .before .if2 .left, ← c .before .above2 .ensures, c .if3 .taken)
 
@@ -63,14 +63,14 @@ above-requires-3 c κs = search needs
 
 returns-4 : tie.Need-returns-4
 unfolding badJoin
-returns-4 c = 
+returns-4 c =
     let b = c .before .before .before in
     let a = b .before .before in
     simp (fine (a .before .before), ← rows a, b .before .if2 .left, ← b .above2 .ensures, c .before .before .if3 .left, ← c .before .above3 .ensures, c .if4 .taken)
 
 returns-5 : tie.Need-returns-5
 unfolding badJoin
-returns-5 c = 
+returns-5 c =
     let d = c .before .before in
     let b = d .before .before in
     let a = b .before .before in
