@@ -8,3 +8,7 @@ pub mod Sound
 pub mod Steps
 pub mod Demand3
 pub mod Example
+pub mod Good
+pub mod CallLaws
+pub mod Tests
+pub mod PortRule

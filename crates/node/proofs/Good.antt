@@ -1,0 +1,143 @@
+-- What is known of a join that is not bad, and of a frame that is accepted. Assumes nothing.
+use mathlib.Core.Path.{_≡_, refl}
+use mathlib.Core.Bool.{Bool, true, false, cond, not, _||_}
+use Prim.Native.Nat.{ℕ, _+_, _-_, _%_, _^_, _≤_, _<_}
+use native.Mathlib.Omega.{arith}
+use borrow.Author.Tests.{ltb-false, eqb-false, not-false}
+use lib.Dec.{ltb}
+use lib.IntN.{pos}
+use lib.Signed.{ltZ}
+use lib.ListN.{length}
+use Rattle.frames.specs.Cells.{Words}
+use Rattle.frames.specs.Frame.{rowCount, isFrame}
+use Rattle.frames.specs.Options.{badOptions}
+use Rattle.frames.specs.Room.{HasCount}
+use Rattle.frames.specs.declared.Options.{Options}
+use Rattle.frames.proofs.FrontLaws.{frame-parts}
+use Rattle.buffer.specs.Area.{capacity}
+use Rattle.node.specs.State.{isRunning, isDone, widthOf, mostRows, lastSequence, badJoin, overRight, overLeft, overRows, oddSequence}
+use Rattle.node.specs.Calls.{leftAnswer, rightAnswer, endAnswer}
+use Rattle.node.specs.declared.Join.{Join}
+use Rattle.node.specs.declared.Refusal.{Refusal}
+use Rattle.node.specs.declared.Refusal.the-variants.{BadJoin, Failed, Closed, BadFrame, NoRoom, UsedUp}
+use Rattle.node.specs.declared.Took.{Took}
+use Rattle.node.specs.declared.Took.the-variants.{Accepted, Refused}
+
+-- ---- tests
+-- Of an `||` that is false each side is.
+or-both : (a b : Bool) → (a || b) ≡ false → (a ≡ false) × (b ≡ false)
+or-both true b e = let z : _≡_ {A = ℕ} 0 1 = cc in absurd (omega arith)
+or-both false b e = (refl, e)
+
+-- A chain of refusals that came to Accepted did not stop at its first.
+passed : (b : Bool) (n : Refusal) (t : Took) → cond b (Refused n) t ≡ Accepted → (b ≡ false) × (t ≡ Accepted)
+passed true n t e = let z : _≡_ {A = ℕ} 0 1 = cc in absurd (omega arith)
+passed false n t e = (refl, e)
+
+-- ---- a join that is not bad
+pub few-columns : (o : Options) → badOptions o ≡ false → o .by ≤ 4
+unfolding badOptions
+few-columns o e =
+    let p = or-both (ltb 4 (o .by) || ltb 2 (o .strategy) || ltZ (o .tolerance) _) _ e in
+    let q = or-both (ltb 4 (o .by) || ltb 2 (o .strategy)) _ (p .0) in
+    ltb-false 4 (o .by) (or-both (ltb 4 (o .by)) _ (q .0) .0)
+
+pub record Good (j : Join) (left right : Words) : Type 0 where
+  pub options : badOptions (j .options) ≡ false
+  pub few : j .options .by ≤ 4
+  pub right-room : j .base + j .held ≤ capacity (widthOf j) right
+  pub left-room : j .«queue_start» + j .«queue_words» ≤ length left
+  pub rows : j .pruned + j .held ≤ mostRows
+  pub even : j .sequence % 2 ≡ 0
+
+pub good : (j : Join) (left right : Words) → badJoin j left right ≡ false → Good j left right
+unfolding badJoin
+good j left right h =
+    let a = badOptions (j .options) in
+    let p = or-both (a || overRight j right || overLeft j left || overRows j) (oddSequence j) h in
+    let q = or-both (a || overRight j right || overLeft j left) (overRows j) (p .0) in
+    let r = or-both (a || overRight j right) (overLeft j left) (q .0) in
+    let s = or-both a (overRight j right) (r .0) in
+    record {
+      options = s .0;
+      few = few-columns (j .options) (s .0);
+      right-room = ltb-false (capacity (widthOf j) right) (j .base + j .held) (s .1);
+      left-room = ltb-false (length left) (j .«queue_start» + j .«queue_words») (r .1);
+      rows = ltb-false mostRows (j .pruned + j .held) (q .1);
+      even = let n = eqb-false (j .sequence % 2) 1 (p .1) in omega (arith, n);
+    }
+
+-- After a turn that writes the sequence still fits.
+pub next-sequence : (s : ℕ) → s % 2 ≡ 0 → (s ≡ lastSequence → ⊥) → s < 2 ^ 64 → s + 2 < 2 ^ 64
+next-sequence s e n h = omega arith
+
+-- ---- a frame
+-- Its first word is there and is a number of rows, at most 4,096.
+pub has-count : (c : ℕ) (f : Words) → isFrame c f ≡ true → HasCount f
+has-count c f h = let p = frame-parts c f h in record { long = omega (arith, p .long); few = p .few }
+
+-- ---- what is accepted
+module _ (j : Join) (left right : Words) where
+  -- Right is open: neither it nor the node has ended.
+  pub record EndTaken : Type 0 where
+    pub unbroken : badJoin j left right ≡ false
+    pub good : Good j left right
+    pub unfailed : j .failed ≡ false
+    pub unended : (j .«right_ended» || isDone (j .state)) ≡ false
+
+  pub end-taken : endAnswer j left right ≡ Accepted → EndTaken
+  unfolding endAnswer
+  end-taken e =
+      let p2 = passed (badJoin j left right) BadJoin _ e in
+      let p3 = passed (j .failed) Failed _ (p2 .1) in
+      let p4 = passed (j .«right_ended» || isDone (j .state)) Closed Accepted (p3 .1) in
+      record { unbroken = p2 .0; good = good j left right (p2 .0); unfailed = p3 .0; unended = p4 .0 }
+
+  pub record LeftTaken (f : Words) : Type 0 where
+    pub good : Good j left right
+    pub unfailed : j .failed ≡ false
+    pub running : isRunning (j .state) ≡ true
+    pub frame : isFrame (widthOf j) f ≡ true
+    pub room : j .«queue_words» + length f ≤ length left
+
+  pub left-taken : (f : Words) → leftAnswer j left right f ≡ Accepted → LeftTaken f
+  unfolding leftAnswer
+  left-taken f e =
+      let p2 = passed (badJoin j left right) BadJoin _ e in
+      let p3 = passed (j .failed) Failed _ (p2 .1) in
+      let p4 = passed (not (isRunning (j .state))) Closed _ (p3 .1) in
+      let p5 = passed (not (isFrame (widthOf j) f)) BadFrame _ (p4 .1) in
+      let p6 = passed (ltb (length left) (j .«queue_words» + length f)) NoRoom Accepted (p5 .1) in
+      record {
+        good = good j left right (p2 .0);
+        unfailed = p3 .0;
+        running = not-false (isRunning (j .state)) (p4 .0);
+        frame = not-false (isFrame (widthOf j) f) (p5 .0);
+        room = ltb-false (length left) (j .«queue_words» + length f) (p6 .0);
+      }
+
+  pub record RightTaken (f : Words) : Type 0 where
+    pub good : Good j left right
+    pub unfailed : j .failed ≡ false
+    pub unended : (j .«right_ended» || isDone (j .state)) ≡ false
+    pub frame : isFrame (widthOf j) f ≡ true
+    pub room : j .held + rowCount f ≤ capacity (widthOf j) right
+    pub rows : j .pruned + j .held + rowCount f ≤ mostRows
+
+  pub right-taken : (f : Words) → rightAnswer j left right f ≡ Accepted → RightTaken f
+  unfolding rightAnswer
+  right-taken f e =
+      let p2 = passed (badJoin j left right) BadJoin _ e in
+      let p3 = passed (j .failed) Failed _ (p2 .1) in
+      let p4 = passed (j .«right_ended» || isDone (j .state)) Closed _ (p3 .1) in
+      let p5 = passed (not (isFrame (widthOf j) f)) BadFrame _ (p4 .1) in
+      let p6 = passed (ltb (capacity (widthOf j) right) (j .held + rowCount f)) NoRoom _ (p5 .1) in
+      let p7 = passed (ltb mostRows (j .pruned + j .held + rowCount f)) UsedUp Accepted (p6 .1) in
+      record {
+        good = good j left right (p2 .0);
+        unfailed = p3 .0;
+        unended = p4 .0;
+        frame = not-false (isFrame (widthOf j) f) (p5 .0);
+        room = ltb-false (capacity (widthOf j) right) (j .held + rowCount f) (p6 .0);
+        rows = ltb-false mostRows (j .pruned + j .held + rowCount f) (p7 .0);
+      }

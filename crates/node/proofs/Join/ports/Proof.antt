@@ -1,0 +1,40 @@
+use mathlib.Core.Path.{sym, _∙_}
+use Rattle.node.specs.Calls.{portsAnswer}
+use Rattle.node.specs.declared.Refusal.the-variants.{BadJoin, Failed}
+use Rattle.node.proofs.CallLaws.{ports-refused, ports-told}
+use borrow.Author.Needs.{needs}
+use Rattle.node.proofs.Join.ports.Statement.{statement}
+use Rattle.node.proofs.Join.ports.Tie as tie
+use Rattle.node.proofs.Join.ports.Reads as reads
+use Rattle.node.proofs.Join.ports.Lts as lts
+use Rattle.node.proofs.check.bad_join.Reads as bad-join-reads
+use Rattle.node.proofs.ports.next_state.Reads as next-state-reads
+use Rattle.node.proofs.ports.told.Reads as told-reads
+
+bad-join-requires : tie.Need-bad-join-requires
+bad-join-requires c κs = search needs
+
+returns : tie.Need-returns
+unfolding portsAnswer
+returns c = ports-refused _ _ _ _ _ _ BadJoin (simp (← c .before .bad-join .ensures, c .if1 .taken))
+
+returns-2 : tie.Need-returns-2
+unfolding portsAnswer
+returns-2 c = ports-refused _ _ _ _ _ _ Failed (simp (← c .before .before .bad-join .ensures, c .before .if1 .left, c .if2 .taken))
+
+next-state-requires : tie.Need-next-state-requires
+next-state-requires c κs = search needs
+
+told-requires : tie.Need-told-requires
+told-requires c κs = search needs
+
+returns-3 : tie.Need-returns-3
+returns-3 c =
+    let t = c .before .before .before in
+    let e = t .before .before in
+    ports-told _ _ _ _ _ _ (sym (e .before .before .bad-join .ensures) ∙ e .before .if1 .left) (e .if2 .left) _ _ (t .before .next-state .ensures) (t .told .ensures)
+
+pub ports-spec : {M : Type 1} → statement M
+ports-spec =
+    tie.close
+    (tie.spec bad-join-requires returns returns-2 next-state-requires told-requires returns-3)
