@@ -4,28 +4,19 @@ use native.Mathlib.Omega.{arith}
 use borrow.Author.Needs.{needs}
 use Rattle.matchcases.proofs.keys.Statement.{statement}
 use Rattle.matchcases.proofs.keys.Tie as tie
-use Rattle.matchcases.proofs.keys.Reads as reads
-use Rattle.matchcases.proofs.keys.Lts as lts
-use Rattle.matchcases.proofs.options.Reads as options-reads
-use Rattle.matchcases.proofs.show.Reads as show-reads
 
--- src/main.rt:74:9
 options-requires : tie.Need-options-requires
 options-requires c κs = search needs
 
--- src/main.rt:75:26
 slice-aggregate-show : tie.Need-slice-aggregate-show
 slice-aggregate-show c = search needs
 
--- src/main.rt:75:38
 slice-aggregate-show-2 : tie.Need-slice-aggregate-show-2
 slice-aggregate-show-2 c = search needs
 
--- src/main.rt:75:46
 slice-aggregate-show-3 : tie.Need-slice-aggregate-show-3
 slice-aggregate-show-3 c = search needs
 
--- src/main.rt:75:5
 show-requires : tie.Need-show-requires
 show-requires c κs =
     let s = c .before .before .before .before .before in
@@ -35,7 +26,6 @@ show-requires c κs =
     let r : a .nr * (c .before .before .before .options .result .by + 1) ≡ a .nr = rw e (omega arith) in
     record { few = omega arith; leftValues = omega arith; leftMarks = omega arith; rightValues = omega arith; rightMarks = omega arith; small = omega arith; numbers = omega arith }
 
--- src/main.rt:69:1
 returns : tie.Need-returns
 returns c = search needs
 
