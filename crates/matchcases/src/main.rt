@@ -65,8 +65,16 @@ fn show(
     print_choices(&out, nl);
 }
 
-// Keys alone, over 10, 20, 20, 30.
-fn keys(title: &[u8], strategy: u8, allow_eq: bool, tolerance: i64, left: &[i64], nl: usize, nr: usize)
+// Left keys with no by-columns, over the first nr of 10, 20, 20, 30.
+fn keys(
+    title: &[u8],
+    strategy: u8,
+    allow_eq: bool,
+    tolerance: i64,
+    left: &[i64],
+    nl: usize,
+    nr: usize,
+)
     requires { ⌜ (nl ≤ length (now left)) × (nl ≤ 3) × (nr ≤ 4) ⌝ }
 {
     let marks = [1i64; 4];
@@ -75,62 +83,71 @@ fn keys(title: &[u8], strategy: u8, allow_eq: bool, tolerance: i64, left: &[i64]
     show(title, o, left, &marks, nl, &right, &marks, nr, 0);
 }
 
+// The last key at or before the left one.
 fn backward() {
     keys(b"Backward 5, 20, 25:", 0, true, -1, &[5i64, 20, 25], 3, 4);
-    keys(b"Backward 5, 20, 25, without 30:", 0, true, -1, &[5i64, 20, 25], 3, 3);
-    keys(b"Backward 20, without equality:", 0, false, -1, &[20i64], 1, 4);
-    keys(b"Backward 25, tolerance 4:", 0, true, 4, &[25i64], 1, 4);
-    keys(b"Backward 25, tolerance 5:", 0, true, 5, &[25i64], 1, 4);
+    keys(b"Without 30 held:", 0, true, -1, &[5i64, 20, 25], 3, 3);
+    keys(b"Backward below 20:", 0, false, -1, &[20i64], 1, 4);
+    keys(b"Backward 25 within 4:", 0, true, 4, &[25i64], 1, 4);
+    keys(b"Backward 25 within 5:", 0, true, 5, &[25i64], 1, 4);
 }
 
+// The first key at or behind the left one.
 fn forward() {
     keys(b"Forward 20:", 1, true, -1, &[20i64], 1, 4);
-    keys(b"Forward 20, without equality:", 1, false, -1, &[20i64], 1, 4);
+    keys(b"Forward above 20:", 1, false, -1, &[20i64], 1, 4);
 }
 
+// The nearest key; a tie goes to the greater one, and to the last of equal ones.
 fn nearest() {
     keys(b"Nearest 14, 15, 25:", 2, true, -1, &[14i64, 15, 25], 3, 4);
 }
 
-// Backward, one by-column.
+// Backward with one by-column: (1,15), (2,4), (3,9) over (1,10), (1,20), (2,5).
 fn groups() {
     let o = options(1, 0, true, -1);
-    let marks = [1i64; 8];
+    let marks = [1i64; 6];
     let left = [1i64, 15, 2, 4, 3, 9];
     let right = [1i64, 10, 1, 20, 2, 5];
-    show(b"Groups (1,15), (2,4), (3,9):", o, &left, &marks, 3, &right, &marks, 3, 0);
+    show(b"Groups:", o, &left, &marks, 3, &right, &marks, 3, 0);
 }
 
-// Three frames, of which the second has a null key: the third meets the rows that are still held.
+// Three frames over (2,1), (2,7), (3,1), (4,1), of which the second has a null key; the third meets the two rows that are still held then.
 fn null_key() {
     let o = options(1, 0, true, -1);
     let marks = [1i64; 8];
     let right = [2i64, 1, 2, 7, 3, 1, 4, 1];
-    show(b"(2,5):", o, &[2i64, 5], &marks, 1, &right, &marks, 4, 0);
-    show(b"(3,null):", o, &[3i64, 0], &[1i64, 0], 1, &right, &marks, 4, 0);
-    show(b"(2,8):", o, &[2i64, 8], &marks, 1, &[3i64, 1, 4, 1], &marks, 2, 2);
+    let held = [3i64, 1, 4, 1];
+    let first = [2i64, 5];
+    let second = [3i64, 0];
+    let keyless = [1i64, 0];
+    let third = [2i64, 8];
+    show(b"(2,5):", o, &first, &marks, 1, &right, &marks, 4, 0);
+    show(b"(3,null):", o, &second, &keyless, 1, &right, &marks, 4, 0);
+    show(b"(2,8):", o, &third, &marks, 1, &held, &marks, 2, 2);
 }
 
-// A null group matches no null group, and the cursor passes it.
+// (null,5), (1,5) over (null,1), (1,1), numbered from 7: a null group matches no null group, and the cursor passes it.
 fn null_group() {
     let o = options(1, 0, true, -1);
+    let marks = [0i64, 1, 1, 1];
     let left = [0i64, 5, 1, 5];
     let right = [0i64, 1, 1, 1];
-    let marks = [0i64, 1, 1, 1];
-    show(b"(null,5), (1,5) from number 7:", o, &left, &marks, 2, &right, &marks, 2, 7);
+    show(b"Null group:", o, &left, &marks, 2, &right, &marks, 2, 7);
 }
 
-// The greatest distance, 2^64 - 1, is above every tolerance.
+// The greatest distance, 2^64 - 1, with no tolerance and with the greatest one.
 fn far() {
     let low = [-9223372036854775807i64 - 1];
     let high = [9223372036854775807i64];
     let marks = [1i64; 1];
-    let none = options(0, 2, true, -1);
+    let any = options(0, 2, true, -1);
     let most = options(0, 2, true, 9223372036854775807);
-    show(b"Nearest at the greatest distance:", none, &high, &marks, 1, &low, &marks, 1, 0);
-    show(b"The same within 2^63 - 1:", most, &high, &marks, 1, &low, &marks, 1, 0);
+    show(b"Farthest:", any, &high, &marks, 1, &low, &marks, 1, 0);
+    show(b"Too far:", most, &high, &marks, 1, &low, &marks, 1, 0);
 }
 
+// All cases, in the counter's order.
 fn main() {
     backward();
     forward();

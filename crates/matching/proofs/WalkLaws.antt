@@ -86,6 +86,7 @@ module _ (o : Options) where
     where
       m : ℕ
       m = runOn o s rs
+
       by : (s ∷ take m rs) ∷ runs o (drop m rs) ≡ runs o (s ∷ rs) → (b : Bool) → cond b ((r ∷ s ∷ take m rs) ∷ runs o (drop m rs)) ((r ∷ []) ∷ (s ∷ take m rs) ∷ runs o (drop m rs))
           ≡ (r ∷ take (cond b (suc m) 0) (s ∷ rs)) ∷ runs o (drop (cond b (suc m) 0) (s ∷ rs))
       by e true = refl
@@ -243,5 +244,5 @@ module _ (o : Options) (w n : ℕ) (vs ms : Words) (i : ℕ) (x : List Cell) whe
   serve-pass r h p =
       record {
         step = λ first l ls q.
-          rw (← p .uses, ← q) (by-some o (first + i) (runs o (between w i n vs ms)) l ls (record { at = first + r .at; rest = runs o (between w (r .at) n vs ms) }) (ap (nullGroup o) q ∙ h) (rw q (p .cursor first)));
+            rw (← p .uses, ← q) (by-some o (first + i) (runs o (between w i n vs ms)) l ls (record { at = first + r .at; rest = runs o (between w (r .at) n vs ms) }) (ap (nullGroup o) q ∙ h) (rw q (p .cursor first)));
       }

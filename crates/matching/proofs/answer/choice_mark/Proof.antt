@@ -1,4 +1,3 @@
-
 use borrow.Author.Needs.{needs}
 use Rattle.matching.proofs.answer.choice_mark.Statement.{statement}
 use Rattle.matching.proofs.answer.choice_mark.Tie as tie

@@ -57,9 +57,9 @@ loop-again c =
       omega arith,
       c .meet-row .ensures .kept,
       λ first x ex.
-        l .inv .3 first x ex
-        ∙ scan-more (a .o) x (a .w) (a .to) (now (a .rv)) (now (a .rm)) first (l .j) (hitAt first (a .w) (a .to) (now (a .rv)) (now (a .rm)) (l .best)) t
-        ∙ ap (λ (h : Hit). choose (a .o) x (fits (a .o) x) h (first + (l .j + 1)) (between (a .w) (l .j + 1) (a .to) (now (a .rv)) (now (a .rm)))) (sym (c .meet-row .ensures .met first x ex)),
+          l .inv .3 first x ex
+          ∙ scan-more (a .o) x (a .w) (a .to) (now (a .rv)) (now (a .rm)) first (l .j) (hitAt first (a .w) (a .to) (now (a .rv)) (now (a .rm)) (l .best)) t
+          ∙ ap (λ (h : Hit). choose (a .o) x (fits (a .o) x) h (first + (l .j + 1)) (between (a .w) (l .j + 1) (a .to) (now (a .rv)) (now (a .rm)))) (sym (c .meet-row .ensures .met first x ex)),
     )
 
 returns : tie.Need-returns Inv-loop μ-loop

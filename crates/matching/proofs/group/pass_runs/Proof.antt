@@ -71,10 +71,10 @@ returns c =
     let d = told (c .before .before) Equal (c .enum-told2 .given .1) in (
       record { run = l .inv .0; upward = omega arith; within = omega arith },
       λ wl h.
-        record {
-          cursor = λ first. l .inv .1 wl h first ∙ pass-stop _ _ _ _ _ _ _ (l .end) (i .loop-test .taken) q (first + l .at) Equal refl (d wl h);
-          uses = used-run _ _ _ _ _ _ _ (l .end) (i .loop-test .taken) q (d wl h);
-        },
+          record {
+            cursor = λ first. l .inv .1 wl h first ∙ pass-stop _ _ _ _ _ _ _ (l .end) (i .loop-test .taken) q (first + l .at) Equal refl (d wl h);
+            uses = used-run _ _ _ _ _ _ _ (l .end) (i .loop-test .taken) q (d wl h);
+          },
     )
 
 enum-told-3 : tie.Need-enum-told-3 Inv-loop μ-loop
@@ -90,10 +90,10 @@ returns-2 c =
     let d = told (c .before .before) Greater (c .enum-told3 .given .1) in (
       record { run = l .inv .0; upward = omega arith; within = omega arith },
       λ wl h.
-        record {
-          cursor = λ first. l .inv .1 wl h first ∙ pass-stop _ _ _ _ _ _ _ (l .end) (i .loop-test .taken) q (first + l .at) Greater refl (d wl h);
-          uses = used-none _ _ _ _ _ _ _ (l .end) (i .loop-test .taken) q (d wl h);
-        },
+          record {
+            cursor = λ first. l .inv .1 wl h first ∙ pass-stop _ _ _ _ _ _ _ (l .end) (i .loop-test .taken) q (first + l .at) Greater refl (d wl h);
+            uses = used-none _ _ _ _ _ _ _ (l .end) (i .loop-test .taken) q (d wl h);
+          },
     )
 
 run-end-requires : tie.Need-run-end-requires Inv-loop μ-loop
@@ -122,10 +122,10 @@ returns-3 c =
     let e : l .at ≡ a .n = omega (arith, c .loop-test .left) in (
       record { run = l .inv .0; upward = omega arith; within = omega arith },
       λ wl h.
-        record {
-          cursor = λ first. l .inv .1 wl h first ∙ rw e (pass-end (a .o) _ (a .w) (a .n) (now (a .rv)) (now (a .rm)) (first + a .n));
-          uses = rw e (used-end (a .o) _ (a .w) (a .n) (now (a .rv)) (now (a .rm)));
-        },
+          record {
+            cursor = λ first. l .inv .1 wl h first ∙ rw e (pass-end (a .o) _ (a .w) (a .n) (now (a .rv)) (now (a .rm)) (first + a .n));
+            uses = rw e (used-end (a .o) _ (a .w) (a .n) (now (a .rv)) (now (a .rm)));
+          },
     )
 
 pub pass-runs-spec : {M : Type 1} → statement M
