@@ -1,16 +1,15 @@
 -- The best row so far, and the row that it meets: what the leaves' tests say of the rows, one argument for the three strategies. Assumes nothing.
-use mathlib.Core.Path.{_≡_, refl, sym, ap, _∙_}
+use mathlib.Core.Path.{_≡_, sym, _∙_}
 use mathlib.Core.Bool.{Bool, true, false, cond, not, _&&_}
 use mathlib.Core.List.{List, [], _∷_}
 use Prim.Native.Nat.{ℕ, suc, _+_, _*_, _^_, _≤_, _<_}
-use native.Mathlib.Numerals.{add-one}
 use native.Mathlib.Omega.{arith}
 use borrow.Author.Tests.{lt-ltb, le-ltb, not-true}
 use lib.IntN.{ℤ, pos, natAbs, _-ℤ_}
 use lib.Dec.{ltb}
 use lib.Signed.{leZ}
 use lib.ListN.{getD, length}
-use Rattle.frames.specs.Cells.{Cell, value, isNull, cellOf, Rows, Words, rowFrom}
+use Rattle.frames.specs.Cells.{Cell, value, isNull, Rows, Words, rowFrom}
 use Rattle.frames.specs.Options.{strategyOf, keyRule}
 use Rattle.frames.specs.Order.{cmpCell, keyOf, nullKey}
 use Rattle.frames.specs.Room.{cellAt, RowsIn}
@@ -21,7 +20,6 @@ use Rattle.frames.specs.declared.Strategy.{Strategy}
 use Rattle.matching.specs.Match.{Hit, nobody, hit, onSide, fits, takesOver, meet, choose, tooFar, tolerate, matchIn}
 use Rattle.matching.specs.Walk.{between, hitAt}
 use Rattle.matching.specs.Room.{Small, BestIn, TakesOver, Meets, Met}
-use Rattle.matching.specs.declared.Choice.{Choice}
 use Rattle.matching.specs.declared.Choice.the-variants.{Row, Nothing}
 use Rattle.matching.proofs.ChoiceLaws.{cond-ind, choose-dead}
 use Rattle.matching.proofs.WalkLaws.{between-more, between-none}

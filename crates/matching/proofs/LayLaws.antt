@@ -1,13 +1,13 @@
 -- The words of the choices, laid into an answer: of a run's rows one by one, of runs one behind the other, and of all rows. Assumes nothing.
 use mathlib.Core.Path.{_≡_, refl, sym, ap, _∙_}
 use mathlib.Core.List.{List, [], _∷_, _++_, map, append-assoc}
-use Prim.Native.Nat.{ℕ, zero, suc, _+_, _-_, _*_, _≤_, _<_}
+use Prim.Native.Nat.{ℕ, suc, _+_, _-_, _*_, _≤_, _<_}
 use native.Mathlib.Numerals.{add-one}
 use native.Mathlib.Nat.{add-zero}
 use native.Mathlib.Omega.{arith}
 use borrow.Author.Tests.{eq-eqb, ne-eqb}
 use lib.IntN.{pos}
-use lib.ListN.{length, take, drop, set, length-append, length-map, length-take, length-drop, take-append-drop}
+use lib.ListN.{length, take, drop, set, length-append, length-map, length-drop, take-append-drop}
 use lib.Seq.{set-at, length-take-le, drop-drop}
 use Rattle.frames.specs.Cells.{Cell, Rows, Words, rowsOf, rowFrom}
 use Rattle.frames.proofs.WordLaws.{rows-length}

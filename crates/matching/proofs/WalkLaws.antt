@@ -1,21 +1,20 @@
 -- A walk over rows: what is left of a stretch, of a run, of the cursor's way and of a scan, each told one step further. Assumes nothing.
-use mathlib.Core.Path.{_≡_, refl, sym, ap, _∙_, subst}
-use mathlib.Core.Bool.{Bool, true, false, cond, not, _&&_, _||_}
+use mathlib.Core.Path.{_≡_, refl, sym, ap, _∙_}
+use mathlib.Core.Bool.{Bool, true, false, cond, _||_}
 use mathlib.Core.List.{List, [], _∷_, _++_, map}
 use Prim.Native.Nat.{ℕ, zero, suc, _+_, _-_, _*_, _≤_, _<_}
 use native.Mathlib.Omega.{arith}
-use borrow.Author.Tests.{lt-ltb, le-ltb}
 use lib.ListN.{length, take, drop}
 use lib.Seq.{drop-drop, take-at, drop-at}
 use Rattle.frames.specs.Cells.{Cell, Rows, Words, rowsOf, rowFrom}
-use Rattle.frames.specs.Order.{cmpGroup, nullGroup, isLess, isEqual}
+use Rattle.frames.specs.Order.{cmpGroup, nullGroup, isLess}
 use Rattle.frames.proofs.WordLaws.{rows-length}
 use Rattle.frames.specs.declared.Options.{Options}
 use Rattle.frames.specs.declared.Order.{Order}
 use Rattle.frames.specs.declared.Order.the-variants.{Less, Equal, Greater}
-use Rattle.matching.specs.Match.{Hit, nobody, hit, fits, meet, choose, matchIn}
+use Rattle.matching.specs.Match.{matchIn}
 use Rattle.matching.specs.Groups.{Cursor, sameRun, joinRun, runs, headOf, passes, pass, used, byRuns}
-use Rattle.matching.specs.Walk.{between, runOn, runLength, standing, hitAt}
+use Rattle.matching.specs.Walk.{between, runOn, runLength, standing}
 use Rattle.matching.specs.Room.{Passed, Serves}
 use Rattle.matching.specs.declared.Right.{Right}
 use Rattle.matching.specs.declared.Choice.{Choice}
@@ -87,6 +86,7 @@ module _ (o : Options) where
     where
       m : ℕ
       m = runOn o s rs
+
       by : (s ∷ take m rs) ∷ runs o (drop m rs) ≡ runs o (s ∷ rs) → (b : Bool) → cond b ((r ∷ s ∷ take m rs) ∷ runs o (drop m rs)) ((r ∷ []) ∷ (s ∷ take m rs) ∷ runs o (drop m rs))
           ≡ (r ∷ take (cond b (suc m) 0) (s ∷ rs)) ∷ runs o (drop (cond b (suc m) 0) (s ∷ rs))
       by e true = refl
@@ -244,5 +244,5 @@ module _ (o : Options) (w n : ℕ) (vs ms : Words) (i : ℕ) (x : List Cell) whe
   serve-pass r h p =
       record {
         step = λ first l ls q.
-          rw (← p .uses, ← q) (by-some o (first + i) (runs o (between w i n vs ms)) l ls (record { at = first + r .at; rest = runs o (between w (r .at) n vs ms) }) (ap (nullGroup o) q ∙ h) (rw q (p .cursor first)));
+            rw (← p .uses, ← q) (by-some o (first + i) (runs o (between w i n vs ms)) l ls (record { at = first + r .at; rest = runs o (between w (r .at) n vs ms) }) (ap (nullGroup o) q ∙ h) (rw q (p .cursor first)));
       }

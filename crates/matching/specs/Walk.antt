@@ -1,6 +1,5 @@
 -- What a walk over rows has before it and behind it: the rows of a stretch, the length of a run, the best row so far, the words of the choices made. Assumes nothing.
-use mathlib.Core.Path.{_≡_}
-use mathlib.Core.Bool.{Bool, true, false, cond}
+use mathlib.Core.Bool.{cond}
 use mathlib.Core.List.{List, [], _∷_}
 use Prim.Native.Nat.{ℕ, suc, _+_, _-_, _*_}
 use lib.Dec.{ltb}

@@ -1,8 +1,8 @@
 // The answer of a frame: n, 1, n right numbers, n marks.
+use crate::Choice;
 use crate::choose::match_row;
 use crate::group::run_end;
 use crate::group::serve;
-use crate::Choice;
 use frames::Options;
 ghost use mathlib.Core.Path.{_≡_};
 ghost use mathlib.Core.List.{map};
@@ -96,7 +96,22 @@ fn match_groups(
     while i < nl {
         let e = run_end(lv, lm, nl, wl, i, o);
         let r = serve(rv, rm, nr, wr, at, end, lv, lm, i * wl, o);
-        match_run(lv, lm, nl, wl, i, e, rv, rm, wr, r.at, r.used, number, o, out);
+        match_run(
+            lv,
+            lm,
+            nl,
+            wl,
+            i,
+            e,
+            rv,
+            rm,
+            wr,
+            r.at,
+            r.used,
+            number,
+            o,
+            out,
+        );
         at = r.at;
         end = r.end;
         i = e;

@@ -1,12 +1,12 @@
 // Matching: the right row that the strategy chooses for a left key, among the rows of a run, sorted or not.
 use crate::Choice;
+use frames::Options;
+use frames::Order;
+use frames::Strategy;
 use frames::cmp_cell;
 use frames::distance;
 use frames::null_at;
 use frames::strategy_of;
-use frames::Options;
-use frames::Order;
-use frames::Strategy;
 ghost use mathlib.Core.Path.{_≡_};
 ghost use mathlib.Core.Bool.{not, _&&_};
 ghost use mathlib.Core.List.{List};
@@ -112,15 +112,7 @@ fn meet_row(
 }
 
 // The best row of from..to for the left key v, by its index; `to` where there is none.
-fn choose_row(
-    rv: &[i64],
-    rm: &[i64],
-    from: usize,
-    to: usize,
-    w: usize,
-    v: i64,
-    o: Options,
-) -> usize
+fn choose_row(rv: &[i64], rm: &[i64], from: usize, to: usize, w: usize, v: i64, o: Options) -> usize
     requires { ⌜ RowsIn o w to (now rv) (now rm) × (from ≤ to) ⌝ }
     ensures { λ r. ⌜ BestIn o w to (now (rv .entry)) (now (rm .entry)) r × ((first : ℕ) (x : List Cell) → keyOf o x ≡ value v → hitAt first w to (now (rv .entry)) (now (rm .entry)) r ≡ choose o x (fits o x) nobody (first + from) (between w from to (now (rv .entry)) (now (rm .entry)))) ⌝ }
 {

@@ -1,9 +1,9 @@
 // Runs of equal groups, and the one right cursor that serves a frame.
 use crate::Right;
-use frames::cmp_group;
-use frames::null_group;
 use frames::Options;
 use frames::Order;
+use frames::cmp_group;
+use frames::null_group;
 ghost use mathlib.Core.Path.{_≡_};
 ghost use Prim.Native.Nat.{ℕ, _+_, _<_};
 ghost use Rattle.frames.specs.Cells.{rowFrom};
@@ -88,13 +88,25 @@ fn pass_runs(
     while at < n {
         match stands_to(rv, rm, at * w, lv, lm, p, o) {
             Order::Less => {}
-            Order::Equal => return Right { at: at, end: end, used: end },
-            Order::Greater => return Right { at: at, end: end, used: at },
+            Order::Equal => return Right {
+                at: at,
+                end: end,
+                used: end,
+            },
+            Order::Greater => return Right {
+                at: at,
+                end: end,
+                used: at,
+            },
         }
         at = end;
         end = run_end(rv, rm, n, w, at, o);
     }
-    Right { at: at, end: end, used: at }
+    Right {
+        at: at,
+        end: end,
+        used: at,
+    }
 }
 
 // The right cursor for the left run whose first row is at p: a null group leaves it where it is and uses an empty run.
@@ -114,7 +126,11 @@ pub fn serve(
     ensures { λ r. ⌜ Stands o w n (now (rv .entry)) (now (rm .entry)) r × ((wl : ℕ) → o .by < wl → Serves o w n (now (rv .entry)) (now (rm .entry)) from (rowFrom wl p (now (lv .entry)) (now (lm .entry))) r) ⌝ }
 {
     if null_group(lm, p, o) {
-        return Right { at: from, end: to, used: from };
+        return Right {
+            at: from,
+            end: to,
+            used: from,
+        };
     }
     pass_runs(rv, rm, n, w, from, to, lv, lm, p, o)
 }

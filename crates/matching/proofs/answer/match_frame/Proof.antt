@@ -8,34 +8,25 @@ use Rattle.matching.proofs.LayLaws.{frame-answer}
 use borrow.Author.Needs.{needs}
 use Rattle.matching.proofs.answer.match_frame.Statement.{statement}
 use Rattle.matching.proofs.answer.match_frame.Tie as tie
-use Rattle.matching.proofs.answer.match_frame.Reads as reads
-use Rattle.matching.proofs.answer.match_frame.Lts as lts
-use Rattle.matching.proofs.answer.match_rows.Reads as match-rows-reads
 
--- src/answer.rt:147:5
 match-rows-requires : tie.Need-match-rows-requires
 match-rows-requires c κs = search needs
 
--- src/answer.rt:148:14
 cast-out : tie.Need-cast-out
 cast-out c = search needs
 
--- src/answer.rt:148:5
 slice-set-from-out : tie.Need-slice-set-from-out
 slice-set-from-out c = search needs
 
--- src/answer.rt:149:5
 slice-set-of-out : tie.Need-slice-set-of-out
 slice-set-of-out c =
     let r = c .before .before .before .pre .room in
     let k = c .before .match-rows .kept .1 .1 .1 .1 .1 .1 .1 .1 .1 .1 .0 in
     simp length-set (omega arith)
 
--- src/answer.rt:131:1
 same-length : tie.Need-same-length
 same-length c = search needs
 
--- src/answer.rt:131:1
 returns : tie.Need-returns
 returns c =
     let s = c .before .before .before in

@@ -15,11 +15,6 @@ use Rattle.matching.proofs.WalkLaws.{run-up, run-within}
 use Rattle.matching.proofs.LayLaws.{groupsFrom, groups-all, groups-more, groups-end}
 use Rattle.matching.proofs.answer.match_groups.Statement.{statement}
 use Rattle.matching.proofs.answer.match_groups.Tie as tie
-use Rattle.matching.proofs.answer.match_groups.Reads as reads
-use Rattle.matching.proofs.answer.match_groups.Lts as lts
-use Rattle.matching.proofs.answer.match_run.Reads as match-run-reads
-use Rattle.matching.proofs.group.run_end.Reads as run-end-reads
-use Rattle.matching.proofs.group.serve.Reads as serve-reads
 
 abbrev Inv-loop : tie.InvT-loop
 Inv-loop lv lm nl wl rv rm nr wr number o out₀ at₀ end₀ i₀ out at end i =
@@ -42,11 +37,9 @@ ahead c =
 room : (c : tie.After-run-end2 Inv-loop μ-loop) → let a = c .before .before .before .before .args in c .before .before .loop .i * a .wl + a .wl ≤ a .nl * a .wl
 room c = let a = c .before .before .before .before .args in row-room (c .before .before .loop .i) (a .nl) (a .wl) (c .before .loop-test .taken)
 
--- src/answer.rt:94:9
 run-end-requires : tie.Need-run-end-requires Inv-loop μ-loop
 run-end-requires c κs = record { rows = c .pre .right; within = omega arith }
 
--- src/answer.rt:96:5
 loop-holds : tie.Need-loop-holds Inv-loop μ-loop
 loop-holds c =
     let s = c .before in
@@ -57,22 +50,18 @@ loop-holds c =
       ap (λ (ms : List Choice). lay (a .nl) 0 ms (now (a .out))) (groups-all (a .o) (a .number) (a .wl) (a .nl) (now (a .lv)) (now (a .lm)) (a .wr) (a .nr) (now (a .rv)) (now (a .rm))),
     )
 
--- src/answer.rt:97:13
 run-end-requires-2 : tie.Need-run-end-requires-2 Inv-loop μ-loop
 run-end-requires-2 c κs = record { rows = c .before .before .before .pre .left; within = c .before .loop .inv .0 }
 
--- src/answer.rt:98:56
 mul-serve : tie.Need-mul-serve Inv-loop μ-loop
 mul-serve c = let r = room c in let p = c .before .before .before .before .pre .left in omega arith
 
--- src/answer.rt:98:13
 serve-requires : tie.Need-serve-requires Inv-loop μ-loop
 serve-requires c κs =
     let r = room c in
     let p = c .before .before .before .before .pre .left in
     record { left = record { few = p .few; values = omega arith; marks = omega arith }; right = c .before .before .loop .inv .2 }
 
--- src/answer.rt:99:9
 match-run-requires : tie.Need-match-run-requires Inv-loop μ-loop
 match-run-requires c κs =
     let e = c .before .before in
@@ -92,11 +81,9 @@ match-run-requires c κs =
       room = omega (arith, p .room, l .inv .1);
     }
 
--- src/answer.rt:96:5
 loop-less : tie.Need-loop-less Inv-loop μ-loop
 loop-less c = let u = ahead (c .before .before .before .before) in let t = c .before .before .before .before .before .loop-test .taken in omega arith
 
--- src/answer.rt:96:5
 loop-again : tie.Need-loop-again Inv-loop μ-loop
 loop-again c =
     let e = c .before .before .before .before in
@@ -111,11 +98,9 @@ loop-again c =
       l .inv .3 ∙ rw (c .before .match-run .ensures) m,
     )
 
--- src/answer.rt:77:1
 same-length : tie.Need-same-length Inv-loop μ-loop
 same-length c = c .before .loop .inv .1
 
--- src/answer.rt:77:1
 returns : tie.Need-returns Inv-loop μ-loop
 returns c =
     let l = c .before .loop in

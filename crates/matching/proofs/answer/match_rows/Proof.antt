@@ -7,34 +7,24 @@ use Rattle.matching.proofs.LayLaws.{frame-plain, frame-grouped}
 use borrow.Author.Needs.{needs}
 use Rattle.matching.proofs.answer.match_rows.Statement.{statement}
 use Rattle.matching.proofs.answer.match_rows.Tie as tie
-use Rattle.matching.proofs.answer.match_rows.Reads as reads
-use Rattle.matching.proofs.answer.match_rows.Lts as lts
-use Rattle.matching.proofs.answer.match_groups.Reads as match-groups-reads
-use Rattle.matching.proofs.answer.match_run.Reads as match-run-reads
 
--- src/answer.rt:124:9
 match-run-requires : tie.Need-match-run-requires
 match-run-requires c κs = search needs
 
--- src/answer.rt:126:9
 match-groups-requires : tie.Need-match-groups-requires
 match-groups-requires c κs = search needs
 
--- src/answer.rt:107:1
 same-length : tie.Need-same-length
 same-length c = search needs
 
--- src/answer.rt:107:1
 returns : tie.Need-returns
 returns c =
     let a = c .before .before .before .before .before .args in
     c .before .match-run .ensures ∙ ap (λ (ms : List Choice). lay (a .nl) 0 ms (now (a .out))) (frame-plain (a .o) (a .number) (a .wl) (a .nl) (now (a .lv)) (now (a .lm)) (a .wr) (a .nr) (now (a .rv)) (now (a .rm)) (c .before .before .before .if1 .taken))
 
--- src/answer.rt:107:1
 same-length-2 : tie.Need-same-length-2
 same-length-2 c = search needs
 
--- src/answer.rt:107:1
 returns-2 : tie.Need-returns-2
 returns-2 c =
     let a = c .before .before .before .before .before .args in

@@ -1,8 +1,7 @@
 use mathlib.Core.Path.{_≡_, refl, sym, _∙_}
 use mathlib.Core.List.{map}
-use Prim.Native.Nat.{ℕ, _+_, _-_, _*_, _≤_, _<_}
+use Prim.Native.Nat.{_+_, _-_, _*_, _≤_}
 use native.Mathlib.Omega.{arith}
-use borrow.Author.Needs.{needs}
 use denote.Ref.{now}
 use lib.ListN.{length}
 use Rattle.frames.specs.Cells.{rowFrom}
@@ -14,10 +13,6 @@ use Rattle.matching.proofs.BestLaws.{match-small}
 use Rattle.matching.proofs.LayLaws.{lay-more, lay-done}
 use Rattle.matching.proofs.answer.match_run.Statement.{statement}
 use Rattle.matching.proofs.answer.match_run.Tie as tie
-use Rattle.matching.proofs.answer.match_run.Reads as reads
-use Rattle.matching.proofs.answer.match_run.Lts as lts
-use Rattle.matching.proofs.answer.put.Reads as put-reads
-use Rattle.matching.proofs.choose.match_row.Reads as match-row-reads
 
 abbrev Inv-loop : tie.InvT-loop
 Inv-loop lv lm n wl from to rv rm wr at end number o out₀ i₀ out i =
@@ -41,15 +36,12 @@ choice : (c : tie.After-match-row Inv-loop μ-loop) →
     c .match-row .result ≡ matchIn (a .o) (a .number + a .at) (between (a .wr) (a .at) (a .end) (now (a .rv)) (now (a .rm))) (rowFrom (a .wl) (c .before .before .loop .i * a .wl) (now (a .lv)) (now (a .lm)))
 choice c = let s = c .before .before .before in c .match-row .ensures (s .args .wl) (s .pre .left .wide)
 
--- src/answer.rt:69:5
 loop-holds : tie.Need-loop-holds Inv-loop μ-loop
 loop-holds c = (omega arith, c .pre .upward, refl, refl)
 
--- src/answer.rt:70:40
 mul-match-row : tie.Need-mul-match-row Inv-loop μ-loop
 mul-match-row c = let r = room c in let p = c .before .before .pre .left in omega arith
 
--- src/answer.rt:70:13
 match-row-requires : tie.Need-match-row-requires Inv-loop μ-loop
 match-row-requires c κs =
     let r = room c in
@@ -57,7 +49,6 @@ match-row-requires c κs =
     let l = p .left in
     record { left = record { few = l .few; values = omega arith; marks = omega arith }; right = p .right; upward = p .run; numbers = p .numbers }
 
--- src/answer.rt:71:9
 put-requires : tie.Need-put-requires Inv-loop μ-loop
 put-requires c κs =
     let l = c .before .before .before .loop in
@@ -68,15 +59,12 @@ put-requires c κs =
     let e = between-length (a .wr) (now (a .rv)) (now (a .rm)) (a .at) (a .end) in
     (record { there = omega (arith, p .within); room = omega (arith, p .room, l .inv .2) }, rw (choice (c .before)) (match-small (a .o) (a .number + a .at) _ _ (omega (arith, p .run, p .numbers))))
 
--- src/answer.rt:72:9
 add-i : tie.Need-add-i Inv-loop μ-loop
 add-i c = let t = c .before .before .before .before .loop-test .taken in omega arith
 
--- src/answer.rt:69:5
 loop-less : tie.Need-loop-less Inv-loop μ-loop
 loop-less c = let t = c .before .before .before .before .loop-test .taken in omega arith
 
--- src/answer.rt:69:5
 loop-again : tie.Need-loop-again Inv-loop μ-loop
 loop-again c =
     let i = c .before .before .before .before in
@@ -90,11 +78,9 @@ loop-again c =
       l .inv .3 ∙ lay-more (a .n) f (a .wl) (now (a .lv)) (now (a .lm)) (l .i) (a .to) (l .out) t ∙ rw (c .before .put .ensures, choice (c .before .before .before)),
     )
 
--- src/answer.rt:49:1
 same-length : tie.Need-same-length Inv-loop μ-loop
 same-length c = c .before .loop .inv .2
 
--- src/answer.rt:49:1
 returns : tie.Need-returns Inv-loop μ-loop
 returns c =
     let l = c .before .loop in

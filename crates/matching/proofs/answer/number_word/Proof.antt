@@ -5,26 +5,19 @@ use Rattle.matching.specs.Room.{Small}
 use borrow.Author.Needs.{needs}
 use Rattle.matching.proofs.answer.number_word.Statement.{statement}
 use Rattle.matching.proofs.answer.number_word.Tie as tie
-use Rattle.matching.proofs.answer.number_word.Reads as reads
-use Rattle.matching.proofs.answer.number_word.Lts as lts
 
--- src/answer.rt:24:21
 enum-known-choice : tie.Need-enum-known-choice
 enum-known-choice c = search needs
 
--- src/answer.rt:24:27
 cast-result : tie.Need-cast-result
 cast-result c = record { sfits = subst Small (c .before .choice .given .1) (c .before .before .before .pre) }
 
--- src/answer.rt:25:28
 enum-told : tie.Need-enum-told
 enum-told c = search needs
 
--- src/answer.rt:19:1
 returns : tie.Need-returns
 returns c = rw (c .before .choice .given .1) (toZ-pos w64 _ (subst Small (c .before .choice .given .1) (c .before .before .before .pre)))
 
--- src/answer.rt:19:1
 returns-2 : tie.Need-returns-2
 returns-2 c = rw (c .enum-told .given .1)
 

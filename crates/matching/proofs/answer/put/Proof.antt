@@ -4,52 +4,37 @@ use Rattle.frames.proofs.Signed.{back}
 use borrow.Author.Needs.{needs}
 use Rattle.matching.proofs.answer.put.Statement.{statement}
 use Rattle.matching.proofs.answer.put.Tie as tie
-use Rattle.matching.proofs.answer.put.Reads as reads
-use Rattle.matching.proofs.answer.put.Lts as lts
-use Rattle.matching.proofs.answer.choice_mark.Reads as choice-mark-reads
-use Rattle.matching.proofs.answer.number_word.Reads as number-word-reads
 
--- src/answer.rt:44:18
 number-word-requires : tie.Need-number-word-requires
 number-word-requires c κs = search needs
 
--- src/answer.rt:44:9
 add-out : tie.Need-add-out
 add-out c = search needs
 
--- src/answer.rt:44:5
 mul-out : tie.Need-mul-out
 mul-out c = search needs
 
--- src/answer.rt:44:5
 slice-set-from-out : tie.Need-slice-set-from-out
 slice-set-from-out c = search needs
 
--- src/answer.rt:45:22
 choice-mark-requires : tie.Need-choice-mark-requires
 choice-mark-requires c κs = search needs
 
--- src/answer.rt:45:9
 add-t7 : tie.Need-add-t7
 add-t7 c = search needs
 
--- src/answer.rt:45:9
 add-t6 : tie.Need-add-t6
 add-t6 c = search needs
 
--- src/answer.rt:45:5
 mul-t9 : tie.Need-mul-t9
 mul-t9 c = search needs
 
--- src/answer.rt:45:5
 slice-set-from-out-2 : tie.Need-slice-set-from-out-2
 slice-set-from-out-2 c = simp length-set (omega arith)
 
--- src/answer.rt:40:1
 same-length : tie.Need-same-length
 same-length c = search needs
 
--- src/answer.rt:40:1
 returns : tie.Need-returns
 returns c = rw (back (c .before .number-word .result) (c .before .number-word .ok), back (c .choice-mark .result) (c .choice-mark .ok), c .before .number-word .ensures, c .choice-mark .ensures)
 

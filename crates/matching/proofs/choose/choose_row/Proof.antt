@@ -15,10 +15,6 @@ use Rattle.matching.specs.Room.{BestIn}
 use Rattle.matching.proofs.BestLaws.{hit-none, scan-more, scan-end}
 use Rattle.matching.proofs.choose.choose_row.Statement.{statement}
 use Rattle.matching.proofs.choose.choose_row.Tie as tie
-use Rattle.matching.proofs.choose.choose_row.Reads as reads
-use Rattle.matching.proofs.choose.choose_row.Lts as lts
-use Rattle.frames.proofs.strategy_of.Reads as strategy-of-reads
-use Rattle.matching.proofs.choose.meet_row.Reads as meet-row-reads
 
 abbrev Inv-loop : tie.InvT-loop
 Inv-loop rv rm from to w v o s best₀ j₀ best j =
@@ -29,11 +25,9 @@ Inv-loop rv rm from to w v o s best₀ j₀ best j =
 abbrev μ-loop : tie.MeasureT-loop
 μ-loop rv rm from to w v o s best₀ j₀ best j = to - j
 
--- src/choose.rt:127:9
 strategy-of-requires : tie.Need-strategy-of-requires Inv-loop μ-loop
 strategy-of-requires c κs = search needs
 
--- src/choose.rt:130:5
 loop-holds : tie.Need-loop-holds Inv-loop μ-loop
 loop-holds c =
     let a = c .before .args in (
@@ -43,21 +37,17 @@ loop-holds c =
       λ first x ex. rw (hit-none first (a .w) (a .to) (now (a .rv)) (now (a .rm)) (a .to) refl),
     )
 
--- src/choose.rt:131:9
 meet-row-requires : tie.Need-meet-row-requires Inv-loop μ-loop
 meet-row-requires c κs =
     let p = c .before .before .before .pre in
     record { rows = p .0; there = c .loop-test .taken; told = c .before .before .strategy-of .ensures; kept = c .before .loop .inv .2 }
 
--- src/choose.rt:132:9
 add-j : tie.Need-add-j Inv-loop μ-loop
 add-j c = omega arith
 
--- src/choose.rt:130:5
 loop-less : tie.Need-loop-less Inv-loop μ-loop
 loop-less c = omega arith
 
--- src/choose.rt:130:5
 loop-again : tie.Need-loop-again Inv-loop μ-loop
 loop-again c =
     let l = c .before .before .loop in
@@ -67,12 +57,11 @@ loop-again c =
       omega arith,
       c .meet-row .ensures .kept,
       λ first x ex.
-        l .inv .3 first x ex
-        ∙ scan-more (a .o) x (a .w) (a .to) (now (a .rv)) (now (a .rm)) first (l .j) (hitAt first (a .w) (a .to) (now (a .rv)) (now (a .rm)) (l .best)) t
-        ∙ ap (λ (h : Hit). choose (a .o) x (fits (a .o) x) h (first + (l .j + 1)) (between (a .w) (l .j + 1) (a .to) (now (a .rv)) (now (a .rm)))) (sym (c .meet-row .ensures .met first x ex)),
+          l .inv .3 first x ex
+          ∙ scan-more (a .o) x (a .w) (a .to) (now (a .rv)) (now (a .rm)) first (l .j) (hitAt first (a .w) (a .to) (now (a .rv)) (now (a .rm)) (l .best)) t
+          ∙ ap (λ (h : Hit). choose (a .o) x (fits (a .o) x) h (first + (l .j + 1)) (between (a .w) (l .j + 1) (a .to) (now (a .rv)) (now (a .rm)))) (sym (c .meet-row .ensures .met first x ex)),
     )
 
--- src/choose.rt:115:1
 returns : tie.Need-returns Inv-loop μ-loop
 returns c =
     let l = c .before .loop in

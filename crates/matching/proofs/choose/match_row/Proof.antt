@@ -18,11 +18,6 @@ use Rattle.matching.proofs.BestLaws.{key-at, none-null, none-best, none
 use borrow.Author.Needs.{needs}
 use Rattle.matching.proofs.choose.match_row.Statement.{statement}
 use Rattle.matching.proofs.choose.match_row.Tie as tie
-use Rattle.matching.proofs.choose.match_row.Reads as reads
-use Rattle.matching.proofs.choose.match_row.Lts as lts
-use Rattle.frames.proofs.null_at.Reads as null-at-reads
-use Rattle.matching.proofs.choose.choose_row.Reads as choose-row-reads
-use Rattle.matching.proofs.choose.too_far.Reads as too-far-reads
 
 -- the key of the left row, where it is not null
 key : (c : tie.After-v) →
@@ -78,15 +73,12 @@ far c =
       back (a .o .tolerance) (c .before .struct-told .given .1 .1 .1 .0 .1),
     ) at (c .too-far .ensures)
 
--- src/choose.rt:164:13
 add-k : tie.Need-add-k
 add-k c = search needs
 
--- src/choose.rt:165:8
 null-at-requires : tie.Need-null-at-requires
 null-at-requires c κs = search needs
 
--- src/choose.rt:166:9
 returns : tie.Need-returns
 returns c = λ wl h.
     let s = c .before .before in
@@ -94,53 +86,41 @@ returns c = λ wl h.
     let k = row-cell wl (a .p) (a .o .by) (now (a .lv)) (now (a .lm)) h (s .pre .left .values) in
     sym (none-null (a .o) _ _ _ (ap isNull k ∙ sym (c .before .null-at .ensures (now (a .lv))) ∙ c .if1 .taken))
 
--- src/choose.rt:168:13
 mul-v : tie.Need-mul-v
 mul-v c = search needs
 
--- src/choose.rt:168:13
 shared-slice-copy-out-v : tie.Need-shared-slice-copy-out-v
 shared-slice-copy-out-v c = search needs
 
--- src/choose.rt:169:9
 choose-row-requires : tie.Need-choose-row-requires
 choose-row-requires c κs = search needs
 
--- src/choose.rt:171:9
 returns-2 : tie.Need-returns-2
 returns-2 c = λ wl h. sym (none-best _ _ _ _ _ _ _ _ _ _ (found (c .before) wl h) (c .if2 .taken))
 
--- src/choose.rt:173:13
 mul-q : tie.Need-mul-q
 mul-q c = let r = room c in let p = c .before .before .before .before .before .pre .right in omega arith
 
--- src/choose.rt:173:13
 add-q : tie.Need-add-q
 add-q c = let r = room c in let p = c .before .before .before .before .before .pre .right in omega arith
 
--- src/choose.rt:174:16
 mul-too-far : tie.Need-mul-too-far
 mul-too-far c = let r = room c in let p = c .before .before .before .before .before .pre .right in omega arith
 
--- src/choose.rt:174:16
 shared-slice-copy-out-too-far : tie.Need-shared-slice-copy-out-too-far
 shared-slice-copy-out-too-far c = let r = room c in let p = c .before .before .before .before .before .pre .right in omega arith
 
--- src/choose.rt:174:8
 too-far-requires : tie.Need-too-far-requires
 too-far-requires c κs = search needs
 
--- src/choose.rt:175:9
 returns-3 : tie.Need-returns-3
 returns-3 c = λ wl h.
     let e = c .before .before .before .before in
     sym (none-far _ _ _ _ _ _ _ _ _ _ (found (e .before) wl h) (low e) _ _ (key (e .before .before) wl h) (right-key e) _ (far (c .before)) (c .if3 .taken))
 
--- src/choose.rt:177:17
 add-t17 : tie.Need-add-t17
 add-t17 c = search needs
 
--- src/choose.rt:148:1
 returns-4 : tie.Need-returns-4
 returns-4 c = λ wl h.
     let e = c .before .before .before .before in

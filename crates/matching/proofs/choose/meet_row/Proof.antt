@@ -19,10 +19,6 @@ use Rattle.matching.proofs.BestLaws.{stays, comes, wins, loses}
 use borrow.Author.Needs.{needs}
 use Rattle.matching.proofs.choose.meet_row.Statement.{statement}
 use Rattle.matching.proofs.choose.meet_row.Tie as tie
-use Rattle.matching.proofs.choose.meet_row.Reads as reads
-use Rattle.matching.proofs.choose.meet_row.Lts as lts
-use Rattle.matching.proofs.choose.fits_key.Reads as fits-key-reads
-use Rattle.matching.proofs.choose.takes_over.Reads as takes-over-reads
 
 -- row j ends within the rows; so does the best row, where there is one
 room : (c : tie.Start) → c .args .j * c .args .w + c .args .w ≤ c .args .to * c .args .w
@@ -53,61 +49,47 @@ over c =
       back (getD (now (a .rv)) (a .best * a .w + a .o .by) (pos 0)) (c .before .takes-over-arg2 .given),
     ) at (c .takes-over .ensures)
 
--- src/choose.rt:100:13
 mul-k : tie.Need-mul-k
 mul-k c = omega (arith, room c, c .pre .rows)
 
--- src/choose.rt:100:13
 add-k : tie.Need-add-k
 add-k c = omega (arith, room c, c .pre .rows)
 
--- src/choose.rt:101:9
 fits-key-requires : tie.Need-fits-key-requires
 fits-key-requires c κs = let r = room c in let p = c .pre .rows in record { values = omega arith; marks = omega arith }
 
--- src/choose.rt:102:9
 returns : tie.Need-returns
 returns c = stays _ _ _ _ _ _ _ _ _ (c .before .before .pre) _ (fit (c .before)) (not-true _ (c .if1 .taken))
 
--- src/choose.rt:105:9
 returns-2 : tie.Need-returns-2
 returns-2 c = comes _ _ _ _ _ _ _ _ _ (c .before .before .before .pre) _ (fit (c .before .before)) (not-false _ (c .before .if1 .left)) (c .if2 .taken)
 
--- src/choose.rt:107:13
 mul-b : tie.Need-mul-b
 mul-b c = omega (arith, best-room c, c .before .before .before .pre .rows)
 
--- src/choose.rt:107:13
 add-b : tie.Need-add-b
 add-b c = omega (arith, best-room c, c .before .before .before .pre .rows)
 
--- src/choose.rt:108:25
 mul-takes-over : tie.Need-mul-takes-over
 mul-takes-over c = omega (arith, room (c .before .before .before), c .before .before .before .pre .rows)
 
--- src/choose.rt:108:25
 shared-slice-copy-out-takes-over : tie.Need-shared-slice-copy-out-takes-over
 shared-slice-copy-out-takes-over c = omega (arith, room (c .before .before .before), c .before .before .before .pre .rows)
 
--- src/choose.rt:108:32
 mul-takes-over-2 : tie.Need-mul-takes-over-2
 mul-takes-over-2 c = omega (arith, best-room (c .before), c .before .before .before .before .pre .rows)
 
--- src/choose.rt:108:32
 shared-slice-copy-out-takes-over-2 : tie.Need-shared-slice-copy-out-takes-over-2
 shared-slice-copy-out-takes-over-2 c = omega (arith, best-room (c .before), c .before .before .before .before .pre .rows)
 
--- src/choose.rt:108:8
 takes-over-requires : tie.Need-takes-over-requires
 takes-over-requires c κs = search needs
 
--- src/choose.rt:109:9
 returns-3 : tie.Need-returns-3
 returns-3 c =
     let m = c .before .before .before .before in
     wins _ _ _ _ _ _ _ _ _ (m .before .before .before .pre) _ (fit (m .before .before)) (not-false _ (m .before .if1 .left)) (low m) _ (over (c .before)) (c .if3 .taken)
 
--- src/choose.rt:85:1
 returns-4 : tie.Need-returns-4
 returns-4 c =
     let m = c .before .before .before .before in

@@ -6,59 +6,50 @@ use Rattle.matching.proofs.ScanLaws.{near-first, near-behind, near-tie,
 use borrow.Author.Needs.{needs}
 use Rattle.matching.proofs.choose.nearer_key.Statement.{statement}
 use Rattle.matching.proofs.choose.nearer_key.Tie as tie
-use Rattle.matching.proofs.choose.nearer_key.Reads as reads
-use Rattle.matching.proofs.choose.nearer_key.Lts as lts
-use Rattle.frames.proofs.distance.Reads as distance-reads
 
--- src/choose.rt:59:9
 distance-requires : tie.Need-distance-requires
 distance-requires c κs = search needs
 
--- src/choose.rt:60:9
 distance-requires-2 : tie.Need-distance-requires-2
 distance-requires-2 c κs = search needs
 
--- src/choose.rt:62:9
 returns : tie.Need-returns
 returns c =
-    let s = c .before .before .before  in
+    let s = c .before .before .before in
     let a = s .args in
     let f = s .fits in
-    let ex = rw (toZ-ofZ (f .a), toZ-ofZ (f .v)) at (c .before .before  .distance .ensures) in
-    let ey = rw (toZ-ofZ (f .b), toZ-ofZ (f .v)) at (c .before  .distance2 .ensures) in
+    let ex = rw (toZ-ofZ (f .a), toZ-ofZ (f .v)) at (c .before .before .distance .ensures) in
+    let ey = rw (toZ-ofZ (f .b), toZ-ofZ (f .v)) at (c .before .distance2 .ensures) in
     let z = not (isLess (cmpZ (a .a) (a .b))) in
     rw (← ex, ← ey) (near-first _ _ z (c .if1 .taken))
 
--- src/choose.rt:65:9
 returns-2 : tie.Need-returns-2
 returns-2 c =
-    let s = c .before .before .before .before  in
+    let s = c .before .before .before .before in
     let a = s .args in
     let f = s .fits in
-    let ex = rw (toZ-ofZ (f .a), toZ-ofZ (f .v)) at (c .before .before .before  .distance .ensures) in
-    let ey = rw (toZ-ofZ (f .b), toZ-ofZ (f .v)) at (c .before .before  .distance2 .ensures) in
+    let ex = rw (toZ-ofZ (f .a), toZ-ofZ (f .v)) at (c .before .before .before .distance .ensures) in
+    let ey = rw (toZ-ofZ (f .b), toZ-ofZ (f .v)) at (c .before .before .distance2 .ensures) in
     let z = not (isLess (cmpZ (a .a) (a .b))) in
     rw (← ex, ← ey) (near-behind _ _ z (c .if2 .taken))
 
--- src/choose.rt:68:9
 returns-3 : tie.Need-returns-3
 returns-3 c =
-    let s = c .before .before .before .before .before  in
+    let s = c .before .before .before .before .before in
     let a = s .args in
     let f = s .fits in
-    let ex = rw (toZ-ofZ (f .a), toZ-ofZ (f .v)) at (c .before .before .before .before  .distance .ensures) in
-    let ey = rw (toZ-ofZ (f .b), toZ-ofZ (f .v)) at (c .before .before .before  .distance2 .ensures) in
+    let ex = rw (toZ-ofZ (f .a), toZ-ofZ (f .v)) at (c .before .before .before .before .distance .ensures) in
+    let ey = rw (toZ-ofZ (f .b), toZ-ofZ (f .v)) at (c .before .before .before .distance2 .ensures) in
     let z = not (isLess (cmpZ (a .a) (a .b))) in
     rw (← ex, ← ey) (rw (lt-flag (f .a) (f .b) (c .if3 .taken)) (near-tie _ _ false (c .before .if2 .left) (c .before .before .if1 .left)))
 
--- src/choose.rt:56:1
 returns-4 : tie.Need-returns-4
 returns-4 c =
-    let s = c .before .before .before .before .before  in
+    let s = c .before .before .before .before .before in
     let a = s .args in
     let f = s .fits in
-    let ex = rw (toZ-ofZ (f .a), toZ-ofZ (f .v)) at (c .before .before .before .before  .distance .ensures) in
-    let ey = rw (toZ-ofZ (f .b), toZ-ofZ (f .v)) at (c .before .before .before  .distance2 .ensures) in
+    let ex = rw (toZ-ofZ (f .a), toZ-ofZ (f .v)) at (c .before .before .before .before .distance .ensures) in
+    let ey = rw (toZ-ofZ (f .b), toZ-ofZ (f .v)) at (c .before .before .before .distance2 .ensures) in
     let z = not (isLess (cmpZ (a .a) (a .b))) in
     rw (← ex, ← ey) (rw (not-less (a .a) (a .b) (lt-flag (f .a) (f .b) (c .if3 .left))) (near-tie _ _ true (c .before .if2 .left) (c .before .before .if1 .left)))
 

@@ -4,23 +4,16 @@ use Rattle.matching.proofs.ScanLaws.{far-none, far-some}
 use borrow.Author.Needs.{needs}
 use Rattle.matching.proofs.choose.too_far.Statement.{statement}
 use Rattle.matching.proofs.choose.too_far.Tie as tie
-use Rattle.matching.proofs.choose.too_far.Reads as reads
-use Rattle.matching.proofs.choose.too_far.Lts as lts
-use Rattle.frames.proofs.distance.Reads as distance-reads
 
--- src/choose.rt:142:9
 returns : tie.Need-returns
 returns c = far-none (c .before .args .tolerance) _ (rw (toZ-ofZ (c .before .fits .tolerance)) at (c .if1 .taken))
 
--- src/choose.rt:144:6
 cast-result : tie.Need-cast-result
 cast-result c = let f = c .before .fits .tolerance in rw (toZ-ofZ f) (whole _ f (rw (toZ-ofZ f) at (c .if1 .left)))
 
--- src/choose.rt:144:26
 distance-requires : tie.Need-distance-requires
 distance-requires c κs = search needs
 
--- src/choose.rt:138:1
 returns-2 : tie.Need-returns-2
 returns-2 c =
     let f = c .before .before .fits in

@@ -13,10 +13,6 @@ use Rattle.matching.specs.Room.{RunAt}
 use Rattle.matching.proofs.WalkLaws.{run-up, run-within, pass-on, pass-stop, pass-end, used-run, used-none, used-end}
 use Rattle.matching.proofs.group.pass_runs.Statement.{statement}
 use Rattle.matching.proofs.group.pass_runs.Tie as tie
-use Rattle.matching.proofs.group.pass_runs.Reads as reads
-use Rattle.matching.proofs.group.pass_runs.Lts as lts
-use Rattle.matching.proofs.group.run_end.Reads as run-end-reads
-use Rattle.matching.proofs.group.stands_to.Reads as stands-to-reads
 
 abbrev Inv-loop : tie.InvT-loop
 Inv-loop rv rm n w from to lv lm p o at₀ end₀ at end =
@@ -47,15 +43,12 @@ told : (c : tie.After-stands-to Inv-loop μ-loop) (t : Order) → c .stands-to .
     (wl : ℕ) → a .o .by < wl → standing (a .o) (rowFrom wl (a .p) (now (a .lv)) (now (a .lm))) (rowFrom (a .w) (l .at * a .w) (now (a .rv)) (now (a .rm))) ≡ t
 told c t e wl h = sym (c .stands-to .ensures wl _ h (c .before .before .before .pre .right .rows .wide)) ∙ e
 
--- src/group.rt:88:5
 loop-holds : tie.Need-loop-holds Inv-loop μ-loop
 loop-holds c = (c .pre .right, λ wl h first. refl)
 
--- src/group.rt:89:33
 mul-stands-to : tie.Need-mul-stands-to Inv-loop μ-loop
 mul-stands-to c = let r = room c in let p = c .before .before .pre .right .rows in omega arith
 
--- src/group.rt:89:15
 stands-to-requires : tie.Need-stands-to-requires Inv-loop μ-loop
 stands-to-requires c κs =
     let r = room c in
@@ -65,11 +58,9 @@ stands-to-requires c κs =
 enum-told : tie.Need-enum-told Inv-loop μ-loop
 enum-told c = search needs
 
--- src/group.rt:91:29
 enum-told-2 : tie.Need-enum-told-2 Inv-loop μ-loop
 enum-told-2 c = search needs
 
--- src/group.rt:91:29
 returns : tie.Need-returns Inv-loop μ-loop
 returns c =
     let i = c .before .before .before in
@@ -80,17 +71,15 @@ returns c =
     let d = told (c .before .before) Equal (c .enum-told2 .given .1) in (
       record { run = l .inv .0; upward = omega arith; within = omega arith },
       λ wl h.
-        record {
-          cursor = λ first. l .inv .1 wl h first ∙ pass-stop _ _ _ _ _ _ _ (l .end) (i .loop-test .taken) q (first + l .at) Equal refl (d wl h);
-          uses = used-run _ _ _ _ _ _ _ (l .end) (i .loop-test .taken) q (d wl h);
-        },
+          record {
+            cursor = λ first. l .inv .1 wl h first ∙ pass-stop _ _ _ _ _ _ _ (l .end) (i .loop-test .taken) q (first + l .at) Equal refl (d wl h);
+            uses = used-run _ _ _ _ _ _ _ (l .end) (i .loop-test .taken) q (d wl h);
+          },
     )
 
--- src/group.rt:92:31
 enum-told-3 : tie.Need-enum-told-3 Inv-loop μ-loop
 enum-told-3 c = search needs
 
--- src/group.rt:92:31
 returns-2 : tie.Need-returns-2 Inv-loop μ-loop
 returns-2 c =
     let i = c .before .before .before in
@@ -101,24 +90,21 @@ returns-2 c =
     let d = told (c .before .before) Greater (c .enum-told3 .given .1) in (
       record { run = l .inv .0; upward = omega arith; within = omega arith },
       λ wl h.
-        record {
-          cursor = λ first. l .inv .1 wl h first ∙ pass-stop _ _ _ _ _ _ _ (l .end) (i .loop-test .taken) q (first + l .at) Greater refl (d wl h);
-          uses = used-none _ _ _ _ _ _ _ (l .end) (i .loop-test .taken) q (d wl h);
-        },
+          record {
+            cursor = λ first. l .inv .1 wl h first ∙ pass-stop _ _ _ _ _ _ _ (l .end) (i .loop-test .taken) q (first + l .at) Greater refl (d wl h);
+            uses = used-none _ _ _ _ _ _ _ (l .end) (i .loop-test .taken) q (d wl h);
+          },
     )
 
--- src/group.rt:95:9
 run-end-requires : tie.Need-run-end-requires Inv-loop μ-loop
 run-end-requires c κs =
     let i = c .before .before .before in
     let u = ahead i in
     record { rows = i .before .before .pre .right .rows; within = u .1 }
 
--- src/group.rt:88:5
 loop-less : tie.Need-loop-less Inv-loop μ-loop
 loop-less c = let u = ahead (c .before .before .before .before) in let t = c .before .before .before .before .loop-test .taken in omega arith
 
--- src/group.rt:88:5
 loop-again : tie.Need-loop-again Inv-loop μ-loop
 loop-again c =
     let i = c .before .before .before .before in
@@ -128,7 +114,6 @@ loop-again c =
       λ wl h first. l .inv .1 wl h first ∙ pass-on _ _ _ _ _ _ _ (l .end) (i .loop-test .taken) (l .inv .0 .run) first (told (c .before .before .before) Less (c .before .enum-told .given .1) wl h),
     )
 
--- src/group.rt:71:1
 returns-3 : tie.Need-returns-3 Inv-loop μ-loop
 returns-3 c =
     let l = c .before .loop in
@@ -137,10 +122,10 @@ returns-3 c =
     let e : l .at ≡ a .n = omega (arith, c .loop-test .left) in (
       record { run = l .inv .0; upward = omega arith; within = omega arith },
       λ wl h.
-        record {
-          cursor = λ first. l .inv .1 wl h first ∙ rw e (pass-end (a .o) _ (a .w) (a .n) (now (a .rv)) (now (a .rm)) (first + a .n));
-          uses = rw e (used-end (a .o) _ (a .w) (a .n) (now (a .rv)) (now (a .rm)));
-        },
+          record {
+            cursor = λ first. l .inv .1 wl h first ∙ rw e (pass-end (a .o) _ (a .w) (a .n) (now (a .rv)) (now (a .rm)) (first + a .n));
+            uses = rw e (used-end (a .o) _ (a .w) (a .n) (now (a .rv)) (now (a .rm)));
+          },
     )
 
 pub pass-runs-spec : {M : Type 1} → statement M

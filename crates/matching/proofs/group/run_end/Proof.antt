@@ -11,9 +11,6 @@ use Rattle.matching.specs.Walk.{between, runOn, runLength}
 use Rattle.matching.proofs.WalkLaws.{run-past, on-first, on-more, on-stop, on-end}
 use Rattle.matching.proofs.group.run_end.Statement.{statement}
 use Rattle.matching.proofs.group.run_end.Tie as tie
-use Rattle.matching.proofs.group.run_end.Reads as reads
-use Rattle.matching.proofs.group.run_end.Lts as lts
-use Rattle.matching.proofs.group.same_run.Reads as same-run-reads
 
 abbrev Inv-loop : tie.InvT-loop
 Inv-loop values marks n w i o p₀ e₀ p e =
@@ -41,53 +38,43 @@ told c t e =
     let l = c .before .before .loop in
     sym (rw (l .inv .2) at (c .same-run .ensures (s .args .w) (s .pre .rows .wide))) ∙ e
 
--- src/group.rt:36:9
 returns : tie.Need-returns Inv-loop μ-loop
 returns c =
     let a = c .before .args in
     rw (c .if1 .taken, run-past (a .o) (a .w) (a .n) (now (a .values)) (now (a .marks))) (omega arith)
 
--- src/group.rt:38:17
 mul-p : tie.Need-mul-p Inv-loop μ-loop
 mul-p c = omega (arith, row-room (c .before .args .i) (c .before .args .n) (c .before .args .w) (low c))
 
--- src/group.rt:39:17
 add-e : tie.Need-add-e Inv-loop μ-loop
 add-e c = omega (arith, low c)
 
--- src/group.rt:40:5
 loop-holds : tie.Need-loop-holds Inv-loop μ-loop
 loop-holds c =
     let a = c .before .args in
     let h = low c in
     (omega arith, omega arith, omega arith, on-first (a .o) (a .w) (a .n) (now (a .values)) (now (a .marks)) (a .i) h)
 
--- src/group.rt:41:17
 add-q : tie.Need-add-q Inv-loop μ-loop
 add-q c = omega (arith, room c)
 
--- src/group.rt:42:13
 same-run-requires : tie.Need-same-run-requires Inv-loop μ-loop
 same-run-requires c κs =
     let r = room c in
     let p = c .before .before .before .pre .rows in
     (record { few = p .few; values = omega arith; marks = omega arith }, record { few = p .few; values = omega arith; marks = omega arith })
 
--- src/group.rt:43:13
 returns-2 : tie.Need-returns-2 Inv-loop μ-loop
 returns-2 c =
     let l = c .before .before .before .loop in
     sym (l .inv .3 ∙ on-stop _ _ _ _ _ _ (l .e) (c .before .before .loop-test .taken) (told (c .before) false (not-true _ (c .if2 .taken))))
 
--- src/group.rt:46:9
 add-e-2 : tie.Need-add-e-2 Inv-loop μ-loop
 add-e-2 c = omega arith
 
--- src/group.rt:40:5
 loop-less : tie.Need-loop-less Inv-loop μ-loop
 loop-less c = omega arith
 
--- src/group.rt:40:5
 loop-again : tie.Need-loop-again Inv-loop μ-loop
 loop-again c =
     let l = c .before .before .before .loop in
@@ -95,7 +82,6 @@ loop-again c =
     let m = on-more _ _ _ _ _ _ (l .e) (c .before .before .loop-test .taken) (told (c .before) true (not-false _ (c .if2 .left))) in
     (omega arith, omega arith, omega arith, l .inv .3 ∙ rw (l .inv .2) m)
 
--- src/group.rt:31:1
 returns-3 : tie.Need-returns-3 Inv-loop μ-loop
 returns-3 c =
     let l = c .before .loop in

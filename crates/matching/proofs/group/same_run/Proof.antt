@@ -7,20 +7,13 @@ use Rattle.matching.proofs.ScanLaws.{not-equal-arm, same-yes, same-no, 
 use borrow.Author.Needs.{needs}
 use Rattle.matching.proofs.group.same_run.Statement.{statement}
 use Rattle.matching.proofs.group.same_run.Tie as tie
-use Rattle.matching.proofs.group.same_run.Reads as reads
-use Rattle.matching.proofs.group.same_run.Lts as lts
-use Rattle.frames.proofs.cmp_group.Reads as cmp-group-reads
-use Rattle.frames.proofs.null_group.Reads as null-group-reads
 
--- src/group.rt:20:11
 cmp-group-requires : tie.Need-cmp-group-requires
 cmp-group-requires c κs = search needs
 
--- src/group.rt:21:25
 enum-told : tie.Need-enum-told
 enum-told c = search needs
 
--- src/group.rt:21:25
 returns : tie.Need-returns
 returns c = λ w h.
     let a = c .before .before .before .args in
@@ -28,11 +21,9 @@ returns c = λ w h.
     let s = rowFrom w (a .q) (now (a .values)) (now (a .marks)) in
     same-yes (a .o) r s (sym (c .before .before .cmp-group .ensures w w h h) ∙ c .enum-told .given .1)
 
--- src/group.rt:24:9
 null-group-requires : tie.Need-null-group-requires
 null-group-requires c κs = search needs
 
--- src/group.rt:25:9
 returns-2 : tie.Need-returns-2
 returns-2 c = λ w h.
     let a = c .before .before .before .before .args in
@@ -42,11 +33,9 @@ returns-2 c = λ w h.
     let n = c .before .null-group .ensures w (now (a .values)) (omega arith) (omega arith) in
     same-no (a .o) r s (rw (c .before .before .before .cmp-group .ensures w w h h) at e) (sym n ∙ not-true _ (c .if1 .taken))
 
--- src/group.rt:27:5
 null-group-requires-2 : tie.Need-null-group-requires-2
 null-group-requires-2 c κs = search needs
 
--- src/group.rt:16:1
 returns-3 : tie.Need-returns-3
 returns-3 c = λ w h.
     let a = c .before .before .before .before .before .args in

@@ -5,16 +5,10 @@ use Rattle.matching.proofs.WalkLaws.{serve-null, serve-pass}
 use borrow.Author.Needs.{needs}
 use Rattle.matching.proofs.group.serve.Statement.{statement}
 use Rattle.matching.proofs.group.serve.Tie as tie
-use Rattle.matching.proofs.group.serve.Reads as reads
-use Rattle.matching.proofs.group.serve.Lts as lts
-use Rattle.frames.proofs.null_group.Reads as null-group-reads
-use Rattle.matching.proofs.group.pass_runs.Reads as pass-runs-reads
 
--- src/group.rt:116:8
 null-group-requires : tie.Need-null-group-requires
 null-group-requires c κs = search needs
 
--- src/group.rt:117:9
 returns : tie.Need-returns
 returns c =
     let s = c .before .before in
@@ -24,11 +18,9 @@ returns c =
       λ wl h. serve-null _ _ _ _ _ _ _ (a .to) (sym (c .before .null-group .ensures wl (now (a .lv)) (omega arith) (omega arith)) ∙ c .if1 .taken),
     )
 
--- src/group.rt:119:5
 pass-runs-requires : tie.Need-pass-runs-requires
 pass-runs-requires c κs = search needs
 
--- src/group.rt:101:1
 returns-2 : tie.Need-returns-2
 returns-2 c =
     let a = c .before .before .before .args in (
