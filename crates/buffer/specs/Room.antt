@@ -1,4 +1,4 @@
--- What the functions of this crate ask of the words that they are handed, and what an append and a push leave: small records. Assumes nothing.
+-- What the functions of this crate ask of the words that they are handed, and what an append and a push leave: small records; and a stretch as a range. Assumes nothing.
 use mathlib.Core.Path.{_≡_}
 use mathlib.Core.Bool.{true}
 use Prim.Native.Nat.{ℕ, _+_, _*_, _≤_, _<_}
@@ -9,7 +9,13 @@ use Rattle.frames.specs.Room.{RowsIn}
 use Rattle.frames.specs.declared.Options.{Options}
 use Rattle.frames.specs.declared.Keyed.{Keyed}
 use Rattle.frames.specs.declared.Keyed.the-variants.{At}
+use Rattle.buffer.specs.Reach.{Range}
+use Rattle.buffer.specs.declared.Stretch.{Stretch}
 use Rattle.buffer.specs.Area.{capacity, moved, written, newBase, pushed}
+
+-- A stretch by value is the range of its start and its end.
+abbrev pub rangeOf : Stretch → Range
+rangeOf r = record { start = r .start; end = r .end }
 
 -- b by-columns, 0 to 4, and the key.
 pub record Columns (c : ℕ) : Type 0 where

@@ -8,12 +8,7 @@ use Rattle.frames.specs.declared.Options.{Options}
 use Rattle.frames.specs.declared.Row.{Row}
 use Rattle.frames.specs.declared.Keyed.{Keyed}
 use Rattle.frames.specs.declared.Keyed.the-variants.{At, Nothing}
-use Rattle.buffer.specs.Reach.{Range, rowBefore}
-use Rattle.buffer.specs.declared.Stretch.{Stretch}
-
--- A stretch by value is the range of its start and its end.
-abbrev pub rangeOf : Stretch → Range
-rangeOf r = record { start = r .start; end = r .end }
+use Rattle.buffer.specs.Reach.{rowBefore}
 
 -- The row before the split is the last row with a key in the part before it, or else the remembered row: its w words, of the values or of the marks.
 abbrev pub wordsBefore : ℕ → Words → Words → Keyed → Words

@@ -11,8 +11,7 @@ ghost use Rattle.frames.specs.Cells.{rowFrom, rowsOf};
 ghost use Rattle.frames.specs.Options.{strategyOf};
 ghost use Rattle.frames.specs.Room.{cellAt, CellIn, RowAt, RowsIn};
 ghost use Rattle.buffer.specs.Reach.{narrowBy, narrowed, findKey, seekOf, keyNeedsMore, needMore, stepBack, splitAt, pruneBy};
-ghost use Rattle.buffer.specs.Split.{rangeOf};
-ghost use Rattle.buffer.specs.Room.{ColumnIn, PlaceIn};
+ghost use Rattle.buffer.specs.Room.{rangeOf, ColumnIn, PlaceIn};
 
 // The stretch narrowed by the left row's by-value in column j: from the first that is at least it to the first above it.
 fn narrow_by(

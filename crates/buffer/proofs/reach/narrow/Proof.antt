@@ -5,7 +5,7 @@ use denote.Ref.{now}
 use Rattle.frames.specs.Cells.{rowFrom, rowsOf}
 use Rattle.frames.proofs.WordLaws.{rows-length}
 use Rattle.buffer.specs.Reach.{narrow}
-use Rattle.buffer.specs.Split.{rangeOf}
+use Rattle.buffer.specs.Room.{rangeOf}
 use Rattle.buffer.proofs.ReachLaws.{column-in, narrow-none, narrow-more, narrow-end}
 use Rattle.buffer.proofs.reach.narrow.Statement.{statement}
 use Rattle.buffer.proofs.reach.narrow.Tie as tie

@@ -37,8 +37,8 @@ returns-3 c =
     let e = c .before in
     let s = e .before .before in
     let a = s .args in
-    c .split-at .ensures (a .wl) (s .pre .1 .wide)
-    ∙ prune-split _ _ _ _ _ _ (many-left s) (many s) (e .before .if1 .left) (e .if2 .left) _ (rows-from (a .wl) (a .nl) (a .i) (now (a .lv)) (now (a .lm)) (chosen e))
+    rw (c .split-at .ensures (a .wl) (s .pre .1 .wide))
+    (prune-split _ _ _ _ _ _ (many-left s) (many s) (e .before .if1 .left) (e .if2 .left) _ (rows-from (a .wl) (a .nl) (a .i) (now (a .lv)) (now (a .lm)) (chosen e)))
 
 pub prune-by-spec : {M : Type 1} → statement M
 prune-by-spec = tie.close (tie.spec returns returns-2 mul-split-at split-at-requires returns-3)

@@ -61,7 +61,7 @@ told c t e n h =
     let s = c .before .before .before in
     let a = s .args in
     let p = place (c .before) in
-    rw (held-cell (a .w) n ((l .low + l .high) / 2) (a .j) (now (a .values)) (now (a .marks)) (omega (arith, c .before .loop-test .taken, l .inv .0)) (s .pre .wide) (omega (arith, s .pre .values, s .pre .wide))) (sym (c .probe .ensures) ∙ e)
+    rw (held-cell (a .w) n ((l .low + l .high) / 2) (a .j) (now (a .values)) (now (a .marks)) (omega (arith, c .before .loop-test .taken, l .inv .0)) (s .pre .wide) (omega (arith, s .pre .values, s .pre .wide))) (rw (c .probe .ensures) at e)
 
 loop-less : tie.Need-loop-less Inv-loop μ-loop
 loop-less c = omega arith
