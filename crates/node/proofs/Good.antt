@@ -5,7 +5,6 @@ use Prim.Native.Nat.{ℕ, _+_, _-_, _%_, _^_, _≤_, _<_}
 use native.Mathlib.Omega.{arith}
 use borrow.Author.Tests.{ltb-false, eqb-false, not-false}
 use lib.Dec.{ltb}
-use lib.IntN.{pos}
 use lib.Signed.{ltZ}
 use lib.ListN.{length}
 use Rattle.frames.specs.Cells.{Words}

@@ -10,7 +10,7 @@ use lib.Dec.{eqb}
 use Rattle.frames.specs.Cells.{Words}
 use Rattle.frames.proofs.SortedLaws.{and-true}
 use Rattle.node.specs.State.{badJoin}
-use Rattle.node.specs.Calls.{portDone, portBlocked, toFlush, toDone, portsIn, portsState, portsAnswer, portsCall}
+use Rattle.node.specs.Calls.{toFlush, toDone, portsIn, portsState, portsAnswer, portsCall}
 use Rattle.node.specs.Leaves.{PortsLeaves}
 use Rattle.node.specs.declared.Join.{Join}
 use Rattle.node.specs.declared.NodeState.{NodeState}
@@ -267,16 +267,16 @@ ends-by t l (inr e) = rw (e .0, e .1)
 moved-by : (t : NodeState) (l s : PortState) (words : ℕ) (u : NodeState) → movedTest t l s (eqb words 0) u ≡ true → Moved t l s words u
 moved-by t l s words u h =
     let sent = isPort s PortDone in
-    let some = eqb words 0 in
+    let none = eqb words 0 in
     let p = and-true (if-then sent (isState u Done)) _ h in
-    let q = and-true (if-then (endsTest t l && some) (isState u Done)) _ (p .1) in
-    let r = and-true (if-then (endsTest t l && not some && not sent) (isState u Flush)) _ (q .1) in
+    let q = and-true (if-then (endsTest t l && none) (isState u Done)) _ (p .1) in
+    let r = and-true (if-then (endsTest t l && not none && not sent) (isState u Flush)) _ (q .1) in
     let v = and-true (if-then (isState t Running && not (isPort l PortDone) && not sent) (isState u Running)) _ (r .1) in
     let w = and-true (if-then (isState t Done) (isState u Done)) true (v .1) in
     record {
       sent = λ e. same-state u Done (then-by sent (isState u Done) (p .0) (rw e));
-      empty = λ e n. same-state u Done (then-by (endsTest t l && some) (isState u Done) (q .0) (rw (ends-by t l e, eq-eqb words 0 n)));
-      waits = λ e n o. same-state u Flush (then-by (endsTest t l && not some && not sent) (isState u Flush) (r .0) (rw (ends-by t l e, ne-eqb words 0 n, not-port s PortDone o)));
+      empty = λ e n. same-state u Done (then-by (endsTest t l && none) (isState u Done) (q .0) (rw (ends-by t l e, eq-eqb words 0 n)));
+      waits = λ e n o. same-state u Flush (then-by (endsTest t l && not none && not sent) (isState u Flush) (r .0) (rw (ends-by t l e, ne-eqb words 0 n, not-port s PortDone o)));
       runs = λ e n o. same-state u Running
           (then-by (isState t Running && not (isPort l PortDone) && not sent) (isState u Running) (v .0) (rw (e, not-port l PortDone n, not-port s PortDone o)));
       stays = λ e. same-state u Done (then-by (isState t Done) (isState u Done) (w .0) (rw e));
