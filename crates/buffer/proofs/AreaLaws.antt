@@ -2,21 +2,21 @@
 -- Assumes nothing.
 use mathlib.Core.Path.{_≡_, refl, sym, ap, _∙_}
 use mathlib.Core.Bool.{Bool, true, false, cond}
-use mathlib.Core.List.{List, [], _∷_, _++_, append-assoc}
-use Prim.Native.Nat.{ℕ, zero, suc, _+_, _-_, _*_, _/_, _^_, _≤_, _<_}
+use mathlib.Core.List.{_++_, append-assoc}
+use Prim.Native.Nat.{ℕ, suc, _+_, _-_, _*_, _/_, _^_, _≤_, _<_}
 use native.Mathlib.Nat.{mul-le-mul-right, mul-div-cancel}
 use native.Mathlib.Numerals.{add-one}
 use native.Mathlib.Omega.{arith}
 use borrow.Author.Tests.{lt-ltb, le-ltb, ltb-true, ltb-false}
 use lib.Dec.{ltb}
-use lib.IntN.{ℤ, pos}
+use lib.IntN.{pos}
 use lib.Signed.{mag}
-use lib.ListN.{length, take, drop, getD, set, length-drop, length-take, length-append, take-append-drop}
-use lib.Seq.{paste, take-all, take-at, drop-at, paste-suc, length-paste, length-paste-head, getD-append-add, getD-drop, take-append-le, drop-append-le, take-append-add, drop-append-add, take-add, take-length, length-take-le, drop-drop, take-take}
+use lib.ListN.{length, take, drop, getD, set, length-drop, take-append-drop}
+use lib.Seq.{paste, take-all, take-at, drop-at, paste-suc, length-paste-head, getD-append-add, getD-drop, take-append-le, drop-append-le, take-append-add, drop-append-add, take-add, length-take-le}
 use mir.Syntax.{w64}
 use mir.Val.{toZ, ofZ}
 use Rattle.frames.specs.Cells.{Words}
-use Rattle.frames.specs.Frame.{rowCount, valuesIn, marksIn, isFrame}
+use Rattle.frames.specs.Frame.{rowCount, valuesIn, marksIn}
 use Rattle.frames.specs.Room.{HasCount, RowsIn}
 use Rattle.frames.specs.declared.Options.{Options}
 use Rattle.frames.proofs.Signed.{back}
@@ -114,7 +114,7 @@ module _ (start live : ℕ) (ws area : Words) where
 
 -- ---- two appends, in the two halves of an area
 module _ (us ms xs vs ws : Words) (half start to live : ℕ) (lu : length us ≡ half) (lm : length ms ≡ half)
-    (from : start + live ≤ half) (rv : to + live + length vs ≤ half) (rw-room : to + live + length ws ≤ half) where
+    (from : start + live ≤ half) (rv : to + live + length vs ≤ half) (rm : to + live + length ws ≤ half) where
   l₁ : length (moved start to live us) ≡ half
   l₁ = moved-length us start to live vs (omega arith) (omega arith) ∙ lu
 

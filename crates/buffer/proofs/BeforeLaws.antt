@@ -1,8 +1,8 @@
 -- The row before the split in words, and the check at the split as the code goes. Assumes nothing.
 use mathlib.Core.Path.{_≡_, refl, sym, ap, _∙_}
 use mathlib.Core.Bool.{Bool, true, false, cond}
-use mathlib.Core.List.{List, [], _∷_}
-use mathlib.Core.Option.{Option, none, some}
+use mathlib.Core.List.{List, []}
+use mathlib.Core.Option.{none, some}
 use Prim.Native.Nat.{ℕ, zero, suc, _+_, _-_, _*_, _≤_, _<_}
 use native.Mathlib.Omega.{arith}
 use lib.ListN.{length, take, drop, getD, length-drop}
@@ -10,19 +10,19 @@ use lib.Seq.{take-take, length-take-le}
 use Rattle.frames.specs.Cells.{Cell, cellsOf, rowsOf, rowFrom, Rows, Words}
 use Rattle.frames.specs.Options.{columns}
 use Rattle.frames.specs.Order.{cmpRow, isGreater}
-use Rattle.frames.specs.Keyed.{firstKeyed, lastKeyed, rowAt, recall, remember, rememberLast, rememberAt, outOfOrder}
+use Rattle.frames.specs.Keyed.{firstKeyed, lastKeyed, rowAt, recall, remember, rememberLast, outOfOrder}
 use Rattle.frames.specs.Room.{RowAt, RowsIn, KeysIn}
 use Rattle.frames.specs.declared.Options.{Options}
 use Rattle.frames.specs.declared.Row.{Row}
 use Rattle.frames.specs.declared.Order.{Order}
 use Rattle.frames.specs.declared.Keyed.{Keyed}
 use Rattle.frames.specs.declared.Keyed.the-variants.{At, Nothing}
-use Rattle.frames.proofs.RowLaws.{rows-from, row-room}
+use Rattle.frames.proofs.RowLaws.{row-room}
 use Rattle.frames.proofs.WordLaws.{rows-length, rows-at, rows-drop}
-use Rattle.frames.proofs.KeyedLaws.{Found, first-found, last-found}
-use Rattle.buffer.specs.Reach.{noPrune, pruneBy, rowOr, rowBefore, badSplit}
+use Rattle.frames.proofs.KeyedLaws.{first-found, last-found}
+use Rattle.buffer.specs.Reach.{noPrune, pruneBy, rowBefore, badSplit}
 use Rattle.buffer.specs.Split.{wordsBefore, hasBefore, outOfOrderAt}
-use Rattle.buffer.specs.Room.{BeforeIn, LastIn, SplitIn}
+use Rattle.buffer.specs.Room.{BeforeIn, SplitIn}
 use Rattle.buffer.proofs.AreaLaws.{to-end}
 
 -- ---- rows

@@ -1,16 +1,15 @@
-use mathlib.Core.Path.{_≡_, refl, sym, ap, _∙_}
+use mathlib.Core.Path.{_≡_, refl, sym, _∙_}
 use mathlib.Core.Bool.{Bool, true, false}
-use Prim.Native.Nat.{ℕ, _+_, _-_, _*_, _/_, _≤_, _<_}
+use Prim.Native.Nat.{ℕ, _+_, _-_, _*_, _/_, _≤_}
 use native.Mathlib.Omega.{arith}
 use denote.Ref.{now}
 use mir.Facts.{toZ-ofZ}
 use mir.Syntax.{w64}
 use mir.Val.{toZ, ofZ}
-use Rattle.frames.specs.Cells.{Cell, Words, cellOf, rowsOf}
+use Rattle.frames.specs.Cells.{Cell, cellOf, rowsOf}
 use Rattle.frames.specs.Options.{Rule}
 use Rattle.frames.proofs.RowLaws.{row-room}
 use Rattle.buffer.specs.Search.{find}
-use Rattle.buffer.specs.declared.Seek.{Seek}
 use Rattle.buffer.proofs.AreaLaws.{rows-words}
 use Rattle.buffer.proofs.FindLaws.{held-cell, Met, find-true, find-false, find-end}
 use Rattle.buffer.proofs.search.find.Statement.{statement}
