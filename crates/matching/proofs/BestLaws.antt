@@ -19,7 +19,7 @@ use Rattle.frames.specs.declared.Options.{Options}
 use Rattle.frames.specs.declared.Strategy.{Strategy}
 use Rattle.matching.specs.Match.{Hit, nobody, hit, onSide, fits, takesOver, meet, choose, tooFar, tolerate, matchIn}
 use Rattle.matching.specs.Walk.{between, hitAt}
-use Rattle.matching.specs.Room.{Small, BestIn, TakesOver, Meets, Met}
+use Rattle.matching.specs.Inner.{Small, BestIn, TakesOver, Meets, Met}
 use Rattle.matching.specs.declared.Choice.the-variants.{Row, Nothing}
 use Rattle.matching.proofs.ChoiceLaws.{cond-ind, choose-dead}
 use Rattle.matching.proofs.WalkLaws.{between-more, between-none}

@@ -16,7 +16,7 @@ use Rattle.matching.specs.Match.{matchIn}
 use Rattle.matching.specs.Groups.{runs, byRuns, matchFrame}
 use Rattle.matching.specs.Answer.{numberWord, choiceMark, answered}
 use Rattle.matching.specs.Walk.{between, runLength, lay}
-use Rattle.matching.specs.Room.{Serves}
+use Rattle.matching.specs.Inner.{Serves}
 use Rattle.matching.specs.declared.Right.{Right}
 use Rattle.matching.specs.declared.Choice.{Choice}
 use Rattle.matching.proofs.AnswerLaws.{answered-is}

@@ -15,7 +15,7 @@ use Rattle.frames.specs.declared.Order.the-variants.{Less, Equal, Greater}
 use Rattle.matching.specs.Match.{matchIn}
 use Rattle.matching.specs.Groups.{Cursor, sameRun, joinRun, runs, headOf, passes, pass, used, byRuns}
 use Rattle.matching.specs.Walk.{between, runOn, runLength, standing}
-use Rattle.matching.specs.Room.{Passed, Serves}
+use Rattle.matching.specs.Inner.{Passed, Serves}
 use Rattle.matching.specs.declared.Right.{Right}
 use Rattle.matching.specs.declared.Choice.{Choice}
 

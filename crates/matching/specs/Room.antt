@@ -1,60 +1,9 @@
--- What the functions of this crate ask of what they are handed, and what the inner ones answer: small records. Assumes nothing.
-use mathlib.Core.Path.{_≡_}
-use mathlib.Core.Bool.{Bool, false, cond}
-use mathlib.Core.List.{List, _∷_, _++_, map}
-use Prim.Native.Nat.{ℕ, _+_, _-_, _*_, _^_, _≤_, _<_}
-use lib.IntN.{ℤ}
+-- What the functions that leave this crate ask of what they are handed. Assumes nothing.
+use Prim.Native.Nat.{ℕ, _+_, _-_, _*_, _^_, _≤_}
 use lib.ListN.{length}
-use Rattle.frames.specs.Cells.{Cell, value, Rows, Words, rowFrom}
-use Rattle.frames.specs.Options.{strategyOf}
-use Rattle.frames.specs.Order.{keyOf, nullKey}
+use Rattle.frames.specs.Cells.{Words}
 use Rattle.frames.specs.Room.{RowAt, RowsIn}
 use Rattle.frames.specs.declared.Options.{Options}
-use Rattle.frames.specs.declared.Strategy.{Strategy}
-use Rattle.matching.specs.Match.{fits, takesOver, meet, matchIn}
-use Rattle.matching.specs.Groups.{runs, pass, used, headOf, byRuns}
-use Rattle.matching.specs.Walk.{between, runLength, hitAt}
-use Rattle.matching.specs.declared.Choice.{Choice}
-use Rattle.matching.specs.declared.Choice.the-variants.{Row, Nothing}
-use Rattle.matching.specs.declared.Right.{Right}
-
--- A number that an answer has room for: at most 2^63 − 1.
-abbrev pub Small : Choice → Type 0
-Small (Row i) = i < 2 ^ 63
-Small Nothing = Unit {0}
-
--- n rows are there, and i is one of them or their end.
-pub record Within (o : Options) (w n : ℕ) (vs ms : Words) (i : ℕ) : Type 0 where
-  pub rows : RowsIn o w n vs ms
-  pub within : i ≤ n
-
--- The run at..end starts at row `at` of n rows; behind the last row it is empty.
-pub record RunAt (o : Options) (w n : ℕ) (vs ms : Words) (at end : ℕ) : Type 0 where
-  pub rows : RowsIn o w n vs ms
-  pub within : at ≤ n
-  pub run : end ≡ at + runLength o (between w at n vs ms)
-
--- The best so far is a row with a key below `to`, or `to`.
-pub record BestIn (o : Options) (w to : ℕ) (vs ms : Words) (best : ℕ) : Type 0 where
-  pub within : best ≤ to
-  pub keyed : best < to → nullKey o (rowFrom w (best * w) vs ms) ≡ false
-
--- Whether a row with the key a takes the place of one with the key b before it, for a left row with the key v: the answer r.
-abbrev pub TakesOver : Strategy → ℤ → ℤ → ℤ → Bool → Type 0
-TakesOver s v a b r = (o : Options) (x y z : List Cell) → keyOf o x ≡ value v → keyOf o y ≡ value a → keyOf o z ≡ value b → r ≡ takesOver o s x y z
-
--- Row j is to be met by the best so far.
-pub record Meets (o : Options) (s : Strategy) (w to : ℕ) (vs ms : Words) (best j : ℕ) : Type 0 where
-  pub rows : RowsIn o w to vs ms
-  pub there : j < to
-  pub told : s ≡ strategyOf o
-  pub kept : BestIn o w to vs ms best
-
--- The best after row j was met, for every left row with the key v.
-pub record Met (o : Options) (w to : ℕ) (vs ms : Words) (best j : ℕ) (v : ℤ) (r : ℕ) : Type 0 where
-  pub kept : BestIn o w to vs ms r
-  pub met : (first : ℕ) (x : List Cell) → keyOf o x ≡ value v
-      → hitAt first w to vs ms r ≡ cond (fits o x (rowFrom w (j * w) vs ms)) (meet o x (first + j) (rowFrom w (j * w) vs ms) (hitAt first w to vs ms best)) (hitAt first w to vs ms best)
 
 -- The left row at p, and right rows from..to, whose numbers an answer has room for.
 pub record RowRoom (o : Options) (p : ℕ) (lv lm : Words) (w from to : ℕ) (rv rm : Words) (number : ℕ) : Type 0 where
@@ -62,43 +11,6 @@ pub record RowRoom (o : Options) (p : ℕ) (lv lm : Words) (w from to : ℕ) (rv
   pub right : RowsIn o w to rv rm
   pub upward : from ≤ to
   pub numbers : number + to ≤ 2 ^ 63 - 1
-
--- Place i of an answer of n rows is there.
-pub record PutRoom (n i : ℕ) (out : Words) : Type 0 where
-  pub there : i < n
-  pub room : 2 + 2 * n ≤ length out
-
--- The right cursor has passed what is before x: it stands at the run r.at..r.end, of which x uses r.at..r.used.
-pub record Passed (o : Options) (w n : ℕ) (vs ms : Words) (i : ℕ) (x : List Cell) (r : Right) : Type 0 where
-  pub cursor : (first : ℕ) → pass o x (first + i) (runs o (between w i n vs ms)) ≡ record { at = first + r .at; rest = runs o (between w (r .at) n vs ms) }
-  pub uses : used o x (runs o (between w (r .at) n vs ms)) ≡ between w (r .at) (r .used) vs ms
-
--- The left rows of n, and the right run that the cursor stands at.
-pub record PassRoom (o : Options) (p : ℕ) (lv lm : Words) (w n : ℕ) (rv rm : Words) (at end : ℕ) : Type 0 where
-  pub left : RowAt o p lv lm
-  pub right : RunAt o w n rv rm at end
-
--- The cursor after it, and what of its run is used.
-pub record Stands (o : Options) (w n : ℕ) (vs ms : Words) (r : Right) : Type 0 where
-  pub run : RunAt o w n vs ms (r .at) (r .end)
-  pub upward : r .at ≤ r .used
-  pub within : r .used ≤ n
-
--- A left run with the first row x is matched over rows r.at..r.used, and the cursor goes on from there.
-pub record Serves (o : Options) (w n : ℕ) (vs ms : Words) (i : ℕ) (x : List Cell) (r : Right) : Type 0 where
-  pub step : (first : ℕ) (l : Rows) (ls : List Rows) → headOf l ≡ x
-      → byRuns o (first + i) (runs o (between w i n vs ms)) (l ∷ ls)
-      ≡ map (matchIn o (first + r .at) (between w (r .at) (r .used) vs ms)) l ++ byRuns o (first + r .at) (runs o (between w (r .at) n vs ms)) ls
-
--- Left rows from..to of n, over right rows at..end, into an answer of n rows.
-pub record RunRoom (o : Options) (wl nl : ℕ) (lv lm : Words) (from to : ℕ) (wr : ℕ) (rv rm : Words) (at end number : ℕ) (out : Words) : Type 0 where
-  pub left : RowsIn o wl nl lv lm
-  pub upward : from ≤ to
-  pub within : to ≤ nl
-  pub right : RowsIn o wr end rv rm
-  pub run : at ≤ end
-  pub numbers : number + end ≤ 2 ^ 63 - 1
-  pub room : 2 + 2 * nl ≤ length out
 
 -- A frame's rows and the held rows are there, their numbers fit, and the output has room for the answer.
 pub record FrameRoom (o : Options) (wl nl : ℕ) (lv lm : Words) (wr nr : ℕ) (rv rm : Words) (number : ℕ) (out : Words) : Type 0 where

@@ -13,7 +13,8 @@ ghost use Rattle.matching.specs.Match.{matchIn};
 ghost use Rattle.matching.specs.Groups.{runs, byRuns, matchFrame};
 ghost use Rattle.matching.specs.Answer.{numberWord, choiceMark, answered};
 ghost use Rattle.matching.specs.Walk.{between, lay};
-ghost use Rattle.matching.specs.Room.{Small, PutRoom, RunRoom, FrameRoom};
+ghost use Rattle.matching.specs.Inner.{Small, PutRoom, RunRoom};
+ghost use Rattle.matching.specs.Room.{FrameRoom};
 
 // The right number of a choice; 0 for none.
 fn number_word(choice: Choice) -> i64

@@ -20,7 +20,8 @@ ghost use Rattle.frames.specs.Order.{cmpCell, keyOf};
 ghost use Rattle.frames.specs.Room.{cellAt, CellIn, RowsIn};
 ghost use Rattle.matching.specs.Match.{nobody, onSide, fits, nearer, choose, matchIn};
 ghost use Rattle.matching.specs.Walk.{between, hitAt};
-ghost use Rattle.matching.specs.Room.{TakesOver, BestIn, Meets, Met, RowRoom};
+ghost use Rattle.matching.specs.Inner.{TakesOver, BestIn, Meets, Met};
+ghost use Rattle.matching.specs.Room.{RowRoom};
 
 // Whether a right key lies on the strategy's side of a left one, by its order to it.
 fn on_side(s: Strategy, eq: bool, c: Order) -> bool

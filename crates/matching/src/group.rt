@@ -10,7 +10,7 @@ ghost use Rattle.frames.specs.Cells.{rowFrom};
 ghost use Rattle.frames.specs.Room.{RowAt};
 ghost use Rattle.matching.specs.Groups.{sameRun};
 ghost use Rattle.matching.specs.Walk.{between, runLength, standing};
-ghost use Rattle.matching.specs.Room.{Within, PassRoom, Stands, Passed, Serves};
+ghost use Rattle.matching.specs.Inner.{Within, PassRoom, Stands, Passed, Serves};
 
 // Whether the rows at p and q, which stand one behind the other, are of one run.
 fn same_run(values: &[i64], marks: &[i64], p: usize, q: usize, o: Options) -> bool

@@ -9,7 +9,7 @@ use Rattle.frames.specs.Cells.{rowsOf}
 use Rattle.frames.proofs.RowLaws.{row-room}
 use Rattle.matching.specs.Groups.{runs, byRuns}
 use Rattle.matching.specs.Walk.{lay}
-use Rattle.matching.specs.Room.{RunAt}
+use Rattle.matching.specs.Inner.{RunAt}
 use Rattle.matching.specs.declared.Choice.{Choice}
 use Rattle.matching.proofs.WalkLaws.{run-up, run-within}
 use Rattle.matching.proofs.LayLaws.{groupsFrom, groups-all, groups-more, groups-end}

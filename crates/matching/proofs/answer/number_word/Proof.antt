@@ -1,7 +1,7 @@
 use mathlib.Core.Path.{subst}
 use mir.Syntax.{w64}
 use mir.ValLaws.{toZ-pos}
-use Rattle.matching.specs.Room.{Small}
+use Rattle.matching.specs.Inner.{Small}
 use borrow.Author.Needs.{needs}
 use Rattle.matching.proofs.answer.number_word.Statement.{statement}
 use Rattle.matching.proofs.answer.number_word.Tie as tie

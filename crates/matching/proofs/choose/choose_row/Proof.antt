@@ -11,7 +11,7 @@ use Rattle.frames.specs.Cells.{Cell, value}
 use Rattle.frames.specs.Order.{keyOf}
 use Rattle.matching.specs.Match.{Hit, nobody, fits, choose}
 use Rattle.matching.specs.Walk.{between, hitAt}
-use Rattle.matching.specs.Room.{BestIn}
+use Rattle.matching.specs.Inner.{BestIn}
 use Rattle.matching.proofs.BestLaws.{hit-none, scan-more, scan-end}
 use Rattle.matching.proofs.choose.choose_row.Statement.{statement}
 use Rattle.matching.proofs.choose.choose_row.Tie as tie

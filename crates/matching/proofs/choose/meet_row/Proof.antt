@@ -14,7 +14,7 @@ use Rattle.frames.specs.Room.{cellAt}
 use Rattle.frames.proofs.Signed.{back}
 use Rattle.frames.proofs.RowLaws.{row-room}
 use Rattle.matching.specs.Match.{onSide}
-use Rattle.matching.specs.Room.{TakesOver}
+use Rattle.matching.specs.Inner.{TakesOver}
 use Rattle.matching.proofs.BestLaws.{stays, comes, wins, loses}
 use borrow.Author.Needs.{needs}
 use Rattle.matching.proofs.choose.meet_row.Statement.{statement}

@@ -9,7 +9,7 @@ use Rattle.frames.specs.declared.Order.the-variants.{Less, Equal, Greater}
 use Rattle.frames.proofs.RowLaws.{row-room}
 use Rattle.matching.specs.Groups.{runs, pass}
 use Rattle.matching.specs.Walk.{between, standing}
-use Rattle.matching.specs.Room.{RunAt}
+use Rattle.matching.specs.Inner.{RunAt}
 use Rattle.matching.proofs.WalkLaws.{run-up, run-within, pass-on, pass-stop, pass-end, used-run, used-none, used-end}
 use Rattle.matching.proofs.group.pass_runs.Statement.{statement}
 use Rattle.matching.proofs.group.pass_runs.Tie as tie
