@@ -14,7 +14,7 @@ use Rattle.frames.specs.Room.{HasCount}
 use Rattle.frames.specs.declared.Options.{Options}
 use Rattle.frames.proofs.FrontLaws.{frame-parts}
 use Rattle.buffer.specs.Area.{capacity}
-use Rattle.node.specs.State.{isRunning, isDone, widthOf, mostRows, lastSequence, badJoin, overRight, overLeft, overRows, oddSequence}
+use Rattle.node.specs.State.{fresh, isRunning, isDone, widthOf, mostRows, lastSequence, badJoin, overRight, overLeft, overRows, oddSequence}
 use Rattle.node.specs.Calls.{leftAnswer, rightAnswer, endAnswer}
 use Rattle.node.specs.declared.Join.{Join}
 use Rattle.node.specs.declared.Refusal.{Refusal}
@@ -65,6 +65,11 @@ good j left right h =
       rows = ltb-false mostRows (j .pruned + j .held) (q .1);
       even = let n = eqb-false (j .sequence % 2) 1 (p .1) in omega (arith, n);
     }
+
+-- The join of a refused opening is bad, with any areas.
+pub opened-bad : (o : Options) (left right : Words) → badOptions o ≡ true → badJoin (fresh o) left right ≡ true
+unfolding badJoin
+opened-bad o left right e = rw e
 
 -- After a turn that writes the sequence still fits.
 pub next-sequence : (s : ℕ) → s % 2 ≡ 0 → (s ≡ lastSequence → ⊥) → s < 2 ^ 64 → s + 2 < 2 ^ 64
