@@ -149,12 +149,6 @@ module _ {half start live : ℕ} {vs ms area : Words} (p : BothIn half start liv
       k : half + half - half ≡ half
       k = omega arith
 
-      us : Words
-      us = take half area
-
-      xs : Words
-      xs = drop half area
-
       lu : length (take half area) ≡ half
       lu = length-take-le half area (omega (arith, p .halves))
 

@@ -9,7 +9,7 @@ use frames::first_keyed;
 use frames::last_keyed;
 ghost use mathlib.Core.Path.{_≡_};
 ghost use mathlib.Core.Option.{some};
-ghost use Prim.Native.Nat.{ℕ, _+_, _<_};
+ghost use Prim.Native.Nat.{ℕ, _<_};
 ghost use Rattle.frames.specs.Cells.{rowFrom, rowsOf};
 ghost use Rattle.frames.specs.Order.{isGreater};
 ghost use Rattle.frames.specs.Keyed.{firstKeyed, rowAt, recall, rememberLast, outOfOrder};
@@ -40,6 +40,7 @@ fn has_before(found: Keyed, remembered: bool) -> bool
     }
 }
 
+// Whether the first of two rows is the greater one, by their order.
 fn is_greater(order: Order) -> bool
     ensures { λ r. ⌜ r ≡ isGreater order ⌝ }
 {
