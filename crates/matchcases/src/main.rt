@@ -22,13 +22,13 @@ fn options(by: usize, strategy: u8, allow_eq: bool, tolerance: i64) -> Options
     }
 }
 
-// One choice: its number, or none.
+// One choice: its number, which is its distance from 0, or none.
 fn print_choice(number: i64, mark: i64) {
     io::write_all(1, b" ");
     if mark == 0 {
         io::write_all(1, b"none");
     } else {
-        io::print_decimal(1, frames::image(number));
+        io::print_decimal(1, frames::distance(number, 0));
     }
 }
 
