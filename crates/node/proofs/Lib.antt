@@ -1,13 +1,3 @@
-pub mod Script
-pub mod Counter
-pub mod ListLaws
-pub mod Stock
-pub mod Invariant
-pub mod Turn
-pub mod Sound
-pub mod Steps
-pub mod Demand3
-pub mod Example
 pub mod Good
 pub mod CallLaws
 pub mod Tests

@@ -9,7 +9,7 @@ use borrow.Author.Tests.{eqb-true, eqb-false, eq-eqb, ne-eqb, not-true}
 use lib.Dec.{eqb}
 use Rattle.frames.specs.Cells.{Words}
 use Rattle.frames.proofs.SortedLaws.{and-true}
-use Rattle.node.specs.State.{badJoin}
+use Rattle.node.specs.State.{badJoin, stateCode, portCode}
 use Rattle.node.specs.Calls.{toFlush, toDone, portsIn, portsState, portsAnswer, portsCall}
 use Rattle.node.specs.Leaves.{PortsLeaves}
 use Rattle.node.specs.declared.Join.{Join}
@@ -22,8 +22,7 @@ use Rattle.node.specs.declared.Refusal.{Refusal}
 use Rattle.node.specs.declared.Refusal.the-variants.{BadJoin, Failed}
 use Rattle.node.specs.declared.Ported.{Ported}
 use Rattle.node.specs.declared.Ported.the-variants.{Ports, Refused}
-use Rattle.node.proofs.Script.{stateCode, portCode}
-use Rattle.node.proofs.Invariant.{past}
+use Rattle.node.proofs.Tests.{past}
 
 -- ---- a test of each in a list
 module _ {A : Type 0} where

@@ -12,6 +12,8 @@ use Rattle.buffer.specs.Area.{capacity, heldRows}
 use Rattle.node.specs.declared.Join.{Join}
 use Rattle.node.specs.declared.NodeState.{NodeState}
 use Rattle.node.specs.declared.NodeState.the-variants.{Running, Flush, Done}
+use Rattle.node.specs.declared.PortState.{PortState}
+use Rattle.node.specs.declared.PortState.the-variants.{Blocked, Ready, Done as PortDone}
 use Rattle.node.specs.declared.Refusal.{Refusal}
 use Rattle.node.specs.declared.Refusal.the-variants.{BadOptions, BadJoin, Failed, Closed, BadFrame, NoRoom, UsedUp, LeftOrder, RightOrder}
 
@@ -26,6 +28,18 @@ number NoRoom = 6
 number UsedUp = 7
 number LeftOrder = 8
 number RightOrder = 9
+
+-- The node's states by number: 0 Running, 1 Flush, 2 Done.
+abbrev pub stateCode : NodeState → ℕ
+stateCode Running = 0
+stateCode Flush = 1
+stateCode Done = 2
+
+-- The ports' states by number: 0 Blocked, 1 Ready, 2 Done.
+abbrev pub portCode : PortState → ℕ
+portCode Blocked = 0
+portCode Ready = 1
+portCode PortDone = 2
 
 -- A join from all that it is.
 abbrev pub joinOf : Options → ℕ → ℕ → ℕ → ℕ → ℕ → NodeState → Bool → Bool → ℕ → Row → Row → Join

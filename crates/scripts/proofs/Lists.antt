@@ -7,8 +7,8 @@ use mathlib.Core.Option.{none, some}
 use lib.IntN.{ℤ, pos, negsuc}
 use Rattle.frames.specs.Cells.{null, value}
 use Rattle.frames.proofs.Samples.{options}
-use Rattle.node.specs.Lists.{left, right, end, ports, turn}
-use Rattle.node.proofs.Script.{ok, refused, wrote, wants, idle, noJoin, looks, areas, opens, call, state, dump, space, script, ports as said-ports}
+use Rattle.lists.specs.Lists.{left, right, end, ports, turn}
+use Rattle.lists.proofs.Script.{ok, refused, wrote, wants, idle, noJoin, looks, areas, opens, call, state, dump, space, script, ports as said-ports}
 use Rattle.node.specs.declared.PortState.the-variants.{Blocked, Ready, Done as PortDone}
 
 list-1 : script

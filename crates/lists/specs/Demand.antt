@@ -14,8 +14,8 @@ use Rattle.matching.specs.Match.{wholeTable}
 use Rattle.matching.specs.Picked.{Picked, NoneQualifies}
 use Rattle.matching.specs.Answer.{numberWord, choiceMark}
 use Rattle.matching.specs.declared.Choice.{Choice}
-use Rattle.node.specs.Lists.{Call, turn, start, events, final, Event, leftFrames, rightFrames, rowsIn, outputs, matchesIn, Entry, rightEnded, nodeDone, queueRows, backToBack, refusedWith, turnsIn}
+use Rattle.lists.specs.Lists.{Call, turn, start, events, final, Event, leftFrames, rightFrames, rowsIn, outputs, matchesIn, Entry, rightEnded, nodeDone, queueRows, backToBack, refusedWith, turnsIn}
 use Rattle.node.specs.State.{waiting, heldValues, heldMarks}
 
 -- A match as it is written; none stands as 0 and 0.
 abbrev pub asWritten : Choice → Entry

@@ -9,8 +9,8 @@ use lib.ListN.{length, replicate}
 use Rattle.frames.specs.Cells.{null, value, Words}
 use Rattle.frames.proofs.Samples.{options, plain, row, keys, frameOf}
 use Rattle.frames.specs.declared.Options.{Options}
-use Rattle.node.specs.Lists.{Call, left, right, end, turn, start, final}
-use Rattle.node.proofs.Script.{Said, ok, refused, wrote, wants, leftArea, rightArea, space, says}
+use Rattle.lists.specs.Lists.{Call, left, right, end, turn, start, final}
+use Rattle.lists.proofs.Script.{Said, ok, refused, wrote, wants, leftArea, rightArea, space, says}
 
 -- A frame of keys alone; of rows of one by-value and a key.
 abbrev frame1 : List ℕ → Words

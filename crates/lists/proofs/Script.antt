@@ -17,20 +17,16 @@ use Rattle.buffer.specs.Reach.{narrowBy, narrow, keyNeedsMore, rowNeedsMore, ne
 use Rattle.matching.specs.Match.{fits, takesOver, choose, tolerate, matchIn}
 use Rattle.matching.specs.Groups.{joinRun, runs, passes, pass, used, byRuns, matchFrame}
 use Rattle.matching.specs.Answer.{answerWords, answered}
-use Rattle.node.specs.State.{number, badJoin, heldOf, waiting, widthOf}
+use Rattle.node.specs.State.{number, stateCode, portCode, badJoin, heldOf, waiting, widthOf}
 use Rattle.node.specs.Calls.{openAnswer, leftAnswer, queued, leftCall, rightAnswer, pushedRight, rightCall, endAnswer, endCall, portsAnswer, portsCall, badLeft, badRight, turnAnswer, firstPrune, remembered, dropped, dequeued, turned, turnCall}
-use Rattle.node.specs.Lists.{Call, Event, onLeft, onRight, onEnd, onPorts, onTurn, World, start, step}
+use Rattle.lists.specs.Lists.{Call, Event, onLeft, onRight, onEnd, onPorts, onTurn, World, start, step}
 use Rattle.node.specs.declared.Join.{Join}
-use Rattle.node.specs.declared.NodeState.{NodeState}
-use Rattle.node.specs.declared.NodeState.the-variants.{Running, Flush, Done}
-use Rattle.node.specs.declared.PortState.{PortState}
-use Rattle.node.specs.declared.PortState.the-variants.{Blocked, Ready, Done as PortDone}
 use Rattle.node.specs.declared.Answer.{Answer}
 use Rattle.node.specs.declared.Answer.the-variants.{Wrote, WantsRight, Idle, Refused as TurnRefused}
 use Rattle.node.specs.declared.Took.{Took}
 use Rattle.node.specs.declared.Took.the-variants.{Accepted, Refused}
 use Rattle.node.specs.declared.Ported.{Ported}
 use Rattle.node.specs.declared.Ported.the-variants.{Ports, Refused as PortsRefused}
 
 -- An answer: ok; refused N; wrote SEQ and the 2 + 2n words written; wants; idle; ports L R S STATE; no join;
 -- areas: the words of both; state: base, held, pruned, queue start, queue words, state, ended, failed, sequence, and the cells of the left and right remembered row.
@@ -44,17 +40,6 @@ pub data Said : Type 0 where
   noJoin : Said
   looks : List ℕ → Option (List Cell) → Option (List Cell) → Said
   areas : Words → Words → Said
-
--- Codes: 0 Running, 1 Flush, 2 Done; 0 Blocked, 1 Ready, 2 Done.
-abbrev pub stateCode : NodeState → ℕ
-stateCode Running = 0
-stateCode Flush = 1
-stateCode Done = 2
-
-abbrev pub portCode : PortState → ℕ
-portCode Blocked = 0
-portCode Ready = 1
-portCode PortDone = 2
 
 -- Before the first call word i of the left area is (7i mod 11) − 5 and of the right area (5i mod 13) − 6.
 abbrev pub fill : ℕ → ℕ → ℕ → ℕ → ℕ → Words

@@ -20,19 +20,19 @@ use Rattle.matching.specs.Answer.{answered}
 use Rattle.matching.specs.declared.Choice.{Choice}
 use Rattle.matching.specs.declared.Choice.the-variants.{Row, Nothing}
 use Rattle.matching.proofs.PickedLaw.{picked-none, picked-row}
 use Rattle.node.specs.declared.Join.{Join}
 use Rattle.node.specs.declared.Answer.{Answer}
 use Rattle.node.specs.declared.Answer.the-variants.{Wrote, WantsRight, Idle, Refused as TurnRefused}
 use Rattle.node.specs.State.{lastSequence, isDone, waiting, widthOf}
 use Rattle.node.specs.Calls.{turnAnswer, turnCall, turned, badLeft, badRight}
-use Rattle.node.specs.Lists.{Call, turn, Event, onTurn, World, start, step, events, final, leftFrames, rightFrames, rowsIn, outputIn, outputs, Entry, matchesIn, rightEnded, nodeDone, doneBy, refusedWith, backToBack, framesIn, queueRows}
-use Rattle.node.specs.Demand.{asWritten, Correct, isNone, isRow, Each, ends, pairs, Demand3, Demand}
-use Rattle.node.proofs.ListLaws.{rows-in-append, matches-append, drop-next, left-append, right-append, outputs-append, ended-append, done-snoc}
-use Rattle.node.proofs.Stock.{Frames, frames-drop, front-is}
-use Rattle.node.proofs.Invariant.{Inv}
-use Rattle.node.proofs.Turn.{judged, leftBy, matchedBy, held, rows, answer-is, turned-is, rows-count}
-use Rattle.node.proofs.Sound.{Sound, turnedOf}
-use Rattle.node.proofs.Steps.{SoundAt, no-left-fault, no-right-fault, inv-step, sound-step, inv-list, sound-list, inv-start, sound-start}
+use Rattle.lists.specs.Lists.{Call, turn, Event, onTurn, World, start, step, events, final, leftFrames, rightFrames, rowsIn, outputIn, outputs, Entry, matchesIn, rightEnded, nodeDone, doneBy, refusedWith, backToBack, framesIn, queueRows}
+use Rattle.lists.specs.Demand.{asWritten, Correct, isNone, isRow, Each, ends, pairs, Demand3, Demand}
+use Rattle.lists.proofs.ListLaws.{rows-in-append, matches-append, drop-next, left-append, right-append, outputs-append, ended-append, done-snoc}
+use Rattle.lists.proofs.Stock.{Frames, frames-drop, front-is}
+use Rattle.lists.proofs.Invariant.{Inv}
+use Rattle.lists.proofs.Turn.{judged, leftBy, matchedBy, held, rows, answer-is, turned-is, rows-count}
+use Rattle.lists.proofs.Sound.{Sound, turnedOf}
+use Rattle.lists.proofs.Steps.{SoundAt, no-left-fault, no-right-fault, inv-step, sound-step, inv-list, sound-list, inv-start, sound-start}
 
 -- ---- 2. the whole-table rule picks the row that qualifies and that none is better than
 module _ (o : Options) (rights : Rows) (s : sorted o rights ≡ true) where

@@ -9,7 +9,7 @@ use lib.IntN.{ℤ}
 use lib.ListN.{length, take, drop, length-append}
 use Rattle.frames.specs.Cells.{Rows, Words}
 use Rattle.frames.specs.Frame.{frameRows}
-use Rattle.node.specs.Lists.{Call, Event, World, step, events, final, leftIn, rightIn, leftFrames, rightFrames, rowsIn, outputIn, outputs, Entry, writtenIn, matchesIn, endsRight, rightEnded, leftDone, leftEnded, doneBy, doneAfter, backToBack, refusalIn, refusedWith, turnIn, turnsIn}
+use Rattle.lists.specs.Lists.{Call, Event, World, step, events, final, leftIn, rightIn, leftFrames, rightFrames, rowsIn, outputIn, outputs, Entry, writtenIn, matchesIn, endsRight, rightEnded, leftDone, leftEnded, doneBy, doneAfter, backToBack, refusalIn, refusedWith, turnIn, turnsIn}
 
 -- ---- calls
 pub events-append : (w : World) (cs ds : List Call) → events w (cs ++ ds) ≡ events w cs ++ events (final w cs) ds

@@ -20,12 +20,12 @@ use Rattle.buffer.proofs.PushLaws.{newBase-room, append-length, append-part, pu
 use Rattle.matching.specs.declared.Choice.{Choice}
 use Rattle.matching.specs.Answer.{answered, numberWord, choiceMark}
 use Rattle.matching.proofs.AnswerLaws.{answered-count, answered-numbers, answered-marks}
 use Rattle.node.specs.declared.Join.{Join}
 use Rattle.node.specs.State.{queueAt, heldAt, nextTurn, mostRows, widthOf, heldOf, heldValues, heldMarks, waiting}
 use Rattle.node.specs.Calls.{dropped, dequeued, queued, pushedRight}
-use Rattle.node.specs.Lists.{World, rowsIn, Entry, pairUp, writtenIn, matchesIn, backToBack}
-use Rattle.node.specs.Demand.{asWritten}
-use Rattle.node.proofs.ListLaws.{words-append, rows-in-append, matches-append, drop-more, take-more, take-next, drop-next}
+use Rattle.lists.specs.Lists.{World, rowsIn, Entry, pairUp, writtenIn, matchesIn, backToBack}
+use Rattle.lists.specs.Demand.{asWritten}
+use Rattle.lists.proofs.ListLaws.{words-append, rows-in-append, matches-append, drop-more, take-more, take-next, drop-next}
 
 -- Each is a frame of c columns.
 abbrev pub Frames : ℕ → List Words → Type 0

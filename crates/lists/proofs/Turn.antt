@@ -21,17 +21,17 @@ use Rattle.matching.specs.declared.Choice.{Choice}
 use Rattle.matching.specs.Answer.{answered}
 use Rattle.matching.proofs.ChoiceLaws.{cond-ind}
 use Rattle.matching.proofs.GroupLaws.{frame-length as match-length}
 use Rattle.node.specs.declared.Join.{Join}
 use Rattle.node.specs.declared.Refusal.{Refusal}
 use Rattle.node.specs.declared.Refusal.the-variants.{BadOptions, BadJoin, Failed, Closed, BadFrame, NoRoom, UsedUp, LeftOrder, RightOrder}
 use Rattle.node.specs.declared.Answer.{Answer}
 use Rattle.node.specs.declared.Answer.the-variants.{Wrote, WantsRight, Idle, Refused as TurnRefused}
 use Rattle.node.specs.State.{number, nextTurn, markedFailed, isRunning, isDone, widthOf, lastSequence, badJoin, heldOf, waiting}
 use Rattle.node.specs.Calls.{After, after, turnAnswer, turnCall, turned, badLeft, badRight, firstPrune, remembered, dropped, dequeued, spoiled}
-use Rattle.node.specs.Lists.{turn, Event, onTurn, World, step, leftIn, rightIn, leftFrames, rightFrames, rowsIn, outputIn, outputs, backToBack, framesWaiting, doneBy, refusedWith, turnRefusal}
-use Rattle.node.proofs.ListLaws.{left-append, right-append, outputs-append}
-use Rattle.node.proofs.Stock.{Stock, stock-same, stock-turn, waiting-length, next-frame, front-next, waits-front, front-room, held-rows}
-use Rattle.node.proofs.Invariant.{Inv, Adds, SameFlags, adds-same, flags-add, good, keep, past, nothing-waits}
+use Rattle.lists.specs.Lists.{turn, Event, onTurn, World, step, leftIn, rightIn, leftFrames, rightFrames, rowsIn, outputIn, outputs, backToBack, framesWaiting, doneBy, refusedWith, turnRefusal}
+use Rattle.lists.proofs.ListLaws.{left-append, right-append, outputs-append}
+use Rattle.lists.proofs.Stock.{Stock, stock-same, stock-turn, waiting-length, next-frame, front-next, waits-front, front-room, held-rows}
+use Rattle.lists.proofs.Invariant.{Inv, Adds, SameFlags, adds-same, flags-add, good, keep, nothing-waits}
 
 -- A prune drops held rows alone, whatever they are.
 pub prune-within : (o : Options) (i : ℕ) (left held : Rows) → pruneBy o i left held ≤ length held

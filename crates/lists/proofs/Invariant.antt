@@ -15,24 +15,25 @@ use Rattle.frames.specs.Options.{columns, badOptions}
 use Rattle.frames.specs.declared.Options.{Options}
 use Rattle.frames.proofs.FrameLaws.{frame-length}
 use Rattle.buffer.specs.Area.{capacity}
+use Rattle.node.proofs.Tests.{past}
 use Rattle.node.specs.declared.Join.{Join}
 use Rattle.node.specs.declared.NodeState.{NodeState}
 use Rattle.node.specs.declared.NodeState.the-variants.{Running, Flush, Done}
 use Rattle.node.specs.declared.PortState.{PortState}
 use Rattle.node.specs.declared.PortState.the-variants.{Blocked, Ready, Done as PortDone}
 use Rattle.node.specs.declared.Refusal.{Refusal}
 use Rattle.node.specs.declared.Refusal.the-variants.{BadOptions, BadJoin, Failed, Closed, BadFrame, NoRoom, UsedUp, LeftOrder, RightOrder}
 use Rattle.node.specs.declared.Answer.{Answer}
 use Rattle.node.specs.declared.Answer.the-variants.{Wrote, WantsRight, Idle, Refused as TurnRefused}
 use Rattle.node.specs.declared.Took.{Took}
 use Rattle.node.specs.declared.Took.the-variants.{Accepted, Refused}
 use Rattle.node.specs.declared.Ported.{Ported}
 use Rattle.node.specs.declared.Ported.the-variants.{Ports, Refused as PortsRefused}
 use Rattle.node.specs.State.{number, fresh, endedRight, stateAt, isRunning, isDone, widthOf, mostRows, badJoin, overRight, overLeft, overRows, oddSequence, heldOf, waiting}
 use Rattle.node.specs.Calls.{After, leftAnswer, leftCall, queued, rightAnswer, rightCall, pushedRight, endAnswer, endCall, portsAnswer, portsCall, portsState, portsIn, toFlush, toDone, portDone}
-use Rattle.node.specs.Lists.{Call, left, right, end, ports, turn, Event, onLeft, onRight, onEnd, onPorts, onTurn, World, start, step, leftIn, rightIn, leftFrames, rightFrames, rowsIn, outputIn, outputs, endsRight, rightEnded, leftDone, leftEnded, framesWaiting, backToBack, doneBy, nodeDone, refusalIn, tookRefusal, portsRefusal, refusedWith, turnIn, turnsIn}
-use Rattle.node.proofs.ListLaws.{left-append, right-append, outputs-append, turns-append, ended-append, left-ended-append, refused-append, done-snoc}
-use Rattle.node.proofs.Stock.{Frames, frames-drop, Stock, stock-same, stock-left, stock-right, waiting-length}
+use Rattle.lists.specs.Lists.{Call, left, right, end, ports, turn, Event, onLeft, onRight, onEnd, onPorts, onTurn, World, start, step, leftIn, rightIn, leftFrames, rightFrames, rowsIn, outputIn, outputs, endsRight, rightEnded, leftDone, leftEnded, framesWaiting, backToBack, doneBy, nodeDone, refusalIn, tookRefusal, portsRefusal, refusedWith, turnIn, turnsIn}
+use Rattle.lists.proofs.ListLaws.{left-append, right-append, outputs-append, turns-append, ended-append, left-ended-append, refused-append, done-snoc}
+use Rattle.lists.proofs.Stock.{Frames, frames-drop, Stock, stock-same, stock-left, stock-right, waiting-length}
 
 -- ---- the flags, told by the events
 pub record Flags (es : List Event) (j : Join) : Type 0 where
@@ -100,11 +101,6 @@ pub record Inv (o : Options) (l r : Words) (es : List Event) (w : World) : Type 
   pub flags : Flags es (w .join)
 
 -- ---- tests on the way
--- A chain of refusals that came to z did not stop at its first.
-pub past : {A : Type 0} (b : Bool) (x y z : A) → (x ≡ z → ⊥) → cond b x y ≡ z → (b ≡ false) × (y ≡ z)
-past true x y z n e = absurd (n e)
-past false x y z n e = (refl, e)
-
 -- A refusal that neither breaks the join nor tells of an order.
 pub record Plain (n : ℕ) : Type 0 where
   pub not2 : eqb n 2 ≡ false

@@ -33,13 +33,13 @@ use Rattle.matching.specs.Groups.{matchFrame}
 use Rattle.matching.proofs.PruneLaw.{prune-keeps}
 use Rattle.matching.proofs.EnoughLaw.{enough-keeps}
 use Rattle.matching.proofs.GroupLaws.{frame-match}
 use Rattle.node.specs.declared.Join.{Join}
 use Rattle.node.specs.Calls.{badLeft, badRight, firstPrune, remembered, dropped, dequeued}
-use Rattle.node.specs.Lists.{rowsIn, Entry, writtenIn, matchesIn}
-use Rattle.node.specs.Demand.{asWritten}
-use Rattle.node.proofs.ListLaws.{rows-in-append, matches-append, take-next, take-more}
-use Rattle.node.proofs.Stock.{Frames, written-back}
-use Rattle.node.proofs.Turn.{keptBy, lastBy, leftBy, matchedBy, first-within, prune-within}
+use Rattle.lists.specs.Lists.{rowsIn, Entry, writtenIn, matchesIn}
+use Rattle.lists.specs.Demand.{asWritten}
+use Rattle.lists.proofs.ListLaws.{rows-in-append, matches-append, take-next, take-more}
+use Rattle.lists.proofs.Stock.{Frames, written-back}
+use Rattle.lists.proofs.Turn.{keptBy, lastBy, leftBy, matchedBy, first-within, prune-within}
 
 -- ---- small laws of lists
 map-same : {A B : Type 0} (f g : A → B) (xs : List A) → ((i : ℕ) → i < length xs → (d : A) → f (getD xs i d) ≡ g (getD xs i d)) → map f xs ≡ map g xs

@@ -1,0 +1,10 @@
+pub mod Script
+pub mod Counter
+pub mod ListLaws
+pub mod Stock
+pub mod Invariant
+pub mod Turn
+pub mod Sound
+pub mod Steps
+pub mod Demand3
+pub mod Example
