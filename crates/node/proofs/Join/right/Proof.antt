@@ -61,7 +61,7 @@ returns-2 c =
     let n = p .before .before .before in
     let t = n .before .before in
     let put = rw add-one at (p .push .ensures) in
-    rw (n .row-count .ensures) (right-accepted _ _ _ _ _ (t .before .before .judge-right .ensures) (t .enum-told2 .given .1) _ _ (put .base-is) (put .area-is))
+    right-accepted _ _ _ _ _ (t .before .before .judge-right .ensures) (t .enum-told2 .given .1) _ _ _ (n .row-count .ensures) (put .base-is) (put .area-is)
 
 pub right-spec : {M : Type 1} → statement M
 right-spec =
