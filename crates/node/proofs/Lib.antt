@@ -3,3 +3,4 @@ pub mod CallLaws
 pub mod Tests
 pub mod PortRule
 pub mod TurnLaws
+pub mod TurnCall

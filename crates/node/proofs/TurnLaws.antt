@@ -3,26 +3,30 @@ use mathlib.Core.Path.{_≡_, refl, sym, ap, _∙_}
 use mathlib.Core.Bool.{Bool, true, false, cond, not, _&&_, _||_}
 use mathlib.Core.List.{List, []}
 use Prim.Native.Nat.{ℕ, _+_, _-_, _*_, _^_, _≤_, _<_}
-use native.Mathlib.Nat.{mul-le-mul-left}
+use native.Mathlib.Nat.{mul-le-mul-left, mul-le-mul-right}
 use native.Mathlib.Omega.{arith}
 use borrow.Author.Tests.{ltb-false, eqb-false}
 use lib.Dec.{ltb, eqb}
-use lib.ListN.{length, take, drop, length-drop}
+use lib.ListN.{length, take, drop, length-take, length-drop}
 use Rattle.frames.specs.Cells.{Rows, Words, rowsOf}
-use Rattle.frames.specs.Frame.{frameWords}
+use Rattle.frames.specs.Frame.{rowCount, frameWords, valuesIn, marksIn, isFrame, frameRows}
 use Rattle.frames.specs.Options.{isOn}
 use Rattle.frames.specs.Room.{RowsIn}
 use Rattle.frames.specs.declared.Options.{Options}
 use Rattle.frames.specs.declared.Row.{Row}
 use Rattle.frames.proofs.WordLaws.{rows-length, rows-drop}
+use Rattle.frames.proofs.FrontLaws.{frame-parts, values-part, marks-part}
 use Rattle.buffer.specs.Reach.{needMore, pruneBy, noPrune, badSplit}
-use Rattle.buffer.specs.Room.{LastIn, SplitIn}
+use Rattle.buffer.specs.Room.{BaseIn, LastIn}
+use Rattle.buffer.specs.Area.{capacity, heldRows}
+use Rattle.buffer.proofs.AreaLaws.{held-in}
 use Rattle.buffer.proofs.SplitLaw.{split-within}
-use Rattle.buffer.proofs.BeforeLaws.{bad-split-is}
+use Rattle.buffer.proofs.BeforeLaws.{bad-split-is, rows-take}
 use Rattle.matching.proofs.ChoiceLaws.{cond-ind}
-use Rattle.node.specs.State.{markedFailed, lastSequence, widthOf}
-use Rattle.node.specs.Calls.{badLeft, badRight, firstPrune, spoiled}
-use Rattle.node.specs.Inner.{roomAnswer, badRightAt, orderAnswer, goesOn, keptRows, lastPrune, rowsAnswer, rowsTurn, RowsTurned, Written, TurnIn}
+use Rattle.node.specs.State.{heldOf, nextTurn, markedFailed, lastSequence, widthOf}
+use Rattle.node.specs.Calls.{badLeft, badRight, firstPrune, remembered, dropped, dequeued, spoiled}
+use Rattle.node.specs.Inner.{roomAnswer, badRightAt, orderAnswer, goesOn, keptRows, lastPrune, rowsAnswer, rowsTurn, RowsTurned, leftJoin, Written, TurnIn, WriteIn, FrameIn}
+use Rattle.node.proofs.Good.{next-sequence}
 use Rattle.node.proofs.Tests.{past}
 use Rattle.node.specs.declared.Join.{Join}
 use Rattle.node.specs.declared.Refusal.the-variants.{NoRoom, UsedUp, LeftOrder, RightOrder}
@@ -57,7 +61,7 @@ split-known o m rows held = go (isOn (o .check)) refl
 
 -- ---- the answers
 -- The join of a turn that does not write.
-abbrev stopped : Join → Answer → Join
+abbrev pub stopped : Join → Answer → Join
 stopped j (Wrote s) = j
 stopped j WantsRight = j
 stopped j Idle = j
@@ -141,3 +145,117 @@ module _ {j : Join} {c n : ℕ} {lv lm rv rm : Words} (t : TurnIn j c n lv lm rv
       let w : j .options .by < c = t .left .wide in
       let m : n * 1 ≤ n * c = mul-le-mul-left {m = 1} {n = c} n (omega arith) in
       omega (arith, t .counts .words, t .counts .start)
+
+  abbrev o : Options
+  o = j .options
+
+  abbrev rows : Rows
+  rows = rowsOf c n lv lm
+
+  abbrev held : Rows
+  held = rowsOf c (j .held) rv rm
+
+  -- What the first prune leaves.
+  module _ (first : ℕ) (is : first ≡ firstPrune o rows held) where
+    pub first-in : first ≤ j .held
+    first-in = omega (arith, is, first-within o rows held, rows-length c (j .held) rv rm)
+
+    pub first-words : (xs : Words) → j .held * c ≤ length xs → first * c ≤ length xs
+    first-words xs h = omega (arith, mul-le-mul-right {m = first} {n = j .held} c first-in)
+
+    module _ (kv km : Words) (ev : kv ≡ drop (first * c) rv) (em : km ≡ drop (first * c) rm) where
+      pub kept-in : RowsIn o c (j .held - first) kv km
+      kept-in =
+          let e : j .held ≡ first + (j .held - first) = omega (arith, first-in) in
+          let f : j .held * c ≡ (first + (j .held - first)) * c = ap (λ (z : ℕ). z * c) e in
+          record {
+            few = t .right .few;
+            wide = t .right .wide;
+            values = rw (ev, length-drop (first * c) rv) (omega (arith, t .right .values));
+            marks = rw (em, length-drop (first * c) rm) (omega (arith, t .right .marks));
+          }
+
+      pub kept-are : rowsOf c (j .held - first) kv km ≡ keptRows o rows held
+      unfolding keptRows
+      kept-are = rw (ev, em, ← is) (rows-drop c (j .held) first rv rm first-in)
+
+      module _ (s : ℕ) (at : s ≡ pruneBy o (n - 1) rows (rowsOf c (j .held - first) kv km)) where
+        pub last-is : s ≡ lastPrune o rows held
+        unfolding lastPrune
+        last-is = rw (← kept-are, rows-length c n lv lm) at
+
+        pub both-in : first + s ≤ j .held
+        both-in = omega (arith, is, last-is, drops-within o rows held, rows-length c (j .held) rv rm)
+
+        pub write-in : (out : Words) → roomAnswer j rows held (length out) ≡ Wrote (j .sequence) → WriteIn j c n lv lm first s kv km out
+        write-in out needs =
+            let p = room-there j rows held (length out) needs in
+            record {
+              columns = t .columns;
+              left = t .left;
+              kept = kept-in;
+              within = both-in;
+              counts = t .counts;
+              room = rw (rows-length c n lv lm) at (p .0);
+              sequence = next-sequence (j .sequence) (t .counts .even) (p .1) (t .counts .sequence);
+            }
+
+-- ---- what is written
+module _ {j : Join} {c n : ℕ} {lv lm : Words} {first last : ℕ} {kv km out : Words} (t : WriteIn j c n lv lm first last kv km out) where
+  pub left-last : LastIn (j .options) c n lv lm
+  left-last = record { rows = t .left; narrow = omega (arith, t .columns, t .left .few) }
+
+  pub kept-last : LastIn (j .options) c last kv km
+  kept-last =
+      let m = mul-le-mul-right {m = last} {n = j .held - first} c (omega (arith, t .within)) in
+      record {
+        rows = record { few = t .kept .few; wide = t .kept .wide; values = omega (arith, t .kept .values); marks = omega (arith, t .kept .marks) };
+        narrow = omega (arith, t .columns, t .left .few);
+      }
+
+  pub left-as : (l r : Row) (x : Join) → l ≡ remembered (j .options) (j .«last_left») (rowsOf c n lv lm) → r ≡ remembered (j .options) (j .«last_right») (rowsOf c last kv km)
+      → x ≡ nextTurn (dequeued (dropped j (first + last)) (frameWords n c)) l r → x ≡ leftJoin j (rowsOf c n lv lm) (rowsOf c (j .held - first) kv km) first last (frameWords n c)
+  unfolding leftJoin
+  left-as l r x el er e = rw (rows-take c (j .held - first) last kv km (omega (arith, t .within)), ← el, ← er) e
+
+-- ---- the frame at the front
+module _ {j : Join} {f right : Words} (p : FrameIn j f right) (c n e : ℕ) (wide : c ≡ widthOf j) (count : n ≡ rowCount f) (at : e ≡ 2 + n * c) where
+  exact : length f ≡ frameWords n c
+  exact = rw (wide, count) (frame-parts (widthOf j) f (p .frame) .exact)
+
+  pub parts-fit : 2 + 2 * (n * c) ≡ length f
+  parts-fit = sym exact
+
+  left-values : take (e - 2) (drop 2 f) ≡ valuesIn (widthOf j) f
+  left-values = values-part (widthOf j) f e (rw (at, count, wide))
+
+  left-marks : take (length f - e) (drop e f) ≡ marksIn (widthOf j) f
+  left-marks = marks-part (widthOf j) f e (rw (at, count, wide))
+
+  pub frame-in : TurnIn j c n (take (e - 2) (drop 2 f)) (take (length f - e) (drop e f)) (drop (j .base * c) right) (drop ((capacity c right + j .base) * c) right)
+  frame-in =
+      let x = exact in
+      record {
+        columns = wide;
+        left = record {
+          few = p .few;
+          wide = omega (arith, wide);
+          values = rw (length-take (e - 2) (drop 2 f), length-drop 2 f) (omega arith);
+          marks = rw (length-take (length f - e) (drop e f), length-drop e f) (omega arith);
+        };
+        right = held-in (j .options) c (j .base) (j .held) right (p .few) (omega (arith, wide)) (rw wide (p .held));
+        counts = rw x at (p .counts);
+      }
+
+  pub frame-turned : (out : Words) (r : TurnedJoin) (out′ : Words)
+      → RowsTurned j (rowsOf c n (take (e - 2) (drop 2 f)) (take (length f - e) (drop e f))) (rowsOf c (j .held) (drop (j .base * c) right) (drop ((capacity c right + j .base) * c) right)) (frameWords n c) out r out′
+      → RowsTurned j (frameRows (widthOf j) f) (heldOf j right) (length f) out r out′
+  unfolding frameRows heldOf heldRows
+  frame-turned out r out′ h = rw (exact, ← left-values, ← left-marks, ← wide, ← count) h
+
+-- The held rows start within the capacity.
+pub base-in : {j : Join} {f right : Words} → FrameIn j f right → (c : ℕ) → c ≡ widthOf j → BaseIn c (j .base) right
+base-in p c wide = record {
+  columns = record { some = omega (arith, wide); few = omega (arith, wide, p .few) };
+  within = rw wide (omega (arith, p .held));
+}

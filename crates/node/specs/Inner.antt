@@ -90,7 +90,7 @@ rowsTurn j rows held k out =
     let first = firstPrune (j .options) rows held in
     let kept = keptRows (j .options) rows held in
     elim (rowsAnswer j rows held (length out)) [
-      | Wrote s ↦ after (Wrote s) (leftJoin j rows kept first (lastPrune (j .options) rows held) k) [] [] (answered (matchFrame (j .options) (j .pruned + first) kept rows) out)
+      | Wrote s ↦ after (Wrote (j .sequence)) (leftJoin j rows kept first (lastPrune (j .options) rows held) k) [] [] (answered (matchFrame (j .options) (j .pruned + first) kept rows) out)
       | WantsRight ↦ after WantsRight j [] [] out
       | Idle ↦ after Idle j [] [] out
       | Refused n ↦ after (Refused n) (spoiled n j) [] [] out
@@ -114,6 +114,7 @@ pub record Counts (j : Join) (k : ℕ) : Type 0 where
   pub start : j .«queue_start» + j .«queue_words» < 2 ^ 64
   pub words : k ≤ j .«queue_words»
   pub even : j .sequence % 2 ≡ 0
+  pub sequence : j .sequence < 2 ^ 64
 
 -- The frame's n rows and the held rows are there, each c wide.
 pub record TurnIn (j : Join) (c n : ℕ) (lv lm rv rm : Words) : Type 0 where

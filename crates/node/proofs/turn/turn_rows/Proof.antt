@@ -1,3 +1,7 @@
+use mathlib.Core.Path.{sym, _∙_}
+use borrow.Author.Tests.{not-true, not-false}
+use Rattle.node.proofs.TurnLaws.{room-stops, room-goes}
+use borrow.Author.Needs.{needs}
 use Rattle.node.proofs.turn.turn_rows.Statement.{statement}
 use Rattle.node.proofs.turn.turn_rows.Tie as tie
 use Rattle.node.proofs.turn.turn_rows.Reads as reads
@@ -7,33 +11,26 @@ use Rattle.node.proofs.turn.judge_room.Reads as judge-room-reads
 use Rattle.node.proofs.turn.turn_pruned.Reads as turn-pruned-reads
 use Rattle.node.proofs.turn.unturned.Reads as unturned-reads
 
--- src/turn.rt:339:9
 judge-room-requires : tie.Need-judge-room-requires
-judge-room-requires c κs = ?
+judge-room-requires c κs = search needs
 
--- src/turn.rt:340:9
 goes-on-requires : tie.Need-goes-on-requires
-goes-on-requires c κs = ?
+goes-on-requires c κs = search needs
 
--- src/turn.rt:341:9
 unturned-requires : tie.Need-unturned-requires
-unturned-requires c κs = ?
+unturned-requires c κs = search needs
 
--- src/turn.rt:341:9
 returns : tie.Need-returns
-returns c = ?
+returns c = let i = c .before in rw (c .unturned .ensures) (room-stops _ _ _ _ _ _ (i .before .before .judge-room .ensures) (sym (i .before .goes-on .ensures) ∙ not-true (i .before .goes-on .result) (i .if1 .taken)))
 
--- src/turn.rt:343:5
 turn-pruned-requires : tie.Need-turn-pruned-requires
-turn-pruned-requires c κs = ?
+turn-pruned-requires c κs = let i = c .before in let x = i .before .before .before in (x .pre, room-goes _ _ _ _ _ (i .before .before .judge-room .ensures) (sym (i .before .goes-on .ensures) ∙ not-false (i .before .goes-on .result) (i .if1 .left)))
 
--- src/turn.rt:326:1
 same-length : tie.Need-same-length
-same-length c = ?
+same-length c = search needs
 
--- src/turn.rt:326:1
 returns-2 : tie.Need-returns-2
-returns-2 c = ?
+returns-2 c = search needs
 
 pub turn-rows-spec : {M : Type 1} → statement M
 turn-rows-spec =
