@@ -29,7 +29,7 @@ ghost use Rattle.frames.specs.Room.{RowsIn};
 ghost use Rattle.buffer.specs.Reach.{needMore, pruneBy};
 ghost use Rattle.buffer.specs.Room.{LastIn, SplitIn};
 ghost use Rattle.node.specs.declared.Answer.the-variants.{Wrote};
-ghost use Rattle.node.specs.State.{heldOf, nextTurn};
+ghost use Rattle.node.specs.State.{heldOf, markedFailed, nextTurn};
 ghost use Rattle.node.specs.Calls.{badLeft, firstPrune, remembered, dropped, dequeued};
 ghost use Rattle.node.specs.Inner.{goesOn, readyAnswer, roomAnswer, badRightAt, orderAnswer, RowsTurned, Written, Counts, TurnIn, WriteIn, FrameIn};
 
@@ -242,21 +242,27 @@ fn remembered(m: Row, values: &[i64], marks: &[i64], n: usize, c: usize, o: Opti
 }
 
 // The join without d held rows and without a waiting frame of k words, at the next sequence, with the rows that are remembered now.
-fn leave(j: Join, d: usize, k: usize, last_left: Row, last_right: Row) -> Join
+fn leave(mut j: Join, d: usize, k: usize, last_left: Row, last_right: Row) -> Join
     requires { ⌜ Counts j k × (d ≤ j .held) × (j .sequence + 2 < 2 ^ 64) ⌝ }
     ensures { λ r. ⌜ r ≡ nextTurn (dequeued (dropped j d) k) «last_left» «last_right» ⌝ }
 {
-    Join {
-        base: j.base + d,
-        held: j.held - d,
-        pruned: j.pruned + d,
-        queue_start: j.queue_start + k,
-        queue_words: j.queue_words - k,
-        sequence: j.sequence + 2,
-        last_left: last_left,
-        last_right: last_right,
-        ..j
-    }
+    j.base += d;
+    j.held -= d;
+    j.pruned += d;
+    j.queue_start += k;
+    j.queue_words -= k;
+    j.sequence += 2;
+    j.last_left = last_left;
+    j.last_right = last_right;
+    j
+}
+
+// The join, failed.
+fn fail(mut j: Join) -> Join
+    ensures { λ r. ⌜ r ≡ markedFailed j ⌝ }
+{
+    j.failed = true;
+    j
 }
 
 // Writes the answer of n left rows over the kept rows, from which `last` are then dropped; `first` were dropped before.
@@ -314,7 +320,7 @@ fn turn_pruned(
     let last = last_prune(lv, lm, n, kv, km, j.held - first, c, o);
     let order = judge_order(j, c, n, last, lv, lm, rv, rm);
     if !goes_on(order) {
-        return unturned(order, Join { failed: true, ..j });
+        return unturned(order, fail(j));
     }
     TurnedJoin {
         answer: order,

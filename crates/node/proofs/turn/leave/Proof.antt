@@ -6,27 +6,27 @@ use Rattle.node.proofs.turn.leave.Tie as tie
 use Rattle.node.proofs.turn.leave.Reads as reads
 use Rattle.node.proofs.turn.leave.Lts as lts
 
-add-t6 : tie.Need-add-t6
-add-t6 c = search needs
+add-j : tie.Need-add-j
+add-j c = search needs
 
-sub-t7 : tie.Need-sub-t7
-sub-t7 c = search needs
+sub-j : tie.Need-sub-j
+sub-j c = search needs
 
-add-t8 : tie.Need-add-t8
-add-t8 c = search needs
+add-j-2 : tie.Need-add-j-2
+add-j-2 c = search needs
 
-add-t9 : tie.Need-add-t9
-add-t9 c = search needs
+add-j-3 : tie.Need-add-j-3
+add-j-3 c = search needs
 
-sub-t10 : tie.Need-sub-t10
-sub-t10 c = search needs
+sub-j-2 : tie.Need-sub-j-2
+sub-j-2 c = search needs
 
-add-t11 : tie.Need-add-t11
-add-t11 c = search needs
+add-j-4 : tie.Need-add-j-4
+add-j-4 c = search needs
 
 returns : tie.Need-returns
 unfolding dropped dequeued
 returns c = refl
 
 pub leave-spec : {M : Type 1} → statement M
-leave-spec = tie.close (tie.spec add-t6 sub-t7 add-t8 add-t9 sub-t10 add-t11 returns)
+leave-spec = tie.close (tie.spec add-j sub-j add-j-2 add-j-3 sub-j-2 add-j-4 returns)

@@ -11,6 +11,7 @@ use Rattle.node.proofs.turn.turn_pruned.Statement.{statement}
 use Rattle.node.proofs.turn.turn_pruned.Tie as tie
 use Rattle.node.proofs.turn.turn_pruned.Reads as reads
 use Rattle.node.proofs.turn.turn_pruned.Lts as lts
+use Rattle.node.proofs.turn.fail.Reads as fail-reads
 use Rattle.node.proofs.turn.first_prune.Reads as first-prune-reads
 use Rattle.node.proofs.turn.from_row.Reads as from-row-reads
 use Rattle.node.proofs.turn.goes_on.Reads as goes-on-reads
@@ -52,17 +53,20 @@ judge-order-requires c κs = let f = c .before .before .before .before in let p 
 goes-on-requires : tie.Need-goes-on-requires
 goes-on-requires c κs = search needs
 
+fail-requires : tie.Need-fail-requires
+fail-requires c κs = search needs
+
 unturned-requires : tie.Need-unturned-requires
 unturned-requires c κs = search needs
 
 returns : tie.Need-returns
 returns c =
-    let i = c .before .before .before .before in
+    let i = c .before .before in
     let q = i .before .before in
     let l = q .before in
     let f = l .before .before .before .before in
     let x = f .before .before in
-    rw (c .unturned .ensures) (order-stops _ _ _ _ (now (x .args .out)) (x .pre .1) _ (split l) _ (q .judge-order .ensures) (sym (i .before .goes-on .ensures) ∙ not-true (i .before .goes-on .result) (i .if1 .taken)))
+    rw (c .unturned .ensures, c .before .fail .ensures) (order-stops _ _ _ _ (now (x .args .out)) (x .pre .1) _ (split l) _ (q .judge-order .ensures) (sym (i .before .goes-on .ensures) ∙ not-true (i .before .goes-on .result) (i .if1 .taken)))
 
 write-turn-requires : tie.Need-write-turn-requires
 write-turn-requires c κs =
@@ -95,6 +99,7 @@ turn-pruned-spec =
     last-prune-requires
     judge-order-requires
     goes-on-requires
+    fail-requires
     unturned-requires
     returns
     write-turn-requires
