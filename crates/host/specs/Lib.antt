@@ -1,0 +1,4 @@
+pub mod Codes
+pub mod Convert
+pub mod Calls
+pub mod Leaves
