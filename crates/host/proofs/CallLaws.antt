@@ -1,24 +1,25 @@
 -- A call by numbers: refused as a bad join, or the node's call in numbers. One law for each serves all calls. Assumes nothing.
-use mathlib.Core.Path.{_≡_, refl, sym, _∙_, ap}
+use mathlib.Core.Path.{_≡_, refl}
 use mathlib.Core.Bool.{true, false, _&&_}
 use mathlib.Core.List.{[]}
 use mathlib.Core.Option.{none, some}
 use Prim.Native.Nat.{ℕ}
 use Rattle.frames.specs.Cells.{Words}
 use Rattle.node.specs.State.{fresh}
-use Rattle.node.specs.Calls.{After, openAnswer, endCall, portsCall}
-use Rattle.node.specs.Leaves.{EndLeaves, PortsLeaves}
+use Rattle.node.specs.Calls.{After, openAnswer, leftCall, rightCall, endCall, portsCall}
+use Rattle.node.specs.Leaves.{LeftLeaves, RightLeaves, EndLeaves, PortsLeaves}
 use Rattle.node.specs.declared.Join.{Join}
 use Rattle.node.specs.declared.PortState.{PortState}
 use Rattle.node.specs.declared.TookJoin.{TookJoin}
 use Rattle.node.specs.declared.PortedJoin.{PortedJoin}
 use Rattle.node.specs.declared.Refusal.the-variants.{BadOptions, BadJoin}
+use Rattle.node.specs.declared.Took.{Took}
 use Rattle.node.specs.declared.Took.the-variants.{Refused}
 use Rattle.node.specs.declared.Ported.the-variants.{Refused as PortsRefused}
 use Rattle.host.specs.Codes.{isCode, portOf}
 use Rattle.host.specs.Convert.{isOptions, optionsOf, decodeOptions, isJoin, joinOf, encode, decode}
-use Rattle.host.specs.Calls.{HostAfter, afterHost, encodeAfter, byJoin, tookHost, portedHost, freshHost, openHost, endHost, portsHost}
-use Rattle.host.specs.Leaves.{HostEndLeaves, HostPortsLeaves}
+use Rattle.host.specs.Calls.{HostAfter, afterHost, encodeAfter, byJoin, tookHost, portedHost, freshHost, openHost, leftHost, rightHost, endHost, portsHost}
+use Rattle.host.specs.Leaves.{HostLeftLeaves, HostRightLeaves, HostEndLeaves, HostPortsLeaves}
 use Rattle.host.specs.declared.HostOptions.{HostOptions}
 use Rattle.host.specs.declared.HostJoin.{HostJoin}
 use Rattle.host.specs.declared.HostTook.{HostTook}
@@ -78,6 +79,36 @@ module _ {A : Type 0} (h : HostJoin) (refused : HostAfter A) (call : Join → Af
 
   pub words-through : (g : HostAfter A → Words) {j : Join} {ws : Words} → isJoin h ≡ true → j ≡ joinOf h → ws ≡ g (encodeAfter (call j)) → ws ≡ g (byJoin h refused call)
   words-through g e i x = rw (by-some e, ← i) x
+
+-- ---- frames
+module _ (h : HostJoin) (left right f : Words) where
+  pub left-bad : (r : HostTook) → isJoin h ≡ false → r ≡ tookHost (Refused BadJoin) h → HostLeftLeaves h left right f r left
+  unfolding leftHost
+  left-bad r e x =
+      let no = afterHost (Refused BadJoin) h left right [] in
+      let call : Join → After Took = λ j. leftCall j left right f in
+      record { result = refuses h no call tookHost e x; words = words-refused h no call (λ y. y .left) e refl }
+
+  pub left-through : (j : Join) (t : TookJoin) (r : HostTook) (ws : Words) → isJoin h ≡ true → j ≡ joinOf h → LeftLeaves j left right f t ws → r ≡ tookHost (t .answer) (encode (t .join)) → HostLeftLeaves h left right f r ws
+  unfolding leftHost
+  left-through j t r ws e i l x =
+      let no = afterHost (Refused BadJoin) h left right [] in
+      let call : Join → After Took = λ j. leftCall j left right f in
+      record { result = through h no call tookHost e i (l .answer) (l .join) x; words = words-through h no call (λ y. y .left) e i (l .words) }
+
+  pub right-bad : (r : HostTook) → isJoin h ≡ false → r ≡ tookHost (Refused BadJoin) h → HostRightLeaves h left right f r right
+  unfolding rightHost
+  right-bad r e x =
+      let no = afterHost (Refused BadJoin) h left right [] in
+      let call : Join → After Took = λ j. rightCall j left right f in
+      record { result = refuses h no call tookHost e x; words = words-refused h no call (λ y. y .right) e refl }
+
+  pub right-through : (j : Join) (t : TookJoin) (r : HostTook) (ws : Words) → isJoin h ≡ true → j ≡ joinOf h → RightLeaves j left right f t ws → r ≡ tookHost (t .answer) (encode (t .join)) → HostRightLeaves h left right f r ws
+  unfolding rightHost
+  right-through j t r ws e i l x =
+      let no = afterHost (Refused BadJoin) h left right [] in
+      let call : Join → After Took = λ j. rightCall j left right f in
+      record { result = through h no call tookHost e i (l .answer) (l .join) x; words = words-through h no call (λ y. y .right) e i (l .words) }
 
 -- ---- the end of right
 module _ (h : HostJoin) (left right : Words) where

@@ -15,7 +15,7 @@ use convert::is_options;
 use convert::join_of;
 use convert::options_of;
 use node::Join;
-ghost use Rattle.host.specs.Leaves.{HostOpenLeaves, HostEndLeaves, HostPortsLeaves};
+ghost use Rattle.host.specs.Leaves.{HostOpenLeaves, HostLeftLeaves, HostRightLeaves, HostEndLeaves, HostPortsLeaves};
 
 // The options in numbers. A flag is 0 or 1; check is 0 off, 1 on.
 #[repr(C)]
@@ -92,6 +92,38 @@ pub extern "C" fn rowkeeper_open(h: HostOptions) -> HostTook
         refusal: 1,
         join: fresh_host(h),
     }
+}
+
+// Takes a left frame into the left area, behind those that wait.
+#[no_mangle]
+pub extern "C" fn rowkeeper_left(
+    h: HostJoin,
+    left: &mut [i64],
+    right: &[i64],
+    frame: &[i64],
+) -> HostTook
+    ensures { λ r. ⌜ HostLeftLeaves h (now (left .entry)) (now (right .entry)) (now (frame .entry)) r (now (left .exit)) ⌝ }
+{
+    if is_join(h) {
+        return took_host(join_of(h).left(left, right, frame));
+    }
+    bad_took(h)
+}
+
+// Takes a right frame's rows into the right area, behind the held ones.
+#[no_mangle]
+pub extern "C" fn rowkeeper_right(
+    h: HostJoin,
+    left: &[i64],
+    right: &mut [i64],
+    frame: &[i64],
+) -> HostTook
+    ensures { λ r. ⌜ HostRightLeaves h (now (left .entry)) (now (right .entry)) (now (frame .entry)) r (now (right .exit)) ⌝ }
+{
+    if is_join(h) {
+        return took_host(join_of(h).right(left, right, frame));
+    }
+    bad_took(h)
 }
 
 // Ends right: no right frame comes any more.
