@@ -6,24 +6,28 @@ use mathlib.Core.Option.{none, some}
 use Prim.Native.Nat.{ℕ}
 use Rattle.frames.specs.Cells.{Words}
 use Rattle.node.specs.State.{fresh}
-use Rattle.node.specs.Calls.{After, openAnswer, leftCall, rightCall, endCall, portsCall}
-use Rattle.node.specs.Leaves.{LeftLeaves, RightLeaves, EndLeaves, PortsLeaves}
+use Rattle.node.specs.Calls.{After, openAnswer, leftCall, rightCall, endCall, portsCall, turnCall}
+use Rattle.node.specs.Leaves.{LeftLeaves, RightLeaves, EndLeaves, PortsLeaves, TurnLeaves}
 use Rattle.node.specs.declared.Join.{Join}
 use Rattle.node.specs.declared.PortState.{PortState}
 use Rattle.node.specs.declared.TookJoin.{TookJoin}
 use Rattle.node.specs.declared.PortedJoin.{PortedJoin}
+use Rattle.node.specs.declared.TurnedJoin.{TurnedJoin}
 use Rattle.node.specs.declared.Refusal.the-variants.{BadOptions, BadJoin}
 use Rattle.node.specs.declared.Took.{Took}
 use Rattle.node.specs.declared.Took.the-variants.{Refused}
 use Rattle.node.specs.declared.Ported.the-variants.{Refused as PortsRefused}
+use Rattle.node.specs.declared.Answer.{Answer}
+use Rattle.node.specs.declared.Answer.the-variants.{Refused as TurnRefused}
 use Rattle.host.specs.Codes.{isCode, portOf}
 use Rattle.host.specs.Convert.{isOptions, optionsOf, decodeOptions, isJoin, joinOf, encode, decode}
-use Rattle.host.specs.Calls.{HostAfter, afterHost, encodeAfter, byJoin, tookHost, portedHost, freshHost, openHost, leftHost, rightHost, endHost, portsHost}
-use Rattle.host.specs.Leaves.{HostLeftLeaves, HostRightLeaves, HostEndLeaves, HostPortsLeaves}
+use Rattle.host.specs.Calls.{HostAfter, afterHost, encodeAfter, byJoin, tookHost, portedHost, turnedHost, freshHost, openHost, leftHost, rightHost, endHost, portsHost, turnHost}
+use Rattle.host.specs.Leaves.{HostLeftLeaves, HostRightLeaves, HostEndLeaves, HostPortsLeaves, HostTurnLeaves}
 use Rattle.host.specs.declared.HostOptions.{HostOptions}
 use Rattle.host.specs.declared.HostJoin.{HostJoin}
 use Rattle.host.specs.declared.HostTook.{HostTook}
 use Rattle.host.specs.declared.HostPorted.{HostPorted}
+use Rattle.host.specs.declared.HostTurned.{HostTurned}
 
 -- ---- what is read
 options-none : (h : HostOptions) → isOptions h ≡ false → decodeOptions h ≡ none
@@ -137,3 +141,19 @@ module _ (h : HostJoin) (left right : Words) (l r s : ℕ) where
   ports-through j a b d t x c e i pa pb pd k y =
       let k′ : PortsLeaves j left right (portOf l) (portOf r) (portOf s) t = rw (← pa, ← pb, ← pd) k in
       record { result = rw c (through h (afterHost (PortsRefused BadJoin) h left right []) (λ j. portsCall j left right (portOf l) (portOf r) (portOf s)) portedHost e i (k′ .answer) (k′ .join) y) }
+
+-- ---- a turn
+module _ (h : HostJoin) (left right out : Words) where
+  pub turn-bad : (r : HostTurned) → isJoin h ≡ false → r ≡ turnedHost (TurnRefused BadJoin) h → HostTurnLeaves h left right out r out
+  unfolding turnHost
+  turn-bad r e x =
+      let no = afterHost (TurnRefused BadJoin) h left right out in
+      let call : Join → After Answer = λ j. turnCall j left right out in
+      record { result = refuses h no call turnedHost e x; words = words-refused h no call (λ y. y .out) e refl }
+
+  pub turn-through : (j : Join) (t : TurnedJoin) (r : HostTurned) (ws : Words) → isJoin h ≡ true → j ≡ joinOf h → TurnLeaves j left right out t ws → r ≡ turnedHost (t .answer) (encode (t .join)) → HostTurnLeaves h left right out r ws
+  unfolding turnHost
+  turn-through j t r ws e i l x =
+      let no = afterHost (TurnRefused BadJoin) h left right out in
+      let call : Join → After Answer = λ j. turnCall j left right out in
+      record { result = through h no call turnedHost e i (l .answer) (l .join) x; words = words-through h no call (λ y. y .out) e i (l .words) }

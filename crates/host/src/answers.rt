@@ -3,21 +3,25 @@ use crate::HostJoin;
 use crate::HostOptions;
 use crate::HostPorted;
 use crate::HostTook;
+use crate::HostTurned;
 use crate::codes::number_of;
 use crate::codes::port_code;
 use crate::codes::took_code;
 use crate::convert::encode_join;
 use crate::convert::encode_row;
 use frames::no_row;
+use node::Answer;
 use node::Ported;
 use node::PortedJoin;
 use node::TookJoin;
+use node::TurnedJoin;
 ghost use mathlib.Core.Path.{_≡_};
 ghost use Rattle.node.specs.declared.Refusal.the-variants.{BadJoin};
 ghost use Rattle.node.specs.declared.Took.the-variants.{Refused};
 ghost use Rattle.node.specs.declared.Ported.the-variants.{Refused as PortsRefused};
+ghost use Rattle.node.specs.declared.Answer.the-variants.{Refused as TurnRefused};
 ghost use Rattle.host.specs.Convert.{encode};
-ghost use Rattle.host.specs.Calls.{tookHost, portedHost, freshHost};
+ghost use Rattle.host.specs.Calls.{tookHost, portedHost, turnedHost, freshHost};
 
 // A fresh join with any options.
 pub(crate) fn fresh_host(o: HostOptions) -> HostJoin
@@ -94,6 +98,52 @@ pub(crate) fn ported_host(p: PortedJoin) -> HostPorted
             left: 0,
             right: 0,
             send: 0,
+            join: join,
+        },
+    }
+}
+
+// The same of a turn.
+pub(crate) fn bad_turned(h: HostJoin) -> HostTurned
+    ensures { λ r. ⌜ r ≡ turnedHost (TurnRefused BadJoin) h ⌝ }
+{
+    HostTurned {
+        answer: 3,
+        refusal: 2,
+        sequence: 0,
+        join: h,
+    }
+}
+
+// The answer of a turn.
+pub(crate) fn turned_host(t: TurnedJoin) -> HostTurned
+    ensures { λ r. ⌜ r ≡ turnedHost (t .answer) (encode (t .join)) ⌝ }
+{
+    let answer = t.answer;
+    let join = encode_join(t.join);
+    match answer {
+        Answer::Wrote(s) => HostTurned {
+            answer: 0,
+            refusal: 0,
+            sequence: s,
+            join: join,
+        },
+        Answer::WantsRight => HostTurned {
+            answer: 1,
+            refusal: 0,
+            sequence: 0,
+            join: join,
+        },
+        Answer::Idle => HostTurned {
+            answer: 2,
+            refusal: 0,
+            sequence: 0,
+            join: join,
+        },
+        Answer::Refused(n) => HostTurned {
+            answer: 3,
+            refusal: number_of(n),
+            sequence: 0,
             join: join,
         },
     }
