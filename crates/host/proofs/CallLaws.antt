@@ -63,7 +63,7 @@ module _ {A : Type 0} (h : HostJoin) (refused : HostAfter A) (call : Join → Af
   by-none e = rw (join-none h e, byJoin)
 
   -- Numbers that are a join: the node's call of it.
-  by-some : isJoin h ≡ true → byJoin h refused call ≡ encodeAfter (call (joinOf h))
+  pub by-some : isJoin h ≡ true → byJoin h refused call ≡ encodeAfter (call (joinOf h))
   unfolding byJoin
   by-some e = rw (join-some h e, byJoin)
 

@@ -2,3 +2,4 @@ pub mod Codes
 pub mod Convert
 pub mod Calls
 pub mod Leaves
+pub mod Promises
