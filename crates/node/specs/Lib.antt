@@ -1,3 +1,4 @@
 pub mod State
 pub mod Calls
 pub mod Leaves
+pub mod Inner

@@ -36,19 +36,19 @@ enum-told-2 c = search needs
 taken : (c : tie.After-enum-told2) → let a = c .before .before .before .before .args in LeftTaken (a .self) (now (a .left)) (now (a .right)) (now (a .frame))
 taken c = left-taken _ _ _ _ (sym (c .before .before .judge-left .ensures) ∙ c .enum-told2 .given .1)
 
-add-words : tie.Need-add-words
-add-words c = omega (arith, taken (c .before) .room)
-
 append-requires : tie.Need-append-requires
-append-requires c κs = let t = taken (c .before .before) in record { within = t .good .left-room; room = t .room }
+append-requires c κs = let t = taken (c .before) in record { within = t .good .left-room; room = t .room }
+
+add-self : tie.Need-add-self
+add-self c = omega (arith, taken (c .before .before .before .before) .room)
 
 same-length-2 : tie.Need-same-length-2
 same-length-2 c = search needs
 
 returns-2 : tie.Need-returns-2
 returns-2 c =
-    let p = c .before .before .before .before in
-    let t = p .before .before .before in
+    let p = c .before .before in
+    let t = p .before .before in
     left-accepted _ _ _ _ _ (t .before .before .judge-left .ensures) (t .enum-told2 .given .1) _ _ (p .append .ensures .base-is) (p .append .ensures .area-is)
 
 pub left-spec : {M : Type 1} → statement M
@@ -61,7 +61,7 @@ left-spec =
     same-length
     returns
     enum-told-2
-    add-words
     append-requires
+    add-self
     same-length-2
     returns-2)

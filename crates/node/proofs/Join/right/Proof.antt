@@ -41,25 +41,27 @@ taken c = right-taken _ _ _ _ (sym (c .before .before .judge-right .ensures) ∙
 add-c : tie.Need-add-c
 add-c c = omega (arith, taken (c .before) .good .few)
 
-row-count-requires : tie.Need-row-count-requires
-row-count-requires c κs = has-count _ _ (taken (c .before) .frame)
-
-add-held : tie.Need-add-held
-add-held c = let n = c .before .row-count .ensures in omega (arith, n, taken (c .before .before .before) .rows)
-
 push-requires : tie.Need-push-requires
 push-requires c κs =
-    let t = taken (c .before .before .before .before) in
+    let t = taken (c .before .before) in
     rw add-one (record { columns = record { some = omega arith; few = omega (arith, t .good .few) }; frame = t .frame; within = t .good .right-room; room = t .room })
+
+row-count-requires : tie.Need-row-count-requires
+row-count-requires c κs = has-count _ _ (taken (c .before .before .before .before) .frame)
+
+add-self : tie.Need-add-self
+add-self c =
+    let n = c .before in
+    omega (arith, n .row-count .ensures, taken (n .before .before .before .before .before) .rows)
 
 same-length-2 : tie.Need-same-length-2
 same-length-2 c = search needs
 
 returns-2 : tie.Need-returns-2
 returns-2 c =
-    let p = c .before .before .before .before in
-    let n = p .before .before .before in
-    let t = n .before .before in
+    let n = c .before in
+    let p = n .before .before in
+    let t = p .before .before .before in
     let put = rw add-one at (p .push .ensures) in
     right-accepted _ _ _ _ _ (t .before .before .judge-right .ensures) (t .enum-told2 .given .1) _ _ _ (n .row-count .ensures) (put .base-is) (put .area-is)
 
@@ -74,8 +76,8 @@ right-spec =
     returns
     enum-told-2
     add-c
-    row-count-requires
-    add-held
     push-requires
+    row-count-requires
+    add-self
     same-length-2
     returns-2)
