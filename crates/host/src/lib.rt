@@ -5,9 +5,11 @@ mod convert;
 
 use answers::bad_ported;
 use answers::bad_took;
+use answers::bad_turned;
 use answers::fresh_host;
 use answers::ported_host;
 use answers::took_host;
+use answers::turned_host;
 use codes::are_codes;
 use codes::port_of;
 use convert::is_join;
@@ -15,7 +17,7 @@ use convert::is_options;
 use convert::join_of;
 use convert::options_of;
 use node::Join;
-ghost use Rattle.host.specs.Leaves.{HostOpenLeaves, HostLeftLeaves, HostRightLeaves, HostEndLeaves, HostPortsLeaves};
+ghost use Rattle.host.specs.Leaves.{HostOpenLeaves, HostLeftLeaves, HostRightLeaves, HostEndLeaves, HostPortsLeaves, HostTurnLeaves};
 
 // The options in numbers. A flag is 0 or 1; check is 0 off, 1 on.
 #[repr(C)]
@@ -156,4 +158,20 @@ pub extern "C" fn rowkeeper_ports(
         return ported_host(join_of(h).ports(left, right, port_of(l), port_of(r), port_of(s)));
     }
     bad_ported(h)
+}
+
+// One turn: the front of the queue is matched with the held rows, and its matches are written into the output.
+#[no_mangle]
+pub extern "C" fn rowkeeper_turn(
+    h: HostJoin,
+    left: &[i64],
+    right: &[i64],
+    out: &mut [i64],
+) -> HostTurned
+    ensures { λ r. ⌜ HostTurnLeaves h (now (left .entry)) (now (right .entry)) (now (out .entry)) r (now (out .exit)) ⌝ }
+{
+    if is_join(h) {
+        return turned_host(join_of(h).turn(left, right, out));
+    }
+    bad_turned(h)
 }
