@@ -19,8 +19,8 @@ use Rattle.matching.specs.Groups.{matchFrame}
 use Rattle.matching.specs.Answer.{answered}
 use Rattle.matching.proofs.ChoiceLaws.{cond-ind}
 use Rattle.node.specs.State.{widthOf, isDone, lastSequence, badJoin, heldOf, waiting}
-use Rattle.node.specs.Calls.{after, firstPrune, badLeft, badRight, turnAnswer, turned, turnCall}
-use Rattle.node.specs.Inner.{readyAnswer, roomAnswer, badRightAt, orderAnswer, goesOn, keptRows, lastPrune, rowsAnswer, leftJoin, rowsTurn, RowsTurned, FrameIn}
+use Rattle.node.specs.Calls.{wrote, after, firstPrune, badLeft, badRight, turnAnswer, turned, turnCall}
+use Rattle.node.specs.Inner.{readyAnswer, roomAnswer, badRightAt, orderAnswer, keptRows, lastPrune, rowsAnswer, leftJoin, rowsTurn, RowsTurned, FrameIn}
 use Rattle.node.specs.Leaves.{TurnLeaves}
 use Rattle.node.proofs.Good.{Good, good}
 use Rattle.node.proofs.Tests.{past}
@@ -58,7 +58,7 @@ comes-to : (a b c d e : Bool) (x : Answer) → a ≡ false → b ≡ false → c
     cond a (Refused BadJoin) (cond b (Refused Failed) (cond c (Refused Closed) (cond d Idle (cond (not e) (Refused BadFrame) x)))) ≡ x
 comes-to a b c d e x pa pb pc pd pe = rw (pa, pb, pc, pd, pe)
 
-stays-at : (a b c d : Bool) (s : ℕ) (x : Answer) → goesOn (cond a (Refused BadJoin) (cond b (Refused Failed) (cond c (Refused Closed) (cond d Idle (Wrote s))))) ≡ false →
+stays-at : (a b c d : Bool) (s : ℕ) (x : Answer) → wrote (cond a (Refused BadJoin) (cond b (Refused Failed) (cond c (Refused Closed) (cond d Idle (Wrote s))))) ≡ false →
     cond a (Refused BadJoin) (cond b (Refused Failed) (cond c (Refused Closed) (cond d Idle x))) ≡ cond a (Refused BadJoin) (cond b (Refused Failed) (cond c (Refused Closed) (cond d Idle (Wrote s))))
 stays-at true b c d s x g = refl
 stays-at false true c d s x g = refl
@@ -107,26 +107,26 @@ module _ (j : Join) (left right out : Words) where
       let p = past (eqb (j .«queue_words») 0) Idle (Wrote (j .sequence)) (Wrote (j .sequence)) (idle-apart _) (p4 .1) in
       record { unbroken = p2 .0; unfailed = p3 .0; undone = p4 .0; some = p .0 }
 
-  pub ready-goes : (t : Answer) → t ≡ readyAnswer j left right → goesOn t ≡ true → Ready
+  pub ready-goes : (t : Answer) → t ≡ readyAnswer j left right → wrote t ≡ true → Ready
   ready-goes t e g =
-      is-ready (ready-all (λ a. goesOn a ≡ true → a ≡ Wrote (j .sequence)) (λ x. cc) (λ x. cc) (λ x. cc) (λ x. cc) (λ x. refl) (sym (ap goesOn e) ∙ g))
+      is-ready (ready-all (λ a. wrote a ≡ true → a ≡ Wrote (j .sequence)) (λ x. cc) (λ x. cc) (λ x. cc) (λ x. cc) (λ x. refl) (sym (ap wrote e) ∙ g))
 
   -- A turn that is not ready answers so and changes nothing.
-  stops : (a : Answer) → turnAnswer j left right out ≡ a → goesOn a ≡ false → TurnLeaves j left right out (record { answer = a; join = stopped j a }) out
+  stops : (a : Answer) → turnAnswer j left right out ≡ a → wrote a ≡ false → TurnLeaves j left right out (record { answer = a; join = stopped j a }) out
   unfolding turnCall
   stops (Wrote s) e g = let z : _≡_ {A = ℕ} 0 1 = cc in absurd (omega arith)
   stops WantsRight e g = record { answer = rw (e, turnCall); join = rw (e, turnCall); words = rw (e, turnCall) }
   stops Idle e g = record { answer = rw (e, turnCall); join = rw (e, turnCall); words = rw (e, turnCall) }
   stops (Refused n) e g = record { answer = rw (e, turnCall); join = rw (e, turnCall); words = rw (e, turnCall) }
 
-  unready : goesOn (readyAnswer j left right) ≡ false → turnAnswer j left right out ≡ readyAnswer j left right
+  unready : wrote (readyAnswer j left right) ≡ false → turnAnswer j left right out ≡ readyAnswer j left right
   unfolding turnAnswer readyAnswer
   unready g = stays-at (badJoin j left right) (j .failed) (isDone (j .state)) (eqb (j .«queue_words») 0) (j .sequence) _ g
 
-  pub ready-stops : (t : Answer) → t ≡ readyAnswer j left right → goesOn t ≡ false → TurnLeaves j left right out (record { answer = t; join = j }) out
+  pub ready-stops : (t : Answer) → t ≡ readyAnswer j left right → wrote t ≡ false → TurnLeaves j left right out (record { answer = t; join = j }) out
   ready-stops t e g =
       let same : stopped j t ≡ j = rw e (ready-all (λ a. stopped j a ≡ j) refl refl refl refl refl) in
-      rw same at (stops t (unready (sym (ap goesOn e) ∙ g) ∙ sym e) g)
+      rw same at (stops t (unready (sym (ap wrote e) ∙ g) ∙ sym e) g)
 
   -- ---- the front
   module _ (r : Ready) where

@@ -24,8 +24,8 @@ use Rattle.buffer.proofs.SplitLaw.{split-within}
 use Rattle.buffer.proofs.BeforeLaws.{bad-split-is, rows-take}
 use Rattle.matching.proofs.ChoiceLaws.{cond-ind}
 use Rattle.node.specs.State.{heldOf, nextTurn, markedFailed, lastSequence, widthOf}
-use Rattle.node.specs.Calls.{badLeft, badRight, firstPrune, remembered, dropped, dequeued, spoiled}
-use Rattle.node.specs.Inner.{roomAnswer, badRightAt, orderAnswer, goesOn, keptRows, lastPrune, rowsAnswer, rowsTurn, RowsTurned, leftJoin, Written, TurnIn, WriteIn, FrameIn}
+use Rattle.node.specs.Calls.{wrote, badLeft, badRight, firstPrune, remembered, dropped, dequeued, spoiled}
+use Rattle.node.specs.Inner.{roomAnswer, badRightAt, orderAnswer, keptRows, lastPrune, rowsAnswer, rowsTurn, RowsTurned, leftJoin, Written, TurnIn, WriteIn, FrameIn}
 use Rattle.node.proofs.Good.{next-sequence}
 use Rattle.node.proofs.Tests.{past}
 use Rattle.node.specs.declared.Join.{Join}
@@ -82,12 +82,12 @@ module _ (j : Join) (rows held : Rows) where
       cond-ind P (badRightAt (j .options) (j .«last_right») (length rows) s held) (λ u. p9) (λ u. p))
 
   -- A turn that has what it needs, and rows in order, writes at the sequence that it came with.
-  pub room-goes : (room : ℕ) (t : Answer) → t ≡ roomAnswer j rows held room → goesOn t ≡ true → roomAnswer j rows held room ≡ Wrote (j .sequence)
+  pub room-goes : (room : ℕ) (t : Answer) → t ≡ roomAnswer j rows held room → wrote t ≡ true → roomAnswer j rows held room ≡ Wrote (j .sequence)
   room-goes room t e g =
-      room-all (λ a. goesOn a ≡ true → a ≡ Wrote (j .sequence)) room (λ x. cc) (λ x. cc) (λ x. cc) (λ x. refl) (sym (ap goesOn e) ∙ g)
+      room-all (λ a. wrote a ≡ true → a ≡ Wrote (j .sequence)) room (λ x. cc) (λ x. cc) (λ x. cc) (λ x. refl) (sym (ap wrote e) ∙ g)
 
-  order-writes : (s : ℕ) (t : Answer) → t ≡ orderAnswer j rows held s → goesOn t ≡ true → orderAnswer j rows held s ≡ Wrote (j .sequence)
-  order-writes s t e g = order-all (λ a. goesOn a ≡ true → a ≡ Wrote (j .sequence)) s (λ x. cc) (λ x. cc) (λ x. refl) (sym (ap goesOn e) ∙ g)
+  order-writes : (s : ℕ) (t : Answer) → t ≡ orderAnswer j rows held s → wrote t ≡ true → orderAnswer j rows held s ≡ Wrote (j .sequence)
+  order-writes s t e g = order-all (λ a. wrote a ≡ true → a ≡ Wrote (j .sequence)) s (λ x. cc) (λ x. cc) (λ x. refl) (sym (ap wrote e) ∙ g)
 
   -- What a turn that has what it needs can count on.
   pub room-there : (room : ℕ) → roomAnswer j rows held room ≡ Wrote (j .sequence) → (2 + 2 * length rows ≤ room) × (j .sequence ≡ lastSequence → ⊥)
@@ -99,14 +99,14 @@ module _ (j : Join) (rows held : Rows) where
       (ltb-false room (2 + 2 * length rows) (q .0), eqb-false (j .sequence) lastSequence (r .0))
 
   module _ (k : ℕ) (out : Words) where
-    not-written : (a : Answer) → rowsAnswer j rows held (length out) ≡ a → goesOn a ≡ false → RowsTurned j rows held k out (record { answer = a; join = stopped j a }) out
+    not-written : (a : Answer) → rowsAnswer j rows held (length out) ≡ a → wrote a ≡ false → RowsTurned j rows held k out (record { answer = a; join = stopped j a }) out
     unfolding rowsTurn
     not-written (Wrote s) e g = let z : _≡_ {A = ℕ} 0 1 = cc in absurd (omega arith)
     not-written WantsRight e g = record { answer = rw (e, rowsTurn); join = rw (e, rowsTurn); words = rw (e, rowsTurn) }
     not-written Idle e g = record { answer = rw (e, rowsTurn); join = rw (e, rowsTurn); words = rw (e, rowsTurn) }
     not-written (Refused n) e g = record { answer = rw (e, rowsTurn); join = rw (e, rowsTurn); words = rw (e, rowsTurn) }
 
-    without : (a : Answer) → roomAnswer j rows held (length out) ≡ a → goesOn a ≡ false → rowsAnswer j rows held (length out) ≡ a
+    without : (a : Answer) → roomAnswer j rows held (length out) ≡ a → wrote a ≡ false → rowsAnswer j rows held (length out) ≡ a
     unfolding rowsAnswer
     without (Wrote s) e g = let z : _≡_ {A = ℕ} 0 1 = cc in absurd (omega arith)
     without WantsRight e g = rw (e, rowsAnswer)
@@ -114,7 +114,7 @@ module _ (j : Join) (rows held : Rows) where
     without (Refused n) e g = rw (e, rowsAnswer)
 
     -- Without what it needs it changes nothing.
-    pub room-stops : (t : Answer) → t ≡ roomAnswer j rows held (length out) → goesOn t ≡ false → RowsTurned j rows held k out (record { answer = t; join = j }) out
+    pub room-stops : (t : Answer) → t ≡ roomAnswer j rows held (length out) → wrote t ≡ false → RowsTurned j rows held k out (record { answer = t; join = j }) out
     room-stops t e g =
         let same : stopped j t ≡ j = rw e (room-all (λ a. stopped j a ≡ j) (length out) refl refl refl refl) in
         rw same at (not-written t (without t (sym e) g) g)
@@ -125,12 +125,12 @@ module _ (j : Join) (rows held : Rows) where
       is-order = rw (needs, rowsAnswer, judged, at)
 
       -- Rows that are out of order mark the join failed, and change nothing else.
-      pub order-stops : goesOn t ≡ false → RowsTurned j rows held k out (record { answer = t; join = markedFailed j }) out
+      pub order-stops : wrote t ≡ false → RowsTurned j rows held k out (record { answer = t; join = markedFailed j }) out
       order-stops g =
-          let same : goesOn t ≡ false → stopped j t ≡ markedFailed j = rw judged (order-all (λ a. goesOn a ≡ false → stopped j a ≡ markedFailed j) s (λ x. refl) (λ x. refl) (λ x. let z : _≡_ {A = ℕ} 0 1 = cc in absurd (omega arith))) in
+          let same : wrote t ≡ false → stopped j t ≡ markedFailed j = rw judged (order-all (λ a. wrote a ≡ false → stopped j a ≡ markedFailed j) s (λ x. refl) (λ x. refl) (λ x. let z : _≡_ {A = ℕ} 0 1 = cc in absurd (omega arith))) in
           rw (same g) at (not-written t is-order g)
 
-      pub order-goes : goesOn t ≡ true → (kept : Rows) (first : ℕ) (r : Join) (out′ : Words) → kept ≡ keptRows (j .options) rows held → first ≡ firstPrune (j .options) rows held
+      pub order-goes : wrote t ≡ true → (kept : Rows) (first : ℕ) (r : Join) (out′ : Words) → kept ≡ keptRows (j .options) rows held → first ≡ firstPrune (j .options) rows held
           → Written j rows kept first s k out r out′ → RowsTurned j rows held k out (record { answer = t; join = r }) out′
       unfolding rowsTurn
       order-goes g kept first r out′ ek ef w =

@@ -54,13 +54,6 @@ orderAnswer j rows held s =
     (cond (badRightAt (j .options) (j .«last_right») (length rows) s held) (Refused RightOrder)
     (Wrote (j .sequence)))
 
--- The turn goes on.
-abbrev pub goesOn : Answer → Bool
-goesOn (Wrote s) = true
-goesOn WantsRight = false
-goesOn Idle = false
-goesOn (Refused n) = false
-
 -- ---- what a turn that has its rows leaves
 -- The held rows that the first prune leaves, and how many of them the prune by the last row drops.
 unfoldable pub keptRows : Options → Rows → Rows → Rows

@@ -30,8 +30,8 @@ ghost use Rattle.buffer.specs.Reach.{needMore, pruneBy};
 ghost use Rattle.buffer.specs.Room.{LastIn, SplitIn};
 ghost use Rattle.node.specs.declared.Answer.the-variants.{Wrote};
 ghost use Rattle.node.specs.State.{heldOf, markedFailed, nextTurn};
-ghost use Rattle.node.specs.Calls.{badLeft, firstPrune, remembered, dropped, dequeued};
-ghost use Rattle.node.specs.Inner.{goesOn, readyAnswer, roomAnswer, badRightAt, orderAnswer, RowsTurned, Written, Counts, TurnIn, WriteIn, FrameIn};
+ghost use Rattle.node.specs.Calls.{wrote, badLeft, firstPrune, remembered, dropped, dequeued};
+ghost use Rattle.node.specs.Inner.{readyAnswer, roomAnswer, badRightAt, orderAnswer, RowsTurned, Written, Counts, TurnIn, WriteIn, FrameIn};
 
 // The last sequence.
 const LAST_SEQUENCE: u64 = 18446744073709551614;
@@ -48,7 +48,7 @@ pub(crate) fn unturned(answer: Answer, j: Join) -> TurnedJoin
 
 // Whether the turn goes on.
 pub(crate) fn goes_on(answer: Answer) -> bool
-    ensures { λ r. ⌜ r ≡ goesOn answer ⌝ }
+    ensures { λ r. ⌜ r ≡ wrote answer ⌝ }
 {
     match answer {
         Answer::Wrote(_) => true,
