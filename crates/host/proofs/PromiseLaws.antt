@@ -1,8 +1,7 @@
 -- A refused call keeps all, and the join of a refused opening is refused by every call. Assumes nothing.
 use mathlib.Core.Path.{_≡_, refl, sym, _∙_, ap, subst}
-use mathlib.Core.Bool.{Bool, true, false, cond, _&&_, _||_}
+use mathlib.Core.Bool.{Bool, true, false, cond, _&&_}
 use mathlib.Core.List.{[]}
-use mathlib.Core.Option.{none, some}
 use Prim.Native.Nat.{ℕ}
 use native.Mathlib.Omega.{arith}
 use borrow.Author.Tests.{not-true}
@@ -23,9 +22,9 @@ use Rattle.node.specs.declared.Answer.{Answer}
 use Rattle.node.specs.declared.Answer.the-variants.{Wrote, WantsRight, Idle, Refused as TurnRefused}
 use Rattle.node.proofs.Good.{opened-bad}
 use Rattle.host.specs.Codes.{isCode, portOf, tookCode}
-use Rattle.host.specs.Convert.{isOptions, optionsOf, isJoin, joinOf, encode}
+use Rattle.host.specs.Convert.{isOptions, optionsOf, isJoin, joinOf}
 use Rattle.host.specs.Calls.{HostAfter, afterHost, encodeAfter, byJoin, freshHost, openHost, leftHost, rightHost, endHost, portsHost, turnHost}
-use Rattle.host.specs.Promises.{spoils, stays, Kept, Shut, Promises}
+use Rattle.host.specs.Promises.{spoils, stays, Shut, Promises}
 use Rattle.host.specs.declared.HostOptions.{HostOptions}
 use Rattle.host.specs.declared.HostJoin.{HostJoin}
 use Rattle.host.proofs.ConvertLaws.{join-numbers, join-same}
