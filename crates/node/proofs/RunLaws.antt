@@ -6,12 +6,10 @@ use Prim.Native.Nat.{ℕ, suc, _+_, _-_, _*_, _≤_, _<_}
 use native.Mathlib.Omega.{arith}
 use borrow.Author.Tests.{ltb-false, le-leb, not-false}
 use lib.Dec.{ltb, eqb}
-
 use lib.ListN.{length, take, drop, length-append, length-drop, take-append-drop, drop-of-length-le}
 use lib.Seq.{take-all, drop-at, length-take-le, take-append-add, drop-append-add}
 use Rattle.frames.specs.Cells.{Rows, Words}
 use Rattle.frames.specs.Frame.{isFrame, frameRows, front}
-
 use Rattle.frames.specs.Room.{HasCount}
 use Rattle.frames.proofs.FrameLaws.{frame-rows}
 use Rattle.frames.proofs.FrontLaws.{frame-few}
