@@ -1,7 +1,7 @@
 -- The loop's invariant: the rest of the run, behind the words written, gives what the whole run gives. The measure is what is left of k. Assumes nothing.
 use mathlib.Core.Path.{_≡_, sym, _∙_}
 use mathlib.Core.Bool.{true}
-use Prim.Native.Nat.{_-_}
+use Prim.Native.Nat.{_-_, _<_}
 use native.Mathlib.Omega.{arith}
 use borrow.Author.Tests.{not-true, not-false}
 use Rattle.node.specs.Calls.{wrote}
@@ -18,6 +18,10 @@ abbrev μ-loop : tie.MeasureT-loop
 
 loop-holds : tie.Need-loop-holds Inv-loop μ-loop
 loop-holds c = run-starts _ _ _ _ _
+
+-- Another turn is tried only where fewer than k wrote.
+more : (c : tie.In-loop Inv-loop μ-loop) → c .before .loop .made < c .before .before .args .k
+more c = omega (arith, c .loop-test .taken)
 
 mul-turn : tie.Need-mul-turn Inv-loop μ-loop
 mul-turn c = omega arith
@@ -44,14 +48,14 @@ same-length : tie.Need-same-length Inv-loop μ-loop
 same-length c =
     let u = c .before .before .before .before .before in
     let l = u .before .before in
-    put-length _ _ _ _ _ (l .before .loop .inv) (l .loop-test .taken) _ _ (u .turn .ensures) ∙ l .before .loop .inv .same
+    put-length _ _ _ _ _ (l .before .loop .inv) (more l) _ _ (u .turn .ensures) ∙ l .before .loop .inv .same
 
 returns : tie.Need-returns Inv-loop μ-loop
 returns c =
     let i = c .before in
     let u = i .before .before .before .before in
     let l = u .before .before in
-    run-stops _ _ _ _ _ (l .before .loop .inv) (l .loop-test .taken) _ _ (u .turn .ensures)
+    run-stops _ _ _ _ _ (l .before .loop .inv) (more l) _ _ (u .turn .ensures)
     (sym (i .before .goes-on .ensures) ∙ not-true (i .before .goes-on .result) (i .if1 .taken)) _ (c .stop-of .ensures)
 
 -- The turn wrote.
@@ -65,7 +69,7 @@ sub-turn-words : tie.Need-sub-turn-words Inv-loop μ-loop
 sub-turn-words c =
     let u = c .before .before .before .before in
     let l = u .before .before in
-    omega (arith, put-length _ _ _ _ _ (l .before .loop .inv) (l .loop-test .taken) _ _ (u .turn .ensures), l .before .loop .inv .within)
+    omega (arith, put-length _ _ _ _ _ (l .before .loop .inv) (more l) _ _ (u .turn .ensures), l .before .loop .inv .within)
 
 part-turn-words-start : tie.Need-part-turn-words-start Inv-loop μ-loop
 part-turn-words-start c = sub-turn-words (c .before)
@@ -78,14 +82,14 @@ turn-words-requires c κs =
     let i = c .before .before in
     let u = i .before .before .before .before in
     let l = u .before .before in
-    run-count _ _ _ _ _ (l .before .loop .inv) (l .loop-test .taken) _ _ (u .turn .ensures) (goes i)
+    run-count _ _ _ _ _ (l .before .loop .inv) (more l) _ _ (u .turn .ensures) (goes i)
 
 add-at : tie.Need-add-at Inv-loop μ-loop
 add-at c =
     let i = c .before .before .before in
     let u = i .before .before .before .before in
     let l = u .before .before in
-    omega (arith, run-within _ _ _ _ _ (l .before .loop .inv) (l .loop-test .taken) _ _ (u .turn .ensures) (goes i) _ (c .turn-words .ensures), l .before .loop .inv .same, l .before .before .good .1 .1 .1 .1 .0 .0)
+    omega (arith, run-within _ _ _ _ _ (l .before .loop .inv) (more l) _ _ (u .turn .ensures) (goes i) _ (c .turn-words .ensures), l .before .loop .inv .same, l .before .before .good .1 .1 .1 .1 .0 .0)
 
 add-made : tie.Need-add-made Inv-loop μ-loop
 add-made c = omega arith
@@ -98,13 +102,13 @@ loop-again c =
     let i = c .before .before .before in
     let u = i .before .before .before .before in
     let l = u .before .before in
-    run-more _ _ _ _ _ (l .before .loop .inv) (l .loop-test .taken) _ _ (u .turn .ensures) (goes i) _ (c .turn-words .ensures)
+    run-more _ _ _ _ _ (l .before .loop .inv) (more l) _ _ (u .turn .ensures) (goes i) _ (c .turn-words .ensures)
 
 same-length-2 : tie.Need-same-length-2 Inv-loop μ-loop
 same-length-2 c = c .before .loop .inv .same
 
 returns-2 : tie.Need-returns-2 Inv-loop μ-loop
-returns-2 c = run-used _ _ _ _ _ (c .before .loop .inv) (c .loop-test .left)
+returns-2 c = run-used _ _ _ _ _ (c .before .loop .inv) (omega (arith, c .loop-test .left))
 
 pub run-spec : {M : Type 1} → statement M
 run-spec =
