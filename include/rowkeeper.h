@@ -78,8 +78,8 @@
  *
  * POINTERS, OWNERSHIP, THREADS
  *
- * - Every pointer must be aligned to 8 bytes and point to as many words as its length says. It must not be null, not even
- *   where the length is 0: any aligned address of the host's will do then.
+ * - A pointer must be aligned to 8 bytes and lead to as many words as its length says. Where the length is 0 any pointer
+ *   serves, null too: nothing is read or written through it.
  * - What a call may write (a pointer that is not const) must not overlap anything else that the same call is given.
  * - All memory stays the host's. No call keeps a pointer: what is lent is the host's again when the call returns.
  * - A call never allocates, blocks, prints, exits, unwinds, sets errno or touches memory outside what it is lent.

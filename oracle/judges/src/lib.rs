@@ -5,3 +5,4 @@ pub mod generate;
 pub mod rules;
 pub mod script;
 pub mod whole_table;
+pub mod words;
