@@ -3,10 +3,11 @@ use std::io::{BufWriter, Write};
 use std::path::Path;
 use std::process::ExitCode;
 
+use judges::drive::{drive, exit, number};
 use judges::generate::{Kind, script};
 use judges::rules::Rules;
 use oracle::rust::{Rust, Ways};
-use oracle::{drive, edits, exit, notice, number, sample, selftest};
+use oracle::{edits, notice, sample, selftest};
 
 /// What the program can be asked for.
 const USAGE: &str = "oracle rust | rules                   answer the script on standard input

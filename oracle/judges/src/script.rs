@@ -113,9 +113,10 @@ impl fmt::Display for Answer {
             Answer::Idle => write!(f, "idle"),
             Answer::NoJoin => write!(f, "no join"),
             Answer::State(look) => write!(f, "{look}"),
-            Answer::Areas(left, right) => {
-                write!(f, "areas").and_then(|_| words(f, left)).and_then(|_| write!(f, " |")).and_then(|_| words(f, right))
-            },
+            Answer::Areas(left, right) => write!(f, "areas")
+                .and_then(|_| words(f, left))
+                .and_then(|_| write!(f, " |"))
+                .and_then(|_| words(f, right)),
             Answer::Words(w) => write!(f, "words").and_then(|_| words(f, &w[..])),
             Answer::Nothing => write!(f, "-"),
         }
@@ -219,7 +220,9 @@ pub fn parse_line(line: &str) -> Result<Option<Call>, String> {
         ("put", a) => parse_put(Place::Join, a)?,
         ("put-left", a) => parse_put(Place::Left, a)?,
         ("put-right", a) => parse_put(Place::Right, a)?,
-        ("turn" | "end" | "state" | "areas" | "words", a) => return Err(format!("{name} does not take {} words", a.len())),
+        ("turn" | "end" | "state" | "areas" | "words", a) => {
+            return Err(format!("{name} does not take {} words", a.len()));
+        },
         _ => return Err(format!("{name} is no call")),
     };
     Ok(Some(call))

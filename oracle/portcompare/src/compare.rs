@@ -7,8 +7,7 @@ use judges::rules::Rules;
 use judges::script::{Answer, Call, Judge};
 use oracle::compare::{Tally, no_counterpart, panic_text, parted};
 use oracle::rust::Rust;
-
-use crate::port::Port;
+use port::Port;
 
 /// What a run had in it.
 #[derive(Default, Clone)]
