@@ -109,6 +109,6 @@ int main(void) {
     want(end_with(took.join, 19, 1) == ROWKEEPER_CLOSED, "right_ended", 19);
     want(end_with(took.join, 18, ROWKEEPER_DONE) == ROWKEEPER_CLOSED, "state", 18);
     answers(took.join);
-    if (!failed) printf("ok   layout: sizes, offsets, and each field of a join where the archive reads it\n");
+    if (!failed) printf("sizes, offsets, and each field of a join where the archive reads it\n");
     return failed;
 }
