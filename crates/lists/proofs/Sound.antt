@@ -39,7 +39,9 @@ use Rattle.lists.specs.Lists.{rowsIn, Entry, writtenIn, matchesIn}
 use Rattle.lists.specs.Demand.{asWritten}
 use Rattle.lists.proofs.ListLaws.{rows-in-append, matches-append, take-next, take-more}
 use Rattle.lists.proofs.Stock.{Frames, written-back}
-use Rattle.lists.proofs.Turn.{keptBy, lastBy, leftBy, matchedBy, first-within, prune-within}
+use Rattle.node.specs.Inner.{keptRows, lastPrune}
+use Rattle.node.proofs.TurnLaws.{first-within, prune-within}
+use Rattle.lists.proofs.Turn.{leftBy, matchedBy}
 
 -- ---- small laws of lists
 map-same : {A B : Type 0} (f g : A → B) (xs : List A) → ((i : ℕ) → i < length xs → (d : A) → f (getD xs i d) ≡ g (getD xs i d)) → map f xs ≡ map g xs
@@ -100,8 +102,8 @@ module _ (o : Options) where
 
   -- The prune by row 0, where the check is off.
   first-by : (left held F : Rows) → sorted o (held ++ F) ≡ true → (x : List Cell) → (noPrune left held ≡ false → AtMost (cmpRow o) (getD left 0 []) x) → (n : ℕ)
-      → matchTable o n (held ++ F) x ≡ matchTable o (n + firstPrune o left held) (keptBy o left held ++ F) x
-  unfolding keptBy firstPrune
+      → matchTable o n (held ++ F) x ≡ matchTable o (n + firstPrune o left held) (keptRows o left held ++ F) x
+  unfolding keptRows firstPrune
   first-by left held F s x h n = go (isOn (o .check))
     where
       go : (b : Bool) → matchTable o n (held ++ F) x ≡ matchTable o (n + cond b 0 (pruneBy o 0 left held)) (drop (cond b 0 (pruneBy o 0 left held)) held ++ F) x
@@ -145,24 +147,24 @@ all-parts P p d rs h = all-cut P (take p rs) (take d (drop p rs)) (rw (take-add 
 
 -- ---- what is kept for matching
 module _ (o : Options) (left held : Rows) where
-  kept-sorted : sorted o held ≡ true → sorted o (keptBy o left held) ≡ true
-  unfolding keptBy
+  kept-sorted : sorted o held ≡ true → sorted o (keptRows o left held) ≡ true
+  unfolding keptRows
   kept-sorted s = sorted-drop o (firstPrune o left held) held s
 
-  kept-sorted-more : (F : Rows) → sorted o (held ++ F) ≡ true → sorted o (keptBy o left held ++ F) ≡ true
-  unfolding keptBy
+  kept-sorted-more : (F : Rows) → sorted o (held ++ F) ≡ true → sorted o (keptRows o left held ++ F) ≡ true
+  unfolding keptRows
   kept-sorted-more F s = sorted-more o (firstPrune o left held) held F (first-within o left held) s
 
-  gone-rows : (n : ℕ) → drop n (keptBy o left held) ≡ drop n (drop (firstPrune o left held) held)
-  unfolding keptBy
+  gone-rows : (n : ℕ) → drop n (keptRows o left held) ≡ drop n (drop (firstPrune o left held) held)
+  unfolding keptRows
   gone-rows n = refl
 
   -- The prune by the last row, over what is kept.
-  last-by : (F : Rows) → sorted o (keptBy o left held ++ F) ≡ true → (x : List Cell)
-      → (noPrune left (keptBy o left held) ≡ false → AtMost (cmpRow o) (getD left (length left - 1) []) x) → (n : ℕ)
-      → matchTable o n (keptBy o left held ++ F) x ≡ matchTable o (n + lastBy o left held) (drop (lastBy o left held) (keptBy o left held) ++ F) x
-  unfolding lastBy
-  last-by F s x h n = prune-by o (length left - 1) left (keptBy o left held) F s x h n
+  last-by : (F : Rows) → sorted o (keptRows o left held ++ F) ≡ true → (x : List Cell)
+      → (noPrune left (keptRows o left held) ≡ false → AtMost (cmpRow o) (getD left (length left - 1) []) x) → (n : ℕ)
+      → matchTable o n (keptRows o left held ++ F) x ≡ matchTable o (n + lastPrune o left held) (drop (lastPrune o left held) (keptRows o left held) ++ F) x
+  unfolding lastPrune
+  last-by F s x h n = prune-by o (length left - 1) left (keptRows o left held) F s x h n
 
 -- A place in a list does not ask for what stands behind it.
 getD-any : {A : Type 0} (xs : List A) (i : ℕ) (d e : A) → i < length xs → getD xs i d ≡ getD xs i e
@@ -222,7 +224,7 @@ module _ (o : Options) (L R Os : List Words) (ended : Bool) (j : Join) (S : Soun
   first = firstPrune o rows held
 
   abbrev last : ℕ
-  last = lastBy o rows held
+  last = lastPrune o rows held
 
   first-few : first ≤ length held
   first-few = first-within o rows held
@@ -241,25 +243,25 @@ module _ (o : Options) (L R Os : List Words) (ended : Bool) (j : Join) (S : Soun
           go false q = wait-by o rows held F sorted-hf (need q) sorted-rows i h (j .pruned)
 
       -- The match of each row of the frame is that of the whole table.
-      each-row : (i : ℕ) → i < length rows → matchTable o (j .pruned + first) (keptBy o rows held) (getD rows i []) ≡ matchTable o 0 (A ++ F) (getD rows i [])
+      each-row : (i : ℕ) → i < length rows → matchTable o (j .pruned + first) (keptRows o rows held) (getD rows i []) ≡ matchTable o 0 (A ++ F) (getD rows i [])
       each-row i h =
           let x = getD rows i [] in
           let p = first-by o rows held [] (sorted-alone o held F sorted-hf) x (λ n. sorted-at o rows sorted-rows 0 i (omega arith) h) (j .pruned) in
-          let q : matchTable o (j .pruned) held x ≡ matchTable o (j .pruned + first) (keptBy o rows held) x = rw (append-nil held, append-nil (keptBy o rows held)) at p in
+          let q : matchTable o (j .pruned) held x ≡ matchTable o (j .pruned + first) (keptRows o rows held) x = rw (append-nil held, append-nil (keptRows o rows held)) at p in
           sym (S .harmless F open-to sf x (before-row o T rows sorted-turned i h) ∙ waited i h ∙ q)
 
       frame-written : (out : Words) → writtenIn (answered (matchedBy o j rows held) out) ≡ map (λ x. asWritten (matchTable o 0 (A ++ F) x)) rows
       unfolding matchedBy
       frame-written out =
-          written-back (matchFrame o (j .pruned + first) (keptBy o rows held) rows) out
-          ∙ ap (λ (ms : List Choice). map asWritten ms) (frame-match o (j .pruned + first) (keptBy o rows held) rows sorted-kept sorted-rows)
-          ∙ map-map asWritten (matchTable o (j .pruned + first) (keptBy o rows held)) rows
-          ∙ map-same (λ x. asWritten (matchTable o (j .pruned + first) (keptBy o rows held) x)) (λ x. asWritten (matchTable o 0 (A ++ F) x)) rows by-row
+          written-back (matchFrame o (j .pruned + first) (keptRows o rows held) rows) out
+          ∙ ap (λ (ms : List Choice). map asWritten ms) (frame-match o (j .pruned + first) (keptRows o rows held) rows sorted-kept sorted-rows)
+          ∙ map-map asWritten (matchTable o (j .pruned + first) (keptRows o rows held)) rows
+          ∙ map-same (λ x. asWritten (matchTable o (j .pruned + first) (keptRows o rows held) x)) (λ x. asWritten (matchTable o 0 (A ++ F) x)) rows by-row
         where
-          sorted-kept : sorted o (keptBy o rows held) ≡ true
+          sorted-kept : sorted o (keptRows o rows held) ≡ true
           sorted-kept = kept-sorted o rows held sorted-held
 
-          by-row : (i : ℕ) → i < length rows → (d : List Cell) → asWritten (matchTable o (j .pruned + first) (keptBy o rows held) (getD rows i d)) ≡ asWritten (matchTable o 0 (A ++ F) (getD rows i d))
+          by-row : (i : ℕ) → i < length rows → (d : List Cell) → asWritten (matchTable o (j .pruned + first) (keptRows o rows held) (getD rows i d)) ≡ asWritten (matchTable o 0 (A ++ F) (getD rows i d))
           by-row i h d = rw (getD-any rows i d [] h) (ap asWritten (each-row i h))
 
       -- What was dropped matters to no later row.
@@ -270,11 +272,11 @@ module _ (o : Options) (L R Os : List Words) (ended : Bool) (j : Join) (S : Soun
           let in-rows = all-at (λ y. AtMost (cmpRow o) y x) rows (c .1) in
           let a = S .harmless F open-to sf x (c .0) in
           let b = first-by o rows held F sorted-hf x (λ n. in-rows 0 (not-empty o rows held n)) (j .pruned) in
-          let d = last-by o rows held F (sorted-kept-f) x (λ n. in-rows (length rows - 1) (omega (arith, not-empty o rows (keptBy o rows held) n))) (j .pruned + first) in
+          let d = last-by o rows held F (sorted-kept-f) x (λ n. in-rows (length rows - 1) (omega (arith, not-empty o rows (keptRows o rows held) n))) (j .pruned + first) in
           let n : j .pruned + (first + last) ≡ j .pruned + first + last = omega arith in
           a ∙ b ∙ d ∙ rw (n) (ap (λ (z : Rows). matchTable o (j .pruned + first + last) (z ++ F) x) (gone-rows o rows held last ∙ ap (λ (z : Rows). drop last z) (drop-drop first (j .pruned) A) ∙ drop-drop last (j .pruned + first) A))
         where
-          sorted-kept-f : sorted o (keptBy o rows held ++ F) ≡ true
+          sorted-kept-f : sorted o (keptRows o rows held ++ F) ≡ true
           sorted-kept-f = kept-sorted-more o rows held F sorted-hf
 
     pub turned-after : (out : Words) → turnedOf o L (Os ++ (out ∷ [])) ≡ T ++ rows
@@ -300,8 +302,8 @@ module _ (o : Options) (L R Os : List Words) (ended : Bool) (j : Join) (S : Soun
 
     -- The last row with a key of those dropped, or what was remembered, is below every row that is held or comes.
     right-below-after : (x : List Cell) → All (λ y. AtMost (cmpRow o) y x) (take (j .pruned + (first + last)) A)
-        → Below o (recall (columns o) (remembered o (j .«last_right») (take last (keptBy o rows held)))) x
-    unfolding remembered keptBy
+        → Below o (recall (columns o) (remembered o (j .«last_right») (take last (keptRows o rows held)))) x
+    unfolding remembered keptRows
     right-below-after x h = go (isOn (o .check))
       where
         c : All (λ y. AtMost (cmpRow o) y x) (take (j .pruned) A) × All (λ y. AtMost (cmpRow o) y x) (take (first + last) held)

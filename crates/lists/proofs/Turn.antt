@@ -28,20 +28,14 @@ use Rattle.node.specs.declared.Answer.{Answer}
 use Rattle.node.specs.declared.Answer.the-variants.{Wrote, WantsRight, Idle, Refused as TurnRefused}
 use Rattle.node.specs.State.{number, nextTurn, markedFailed, isRunning, isDone, widthOf, lastSequence, badJoin, heldOf, waiting}
 use Rattle.node.specs.Calls.{After, after, turnAnswer, turnCall, turned, badLeft, badRight, firstPrune, remembered, dropped, dequeued, spoiled}
+use Rattle.node.specs.Inner.{keptRows, lastPrune}
+use Rattle.node.proofs.TurnLaws.{drops-within}
 use Rattle.lists.specs.Lists.{turn, Event, onTurn, World, step, leftIn, rightIn, leftFrames, rightFrames, rowsIn, outputIn, outputs, backToBack, framesWaiting, doneBy, refusedWith, turnRefusal}
 use Rattle.lists.proofs.ListLaws.{left-append, right-append, outputs-append}
 use Rattle.lists.proofs.Stock.{Stock, stock-same, stock-turn, waiting-length, next-frame, front-next, waits-front, front-room, held-rows}
 use Rattle.lists.proofs.Invariant.{Inv, Adds, SameFlags, adds-same, flags-add, good, keep, nothing-waits}
 
 -- A prune drops held rows alone, whatever they are.
-pub prune-within : (o : Options) (i : ℕ) (left held : Rows) → pruneBy o i left held ≤ length held
-unfolding pruneBy
-prune-within o i left held = cond-ind (λ n. n ≤ length held) (noPrune left held) (λ e. omega arith) (λ e. split-within o _ held)
-
-pub first-within : (o : Options) (left held : Rows) → firstPrune o left held ≤ length held
-unfolding firstPrune
-first-within o left held = cond-ind (λ n. n ≤ length held) (isOn (o .check)) (λ e. omega arith) (λ e. prune-within o 0 left held)
-
 -- ---- the turn's answer and what it leaves, told by the frame's rows and the held rows
 unfoldable pub judged : Options → Join → Rows → Rows → Words → Answer
 judged o j rows held out =
@@ -54,23 +48,17 @@ judged o j rows held out =
     (cond (badRight o (j .«last_right») rows held) (TurnRefused RightOrder)
     (Wrote (j .sequence))))))))
 
--- What a turn that writes keeps of the held rows for matching, and drops at its end.
-unfoldable pub keptBy : Options → Rows → Rows → Rows
-keptBy o rows held = drop (firstPrune o rows held) held
-
-unfoldable pub lastBy : Options → Rows → Rows → ℕ
-lastBy o rows held = pruneBy o (length rows - 1) rows (keptBy o rows held)
-
+-- The join that a turn that writes leaves, and what it writes.
 unfoldable pub leftBy : Options → Join → Rows → Rows → ℕ → Join
 leftBy o j rows held n =
-    nextTurn (dequeued (dropped j (firstPrune o rows held + lastBy o rows held)) n) (remembered o (j .«last_left») rows) (remembered o (j .«last_right») (take (lastBy o rows held) (keptBy o rows held)))
+    nextTurn (dequeued (dropped j (firstPrune o rows held + lastPrune o rows held)) n) (remembered o (j .«last_left») rows) (remembered o (j .«last_right») (take (lastPrune o rows held) (keptRows o rows held)))
 
 unfoldable pub matchedBy : Options → Join → Rows → Rows → List Choice
-matchedBy o j rows held = matchFrame o (j .pruned + firstPrune o rows held) (keptBy o rows held) rows
+matchedBy o j rows held = matchFrame o (j .pruned + firstPrune o rows held) (keptRows o rows held) rows
 
 count-matched : (o : Options) (j : Join) (rows held : Rows) → length (matchedBy o j rows held) ≡ length rows
 unfolding matchedBy
-count-matched o j rows held = match-length o (j .pruned + firstPrune o rows held) (keptBy o rows held) rows
+count-matched o j rows held = match-length o (j .pruned + firstPrune o rows held) (keptRows o rows held) rows
 
 module _ (o : Options) (j : Join) (left right f : Words) (rows : Rows) (opened : j .options ≡ o) (fronted : front (columns o) (waiting j left) ≡ f) (holds : heldOf j right ≡ rows) where
   own-front : front (columns (j .options)) (waiting j left) ≡ f
@@ -82,7 +70,7 @@ module _ (o : Options) (j : Join) (left right f : Words) (rows : Rows) (opened :
 
   pub turned-by : (out : Words) → turned j left right out
       ≡ after (Wrote (j .sequence)) (leftBy o j (frameRows (columns o) f) rows (length f)) left right (answered (matchedBy o j (frameRows (columns o) f) rows) out)
-  unfolding turned leftBy keptBy lastBy matchedBy
+  unfolding turned leftBy keptRows lastPrune matchedBy
   turned-by out = rw (own-front, holds, opened)
 
 -- ---- what no turn answers
@@ -188,19 +176,15 @@ module _ (o : Options) (l r : Words) (allowed : badOptions o ≡ false) (es : Li
     unfolding rows
     turned-is = turned-by o j (w .left) (w .right) f held (s .options) is-front held-is
 
-    pub drops-within : firstPrune o rows held + lastBy o rows held ≤ j .held
-    unfolding lastBy keptBy
-    drops-within =
-        let a : firstPrune o rows held ≤ length held = first-within o rows held in
-        let b : lastBy o rows held ≤ length (keptBy o rows held) = prune-within o (length rows - 1) rows (keptBy o rows held) in
-        omega (arith, held-length, length-drop (firstPrune o rows held) held)
+    gone : firstPrune o rows held + lastPrune o rows held ≤ j .held
+    gone = omega (arith, drops-within o rows held, held-length)
 
     turned-stock : (out : Words)
         → Stock o l r (leftFrames es) (rightFrames es) (outputs es ++ (answered (matchedBy o j rows held) out ∷ [])) (leftBy o j rows held (length f)) (w .left) (w .right)
     unfolding leftBy
     turned-stock out =
-        stock-turn o l r (leftFrames es) (rightFrames es) (outputs es) j (w .left) (w .right) s f rest e (firstPrune o rows held + lastBy o rows held) drops-within (matchedBy o j rows held)
-        (matched-length ∙ rows-count) out (remembered o (j .«last_left») rows) (remembered o (j .«last_right») (take (lastBy o rows held) (keptBy o rows held)))
+        stock-turn o l r (leftFrames es) (rightFrames es) (outputs es) j (w .left) (w .right) s f rest e (firstPrune o rows held + lastPrune o rows held) gone (matchedBy o j rows held)
+        (matched-length ∙ rows-count) out (remembered o (j .«last_left») rows) (remembered o (j .«last_right») (take (lastPrune o rows held) (keptRows o rows held)))
       where
         matched-length : length (matchedBy o j rows held) ≡ length rows
         matched-length = count-matched o j rows held

@@ -62,13 +62,13 @@ module _ (j : Join) (left right : Words) where
     unfolding rightCall
     right-refused n is = let e = sym judged ∙ is in record { answer = rw (e, rightCall) is; join = rw (e, rightCall); words = rw (e, rightCall) }
 
-    pub right-accepted : t ≡ Accepted → (base : ℕ) (words : Words) → base ≡ newBase (j .base) (j .held) (rowCount f) (capacity (widthOf j) right)
+    pub right-accepted : t ≡ Accepted → (n base : ℕ) (words : Words) → n ≡ rowCount f → base ≡ newBase (j .base) (j .held) (rowCount f) (capacity (widthOf j) right)
         → words ≡ pushed (widthOf j) (j .base) (j .held) f right
-        → RightLeaves j left right f (record { answer = t; join = heldAt j base (j .held + rowCount f) (j .pruned) }) words
+        → RightLeaves j left right f (record { answer = t; join = heldAt j base (j .held + n) (j .pruned) }) words
     unfolding rightCall pushedRight
-    right-accepted is base words at put =
+    right-accepted is n base words count at put =
         let e = sym judged ∙ is in
-        record { answer = rw (e, rightCall) is; join = rw (e, rightCall, at); words = rw (e, rightCall) put }
+        record { answer = rw (e, rightCall) is; join = rw (e, rightCall, at, count); words = rw (e, rightCall) put }
 
   -- A right frame is judged as the end of right is, and then by itself.
   pub right-shut : (f : Words) (n : Refusal) → endAnswer j left right ≡ Refused n → rightAnswer j left right f ≡ Refused n

@@ -2,3 +2,5 @@ pub mod Good
 pub mod CallLaws
 pub mod Tests
 pub mod PortRule
+pub mod TurnLaws
+pub mod TurnCall

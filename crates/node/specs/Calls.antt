@@ -245,3 +245,10 @@ turnCall j left right out =
       | Idle ↦ after Idle j left right out
       | TurnRefused n ↦ after (TurnRefused n) (spoiled n j) left right out
     ]
+
+-- Whether a turn wrote.
+abbrev pub wrote : Answer → Bool
+wrote (Wrote s) = true
+wrote WantsRight = false
+wrote Idle = false
+wrote (TurnRefused n) = false

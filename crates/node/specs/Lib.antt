@@ -1,3 +1,5 @@
 pub mod State
 pub mod Calls
+pub mod Run
 pub mod Leaves
+pub mod Inner

@@ -25,7 +25,7 @@ enum-told-2 : tie.Need-enum-told-2
 enum-told-2 c = search needs
 
 returns-2 : tie.Need-returns-2
-returns-2 c = let t = c .before .before .before in end-accepted _ _ _ _ (t .before .before .judge-end .ensures) (t .enum-told2 .given .1)
+returns-2 c = end-accepted _ _ _ _ (c .before .before .judge-end .ensures) (c .enum-told2 .given .1)
 
 pub end-right-spec : {M : Type 1} → statement M
 end-right-spec =

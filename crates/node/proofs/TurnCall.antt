@@ -1,0 +1,208 @@
+-- A turn from its first test to its last word: what is known of the front of the queue, and what the call leaves. Assumes nothing.
+use mathlib.Core.Path.{_≡_, refl, sym, ap, _∙_}
+use mathlib.Core.Bool.{Bool, true, false, cond, not, _&&_, _||_}
+use Prim.Native.Nat.{ℕ, _+_, _-_, _*_, _^_, _≤_, _<_}
+use native.Mathlib.Omega.{arith}
+use lib.Dec.{ltb, eqb}
+use lib.ListN.{length, take, drop, length-take, length-drop}
+use lib.Seq.{take-take}
+use Rattle.frames.specs.Cells.{Rows, Words}
+use Rattle.frames.specs.Frame.{isFrame, frameRows, front}
+use Rattle.frames.specs.Front.{frontOf}
+use Rattle.frames.specs.declared.Front.the-variants.{Words as Long, Nothing}
+use Rattle.frames.proofs.FrontLaws.{Fronted, front-told}
+use Rattle.buffer.specs.Area.{capacity}
+use Rattle.buffer.specs.Reach.{needMore}
+use Rattle.buffer.proofs.PushLaws.{capacity-room}
+use Rattle.buffer.proofs.AreaLaws.{rows-words}
+use Rattle.matching.specs.Groups.{matchFrame}
+use Rattle.matching.specs.Answer.{answered}
+use Rattle.matching.proofs.ChoiceLaws.{cond-ind}
+use Rattle.node.specs.State.{widthOf, isDone, lastSequence, badJoin, heldOf, waiting}
+use Rattle.node.specs.Calls.{wrote, after, firstPrune, badLeft, badRight, turnAnswer, turned, turnCall}
+use Rattle.node.specs.Inner.{readyAnswer, roomAnswer, badRightAt, orderAnswer, keptRows, lastPrune, rowsAnswer, leftJoin, rowsTurn, RowsTurned, FrameIn}
+use Rattle.node.specs.Leaves.{TurnLeaves}
+use Rattle.node.proofs.Good.{Good, good}
+use Rattle.node.proofs.Tests.{past}
+use Rattle.node.proofs.TurnLaws.{stopped, split-known}
+use Rattle.node.specs.declared.Join.{Join}
+use Rattle.node.specs.declared.Refusal.{Refusal}
+use Rattle.node.specs.declared.Refusal.the-variants.{BadJoin, Failed, Closed, BadFrame, NoRoom, UsedUp, LeftOrder, RightOrder}
+use Rattle.node.specs.declared.Answer.{Answer}
+use Rattle.node.specs.declared.Answer.the-variants.{Wrote, WantsRight, Idle, Refused}
+use Rattle.node.specs.declared.TurnedJoin.{TurnedJoin}
+
+-- The answers by rows are one chain.
+through : (a b c : Bool) (s : ℕ) (x : Answer) →
+    elim (cond a WantsRight (cond b (Refused NoRoom) (cond c (Refused UsedUp) (Wrote s)))) [ Wrote q ↦ x | WantsRight ↦ WantsRight | Idle ↦ Idle | Refused n ↦ Refused n ]
+    ≡ cond a WantsRight (cond b (Refused NoRoom) (cond c (Refused UsedUp) x))
+through true b c s x = refl
+through false true c s x = refl
+through false false true s x = refl
+through false false false s x = refl
+
+chain : (j : Join) (rows held : Rows) (room : ℕ) → rowsAnswer j rows held room ≡
+    cond (not (j .«right_ended») && needMore (j .options) rows held) WantsRight
+    (cond (ltb room (2 + 2 * length rows)) (Refused NoRoom)
+    (cond (eqb (j .sequence) lastSequence) (Refused UsedUp)
+    (cond (badLeft (j .options) (j .«last_left») rows) (Refused LeftOrder)
+    (cond (badRight (j .options) (j .«last_right») rows held) (Refused RightOrder)
+    (Wrote (j .sequence))))))
+unfolding rowsAnswer roomAnswer orderAnswer
+chain j rows held room =
+    rw (← split-known (j .options) (j .«last_right») rows held)
+    (through (not (j .«right_ended») && needMore (j .options) rows held) (ltb room (2 + 2 * length rows)) (eqb (j .sequence) lastSequence) (j .sequence) (orderAnswer j rows held (lastPrune (j .options) rows held)))
+
+-- A chain that passes its first tests comes to the rest; one that does not goes on as before.
+comes-to : (a b c d e : Bool) (x : Answer) → a ≡ false → b ≡ false → c ≡ false → d ≡ false → e ≡ true →
+    cond a (Refused BadJoin) (cond b (Refused Failed) (cond c (Refused Closed) (cond d Idle (cond (not e) (Refused BadFrame) x)))) ≡ x
+comes-to a b c d e x pa pb pc pd pe = rw (pa, pb, pc, pd, pe)
+
+stays-at : (a b c d : Bool) (s : ℕ) (x : Answer) → wrote (cond a (Refused BadJoin) (cond b (Refused Failed) (cond c (Refused Closed) (cond d Idle (Wrote s))))) ≡ false →
+    cond a (Refused BadJoin) (cond b (Refused Failed) (cond c (Refused Closed) (cond d Idle x))) ≡ cond a (Refused BadJoin) (cond b (Refused Failed) (cond c (Refused Closed) (cond d Idle (Wrote s))))
+stays-at true b c d s x g = refl
+stays-at false true c d s x g = refl
+stays-at false false true d s x g = refl
+stays-at false false false true s x g = refl
+stays-at false false false false s x g = let z : _≡_ {A = ℕ} 0 1 = cc in absurd (omega arith)
+
+-- No frame at the front.
+none-of : (b : Bool) (m : ℕ) → cond b (Long m) Nothing ≡ Nothing → b ≡ false
+none-of true m e = let z : _≡_ {A = ℕ} 0 1 = cc in absurd (omega arith)
+none-of false m e = refl
+
+front-broken : (c : ℕ) (ws : Words) → frontOf c ws ≡ Nothing → isFrame c (front c ws) ≡ false
+unfolding frontOf
+front-broken c ws e = none-of (isFrame c (front c ws)) (length (front c ws)) e
+
+module _ (j : Join) (left right out : Words) where
+  -- ---- ready
+  -- What a turn that goes on knows of its join.
+  pub record Ready : Type 0 where
+    pub unbroken : badJoin j left right ≡ false
+    pub unfailed : j .failed ≡ false
+    pub undone : isDone (j .state) ≡ false
+    pub some : eqb (j .«queue_words») 0 ≡ false
+
+  ready-all : (P : Answer → Type 0) → P (Refused BadJoin) → P (Refused Failed) → P (Refused Closed) → P Idle → P (Wrote (j .sequence)) → P (readyAnswer j left right)
+  unfolding readyAnswer
+  ready-all P p2 p3 p4 pi p =
+      cond-ind P (badJoin j left right) (λ t. p2) (λ t.
+      cond-ind P (j .failed) (λ t. p3) (λ t.
+      cond-ind P (isDone (j .state)) (λ t. p4) (λ t.
+      cond-ind P (eqb (j .«queue_words») 0) (λ t. pi) (λ t. p))))
+
+  apart : (n : Refusal) (s : ℕ) → Refused n ≡ Wrote s → ⊥
+  apart n s e = let z : _≡_ {A = ℕ} 0 1 = cc in omega arith
+
+  idle-apart : (s : ℕ) → Idle ≡ Wrote s → ⊥
+  idle-apart s e = let z : _≡_ {A = ℕ} 0 1 = cc in omega arith
+
+  is-ready : readyAnswer j left right ≡ Wrote (j .sequence) → Ready
+  unfolding readyAnswer
+  is-ready e =
+      let p2 = past (badJoin j left right) (Refused BadJoin) _ (Wrote (j .sequence)) (apart BadJoin _) e in
+      let p3 = past (j .failed) (Refused Failed) _ (Wrote (j .sequence)) (apart Failed _) (p2 .1) in
+      let p4 = past (isDone (j .state)) (Refused Closed) _ (Wrote (j .sequence)) (apart Closed _) (p3 .1) in
+      let p = past (eqb (j .«queue_words») 0) Idle (Wrote (j .sequence)) (Wrote (j .sequence)) (idle-apart _) (p4 .1) in
+      record { unbroken = p2 .0; unfailed = p3 .0; undone = p4 .0; some = p .0 }
+
+  pub ready-goes : (t : Answer) → t ≡ readyAnswer j left right → wrote t ≡ true → Ready
+  ready-goes t e g =
+      is-ready (ready-all (λ a. wrote a ≡ true → a ≡ Wrote (j .sequence)) (λ x. cc) (λ x. cc) (λ x. cc) (λ x. cc) (λ x. refl) (sym (ap wrote e) ∙ g))
+
+  -- A turn that is not ready answers so and changes nothing.
+  stops : (a : Answer) → turnAnswer j left right out ≡ a → wrote a ≡ false → TurnLeaves j left right out (record { answer = a; join = stopped j a }) out
+  unfolding turnCall
+  stops (Wrote s) e g = let z : _≡_ {A = ℕ} 0 1 = cc in absurd (omega arith)
+  stops WantsRight e g = record { answer = rw (e, turnCall); join = rw (e, turnCall); words = rw (e, turnCall) }
+  stops Idle e g = record { answer = rw (e, turnCall); join = rw (e, turnCall); words = rw (e, turnCall) }
+  stops (Refused n) e g = record { answer = rw (e, turnCall); join = rw (e, turnCall); words = rw (e, turnCall) }
+
+  unready : wrote (readyAnswer j left right) ≡ false → turnAnswer j left right out ≡ readyAnswer j left right
+  unfolding turnAnswer readyAnswer
+  unready g = stays-at (badJoin j left right) (j .failed) (isDone (j .state)) (eqb (j .«queue_words») 0) (j .sequence) _ g
+
+  pub ready-stops : (t : Answer) → t ≡ readyAnswer j left right → wrote t ≡ false → TurnLeaves j left right out (record { answer = t; join = j }) out
+  ready-stops t e g =
+      let same : stopped j t ≡ j = rw e (ready-all (λ a. stopped j a ≡ j) refl refl refl refl refl) in
+      rw same at (stops t (unready (sym (ap wrote e) ∙ g) ∙ sym e) g)
+
+  -- ---- the front
+  module _ (r : Ready) where
+    pub kept-good : Good j left right
+    kept-good = good j left right (r .unbroken)
+
+    module _ (f : Words) (fronted : front (widthOf j) (waiting j left) ≡ f) where
+      front-answer : isFrame (widthOf j) f ≡ false → turnAnswer j left right out ≡ Refused BadFrame
+      unfolding turnAnswer
+      front-answer e = rw (r .unbroken, fronted, r .unfailed, r .undone, r .some, e)
+
+      answer-rows : isFrame (widthOf j) f ≡ true → turnAnswer j left right out ≡ rowsAnswer j (frameRows (widthOf j) f) (heldOf j right) (length out)
+      unfolding turnAnswer
+      answer-rows e =
+          rw fronted
+          (comes-to (badJoin j left right) (j .failed) (isDone (j .state)) (eqb (j .«queue_words») 0) (isFrame (widthOf j) f) _ (r .unbroken) (r .unfailed) (r .undone) (r .some) e
+          ∙ sym (chain j (frameRows (widthOf j) f) (heldOf j right) (length out)))
+
+      turned-rows : turned j left right out ≡ after (Wrote (j .sequence))
+          (leftJoin j (frameRows (widthOf j) f) (keptRows (j .options) (frameRows (widthOf j) f) (heldOf j right)) (firstPrune (j .options) (frameRows (widthOf j) f) (heldOf j right)) (lastPrune (j .options) (frameRows (widthOf j) f) (heldOf j right)) (length f))
+          left right (answered (matchFrame (j .options) (j .pruned + firstPrune (j .options) (frameRows (widthOf j) f) (heldOf j right)) (keptRows (j .options) (frameRows (widthOf j) f) (heldOf j right)) (frameRows (widthOf j) f)) out)
+      unfolding turned leftJoin keptRows lastPrune
+      turned-rows = rw fronted
+
+      turns : isFrame (widthOf j) f ≡ true → (a : Answer) → rowsAnswer j (frameRows (widthOf j) f) (heldOf j right) (length out) ≡ a → (x : TurnedJoin) (out′ : Words)
+          → RowsTurned j (frameRows (widthOf j) f) (heldOf j right) (length f) out x out′ → TurnLeaves j left right out x out′
+      unfolding turnCall rowsTurn
+      turns frame (Wrote q) e x out′ h =
+          let t = answer-rows frame ∙ e in
+          record { answer = rw (t, turnCall, turned-rows) (rw (e, rowsTurn) at (h .answer)); join = rw (t, turnCall, turned-rows) (rw (e, rowsTurn) at (h .join)); words = rw (t, turnCall, turned-rows) (rw (e, rowsTurn) at (h .words)) }
+      turns frame WantsRight e x out′ h =
+          let t = answer-rows frame ∙ e in
+          record { answer = rw (t, turnCall) (rw (e, rowsTurn) at (h .answer)); join = rw (t, turnCall) (rw (e, rowsTurn) at (h .join)); words = rw (t, turnCall) (rw (e, rowsTurn) at (h .words)) }
+      turns frame Idle e x out′ h =
+          let t = answer-rows frame ∙ e in
+          record { answer = rw (t, turnCall) (rw (e, rowsTurn) at (h .answer)); join = rw (t, turnCall) (rw (e, rowsTurn) at (h .join)); words = rw (t, turnCall) (rw (e, rowsTurn) at (h .words)) }
+      turns frame (Refused n) e x out′ h =
+          let t = answer-rows frame ∙ e in
+          record { answer = rw (t, turnCall) (rw (e, rowsTurn) at (h .answer)); join = rw (t, turnCall) (rw (e, rowsTurn) at (h .join)); words = rw (t, turnCall) (rw (e, rowsTurn) at (h .words)) }
+
+    pub front-stops : frontOf (widthOf j) (waiting j left) ≡ Nothing → TurnLeaves j left right out (record { answer = Refused BadFrame; join = j }) out
+    front-stops e = stops (Refused BadFrame) (front-answer (front (widthOf j) (waiting j left)) refl (front-broken (widthOf j) (waiting j left) e)) refl
+
+    module _ (k : ℕ) (told : frontOf (widthOf j) (waiting j left) ≡ Long k) where
+      is-front : Fronted (widthOf j) (waiting j left) k
+      is-front = front-told (widthOf j) (waiting j left) k told
+
+      pub front-within : k ≤ j .«queue_words»
+      unfolding waiting
+      front-within = omega (arith, is-front .within, length-take (j .«queue_words») (drop (j .«queue_start») left))
+
+      -- The front is the first words of the queue.
+      front-here : front (widthOf j) (waiting j left) ≡ take k (drop (j .«queue_start») left)
+      unfolding waiting
+      front-here = is-front .here ∙ take-take k (j .«queue_words») (drop (j .«queue_start») left) front-within
+
+      frame : isFrame (widthOf j) (take k (drop (j .«queue_start») left)) ≡ true
+      frame = rw front-here at (is-front .is)
+
+      pub frame-in : j .sequence < 2 ^ 64 → length left < 2 ^ 64 → length right < 2 ^ 64 → FrameIn j (take k (drop (j .«queue_start») left)) right
+      frame-in s l m =
+          let g = kept-good in
+          record {
+            few = g .few;
+            frame = frame;
+            held = g .right-room;
+            counts = record {
+              base = omega (arith, g .right-room, capacity-room (widthOf j) right, rows-words (capacity (widthOf j) right) (widthOf j) (omega arith));
+              rows = g .rows;
+              start = omega (arith, g .left-room);
+              words = rw (length-take k (drop (j .«queue_start») left)) (omega (arith, front-within));
+              even = g .even;
+              sequence = s;
+            };
+          }
+
+      pub frame-turns : (x : TurnedJoin) (out′ : Words)
+          → RowsTurned j (frameRows (widthOf j) (take k (drop (j .«queue_start») left))) (heldOf j right) (length (take k (drop (j .«queue_start») left))) out x out′ → TurnLeaves j left right out x out′
+      frame-turns x out′ h = turns (take k (drop (j .«queue_start») left)) front-here frame _ refl x out′ h
