@@ -1,10 +1,6 @@
 -- `view::mark_in` meets its contract: the cell's mark is among the words, at its place. Assumes nothing.
 use mathlib.Core.Path.{_∙_}
-use Prim.Native.Nat.{_+_, _*_}
 use native.Mathlib.Omega.{arith}
-use denote.Ref.{now}
-use lib.IntN.{pos}
-use lib.ListN.{getD}
 use Rattle.frames.proofs.Signed.{back}
 use Rattle.view.proofs.PlaceLaws.{whole-length, cell-room, mark-place}
 use Rattle.view.proofs.mark_in.Statement.{statement}
@@ -32,9 +28,7 @@ shared-slice-copy-out-result : tie.Need-shared-slice-copy-out-result
 shared-slice-copy-out-result c = omega (arith, cell-room _ _ _ _ _ (c .pre), whole-length _ _ _ _ _ (c .pre))
 
 returns : tie.Need-returns
-returns c =
-    let a = c .before .args in
-    back (getD (now (a .words)) (2 + a .rows * a .columns + (a .row * a .columns + a .column)) (pos 0)) (c .result .given) ∙ mark-place _ _ _ _ _ (c .before .pre)
+returns c = back _ (c .result .given) ∙ mark-place _ _ _ _ _ (c .before .pre)
 
 pub mark-in-spec : {M : Type 1} → statement M
 mark-in-spec = tie.close (tie.spec mul-result add-result mul-result-2 add-result-2 add-result-3 mul-result-3 shared-slice-copy-out-result returns)

@@ -36,10 +36,16 @@ among-rows : (c : tie.Else2) → let a = c .before .before .before .before .args
 among-rows c = omega (arith, c .if2 .left, c .before .row-count .ensures)
 
 returns-3 : tie.Need-returns-3
-returns-3 c = sym (found-beside _ _ _ _ (framed (c .before .before .before)) (among-rows (c .before)) (c .if3 .taken))
+returns-3 c =
+    let a = c .before .before .before .before .before .args in
+    let h : a .c ≤ a .column = omega (arith, c .if3 .taken) in
+    sym (found-beside _ _ _ _ (framed (c .before .before .before)) (among-rows (c .before)) h)
 
 cell-in-requires : tie.Need-cell-in-requires
-cell-in-requires c κs = record { viewed = record { framed = framed (c .before .before .before); counted = refl }; among-rows = among-rows (c .before); among-columns = c .if3 .left }
+cell-in-requires c κs =
+    let a = c .before .before .before .before .before .args in
+    let h : a .column < a .c = omega (arith, c .if3 .left) in
+    record { viewed = record { framed = framed (c .before .before .before); counted = refl }; among-rows = among-rows (c .before); among-columns = h }
 
 returns-4 : tie.Need-returns-4
 returns-4 c = search needs

@@ -1,10 +1,6 @@
 -- `view::value_in` meets its contract: the cell's value is among the words, at its place. Assumes nothing.
 use mathlib.Core.Path.{_∙_}
-use Prim.Native.Nat.{_+_, _*_}
 use native.Mathlib.Omega.{arith}
-use denote.Ref.{now}
-use lib.IntN.{pos}
-use lib.ListN.{getD}
 use Rattle.frames.proofs.Signed.{back}
 use Rattle.view.proofs.PlaceLaws.{whole-length, cell-room, value-place}
 use Rattle.view.proofs.value_in.Statement.{statement}
@@ -26,9 +22,7 @@ shared-slice-copy-out-result : tie.Need-shared-slice-copy-out-result
 shared-slice-copy-out-result c = omega (arith, cell-room _ _ _ _ _ (c .pre), whole-length _ _ _ _ _ (c .pre))
 
 returns : tie.Need-returns
-returns c =
-    let a = c .before .args in
-    back (getD (now (a .words)) (2 + (a .row * a .columns + a .column)) (pos 0)) (c .result .given) ∙ value-place _ _ _ _ _ (c .before .pre)
+returns c = back _ (c .result .given) ∙ value-place _ _ _ _ _ (c .before .pre)
 
 pub value-in-spec : {M : Type 1} → statement M
 value-in-spec = tie.close (tie.spec mul-result add-result add-result-2 mul-result-2 shared-slice-copy-out-result returns)
