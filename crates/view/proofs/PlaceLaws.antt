@@ -1,20 +1,19 @@
 -- Where a frame's cells stand among its words, and what a reader is told of them. Assumes nothing.
-use mathlib.Core.Path.{_≡_, refl, sym, ap, _∙_}
-use mathlib.Core.Bool.{Bool, true, false, cond, _&&_}
-use mathlib.Core.List.{List, []}
+use mathlib.Core.Path.{_≡_, refl, sym, _∙_}
+use mathlib.Core.Bool.{true, false}
+use mathlib.Core.List.{[]}
 use Prim.Native.Nat.{ℕ, _+_, _*_, _≤_, _<_}
 use native.Mathlib.Omega.{arith}
 use borrow.Author.Tests.{lt-ltb, le-ltb}
 use lib.Dec.{ltb}
 use lib.IntN.{ℤ, pos}
-use lib.ListN.{length, take, drop, getD}
+use lib.ListN.{length, drop, getD}
 use lib.Seq.{getD-take, getD-drop}
-use Rattle.frames.specs.Cells.{Words, Rows, Cell, cell, cellOf, rowFrom, rowsOf}
+use Rattle.frames.specs.Cells.{Words, cellOf, rowFrom}
 use Rattle.frames.specs.Frame.{isFrame, rowCount, frameWords, valuesIn, marksIn, frameRows}
 use Rattle.frames.proofs.FrameLaws.{frame-length, frame-rows, frame-wide, values-length}
 use Rattle.frames.proofs.RowLaws.{row-room, rows-from, row-cell}
-use Rattle.view.specs.View.{Viewed, Inside, valueAt, markAt, told, foundIn, foundAt}
-use Rattle.view.specs.declared.Found.{Found}
+use Rattle.view.specs.View.{Inside, valueAt, markAt, told, foundIn, foundAt}
 use Rattle.view.specs.declared.Found.the-variants.{Nothing}
 
 module _ (f : Words) (rows c row column : ℕ) (h : Inside f rows c row column) where
@@ -32,6 +31,7 @@ module _ (f : Words) (rows c row column : ℕ) (h : Inside f rows c row column) 
       let e : rows ≡ rowCount f = h .viewed .counted in
       record { viewed = record { framed = h .viewed .framed; counted = refl }; among-rows = omega (arith, h .among-rows); among-columns = h .among-columns }
 
+  -- Its value stands behind the first two words.
   pub value-place : getD f (2 + (row * c + column)) (pos 0) ≡ valueAt c f row column
   unfolding valueAt
   value-place =
@@ -39,6 +39,7 @@ module _ (f : Words) (rows c row column : ℕ) (h : Inside f rows c row column) 
       let l : row * c + column < rowCount f * c = rw (← e) cell-room in
       sym (getD-take (rowCount f * c) (drop 2 f) (row * c + column) (pos 0) l ∙ getD-drop 2 f (row * c + column) (pos 0))
 
+  -- Its mark stands behind all values.
   pub mark-place : getD f (2 + rows * c + (row * c + column)) (pos 0) ≡ markAt c f row column
   unfolding markAt
   mark-place = let e : rows ≡ rowCount f = h .viewed .counted in rw e (sym (getD-drop (2 + rowCount f * c) f (row * c + column) (pos 0)))
@@ -56,15 +57,17 @@ module _ (f : Words) (rows c row column : ℕ) (h : Inside f rows c row column) 
       let b : ltb column (length (getD (frameRows c f) row [])) ≡ true = rw (frame-wide c f framed row k) (lt-ltb column c (h .among-columns)) in
       rw (framed, a, b, r, row-cell c (row * c) column (valuesIn c f) (marksIn c f) (h .among-columns) l)
 
--- What a view's reads tell, in the words' own terms.
+-- ---- a view of the frame f, as `view` makes it: of words g, which are f's, with their rows and columns
 module _ (f g : Words) (rows c w row column : ℕ) (same : g ≡ f) (counted : rows ≡ rowCount f) (wide : w ≡ c) (h : Inside f (rowCount f) c row column) where
+  -- What `value` and `mark` ask of it.
   pub view-inside : Inside g rows w row column
   view-inside = rw (same, counted, wide) h
 
+  -- What the two words that they answer tell.
   pub view-found : (x y : ℤ) → x ≡ valueAt w g row column → y ≡ markAt w g row column → told (cellOf x y) ≡ foundAt c f row column
   view-found x y p q = rw (p, q, same, wide) (cell-found f (rowCount f) c row column h)
 
--- ---- no such cell
+-- ---- no such cell: the words are no frame, the row is below the last, the column beside the last
 module _ (c : ℕ) (f : Words) (row column : ℕ) where
   pub found-none : isFrame c f ≡ false → foundAt c f row column ≡ Nothing
   unfolding foundAt
