@@ -33,7 +33,7 @@ fn cell(name: &[u8], words: &[i64], c: usize, row: usize, column: usize) {
     match view::read_cell(words, c, row, column) {
         Found::Value(v) => {
             io::write_all(1, b": value ");
-            io::print_decimal(1, frames::distance(v, 0));
+            io::print_decimal(1, order::distance(v, 0));
             io::write_all(1, b"\n");
         }
         Found::Null => {

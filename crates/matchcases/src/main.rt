@@ -28,7 +28,7 @@ fn print_choice(number: i64, mark: i64) {
     if mark == 0 {
         io::write_all(1, b"none");
     } else {
-        io::print_decimal(1, frames::distance(number, 0));
+        io::print_decimal(1, order::distance(number, 0));
     }
 }
 
