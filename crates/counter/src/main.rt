@@ -103,7 +103,7 @@ fn say_match(number: i64, mark: i64) {
     if mark == 0 {
         io::write_all(1, b"none");
     } else {
-        io::print_decimal(1, frames::distance(number, 0));
+        io::print_decimal(1, order::distance(number, 0));
     }
 }
 
@@ -120,7 +120,7 @@ fn say_matches(out: &[i64], n: usize)
 
 // Says that a turn wrote at a sequence: the rows that the output's first word tells, and their matches.
 fn say_wrote(sequence: u64, out: &[i64; 10]) {
-    let rows = frames::distance(out[0], 0);
+    let rows = order::distance(out[0], 0);
     io::write_all(1, b", wrote ");
     io::print_decimal(1, rows);
     io::write_all(1, b" at ");
