@@ -1,11 +1,16 @@
 // The ports: where a port call takes the node, and what each port is told there.
+use crate::Join;
 use crate::NodeState;
 use crate::PortState;
 use crate::Ported;
+use crate::PortedJoin;
+use crate::Refusal;
 ghost use mathlib.Core.Path.{_≡_};
 ghost use mathlib.Core.Bool.{_||_};
 ghost use Rattle.node.specs.declared.NodeState.the-variants.{Flush};
 ghost use Rattle.node.specs.declared.PortState.the-variants.{Ready};
+ghost use Rattle.node.specs.declared.Ported.the-variants.{Refused};
+ghost use Rattle.node.specs.State.{stateAt};
 ghost use Rattle.node.specs.Calls.{portBlocked, toFlush, toDone, readyUnless, portsIn};
 
 // A node in Flush with so many words waiting: Done where nothing waits.
@@ -84,4 +89,21 @@ pub(crate) fn told(state: NodeState, left: PortState, right: PortState, send: Po
         NodeState::Flush => Ported::Ports(PortState::Done, ready_unless(send), ready_unless(right)),
         NodeState::Done => Ported::Ports(PortState::Done, PortState::Done, PortState::Done),
     }
+}
+
+// What a refused port call hands back: the join as it came.
+pub(crate) fn unported(n: Refusal, j: Join) -> PortedJoin
+    ensures { λ r. ⌜ r ≡ record { answer = Refused n; join = j } ⌝ }
+{
+    PortedJoin {
+        answer: Ported::Refused(n),
+        join: j,
+    }
+}
+
+// The join in another state.
+pub(crate) fn at_state(j: Join, state: NodeState) -> Join
+    ensures { λ r. ⌜ r ≡ stateAt j state ⌝ }
+{
+    Join { state: state, ..j }
 }
