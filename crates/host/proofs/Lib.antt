@@ -1,0 +1,4 @@
+pub mod CodeLaws
+pub mod ConvertLaws
+pub mod CallLaws
+pub mod PromiseLaws

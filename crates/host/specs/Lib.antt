@@ -1,0 +1,5 @@
+pub mod Codes
+pub mod Convert
+pub mod Calls
+pub mod Leaves
+pub mod Promises

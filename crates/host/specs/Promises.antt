@@ -1,0 +1,55 @@
+-- What a host can lean on, told of the calls in numbers. Assumes nothing.
+use mathlib.Core.Path.{_≡_}
+use mathlib.Core.Bool.{Bool, true, false, not}
+use mathlib.Core.List.{[]}
+use Prim.Native.Nat.{ℕ}
+use Rattle.frames.specs.Cells.{Words}
+use Rattle.node.specs.declared.Refusal.{Refusal}
+use Rattle.node.specs.declared.Refusal.the-variants.{BadOptions, BadJoin, Failed, Closed, BadFrame, NoRoom, UsedUp, LeftOrder, RightOrder}
+use Rattle.node.specs.declared.Took.the-variants.{Refused}
+use Rattle.node.specs.declared.Ported.the-variants.{Refused as PortsRefused}
+use Rattle.node.specs.declared.Answer.{Answer}
+use Rattle.node.specs.declared.Answer.the-variants.{Wrote, WantsRight, Idle, Refused as TurnRefused}
+use Rattle.host.specs.Calls.{afterHost, openHost, leftHost, rightHost, endHost, portsHost, turnHost}
+use Rattle.host.specs.declared.HostOptions.{HostOptions}
+use Rattle.host.specs.declared.HostJoin.{HostJoin}
+
+-- Refusals 8 and 9 mark the join failed; the others change nothing.
+abbrev pub spoils : Refusal → Bool
+spoils BadOptions = false
+spoils BadJoin = false
+spoils Failed = false
+spoils Closed = false
+spoils BadFrame = false
+spoils NoRoom = false
+spoils UsedUp = false
+spoils LeftOrder = true
+spoils RightOrder = true
+
+-- The answers of a turn that changes nothing: Wants right, Idle, and any refusal but 8 and 9.
+abbrev pub stays : Answer → Bool
+stays (Wrote s) = false
+stays WantsRight = true
+stays Idle = true
+stays (TurnRefused n) = not (spoils n)
+
+-- A refused call hands back exactly the numbers that came and alters no lent word; so does a turn that changes nothing.
+pub record Kept (h : HostJoin) (left right : Words) : Type 0 where
+  pub by-left : (f : Words) (n : Refusal) → leftHost h left right f .answer ≡ Refused n → leftHost h left right f ≡ afterHost (Refused n) h left right []
+  pub by-right : (f : Words) (n : Refusal) → rightHost h left right f .answer ≡ Refused n → rightHost h left right f ≡ afterHost (Refused n) h left right []
+  pub by-end : (n : Refusal) → endHost h left right .answer ≡ Refused n → endHost h left right ≡ afterHost (Refused n) h left right []
+  pub by-ports : (l r s : ℕ) (n : Refusal) → portsHost h left right l r s .answer ≡ PortsRefused n → portsHost h left right l r s ≡ afterHost (PortsRefused n) h left right []
+  pub by-turn : (out : Words) (a : Answer) → stays a ≡ true → turnHost h left right out .answer ≡ a → turnHost h left right out ≡ afterHost a h left right out
+
+-- Every call answers 2 to the join of a refused opening.
+pub record Shut (h : HostJoin) (left right : Words) : Type 0 where
+  pub by-left : (f : Words) → leftHost h left right f .answer ≡ Refused BadJoin
+  pub by-right : (f : Words) → rightHost h left right f .answer ≡ Refused BadJoin
+  pub by-end : endHost h left right .answer ≡ Refused BadJoin
+  pub by-ports : (l r s : ℕ) → portsHost h left right l r s .answer ≡ PortsRefused BadJoin
+  pub by-turn : (out : Words) → turnHost h left right out .answer ≡ TurnRefused BadJoin
+
+-- Of any numbers and any areas; of any opening that answers 1.
+pub record Promises : Type 0 where
+  pub kept : (h : HostJoin) (left right : Words) → Kept h left right
+  pub shut : (o : HostOptions) (left right : Words) → openHost o .refusal ≡ 1 → Shut (openHost o .join) left right

@@ -1,0 +1,158 @@
+// Options, remembered rows and joins in numbers, and back.
+use crate::HostJoin;
+use crate::HostOptions;
+use crate::HostRow;
+use crate::codes::are_flags;
+use crate::codes::both;
+use crate::codes::check_code;
+use crate::codes::check_of;
+use crate::codes::flag_code;
+use crate::codes::flag_codes;
+use crate::codes::flag_of;
+use crate::codes::flags_of;
+use crate::codes::is_code;
+use crate::codes::is_flag;
+use crate::codes::state_code;
+use crate::codes::state_of;
+use frames::Options;
+use frames::Row;
+use node::Join;
+ghost use mathlib.Core.Path.{_≡_};
+ghost use mathlib.Core.Bool.{true};
+ghost use Rattle.host.specs.Convert.{isOptions, optionsOf, encodeOptions, rowOf, encodeRow, isJoin, joinOf, encode};
+
+// Whether the numbers tell options.
+pub(crate) fn is_options(h: HostOptions) -> bool
+    ensures { λ r. ⌜ r ≡ isOptions h ⌝ }
+{
+    let d = h.descending;
+    let n = h.nulls_last;
+    let strategy = h.strategy < 256;
+    let flags = both(is_flag(h.allow_eq), is_flag(h.check));
+    both(both(strategy, flags), both(are_flags(d), are_flags(n)))
+}
+
+// The options that the numbers tell.
+pub(crate) fn options_of(h: HostOptions) -> Options
+    requires { ⌜ isOptions h ≡ true ⌝ }
+    ensures { λ r. ⌜ r ≡ optionsOf h ⌝ }
+{
+    let d = h.descending;
+    let n = h.nulls_last;
+    let descending = flags_of(d);
+    let nulls_last = flags_of(n);
+    Options {
+        by: h.by,
+        strategy: h.strategy as u8,
+        allow_eq: flag_of(h.allow_eq),
+        tolerance: h.tolerance,
+        check: check_of(h.check),
+        descending: descending,
+        nulls_last: nulls_last,
+    }
+}
+
+// The numbers of options.
+pub(crate) fn encode_options(o: Options) -> HostOptions
+    ensures { λ r. ⌜ r ≡ encodeOptions o ⌝ }
+{
+    let c = o.check;
+    let d = o.descending;
+    let n = o.nulls_last;
+    let descending = flag_codes(d);
+    let nulls_last = flag_codes(n);
+    HostOptions {
+        by: o.by,
+        strategy: o.strategy as u64,
+        allow_eq: flag_code(o.allow_eq),
+        tolerance: o.tolerance,
+        check: check_code(c),
+        descending: descending,
+        nulls_last: nulls_last,
+    }
+}
+
+// The remembered row that the numbers tell.
+pub(crate) fn row_of(h: HostRow) -> Row
+    ensures { λ r. ⌜ r ≡ rowOf h ⌝ }
+{
+    let values = h.values;
+    let marks = h.marks;
+    Row {
+        some: flag_of(h.some),
+        values: values,
+        marks: marks,
+    }
+}
+
+// The numbers of a remembered row.
+pub(crate) fn encode_row(m: Row) -> HostRow
+    ensures { λ r. ⌜ r ≡ encodeRow m ⌝ }
+{
+    let values = m.values;
+    let marks = m.marks;
+    HostRow {
+        some: flag_code(m.some),
+        values: values,
+        marks: marks,
+    }
+}
+
+// Whether the numbers tell a join.
+pub(crate) fn is_join(h: HostJoin) -> bool
+    ensures { λ r. ⌜ r ≡ isJoin h ⌝ }
+{
+    let o = h.options;
+    let state = both(is_options(o), is_code(h.state));
+    let flags = both(is_flag(h.right_ended), is_flag(h.failed));
+    let rows = both(is_flag(h.last_left.some), is_flag(h.last_right.some));
+    both(state, both(flags, rows))
+}
+
+// The join that the numbers tell.
+pub(crate) fn join_of(h: HostJoin) -> Join
+    requires { ⌜ isJoin h ≡ true ⌝ }
+    ensures { λ r. ⌜ r ≡ joinOf h ⌝ }
+{
+    let options = options_of(h.options);
+    let last_left = row_of(h.last_left);
+    let last_right = row_of(h.last_right);
+    Join {
+        options: options,
+        base: h.base,
+        held: h.held,
+        pruned: h.pruned,
+        queue_start: h.queue_start,
+        queue_words: h.queue_words,
+        state: state_of(h.state),
+        right_ended: flag_of(h.right_ended),
+        failed: flag_of(h.failed),
+        sequence: h.sequence,
+        last_left: last_left,
+        last_right: last_right,
+    }
+}
+
+// The numbers of a join.
+pub(crate) fn encode_join(j: Join) -> HostJoin
+    ensures { λ r. ⌜ r ≡ encode j ⌝ }
+{
+    let state = j.state;
+    let options = encode_options(j.options);
+    let last_left = encode_row(j.last_left);
+    let last_right = encode_row(j.last_right);
+    HostJoin {
+        options: options,
+        base: j.base,
+        held: j.held,
+        pruned: j.pruned,
+        queue_start: j.queue_start,
+        queue_words: j.queue_words,
+        state: state_code(state),
+        right_ended: flag_code(j.right_ended),
+        failed: flag_code(j.failed),
+        sequence: j.sequence,
+        last_left: last_left,
+        last_right: last_right,
+    }
+}
