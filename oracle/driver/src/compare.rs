@@ -57,7 +57,7 @@ impl Tally {
     }
 
     /// Counts an order fault by the place where the rules saw it.
-    fn fault(&mut self, fault: Fault) {
+    pub fn fault(&mut self, fault: Fault) {
         self.faults[fault as usize] += 1;
     }
 }
@@ -86,12 +86,12 @@ pub enum Difference {
 }
 
 /// Whether 01 refuses the call by 1 to 7: the Rust has no counterpart.
-fn no_counterpart(answer: &Answer) -> bool {
+pub fn no_counterpart(answer: &Answer) -> bool {
     matches!(answer, Answer::Refused(1..=7) | Answer::State(_) | Answer::NoJoin)
 }
 
 /// Whether the Rust went another way than 01 from here on: it knows no areas, so it took what 01 refused.
-fn parted(answer: &Answer) -> bool {
+pub fn parted(answer: &Answer) -> bool {
     matches!(answer, Answer::Refused(2 | 6 | 7))
 }
 
@@ -135,7 +135,7 @@ fn run_both(calls: &[Call], ways: Ways, tally: &mut Tally) -> Result<(), Differe
 }
 
 /// Text of a panic, which is a difference like any other: 01 knows no panic.
-fn panic_text(panic: Box<dyn std::any::Any + Send>) -> String {
+pub fn panic_text(panic: Box<dyn std::any::Any + Send>) -> String {
     let text = panic.downcast_ref::<String>().cloned();
     text.or_else(|| panic.downcast_ref::<&str>().map(|s| s.to_string())).unwrap_or_default()
 }

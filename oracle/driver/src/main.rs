@@ -1,24 +1,17 @@
 //! The oracle's program; `usage` lists what it does. See oracle/README.md.
-use std::io::{BufRead, BufReader, BufWriter, Write};
+use std::io::{BufWriter, Write};
 use std::path::Path;
 use std::process::ExitCode;
 
-mod compare;
-mod edits;
-mod findings;
-mod notice;
-mod rust;
-mod sample;
-mod selftest;
-
+use judges::drive::{drive, exit, number};
 use judges::generate::{Kind, script};
 use judges::rules::Rules;
-use judges::script::{Judge, parse_line};
-use rust::{Rust, Ways};
+use oracle::rust::{Rust, Ways};
+use oracle::{edits, notice, sample, selftest};
 
 /// What the program can be asked for.
 const USAGE: &str = "oracle rust | rules                   answer the script on standard input
-oracle generate KIND SEED COUNT       print random scripts (whole mixed flush nullslast order ends refusals)
+oracle generate KIND SEED COUNT       print random scripts (whole mixed flush nullslast order ends refusals handed)
 oracle selftest SEED COUNT            the test of the oracle itself, COUNT scripts a kind
 oracle whole SEED COUNT               the whole-table rule over COUNT scripts
 oracle compare SEED COUNT             the Rust and the step rules over COUNT scripts a kind
@@ -26,32 +19,6 @@ oracle sample write|replay FOLDER     record the sample, or replay it
 oracle edits LIST                     print the edits of the Rust
 oracle edit LIST NAME FROM TO         lay an edited copy of the source down
 oracle notice SEED COUNT FOLDER       which judge sees that the Rust was edited, and whether the sample does";
-
-/// Answers the script on standard input, line by line. A malformed line ends it with status 2; all answers before it
-/// are written.
-fn drive(judge: &mut dyn Judge) -> Result<(), String> {
-    let mut input = BufReader::new(std::io::stdin());
-    let mut output = BufWriter::new(std::io::stdout());
-    let mut line = Vec::new();
-    for number in 1.. {
-        line.clear();
-        if input.read_until(b'\n', &mut line).map_err(|e| e.to_string())? == 0 {
-            break;
-        }
-        let parsed = str::from_utf8(&line).map_err(|_| "no text".to_string()).and_then(parse_line);
-        let last = input.buffer().is_empty() || parsed.is_err();
-        let answer = parsed.as_ref().ok().and_then(|call| call.as_ref()).map(|call| judge.call(call));
-        let written = answer.map_or(Ok(()), |a| writeln!(output, "{a}"));
-        written.and_then(|_| if last { output.flush() } else { Ok(()) }).map_err(|e| e.to_string())?;
-        parsed.map_err(|error| format!("line {number}: {error}"))?;
-    }
-    output.flush().map_err(|e| e.to_string())
-}
-
-/// A number of the command line.
-fn number(word: &str) -> Result<u64, String> {
-    word.parse().map_err(|_| format!("{word} is no number"))
-}
 
 /// Prints random scripts of a kind.
 fn print_scripts(kind: &str, seed: u64, count: u64) -> Result<(), String> {
@@ -94,15 +61,7 @@ fn run(args: &[&str]) -> Result<bool, String> {
     Ok(true)
 }
 
-/// Status 0 where it went well, 1 where a test failed, 2 where nothing could be done.
+/// Runs what the command line asks for.
 fn main() -> ExitCode {
-    let args: Vec<String> = std::env::args().skip(1).collect();
-    match run(&args.iter().map(String::as_str).collect::<Vec<_>>()) {
-        Ok(true) => ExitCode::SUCCESS,
-        Ok(false) => ExitCode::FAILURE,
-        Err(error) => {
-            eprintln!("{error}");
-            ExitCode::from(2)
-        },
-    }
+    exit(run)
 }

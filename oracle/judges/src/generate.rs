@@ -1,6 +1,6 @@
 //! Random scripts, made from a seed and a number alone, so that every one can be made again.
 use crate::rules::{Row, Rules, compare_rows};
-use crate::script::{Answer, Call, Judge, Open};
+use crate::script::{Answer, Call, Judge, Open, Place};
 
 /// What a script is made to reach.
 #[derive(Clone, Copy, Debug, PartialEq)]
@@ -19,6 +19,8 @@ pub enum Kind {
     Ends,
     /// Small areas, broken frames, calls at the wrong time: what 01 refuses, and the Rust does not know.
     Refusals,
+    /// As refusals, and between the calls the host alters words of the join and of the areas.
+    Handed,
 }
 
 /// All kinds that the Rust and the rules are compared on.
@@ -27,7 +29,7 @@ pub const COMPARED: [Kind; 6] = [Kind::Whole, Kind::Mixed, Kind::Flush, Kind::Nu
 impl Kind {
     /// The kind of a name, as the command line gives it.
     pub fn named(name: &str) -> Option<Kind> {
-        let all = COMPARED.into_iter().chain([Kind::Refusals]);
+        let all = COMPARED.into_iter().chain([Kind::Refusals, Kind::Handed]);
         all.into_iter().find(|k| format!("{k:?}").eq_ignore_ascii_case(name))
     }
 }
@@ -403,23 +405,101 @@ fn small_open(r: &mut Random, mut o: Open) -> Open {
     o
 }
 
-/// Small areas, short outputs, broken frames and calls at the wrong time.
-fn refusals(r: &mut Random, mut d: Draft) -> Vec<Call> {
+/// Any call, also ones that 01 refuses.
+fn any_call(r: &mut Random, d: &mut Draft, c: usize) {
+    match r.below(20) {
+        0..=4 => d.left(),
+        5..=9 => d.right(),
+        10 => d.push(Call::Left(broken_frame(r, c))),
+        11 => d.push(Call::Right(broken_frame(r, c))),
+        12 if r.percent(30) => d.push(Call::End),
+        13 => d.ports(r, 10, 3),
+        14 => d.push(Call::Turn(r.below(d.output + 1))),
+        15 => d.push(Call::State),
+        _ => d.turn(r),
+    }
+}
+
+/// Opens a draft again, with small areas if so said, and keeps what 01 refuses; the number of its columns.
+fn open_again(r: &mut Random, d: &mut Draft, small: bool) -> usize {
     let Some(Call::Open(o)) = d.calls.pop() else { unreachable!() };
     let c = o.b + 1;
     d.keep_refused = true;
-    d.push(Call::Open(small_open(r, o)));
+    let open = if small { small_open(r, o) } else { o };
+    d.push(Call::Open(open));
+    c
+}
+
+/// Small areas, short outputs, broken frames and calls at the wrong time.
+fn refusals(r: &mut Random, mut d: Draft) -> Vec<Call> {
+    let c = open_again(r, &mut d, true);
     for _ in 0..10 + r.below(30) {
-        match r.below(20) {
-            0..=4 => d.left(),
-            5..=9 => d.right(),
-            10 => d.push(Call::Left(broken_frame(r, c))),
-            11 => d.push(Call::Right(broken_frame(r, c))),
-            12 if r.percent(30) => d.push(Call::End),
-            13 => d.ports(r, 10, 3),
-            14 => d.push(Call::Turn(r.below(d.output + 1))),
-            15 => d.push(Call::State),
-            _ => d.turn(r),
+        any_call(r, &mut d, c);
+    }
+    d.calls
+}
+
+/// Another word for a field of the join: near what it is, small, or at an end of the 64-bit range.
+fn other_word(r: &mut Random, at: usize, old: i64) -> i64 {
+    const NEAR: [i64; 6] = [-2, -1, 1, 2, 3, 4];
+    const ENDS: [i64; 8] = [i64::MIN, i64::MIN + 1, i64::MAX, i64::MAX - 1, i64::MAX - 3, -1, -2, -4];
+    match (at, r.below(10)) {
+        (15 | 21, 0..=4) => r.pick(&ENDS),
+        (2 | 4..=12 | 18..=20 | 22 | 33, 0..=7) => r.below(2) as i64,
+        (_, 0) => r.pick(&ENDS),
+        (_, 1..=6) => old.wrapping_add(r.pick(&NEAR)),
+        _ => r.below(8) as i64,
+    }
+}
+
+/// The host alters a word of the join; most words that make it refused in every call are set right after one call.
+fn alter_join(r: &mut Random, d: &mut Draft, c: usize) {
+    let Some((words, ..)) = d.rules.all_words() else { return };
+    let at = match r.below(10) {
+        0..=4 => 13 + r.below(9),
+        5 | 6 => r.below(13),
+        _ => 22 + r.below(22),
+    };
+    d.push(Call::Put(Place::Join, at, other_word(r, at, words[at])));
+    if d.rules.broken() {
+        any_call(r, d, c);
+        if r.percent(90) {
+            d.push(Call::Put(Place::Join, at, words[at]));
+        }
+    }
+}
+
+/// The host lays down a remembered row that no turn has left there, so that the check against it decides alone.
+fn alter_row(r: &mut Random, d: &mut Draft) {
+    let first = r.pick(&[22, 33, 33]);
+    let keys = [0, 1, 2, 5, 11, i64::MIN, i64::MAX];
+    d.push(Call::Put(Place::Join, first, 1));
+    for j in 0..5 {
+        d.push(Call::Put(Place::Join, first + 1 + j, r.pick(&keys)));
+        d.push(Call::Put(Place::Join, first + 6 + j, r.pick(&[1, 1, 1, 0, 2, -1])));
+    }
+}
+
+/// The host alters a word of an area: a mark that is neither 0 nor 1, a null's value, a waiting frame's head.
+fn alter_area(r: &mut Random, d: &mut Draft) {
+    let Some((_, left, right)) = d.rules.all_words() else { return };
+    let (place, length) = if r.percent(30) { (Place::Left, left.len()) } else { (Place::Right, right.len()) };
+    let word = r.pick(&[0, 0, 1, 1, 2, -1, 3, 5, i64::MIN, i64::MAX, 4096]);
+    if length > 0 {
+        d.push(Call::Put(place, r.below(length), word));
+    }
+}
+
+/// Calls on joins and areas that no call has left so.
+fn handed(r: &mut Random, mut d: Draft) -> Vec<Call> {
+    let small = r.percent(50);
+    let c = open_again(r, &mut d, small);
+    for _ in 0..10 + r.below(30) {
+        match r.below(24) {
+            0..=2 => alter_join(r, &mut d, c),
+            3 | 4 => alter_area(r, &mut d),
+            5 => alter_row(r, &mut d),
+            _ => any_call(r, &mut d, c),
         }
     }
     d.calls
@@ -463,6 +543,7 @@ pub fn script(kind: Kind, seed: u64, number: u64) -> Vec<Call> {
         Kind::Flush => flush(r, d),
         Kind::NullsLast | Kind::Order => plain(r, d),
         Kind::Refusals => return refusals(r, d),
+        Kind::Handed => return handed(r, d),
     };
     if r.percent(50) {
         tighten(r, &mut calls);

@@ -3,7 +3,8 @@
 //! with the stand-ins or with the judge of the whole-table rule.
 use std::cmp::Ordering;
 
-use crate::script::{Answer, Call, Judge, Look, Open};
+use crate::script::{Answer, Call, JoinWords, Judge, Look, Open, Place};
+use crate::words::{self, RowWords};
 
 /// A cell: null, or a number.
 pub type Cell = Option<i64>;
@@ -252,7 +253,7 @@ impl Fault {
     }
 }
 
-/// What a turn that writes changes.
+/// What a turn that writes changes. Where a side has no row to remember, the remembered one stays.
 struct Written {
     matches: Vec<Option<u64>>,
     dropped: usize,
@@ -266,6 +267,10 @@ pub struct Join {
     left_area: Vec<i64>,
     right_area: Vec<i64>,
     look: Look,
+    /// The words of the remembered rows, left and right.
+    rows: [RowWords; 2],
+    /// The join's words where a host has altered them so that no join has them.
+    strange: Option<JoinWords>,
     fault: Option<Fault>,
 }
 
@@ -291,7 +296,47 @@ impl Join {
         };
         let left_area = (0..o.left_words as i64).map(|i| (7 * i) % 11 - 5).collect();
         let right_area = (0..o.right_words as i64).map(|i| (5 * i) % 13 - 6).collect();
-        Some(Join { o: o.clone(), left_area, right_area, look, fault: None })
+        let rows = [[0; 11]; 2];
+        Some(Join { o: o.clone(), left_area, right_area, look, rows, strange: None, fault: None })
+    }
+
+    /// The join's words, as the C interface lays them out.
+    fn words(&self) -> JoinWords {
+        self.strange.unwrap_or_else(|| words::encode(&self.o, &self.look, &self.rows))
+    }
+
+    /// A word of the join is altered by the host.
+    fn put(&mut self, at: usize, word: i64) {
+        let mut all = self.words();
+        all[at] = word;
+        match words::decode(&all) {
+            Some((o, look, rows)) => (self.o, self.look, self.rows, self.strange) = (o, look, rows, None),
+            None => self.strange = Some(all),
+        }
+    }
+
+    /// A word of an area is altered by the host. Nothing happens where the area has no such word.
+    fn put_area(area: &mut [i64], at: usize, word: i64) -> Answer {
+        let Some(place) = area.get_mut(at) else { return Answer::Nothing };
+        *place = word;
+        Answer::Ok
+    }
+
+    /// What is no call of the port: looking at the join and its areas, and altering them.
+    fn host(&mut self, call: &Call) -> Option<Answer> {
+        Some(match *call {
+            Call::State if self.strange.is_some() => Answer::Nothing,
+            Call::State => Answer::State(Box::new(self.look.clone())),
+            Call::Areas => Answer::Areas(self.left_area.clone(), self.right_area.clone()),
+            Call::Words => Answer::Words(Box::new(self.words())),
+            Call::Put(Place::Join, at, word) => {
+                self.put(at, word);
+                Answer::Ok
+            },
+            Call::Put(Place::Left, at, word) => Self::put_area(&mut self.left_area, at, word),
+            Call::Put(Place::Right, at, word) => Self::put_area(&mut self.right_area, at, word),
+            _ => return None,
+        })
     }
 
     /// "c = b + 1".
@@ -312,10 +357,11 @@ impl Join {
         rows_of(c, self.look.held, values, marks)
     }
 
-    /// 2: whether the fields cannot be those of a join. No script reaches it; a port's host can.
+    /// 2: whether the fields cannot be those of a join. No call reaches it; a host that alters its words can.
     fn broken(&self) -> bool {
         let l = &self.look;
-        bad_options(&self.o)
+        self.strange.is_some()
+            || bad_options(&self.o)
             || l.base as u128 + l.held as u128 > self.capacity() as u128
             || l.queue_start as u128 + l.queue_words as u128 > self.left_area.len() as u128
             || l.pruned as u128 + l.held as u128 > i64::MAX as u128
@@ -431,9 +477,10 @@ impl Join {
 
     /// "With the check on: the row before the split is the last row with a key in the part before it, or else the
     /// remembered row; it must not be greater than the first row with a key after the split, and is then remembered."
+    /// None where the remembered row stays.
     fn split_check(&self, held: &[Row], at: usize) -> Result<Option<Row>, Fault> {
-        let before = last_keyed(&self.o, &held[..at]).or(self.look.right.as_ref());
-        if out_of_order(&self.o, before, first_keyed(&self.o, &held[at..])) {
+        let before = last_keyed(&self.o, &held[..at]);
+        if out_of_order(&self.o, before.or(self.look.right.as_ref()), first_keyed(&self.o, &held[at..])) {
             return Err(Fault::Split);
         }
         Ok(before.cloned())
@@ -452,7 +499,7 @@ impl Join {
         }
         let number = |i: usize| self.look.pruned + (dropped + i) as u64;
         let matches = match_frame(o, left, held).into_iter().map(|m| m.map(number)).collect();
-        let mut right = self.look.right.clone();
+        let mut right = None;
         if let (Some(last), false) = (left.last(), held.is_empty()) {
             let at = split(o, last, held);
             if o.check {
@@ -461,7 +508,7 @@ impl Join {
             dropped += at;
         }
         let keyed = last_keyed(o, left).filter(|_| o.check).cloned();
-        Ok(Written { matches, dropped, left: keyed.or(self.look.left.clone()), right })
+        Ok(Written { matches, dropped, left: keyed, right })
     }
 
     /// "Turn": refusals 4 to 9 in order, Idle, Wants right, or what it writes.
@@ -500,7 +547,12 @@ impl Join {
         look.queue_start += length;
         look.queue_words -= length;
         look.sequence += 2;
-        (look.left, look.right) = (written.left, written.right);
+        for (side, row, remembered) in [(0, written.left, &mut look.left), (1, written.right, &mut look.right)] {
+            if let Some(row) = row {
+                self.rows[side] = words::row_words(&row);
+                *remembered = Some(row);
+            }
+        }
         let mut words = vec![written.matches.len() as i64, 1];
         words.extend(written.matches.iter().map(|m| m.map_or(0, |number| number as i64)));
         words.extend(written.matches.iter().map(|m| m.is_some() as i64));
@@ -509,10 +561,8 @@ impl Join {
 
     /// "numbers in checking order": 2 and 3 come first in every call.
     fn call(&mut self, call: &Call) -> Answer {
-        if let Call::State = call {
-            return Answer::State(Box::new(self.look.clone()));
-        } else if let Call::Areas = call {
-            return Answer::Areas(self.left_area.clone(), self.right_area.clone());
+        if let Some(answer) = self.host(call) {
+            return answer;
         } else if self.broken() {
             return Answer::Refused(2);
         } else if self.look.failed {
@@ -524,7 +574,7 @@ impl Join {
             Call::End => self.end(),
             Call::Ports(ports) => self.ports(*ports),
             Call::Turn(output) => self.turn(*output),
-            Call::Open(_) | Call::State | Call::Areas => unreachable!(),
+            Call::Open(_) | Call::State | Call::Areas | Call::Words | Call::Put(..) => unreachable!(),
         }
     }
 }
@@ -539,6 +589,16 @@ impl Rules {
     /// What `state` would tell, if a join is open.
     pub fn look(&self) -> Option<&Look> {
         self.join.as_ref().map(|j| &j.look)
+    }
+
+    /// The open join's words and those of its areas, for a look at every word.
+    pub fn all_words(&self) -> Option<(JoinWords, &[i64], &[i64])> {
+        self.join.as_ref().map(|j| (j.words(), &j.left_area[..], &j.right_area[..]))
+    }
+
+    /// Whether every call would be refused by 2.
+    pub fn broken(&self) -> bool {
+        self.join.as_ref().is_some_and(Join::broken)
     }
 
     /// Where the fault that stopped the join was seen.

@@ -27,7 +27,23 @@ pub enum Call {
     State,
     /// Not of the shared script form: the words of both areas, for tests of the definitions.
     Areas,
+    /// Not of the shared script form: the words of the join, as the C interface lays them out.
+    Words,
+    /// Not of the shared script form: a word of the join, of the left or of the right area is altered by the host.
+    Put(Place, usize, i64),
 }
+
+/// What the host alters a word of.
+#[derive(Clone, Copy, Debug, PartialEq)]
+pub enum Place {
+    Join,
+    Left,
+    Right,
+}
+
+/// The words of a join as the C interface lays them out (include/rowkeeper.h): 13 of options, 9 of counters and flags,
+/// and 11 for each remembered row.
+pub type JoinWords = [i64; 44];
 
 /// What `state` tells of a join.
 #[derive(Clone, Debug, PartialEq)]
@@ -58,6 +74,8 @@ pub enum Answer {
     State(Box<Look>),
     /// The words of the left area, then those of the right one.
     Areas(Vec<i64>, Vec<i64>),
+    /// The words of the join.
+    Words(Box<JoinWords>),
     /// `-`: the call has no counterpart here.
     Nothing,
 }
@@ -95,9 +113,11 @@ impl fmt::Display for Answer {
             Answer::Idle => write!(f, "idle"),
             Answer::NoJoin => write!(f, "no join"),
             Answer::State(look) => write!(f, "{look}"),
-            Answer::Areas(left, right) => {
-                write!(f, "areas").and_then(|_| words(f, left)).and_then(|_| write!(f, " |")).and_then(|_| words(f, right))
-            },
+            Answer::Areas(left, right) => write!(f, "areas")
+                .and_then(|_| words(f, left))
+                .and_then(|_| write!(f, " |"))
+                .and_then(|_| words(f, right)),
+            Answer::Words(w) => write!(f, "words").and_then(|_| words(f, &w[..])),
             Answer::Nothing => write!(f, "-"),
         }
     }
@@ -120,6 +140,10 @@ impl fmt::Display for Call {
             Call::Turn(o) => write!(f, "turn {o}"),
             Call::State => write!(f, "state"),
             Call::Areas => write!(f, "areas"),
+            Call::Words => write!(f, "words"),
+            Call::Put(Place::Join, at, word) => write!(f, "put {at} {word}"),
+            Call::Put(Place::Left, at, word) => write!(f, "put-left {at} {word}"),
+            Call::Put(Place::Right, at, word) => write!(f, "put-right {at} {word}"),
         }
     }
 }
@@ -167,6 +191,16 @@ fn parse_ports(a: &[i64]) -> Result<[u8; 3], String> {
     Ok([l as u8, r as u8, s as u8])
 }
 
+/// The words of a `put` line: a place among the join's or an area's words, and the word.
+fn parse_put(place: Place, a: &[i64]) -> Result<Call, String> {
+    let [at, word] = *a else { return Err(format!("put needs 2 words, not {}", a.len())) };
+    let at = count(at)?;
+    if place == Place::Join && at >= size_of::<JoinWords>() / 8 {
+        return Err(format!("a join has no word {at}"));
+    }
+    Ok(Call::Put(place, at, word))
+}
+
 /// One line: none where it holds no call, an error where it is malformed.
 pub fn parse_line(line: &str) -> Result<Option<Call>, String> {
     let mut parts = line.split('#').next().unwrap_or("").split_ascii_whitespace();
@@ -182,7 +216,13 @@ pub fn parse_line(line: &str) -> Result<Option<Call>, String> {
         ("end", []) => Call::End,
         ("state", []) => Call::State,
         ("areas", []) => Call::Areas,
-        ("turn" | "end" | "state" | "areas", a) => return Err(format!("{name} does not take {} words", a.len())),
+        ("words", []) => Call::Words,
+        ("put", a) => parse_put(Place::Join, a)?,
+        ("put-left", a) => parse_put(Place::Left, a)?,
+        ("put-right", a) => parse_put(Place::Right, a)?,
+        ("turn" | "end" | "state" | "areas" | "words", a) => {
+            return Err(format!("{name} does not take {} words", a.len()));
+        },
         _ => return Err(format!("{name} is no call")),
     };
     Ok(Some(call))

@@ -1,0 +1,198 @@
+//! The join and its calls.
+use crate::raw::{self, safe};
+use crate::{NodeState, Options, Port, Ports, Refusal};
+
+/// A join with the two areas that it works in. An area is anything that holds words: a `Vec<i64>`, an array, a
+/// `&mut [i64]` that is lent for the join's whole life.
+#[derive(Clone, Debug)]
+pub struct Join<A = Vec<i64>> {
+    join: raw::Join,
+    left: A,
+    right: A,
+}
+
+/// The answer of a turn that was not refused.
+#[derive(Clone, Copy, Debug, PartialEq, Eq)]
+pub enum Turn<'o> {
+    /// The matches of the frame that waited first; frames are numbered 0, 2, 4 and so on.
+    Wrote { sequence: u64, matches: Matches<'o> },
+    /// Right rows that are still to come might match: hand in more, or end right.
+    WantsRight,
+    /// No frame waits.
+    Idle,
+}
+
+/// The matches that a turn wrote, one for each row of its frame.
+#[derive(Clone, Copy, Debug, PartialEq, Eq)]
+pub struct Matches<'o> {
+    numbers: &'o [i64],
+    marks: &'o [i64],
+}
+
+impl<'o> Matches<'o> {
+    /// The matches at the front of an output.
+    fn of(output: &'o [i64]) -> Matches<'o> {
+        let n = output[0] as usize;
+        Matches { numbers: &output[2..2 + n], marks: &output[2 + n..2 + 2 * n] }
+    }
+
+    /// How many rows the frame has.
+    pub fn len(&self) -> usize {
+        self.numbers.len()
+    }
+
+    /// Whether the frame has no row.
+    pub fn is_empty(&self) -> bool {
+        self.numbers.is_empty()
+    }
+
+    /// For each row of the frame, in order, the number of its right row: its place among all right rows, from 0.
+    pub fn iter(&self) -> impl Iterator<Item = Option<u64>> + 'o {
+        self.numbers.iter().zip(self.marks).map(|(number, mark)| (*mark != 0).then_some(*number as u64))
+    }
+}
+
+impl Join<Vec<i64>> {
+    /// Opens a join with areas of so many words. [`Join::left_words`] and [`Join::right_words`] say what is needed.
+    pub fn open(options: &Options, left_words: usize, right_words: usize) -> Result<Self, Refusal> {
+        Join::with_areas(options, vec![0; left_words], vec![0; right_words])
+    }
+
+    /// The words of the left area for so many waiting frames of so many rows each.
+    pub fn left_words(options: &Options, frames: usize, rows: usize) -> usize {
+        frames * (2 + 2 * rows * options.columns())
+    }
+
+    /// The words of the right area for so many held rows.
+    pub fn right_words(options: &Options, rows: usize) -> usize {
+        2 * rows * options.columns()
+    }
+
+    /// The words of an output for a frame of so many rows.
+    pub fn output_words(rows: usize) -> usize {
+        2 + 2 * rows
+    }
+}
+
+impl<A: AsRef<[i64]> + AsMut<[i64]>> Join<A> {
+    /// Opens a join over these areas; their words may be anything.
+    pub fn with_areas(options: &Options, left: A, right: A) -> Result<Self, Refusal> {
+        let took = raw::rowkeeper_open(options.raw());
+        Refusal::of(took.refusal)?;
+        Ok(Join { join: took.join, left, right })
+    }
+
+    /// A join of parts that [`Join::parts`] gave, perhaps to a file. They may be anything: every call judges them.
+    pub fn from_parts(join: raw::Join, left: A, right: A) -> Self {
+        Join { join, left, right }
+    }
+
+    /// All that the join is: its own words and those of its areas.
+    pub fn parts(&self) -> (raw::Join, &[i64], &[i64]) {
+        (self.join, self.left.as_ref(), self.right.as_ref())
+    }
+
+    /// Gives the areas back.
+    pub fn into_areas(self) -> (A, A) {
+        (self.left, self.right)
+    }
+
+    /// The words of the left area.
+    pub fn left_area(&self) -> &[i64] {
+        self.left.as_ref()
+    }
+
+    /// The words of the right area.
+    pub fn right_area(&self) -> &[i64] {
+        self.right.as_ref()
+    }
+
+    /// Goes on with the join that a call handed back.
+    fn took(&mut self, took: raw::Took) -> Result<(), Refusal> {
+        self.join = took.join;
+        Refusal::of(took.refusal)
+    }
+
+    /// Hands in a left frame, which then waits. Any words may come; those that are no frame are refused.
+    pub fn left(&mut self, frame: &[i64]) -> Result<(), Refusal> {
+        let took = safe::left(self.join, self.left.as_mut(), self.right.as_ref(), frame);
+        self.took(took)
+    }
+
+    /// Hands in a right frame, whose rows are then held. Any words may come; those that are no frame are refused.
+    pub fn right(&mut self, frame: &[i64]) -> Result<(), Refusal> {
+        let took = safe::right(self.join, self.left.as_ref(), self.right.as_mut(), frame);
+        self.took(took)
+    }
+
+    /// Ends right: no right frame comes any more.
+    pub fn end_right(&mut self) -> Result<(), Refusal> {
+        let took = safe::end_right(self.join, self.left.as_ref(), self.right.as_ref());
+        self.took(took)
+    }
+
+    /// A port call: what the ports say comes in, what they are told comes back.
+    pub fn ports(&mut self, ports: Ports) -> Result<Ports, Refusal> {
+        let said = [ports.left as u64, ports.right as u64, ports.send as u64];
+        let ported = safe::ports(self.join, self.left.as_ref(), self.right.as_ref(), said);
+        self.join = ported.join;
+        Refusal::of(ported.refusal)?;
+        Ok(Ports { left: port(ported.left), right: port(ported.right), send: port(ported.send) })
+    }
+
+    /// A turn: the matches of the frame that waited first, written to the output.
+    pub fn turn<'o>(&mut self, output: &'o mut [i64]) -> Result<Turn<'o>, Refusal> {
+        let turned = safe::turn(self.join, self.left.as_ref(), self.right.as_ref(), output);
+        self.join = turned.join;
+        Refusal::of(turned.refusal)?;
+        Ok(match turned.answer {
+            0 => Turn::Wrote { sequence: turned.sequence, matches: Matches::of(output) },
+            1 => Turn::WantsRight,
+            _ => Turn::Idle,
+        })
+    }
+
+    /// The node's state. A join that was made of any words can have another number than there is: then it is none.
+    pub fn state(&self) -> Option<NodeState> {
+        match self.join.state {
+            0 => Some(NodeState::Running),
+            1 => Some(NodeState::Flush),
+            2 => Some(NodeState::Done),
+            _ => None,
+        }
+    }
+
+    /// How many right rows are held.
+    pub fn held(&self) -> u64 {
+        self.join.held
+    }
+
+    /// How many right rows were dropped.
+    pub fn pruned(&self) -> u64 {
+        self.join.pruned
+    }
+
+    /// How many words of left frames wait.
+    pub fn waiting_words(&self) -> u64 {
+        self.join.queue_words
+    }
+
+    /// Whether right has ended.
+    pub fn right_ended(&self) -> bool {
+        self.join.right_ended == 1
+    }
+
+    /// Whether a turn found rows out of order; every call is refused then.
+    pub fn failed(&self) -> bool {
+        self.join.failed == 1
+    }
+}
+
+/// A port of its code.
+fn port(code: u64) -> Port {
+    match code {
+        0 => Port::Blocked,
+        1 => Port::Ready,
+        _ => Port::Done,
+    }
+}

@@ -1,0 +1,199 @@
+//! Rowkeeper's as-of join for Rust hosts, over the archive. No dependency.
+//!
+//! A [`Join`] owns the two areas that it works in, so no call can be lent another join's; frames are made by [`Frame`], so
+//! they keep the frame rule; what a turn wrote is seen through [`Matches`], so nothing else of the output is. Calls that
+//! are refused say why by a [`Refusal`] and change nothing, save that the last two mark the join failed.
+//!
+//! ```
+//! use rowkeeper::{Frame, Join, Options, Turn};
+//!
+//! // Right rows 10, 20, 20, 30; left rows 5, 20, 25: each takes the last right row whose key is not greater.
+//! let mut join = Join::open(&Options::default(), 64, 64)?;
+//! join.right(&Frame::of_keys(&[10, 20, 20, 30])?)?;
+//! join.left(&Frame::of_keys(&[5, 20, 25])?)?;
+//! let mut output = [0; 64];
+//! let Turn::Wrote { matches, .. } = join.turn(&mut output)? else { panic!("nothing was written") };
+//! assert_eq!(matches.iter().collect::<Vec<_>>(), [None, Some(2), Some(2)]);
+//! # Ok::<(), Box<dyn std::error::Error>>(())
+//! ```
+//!
+//! A join cannot be lent its own area as a frame, and an output cannot be altered while its matches are looked at:
+//!
+//! ```compile_fail,E0502
+//! # let mut join = rowkeeper::Join::open(&rowkeeper::Options::default(), 64, 64).unwrap();
+//! join.left(join.left_area());
+//! ```
+//!
+//! ```compile_fail,E0506
+//! # let mut join = rowkeeper::Join::open(&rowkeeper::Options::default(), 64, 64).unwrap();
+//! let mut output = [0; 64];
+//! let turn = join.turn(&mut output);
+//! output[0] = 1;
+//! drop(turn);
+//! ```
+use std::fmt;
+
+mod frame;
+mod join;
+pub mod raw;
+
+pub use frame::{Frame, FrameError};
+pub use join::{Join, Matches, Turn};
+
+/// Which right row a left row takes.
+#[derive(Clone, Copy, Debug, PartialEq, Eq)]
+pub enum Strategy {
+    /// The last with a key not greater.
+    Backward = 0,
+    /// The first with a key not smaller.
+    Forward = 1,
+    /// The nearest key; of two as near, the greater.
+    Nearest = 2,
+}
+
+/// How a by-column is sorted.
+#[derive(Clone, Copy, Debug, Default, PartialEq, Eq)]
+pub struct ByColumn {
+    pub descending: bool,
+    pub nulls_last: bool,
+}
+
+/// What a join is opened with.
+#[derive(Clone, Debug, PartialEq, Eq)]
+pub struct Options {
+    pub strategy: Strategy,
+    /// Whether an equal key matches. Nearest needs it.
+    pub allow_eq: bool,
+    /// The greatest distance of two keys, up to 2^63 − 1; none: any.
+    pub tolerance: Option<u64>,
+    /// Whether turns check that rows are in order.
+    pub check: bool,
+    /// The by-columns, at most four. A row has one column more, the key.
+    pub by: Vec<ByColumn>,
+}
+
+impl Default for Options {
+    /// Backward with equality, any distance, the check on, no by-columns.
+    fn default() -> Self {
+        Options { strategy: Strategy::Backward, allow_eq: true, tolerance: None, check: true, by: vec![] }
+    }
+}
+
+impl Options {
+    /// How many columns a row has.
+    pub fn columns(&self) -> usize {
+        self.by.len() + 1
+    }
+
+    /// The options in numbers. What no number can say is said by one that is refused.
+    fn raw(&self) -> raw::Options {
+        let flag = |j: usize, of: fn(&ByColumn) -> bool| self.by.get(j).is_some_and(of) as u64;
+        raw::Options {
+            by: self.by.len() as u64,
+            strategy: self.strategy as u64,
+            allow_eq: self.allow_eq as u64,
+            tolerance: self.tolerance.map_or(-1, |t| i64::try_from(t).unwrap_or(i64::MIN)),
+            check: self.check as u64,
+            descending: std::array::from_fn(|j| flag(j, |by| by.descending)),
+            nulls_last: std::array::from_fn(|j| flag(j, |by| by.nulls_last)),
+        }
+    }
+}
+
+/// Why a call is refused, in checking order.
+#[derive(Clone, Copy, Debug, PartialEq, Eq, PartialOrd, Ord)]
+pub enum Refusal {
+    /// At opening: more than four by-columns, a tolerance above 2^63 − 1, or Nearest without equality.
+    BadOptions = 1,
+    /// The join does not hold together, or not with its areas.
+    BadJoin = 2,
+    /// An earlier turn found rows out of order.
+    Failed = 3,
+    /// The call comes at the wrong time.
+    Closed = 4,
+    /// The words are no frame of this join.
+    BadFrame = 5,
+    /// There is no room in the area or in the output.
+    NoRoom = 6,
+    /// The numbers of right rows or of turns are used up.
+    UsedUp = 7,
+    /// Left rows are out of order. The join is marked failed.
+    LeftOrder = 8,
+    /// Right rows are out of order. The join is marked failed.
+    RightOrder = 9,
+}
+
+impl Refusal {
+    /// All refusals, in checking order.
+    pub const ALL: [Refusal; 9] = [
+        Refusal::BadOptions,
+        Refusal::BadJoin,
+        Refusal::Failed,
+        Refusal::Closed,
+        Refusal::BadFrame,
+        Refusal::NoRoom,
+        Refusal::UsedUp,
+        Refusal::LeftOrder,
+        Refusal::RightOrder,
+    ];
+
+    /// The refusal of a number, or none where the call was not refused.
+    fn of(number: u64) -> Result<(), Refusal> {
+        match number {
+            0 => Ok(()),
+            n => Err(*Refusal::ALL.get(n as usize - 1).expect("refusals have the numbers 1 to 9")),
+        }
+    }
+
+    /// Its number.
+    pub fn number(self) -> u8 {
+        self as u8
+    }
+}
+
+impl fmt::Display for Refusal {
+    /// The number and what it says.
+    fn fmt(&self, f: &mut fmt::Formatter<'_>) -> fmt::Result {
+        let why = match self {
+            Refusal::BadOptions => "these options open no join",
+            Refusal::BadJoin => "the join does not hold together, or not with its areas",
+            Refusal::Failed => "rows were out of order in an earlier turn",
+            Refusal::Closed => "the call comes at the wrong time",
+            Refusal::BadFrame => "the words are no frame of this join",
+            Refusal::NoRoom => "there is no room",
+            Refusal::UsedUp => "the numbers are used up",
+            Refusal::LeftOrder => "left rows are out of order",
+            Refusal::RightOrder => "right rows are out of order",
+        };
+        write!(f, "refused by {}: {why}", self.number())
+    }
+}
+
+impl std::error::Error for Refusal {}
+
+/// The node's state.
+#[derive(Clone, Copy, Debug, PartialEq, Eq)]
+pub enum NodeState {
+    /// Takes left frames.
+    Running,
+    /// Left is done; frames still wait.
+    Flush,
+    /// All is done.
+    Done,
+}
+
+/// What a port says, and is told.
+#[derive(Clone, Copy, Debug, PartialEq, Eq)]
+pub enum Port {
+    Blocked = 0,
+    Ready = 1,
+    Done = 2,
+}
+
+/// The three ports of the node.
+#[derive(Clone, Copy, Debug, PartialEq, Eq)]
+pub struct Ports {
+    pub left: Port,
+    pub right: Port,
+    pub send: Port,
+}

@@ -1,0 +1,259 @@
+//! The wrapper over the archive: 01's counter cases, every refusal, any cut, keeping a join, and threads.
+use rowkeeper::{ByColumn, Frame, Join, NodeState, Options, Port, Ports, Refusal, Strategy, Turn, raw};
+
+type Row = [Option<i64>; 2];
+
+/// A source of random numbers (splitmix64).
+struct Random(u64);
+
+impl Random {
+    /// A number below n.
+    fn below(&mut self, n: u64) -> u64 {
+        self.0 = self.0.wrapping_add(0x9E37_79B9_7F4A_7C15);
+        let z = (self.0 ^ (self.0 >> 30)).wrapping_mul(0xBF58_476D_1CE4_E5B9);
+        let z = (z ^ (z >> 27)).wrapping_mul(0x94D0_49BB_1331_11EB);
+        (z ^ (z >> 31)) % n
+    }
+}
+
+/// A frame of keys.
+fn keys(keys: &[i64]) -> Frame {
+    Frame::of_keys(keys).unwrap()
+}
+
+/// Options with the check off, as the counter's are.
+fn options(strategy: Strategy, allow_eq: bool, tolerance: Option<u64>) -> Options {
+    Options { strategy, allow_eq, tolerance, check: false, by: vec![] }
+}
+
+/// A join that is open, with room enough.
+fn open(options: &Options) -> Join {
+    Join::open(options, 200, 200).unwrap()
+}
+
+/// The matches of a turn, or none where it wrote nothing.
+fn turn<A: AsRef<[i64]> + AsMut<[i64]>>(join: &mut Join<A>) -> Option<Vec<Option<u64>>> {
+    let mut output = [7; 100];
+    match join.turn(&mut output).unwrap() {
+        Turn::Wrote { matches, .. } => Some(matches.iter().collect()),
+        Turn::WantsRight | Turn::Idle => None,
+    }
+}
+
+/// The matches of these left keys over right 10, 20, 20, 30, right ended.
+fn matches(options: &Options, left: &[i64]) -> Vec<Option<u64>> {
+    let mut join = open(options);
+    join.right(&keys(&[10, 20, 20, 30])).unwrap();
+    join.left(&keys(left)).unwrap();
+    join.end_right().unwrap();
+    turn(&mut join).unwrap()
+}
+
+/// 01, At the counter: the strategies, equality and tolerance.
+#[test]
+fn counter() {
+    use Strategy::*;
+    assert_eq!(matches(&options(Backward, true, None), &[5, 20, 25]), [None, Some(2), Some(2)]);
+    assert_eq!(matches(&options(Backward, false, None), &[20]), [Some(0)]);
+    assert_eq!(matches(&options(Forward, true, None), &[20]), [Some(1)]);
+    assert_eq!(matches(&options(Forward, false, None), &[20]), [Some(3)]);
+    assert_eq!(matches(&options(Nearest, true, None), &[14, 15, 25]), [Some(0), Some(2), Some(3)]);
+    assert_eq!(matches(&options(Backward, true, Some(4)), &[25]), [None]);
+    assert_eq!(matches(&options(Backward, true, Some(5)), &[25]), [Some(2)]);
+}
+
+/// 01, At the counter: what is held afterwards, and a turn that wants more.
+#[test]
+fn wants_and_drops() {
+    let mut join = open(&options(Strategy::Backward, true, None));
+    join.right(&keys(&[10, 20, 20])).unwrap();
+    join.left(&keys(&[5, 20, 25])).unwrap();
+    let mut output = [7; 9];
+    assert_eq!(join.turn(&mut output), Ok(Turn::WantsRight));
+    assert_eq!(output, [7; 9]);
+    join.right(&keys(&[30])).unwrap();
+    let Ok(Turn::Wrote { sequence: 0, matches }) = join.turn(&mut output) else { panic!() };
+    assert_eq!((matches.len(), matches.is_empty()), (3, false));
+    assert_eq!(output, [3, 1, 0, 2, 2, 0, 1, 1, 7]);
+    assert_eq!((join.pruned(), join.held(), join.waiting_words()), (2, 2, 0));
+    assert_eq!(join.turn(&mut output), Ok(Turn::Idle));
+}
+
+/// The ports: left Done with a frame waiting is Flush, and Done once it is written.
+#[test]
+fn ports_to_done() {
+    let mut join = open(&Options::default());
+    join.left(&keys(&[1])).unwrap();
+    join.end_right().unwrap();
+    assert!(join.right_ended());
+    let came = Ports { left: Port::Done, right: Port::Blocked, send: Port::Ready };
+    let told = Ports { left: Port::Done, right: Port::Ready, send: Port::Blocked };
+    assert_eq!((join.ports(came), join.state()), (Ok(told), Some(NodeState::Flush)));
+    assert_eq!(turn(&mut join), Some(vec![None]));
+    let done = Ports { left: Port::Done, right: Port::Done, send: Port::Done };
+    assert_eq!((join.ports(came), join.state()), (Ok(done), Some(NodeState::Done)));
+}
+
+/// 1: options that open no join, among them those that the types allow and no number can say.
+#[test]
+fn bad_options() {
+    let five = Options { by: vec![ByColumn::default(); 5], ..Options::default() };
+    let far = Options { tolerance: Some(1 << 63), ..Options::default() };
+    let nearest = Options { strategy: Strategy::Nearest, allow_eq: false, ..Options::default() };
+    for options in [five, far, nearest] {
+        assert_eq!(Join::open(&options, 9, 9).unwrap_err(), Refusal::BadOptions);
+    }
+    let most = Options { tolerance: Some((1 << 63) - 1), by: vec![ByColumn::default(); 4], ..Options::default() };
+    assert!(Join::open(&most, 0, 0).is_ok());
+}
+
+/// A join as it is with one thing altered.
+fn altered(join: &Join, alter: impl Fn(&mut raw::Join)) -> Join {
+    let (mut words, left, right) = join.parts();
+    alter(&mut words);
+    Join::from_parts(words, left.to_vec(), right.to_vec())
+}
+
+/// 2 to 7, each by a call that meets it, with no word altered.
+#[test]
+fn refusals() {
+    let mut join = Join::open(&Options::default(), 10, 4).unwrap();
+    join.right(&keys(&[1, 2])).unwrap();
+    let odd = altered(&join, |j| j.sequence = 1);
+    let strange = altered(&join, |j| j.state = 7);
+    assert_eq!(strange.state(), None);
+    let failed = altered(&join, |j| j.failed = 1);
+    let done = altered(&join, |j| j.state = 2);
+    let last = altered(&join, |j| (j.held, j.pruned) = (0, i64::MAX as u64));
+    let frame = keys(&[3]);
+    let cases = [
+        (odd, Refusal::BadJoin),
+        (strange, Refusal::BadJoin),
+        (failed, Refusal::Failed),
+        (done, Refusal::Closed),
+        (join.clone(), Refusal::NoRoom),
+        (last, Refusal::UsedUp),
+    ];
+    for (mut join, refusal) in cases {
+        let before = join.clone();
+        assert_eq!(join.right(&frame), Err(refusal));
+        assert_eq!(join.parts(), before.parts());
+    }
+    assert_eq!(join.left(&[1, 1, 5, 2]), Err(Refusal::BadFrame));
+    assert_eq!(join.left(&[]), Err(Refusal::BadFrame));
+    join.left(&keys(&[1])).unwrap();
+    assert_eq!(join.turn(&mut [0; 3]), Err(Refusal::NoRoom));
+    assert_eq!(join.left(&keys(&[1, 2])), Ok(()));
+    assert_eq!(join.left(&frame), Err(Refusal::NoRoom));
+}
+
+/// 8 and 9 mark the join failed, and then every call is refused by 3.
+#[test]
+fn out_of_order() {
+    for (left, right, refusal) in [([2, 1], [1, 2], Refusal::LeftOrder), ([1, 2], [2, 1], Refusal::RightOrder)] {
+        let mut join = open(&Options::default());
+        join.left(&keys(&left)).unwrap();
+        join.right(&keys(&right)).unwrap();
+        join.end_right().unwrap();
+        let mut output = [7; 10];
+        assert_eq!(join.turn(&mut output), Err(refusal));
+        assert!(join.failed() && output == [7; 10]);
+        assert_eq!(join.turn(&mut output), Err(Refusal::Failed));
+    }
+}
+
+/// Numbers, order and texts of refusals.
+#[test]
+fn numbers() {
+    for (i, refusal) in Refusal::ALL.iter().enumerate() {
+        assert_eq!(refusal.number() as usize, i + 1);
+        assert!(refusal.to_string().starts_with(&format!("refused by {}: ", i + 1)));
+    }
+}
+
+/// Rows that make no frame.
+#[test]
+fn no_frames() {
+    use rowkeeper::FrameError::*;
+    assert_eq!(Frame::of_keys(&vec![1; 4097]).unwrap_err(), TooManyRows);
+    assert_eq!(Frame::of_keys(&vec![1; 4096]).unwrap().len(), 2 + 2 * 4096);
+    assert_eq!(Frame::new(2, &[vec![Some(1), None], vec![None]]).unwrap_err(), OtherColumns);
+    assert_eq!(Frame::new(2, &[[Some(1), None]]).unwrap()[..], [1, 2, 1, 0, 1, 0]);
+    assert_eq!(Frame::new::<Row>(2, &[]).unwrap()[..], [0, 2]);
+}
+
+/// A sorted table of one group column and a key, some of them null.
+fn table(r: &mut Random) -> Vec<Row> {
+    let count = r.below(30);
+    let cell = |r: &mut Random, n| (r.below(10) > 0).then(|| r.below(n) as i64);
+    let mut rows: Vec<Row> = (0..count).map(|_| [cell(r, 4), cell(r, 12)]).collect();
+    rows.sort();
+    rows
+}
+
+/// The whole-table rule for Backward: the last right row of the group with a key not greater.
+fn whole_table(left: &[Row], right: &[Row]) -> Vec<Option<u64>> {
+    let fits = |x: &Row, y: &Row| matches!((x, y), ([Some(g), Some(k)], [Some(h), Some(m)]) if g == h && m <= k);
+    left.iter().map(|x| right.iter().rposition(|y| fits(x, y)).map(|i| i as u64)).collect()
+}
+
+/// Hands both tables in by random cuts, keeping the join in words between calls now and then; all matches.
+fn join_cut(r: &mut Random, left: &[Row], right: &[Row]) -> Vec<Option<u64>> {
+    let options = Options { by: vec![ByColumn::default()], ..Options::default() };
+    let (mut left_rest, mut right_rest, mut out) = (left, right, vec![]);
+    let room = Join::right_words(&options, right.len());
+    let mut join = Join::open(&options, Join::left_words(&options, 1, 5), room).unwrap();
+    let mut output = vec![0; Join::output_words(5)];
+    loop {
+        match join.turn(&mut output).unwrap() {
+            Turn::Wrote { matches, .. } => out.extend(matches.iter()),
+            Turn::WantsRight if right_rest.is_empty() => join.end_right().unwrap(),
+            Turn::WantsRight => {
+                let (frame, rest) = right_rest.split_at((1 + r.below(6) as usize).min(right_rest.len()));
+                join.right(&Frame::new(2, frame).unwrap()).unwrap();
+                right_rest = rest;
+            },
+            Turn::Idle if left_rest.is_empty() => return out,
+            Turn::Idle => {
+                let (frame, rest) = left_rest.split_at((1 + r.below(5) as usize).min(left_rest.len()));
+                join.left(&Frame::new(2, frame).unwrap()).unwrap();
+                left_rest = rest;
+            },
+        }
+        if r.below(3) == 0 {
+            let (words, left, right) = join.parts();
+            let words = raw::Join::from_words(words.to_words());
+            join = Join::from_parts(words, left.to_vec(), right.to_vec());
+        }
+    }
+}
+
+/// No cutting into frames changes a match, and a join that was kept in words goes on.
+#[test]
+fn any_cut() {
+    let r = &mut Random(1);
+    let mut matched = 0;
+    for _ in 0..500 {
+        let (left, right) = (table(r), table(r));
+        let want = whole_table(&left, &right);
+        matched += want.iter().flatten().count();
+        assert_eq!(join_cut(r, &left, &right), want, "left {left:?}, right {right:?}");
+    }
+    assert!(matched > 1000);
+}
+
+/// Areas that are lent, and joins on several threads at once.
+#[test]
+fn threads() {
+    let work = |seed: u64| {
+        let (mut left, mut right) = ([seed as i64; 50], [-1; 50]);
+        let mut join = Join::with_areas(&Options::default(), &mut left[..], &mut right[..]).unwrap();
+        for i in 0..200 {
+            join.right(&keys(&[2 * i, 2 * i + 1])).unwrap();
+            join.left(&keys(&[2 * i])).unwrap();
+            assert_eq!(turn(&mut join), Some(vec![Some(2 * i as u64)]));
+        }
+        assert_eq!(join.into_areas().0.len(), 50);
+    };
+    std::thread::scope(|scope| (0..4).for_each(|seed| drop(scope.spawn(move || work(seed)))));
+}

@@ -1,0 +1,438 @@
+/*
+ * A hostile host. Makes calls with joins, areas and frames that real calls left, that were altered in some words, or that
+ * are random words, over slices of any length between guard words and pages that cannot be touched. Every answer, the join
+ * and every word afterwards are judged (judge.c).
+ *
+ *     hostile SEED CALLS     prints how often each call gave each answer; status 1 at the first fault
+ */
+#include <inttypes.h>
+#include <stdio.h>
+#include <stdlib.h>
+#include <string.h>
+
+#if defined(__SANITIZE_ADDRESS__)
+#include <sanitizer/common_interface_defs.h>
+#endif
+
+#include "judge.h"
+#include "lend.h"
+
+static const char *const CALL_NAMES[CALLS] = {"open", "left", "right", "end_right", "ports", "turn"};
+static const char *const ANSWER_NAMES[ANSWERS] = {"done", "1", "2", "3", "4", "5", "6", "7", "8", "9", "wants", "idle"};
+
+/* Which answers each call can give. The run fails where one was never met. */
+static const char *const POSSIBLE[CALLS] = {"110000000000", "101111100000", "101111110000",
+                                            "101110000000", "101100000000", "101111111111"};
+
+/* How many words a join is. */
+enum { JOIN_WORDS = sizeof(rowkeeper_join) / sizeof(int64_t) };
+
+/* A host's join and areas, and where its tables stand, so that its frames are mostly in order. */
+typedef struct host {
+    rowkeeper_join join;
+    size_t left_len, right_len;
+    int64_t left[LEND_MOST], right[LEND_MOST];
+    int64_t left_group, left_key, right_group, right_key;
+} host;
+
+static host now, before;
+static int64_t frame[LEND_MOST], out[LEND_MOST];
+static lend left_lend, right_lend, frame_lend, out_lend;
+static uint64_t seed, state, made, met[CALLS][ANSWERS], altered_joins, altered_past_2;
+
+/* Any 64 bits (splitmix64). */
+static uint64_t any(void) {
+    uint64_t z = state += 0x9e3779b97f4a7c15u;
+    z = (z ^ (z >> 30)) * 0xbf58476d1ce4e5b9u;
+    z = (z ^ (z >> 27)) * 0x94d049bb133111ebu;
+    return z ^ (z >> 31);
+}
+
+/* A number below n. */
+static uint64_t below(uint64_t n) {
+    return (any() >> 11) % n;
+}
+
+/* Yes in so many of a hundred cases. */
+static int percent(unsigned n) {
+    return below(100) < n;
+}
+
+/* A length: mostly short, at times some thousands. */
+static size_t any_length(void) {
+    static const size_t MOST[8] = {4, 16, 60, 60, 200, 200, 900, LEND_MOST};
+    size_t most = MOST[below(8)];
+    return most > 900 && percent(70) ? below(200) : below(most + 1);
+}
+
+/* A word at which something might go wrong. */
+static int64_t any_word(void) {
+    static const int64_t EDGES[] = {INT64_MIN, INT64_MIN + 1, INT64_MAX, INT64_MAX - 1, INT64_MAX - 3, -1, -2, -4, 4096, 4097};
+    switch (below(4)) {
+    case 0: return EDGES[below(sizeof EDGES / sizeof *EDGES)];
+    case 1: return (int64_t)any();
+    default: return (int64_t)below(8) - 1;
+    }
+}
+
+/* A word's bits as a number that counts. */
+static uint64_t any_count(uint64_t old, uint64_t limit) {
+    switch (below(6)) {
+    case 0: return (uint64_t)any_word();
+    case 1: return limit - below(4);
+    case 2: return old + 1;
+    case 3: return old - 1;
+    default: return below(limit + 2);
+    }
+}
+
+/* Options, now and then refused ones. */
+static rowkeeper_options any_options(void) {
+    rowkeeper_options o;
+    int j;
+    o.by = percent(60) ? below(2) : below(5);
+    o.strategy = below(3);
+    o.allow_eq = o.strategy == 2 ? 1 : below(2);
+    o.tolerance = percent(60) ? -1 : (int64_t)below(20);
+    o.check = below(2);
+    for (j = 0; j < 4; j++) {
+        o.descending[j] = percent(15);
+        o.nulls_last[j] = percent(15);
+    }
+    if (percent(4)) ((int64_t *)&o)[below(sizeof o / sizeof(int64_t))] = any_word();
+    return o;
+}
+
+/* The next row of a side: its group and key mostly do not go back. */
+static void next_row(int64_t *group, int64_t *key) {
+    if (percent(10)) {
+        ++*group;
+        *key = 0;
+    }
+    *key += (int64_t)below(3);
+    if (percent(1)) *key -= 5;
+}
+
+/* A side's next frame with at most this many rows; a row's by-values are alike, some cells are null. */
+static size_t next_frame(int64_t *group, int64_t *key, size_t most) {
+    size_t c = now.join.options.by > 4 ? 5 : now.join.options.by + 1, n, i, j;
+    if (most > (LEND_MOST - 2) / (2 * c)) most = (LEND_MOST - 2) / (2 * c);
+    n = below(most + 1);
+    frame[0] = (int64_t)n;
+    frame[1] = (int64_t)c;
+    for (i = 0; i < n; i++) {
+        next_row(group, key);
+        for (j = 0; j < c; j++) {
+            int64_t value = j + 1 == c ? *key : now.join.options.descending[j] == 1 ? -*group : *group;
+            int present = !percent(2);
+            frame[2 + i * c + j] = present ? value : 0;
+            frame[2 + n * c + i * c + j] = present;
+        }
+    }
+    return ROWKEEPER_FRAME_WORDS(n, c - 1);
+}
+
+/* Alters the frame: another length, other words, or random words throughout. */
+static size_t alter_frame(size_t len) {
+    size_t i;
+    switch (below(5)) {
+    case 0: return below(len + 1);
+    case 1: return len < LEND_MOST ? len + 1 : len;
+    case 2:
+        len = any_length();
+        for (i = 0; i < len; i++) frame[i] = any_word();
+        return len;
+    default:
+        for (i = 1 + below(3); i > 0; i--) frame[percent(40) ? below(2) : below(len)] = any_word();
+        return len;
+    }
+}
+
+/* Alters a word of the join so that it may still hold together. */
+static void alter_join(void) {
+    rowkeeper_join *j = &now.join;
+    uint64_t capacity = now.right_len / (2 * (j->options.by % 8 + 1));
+    switch (below(14)) {
+    case 0: j->base = any_count(j->base, capacity - j->held % (capacity + 1)); break;
+    case 1: j->held = any_count(j->held, capacity - j->base % (capacity + 1)); break;
+    case 2: j->pruned = percent(50) ? INT64_MAX - j->held - below(40) : any_count(j->pruned, INT64_MAX); break;
+    case 3: j->queue_start = any_count(j->queue_start, now.left_len - j->queue_words % (now.left_len + 1)); break;
+    case 4: j->queue_words = any_count(j->queue_words, now.left_len - j->queue_start % (now.left_len + 1)); break;
+    case 5: j->state = below(percent(90) ? 3 : 9); break;
+    case 6: j->right_ended = below(percent(90) ? 2 : 9); break;
+    case 7: j->failed = percent(90) ? 0 : below(3); break;
+    case 8: j->sequence = percent(50) ? UINT64_MAX - 1 - 2 * below(3) : any_count(j->sequence, 40); break;
+    case 9: j->options = any_options(); break;
+    case 10: ((int64_t *)&j->last_left)[below(11)] = percent(50) ? 1 : any_word(); break;
+    case 11: ((int64_t *)&j->last_right)[below(11)] = percent(50) ? 1 : any_word(); break;
+    default: ((int64_t *)j)[below(JOIN_WORDS)] = any_word(); break;
+    }
+}
+
+/* Alters a word of an area, most often one that is live. */
+static void alter_area(int64_t *area, size_t len, uint64_t first, uint64_t live) {
+    if (len == 0) return;
+    if (live > 0 && first < len && percent(70)) {
+        area[first + below(live < len - first ? live : len - first)] = any_word();
+    } else {
+        area[below(len)] = any_word();
+    }
+}
+
+/* Alters the host's words in one to three places; whether the join is among them. */
+static int alter_host(void) {
+    int n, joins = 0;
+    for (n = 1 + (int)below(3); n > 0; n--) {
+        switch (below(4)) {
+        case 0: alter_area(now.left, now.left_len, now.join.queue_start, now.join.queue_words); break;
+        case 1: alter_area(now.right, now.right_len, 0, 0); break;
+        default: alter_join(); joins = 1; break;
+        }
+    }
+    return joins;
+}
+
+/* Random words for join and areas. */
+static void random_host(void) {
+    size_t i;
+    now.left_len = any_length();
+    now.right_len = any_length();
+    for (i = 0; i < JOIN_WORDS; i++) ((int64_t *)&now.join)[i] = any_word();
+    for (i = 0; i < now.left_len; i++) now.left[i] = any_word();
+    for (i = 0; i < now.right_len; i++) now.right[i] = any_word();
+}
+
+/* Copies a host, of its areas only what is used. */
+static void copy_host(host *to, const host *from) {
+    memcpy(to->left, from->left, from->left_len * sizeof *to->left);
+    memcpy(to->right, from->right, from->right_len * sizeof *to->right);
+    to->join = from->join;
+    to->left_len = from->left_len;
+    to->right_len = from->right_len;
+    to->left_group = from->left_group;
+    to->left_key = from->left_key;
+    to->right_group = from->right_group;
+    to->right_key = from->right_key;
+}
+
+/* Ends the run with what was found and with what it takes to see it again. */
+static void fault(const attempt *a, const char *why) {
+    size_t i;
+    printf("FAIL seed %" PRIu64 ", call %" PRIu64 ", rowkeeper_%s: %s\n", seed, made, CALL_NAMES[a->call], why);
+    printf("lengths: left %zu, right %zu, frame %zu, output %zu\njoin:", a->left_len, a->right_len, a->frame_len, a->out_len);
+    for (i = 0; i < JOIN_WORDS; i++) printf(" %" PRId64, ((const int64_t *)&a->join)[i]);
+    printf("\n");
+    exit(1);
+}
+
+/* Told where the sanitizer ends the run. */
+static void at_death(void) {
+    fprintf(stderr, "FAIL seed %" PRIu64 ", call %" PRIu64 "\n", seed, made);
+}
+
+/* Lays a slice down at some place. */
+static int64_t *lent(lend *a, const int64_t *words, size_t len) {
+    return lend_words(a, words, len, (int)below(LEND_PLACES), percent(30));
+}
+
+/* Reads the answer of opening, left, right and the end of right. */
+static void took(outcome *o, rowkeeper_took t) {
+    o->answer = t.refusal > 9 ? ANSWERS : (int)t.refusal;
+    o->join = t.join;
+}
+
+/* Reads the answer of a port call. */
+static void ported(outcome *o, rowkeeper_ported p) {
+    o->answer = p.refusal > 9 ? ANSWERS : (int)p.refusal;
+    o->told[0] = p.left;
+    o->told[1] = p.right;
+    o->told[2] = p.send;
+    o->join = p.join;
+}
+
+/* Reads the answer of a turn; one that there is not becomes none of those known. */
+static void turned(outcome *o, rowkeeper_turned t) {
+    static const int PLAIN[3] = {0, ANSWER_WANTS, ANSWER_IDLE};
+    int strange = t.answer > 3 || t.refusal > 9 || (t.answer == ROWKEEPER_REFUSED) != (t.refusal != 0);
+    o->answer = strange ? ANSWERS : t.answer == ROWKEEPER_REFUSED ? (int)t.refusal : PLAIN[t.answer];
+    o->sequence = t.sequence;
+    o->join = t.join;
+}
+
+/* Makes the call over slices that are lent for it alone. */
+static void make(const attempt *a, outcome *o) {
+    int64_t *l = lent(&left_lend, a->left, a->left_len), *r = lent(&right_lend, a->right, a->right_len);
+    int64_t *f = lent(&frame_lend, a->frame, a->frame_len), *w = lent(&out_lend, a->out, a->out_len);
+    size_t ln = a->left_len, rn = a->right_len;
+    memset(o, 0, sizeof *o);
+    switch (a->call) {
+    case CALL_OPEN: took(o, rowkeeper_open(a->join.options)); break;
+    case CALL_LEFT: took(o, rowkeeper_left(a->join, l, ln, r, rn, f, a->frame_len)); break;
+    case CALL_RIGHT: took(o, rowkeeper_right(a->join, l, ln, r, rn, f, a->frame_len)); break;
+    case CALL_END: took(o, rowkeeper_end_right(a->join, l, ln, r, rn)); break;
+    case CALL_PORTS: ported(o, rowkeeper_ports(a->join, l, ln, r, rn, a->ports[0], a->ports[1], a->ports[2])); break;
+    default: turned(o, rowkeeper_turn(a->join, l, ln, r, rn, w, a->out_len)); break;
+    }
+    o->left = left_lend.at;
+    o->right = right_lend.at;
+    o->out = out_lend.at;
+}
+
+/* Whether guard words, the frame and what the call may only read are as they were. */
+static const char *untouched(const attempt *a) {
+    int intact = lend_intact(&left_lend) & lend_intact(&right_lend) & lend_intact(&frame_lend) & lend_intact(&out_lend);
+    if (!intact) return "a guard word was altered";
+    if (!lend_same(&frame_lend, a->frame, 0)) return "the frame was altered";
+    if (a->call != CALL_LEFT && !lend_same(&left_lend, a->left, 0)) return "the left area was altered";
+    if (a->call != CALL_RIGHT && !lend_same(&right_lend, a->right, 0)) return "the right area was altered";
+    return NULL;
+}
+
+/* Makes a call, judges it, counts it; the answer. The host goes on with what it left. */
+static int try_call(attempt *a) {
+    outcome o;
+    const char *why;
+    made++;
+    make(a, &o);
+    why = untouched(a);
+    if (why == NULL) why = o.answer >= ANSWERS ? "an answer that there is not" : judge(a, &o);
+    if (why != NULL) fault(a, why);
+    met[a->call][o.answer]++;
+    if (a->call == CALL_LEFT) memcpy(now.left, left_lend.at, now.left_len * sizeof *now.left);
+    if (a->call == CALL_RIGHT) memcpy(now.right, right_lend.at, now.right_len * sizeof *now.right);
+    now.join = o.join;
+    return o.answer;
+}
+
+/* A call on the host as it is. */
+static attempt attempt_of(int call) {
+    attempt a;
+    memset(&a, 0, sizeof a);
+    a.call = call;
+    a.join = now.join;
+    a.left = now.left;
+    a.right = now.right;
+    a.frame = frame;
+    a.out = out;
+    a.left_len = now.left_len;
+    a.right_len = now.right_len;
+    return a;
+}
+
+/* Which call comes next. */
+static int any_call(void) {
+    static const int OFTEN[16] = {CALL_LEFT, CALL_LEFT, CALL_LEFT, CALL_RIGHT, CALL_RIGHT, CALL_RIGHT, CALL_RIGHT, CALL_TURN,
+                                  CALL_TURN, CALL_TURN, CALL_TURN, CALL_TURN, CALL_TURN, CALL_PORTS, CALL_TURN, CALL_END};
+    int call = OFTEN[below(16)];
+    return call == CALL_END && !percent(30) ? CALL_TURN : call;
+}
+
+/* Gives a call its frame, its output or its ports. */
+static void equip(attempt *a) {
+    size_t i, most = below(percent(3) ? 1200 : 12);
+    if (a->call == CALL_LEFT) a->frame_len = next_frame(&now.left_group, &now.left_key, most);
+    if (a->call == CALL_RIGHT) a->frame_len = next_frame(&now.right_group, &now.right_key, most);
+    if (a->call <= CALL_RIGHT && percent(12)) a->frame_len = alter_frame(a->frame_len);
+    if (a->call == CALL_TURN) {
+        a->out_len = percent(10) ? any_length() : percent(95) ? 2 + 2 * most + below(30) : LEND_MOST;
+        for (i = 0; i < a->out_len; i++) out[i] = (int64_t)(3 * i % 7) - 9;
+    }
+    for (i = 0; i < 3; i++) a->ports[i] = percent(97) ? percent(95) ? below(2) : 2 : (uint64_t)any_word();
+}
+
+/* One call on the host, or on an altered one; after an altered one the host most often goes on as it was. */
+static void step(void) {
+    int altered = percent(45), joins = 0, answer;
+    attempt a;
+    if (altered) {
+        copy_host(&before, &now);
+        if (percent(4)) {
+            random_host();
+            joins = 1;
+        } else {
+            joins = alter_host();
+        }
+    }
+    a = attempt_of(any_call());
+    equip(&a);
+    answer = try_call(&a);
+    altered_joins += (uint64_t)joins;
+    altered_past_2 += joins && answer != ROWKEEPER_BAD_JOIN;
+    if (altered && (answer == ROWKEEPER_BAD_JOIN || percent(70))) copy_host(&now, &before);
+}
+
+/* Whether the host's join answers little else any more, so that another one is opened soon. */
+static int spent(void) {
+    return (now.join.state == ROWKEEPER_DONE || now.join.failed == 1) && percent(20);
+}
+
+/* Opens a join over areas of some length and any words; whether it was opened. */
+static int open_host(void) {
+    rowkeeper_options o = any_options();
+    attempt a;
+    size_t i;
+    memset(&now.join, 0, sizeof now.join);
+    now.join.options = o;
+    now.left_len = any_length();
+    now.right_len = any_length();
+    for (i = 0; i < now.left_len; i++) now.left[i] = any_word();
+    for (i = 0; i < now.right_len; i++) now.right[i] = any_word();
+    now.left_group = now.left_key = now.right_group = now.right_key = 0;
+    a = attempt_of(CALL_OPEN);
+    return try_call(&a) == 0;
+}
+
+/* Prints the counts; whether every answer that a call can give was met. */
+static int report(void) {
+    int call, answer, all = 1;
+    printf("%-10s", "call");
+    for (answer = 0; answer < ANSWERS; answer++) printf(" %9s", ANSWER_NAMES[answer]);
+    printf("\n");
+    for (call = 0; call < CALLS; call++) {
+        printf("%-10s", CALL_NAMES[call]);
+        for (answer = 0; answer < ANSWERS; answer++) {
+            printf(" %9" PRIu64, met[call][answer]);
+            all &= POSSIBLE[call][answer] == '0' || met[call][answer] > 0;
+        }
+        printf("\n");
+    }
+    if (!all) printf("FAIL an answer that a call can give was never met\n");
+    printf("hostile: seed %" PRIu64 ", %" PRIu64 " calls, %" PRIu64 " on altered joins, %" PRIu64
+           " of these not refused by 2; no fault\n", seed, made, altered_joins, altered_past_2);
+    return all;
+}
+
+/* A number of the command line, or the end of the program with one line. */
+static uint64_t number(const char *word) {
+    char *end;
+    unsigned long long n = strtoull(word, &end, 10);
+    if (*word < '0' || *word > '9' || *end != '\0') {
+        fprintf(stderr, "hostile: %s is no number\n", word);
+        exit(2);
+    }
+    return n;
+}
+
+int main(int argc, char **argv) {
+    uint64_t calls, steps;
+    if (argc != 3) {
+        fprintf(stderr, "hostile: wants a seed and a number of calls\n");
+        return 2;
+    }
+    seed = state = number(argv[1]);
+    calls = number(argv[2]);
+#if defined(__SANITIZE_ADDRESS__)
+    __sanitizer_set_death_callback(at_death);
+#else
+    (void)at_death;
+#endif
+    lend_init(&left_lend);
+    lend_init(&right_lend);
+    lend_init(&frame_lend);
+    lend_init(&out_lend);
+    while (made < calls) {
+        if (!open_host()) continue;
+        for (steps = below(80); steps > 0 && made < calls && !spent(); steps--) step();
+    }
+    return report() ? 0 : 1;
+}

@@ -1,0 +1,205 @@
+/* See judge.h. Left, right, end and ports are told exactly; of a turn, all that needs no look at the order of rows. */
+#include "judge.h"
+
+#include <string.h>
+
+/* Whether a + b is above the limit. */
+static int above(uint64_t a, uint64_t b, uint64_t limit) {
+    return a > limit || b > limit - a;
+}
+
+int judge_bad_options(const rowkeeper_options *o) {
+    int j, strange = o->allow_eq > 1 || o->check > 1;
+    for (j = 0; j < 4; j++) strange |= o->descending[j] > 1 || o->nulls_last[j] > 1;
+    return strange || o->by > 4 || o->strategy > 2 || o->tolerance < -1 || (o->strategy == 2 && o->allow_eq == 0);
+}
+
+int judge_bad_join(const rowkeeper_join *j, size_t left_len, size_t right_len) {
+    if (judge_bad_options(&j->options)) return 1;
+    if (j->state > 2 || j->right_ended > 1 || j->failed > 1) return 1;
+    if (j->last_left.some > 1 || j->last_right.some > 1) return 1;
+    return above(j->base, j->held, right_len / (2 * (j->options.by + 1))) ||
+           above(j->queue_start, j->queue_words, left_len) || above(j->pruned, j->held, INT64_MAX) || j->sequence % 2 == 1;
+}
+
+/* Whether the words keep the frame rule. */
+static int is_frame(const int64_t *w, size_t len, uint64_t c) {
+    size_t cells, i;
+    if (len < 2 || w[0] < 0 || w[0] > ROWKEEPER_MOST_ROWS || w[1] != (int64_t)c) return 0;
+    cells = (size_t)w[0] * (size_t)c;
+    if (len != 2 + 2 * cells) return 0;
+    for (i = 2; i < 2 + cells; i++)
+        if (!(w[i + cells] == 1 || (w[i + cells] == 0 && w[i] == 0))) return 0;
+    return 1;
+}
+
+/* The length of the frame that waits first, or 0 where none does. */
+static size_t front(const attempt *a) {
+    const int64_t *w = a->left + a->join.queue_start;
+    uint64_t c = a->join.options.by + 1;
+    size_t len;
+    if (a->join.queue_words < 2 || w[0] < 0 || w[0] > ROWKEEPER_MOST_ROWS) return 0;
+    len = ROWKEEPER_FRAME_WORDS(w[0], c - 1);
+    return len <= a->join.queue_words && is_frame(w, len, c) ? len : 0;
+}
+
+/* Whether the call comes at the wrong time. */
+static int closed(const attempt *a) {
+    uint64_t state = a->join.state;
+    switch (a->call) {
+    case CALL_LEFT: return state != ROWKEEPER_RUNNING;
+    case CALL_RIGHT:
+    case CALL_END: return a->join.right_ended == 1 || state == ROWKEEPER_DONE;
+    case CALL_TURN: return state == ROWKEEPER_DONE;
+    default: return 0;
+    }
+}
+
+/* The refusal that a left or right frame meets by its words and for room, or 0. */
+static int frame_refusal(const attempt *a) {
+    const rowkeeper_join *j = &a->join;
+    uint64_t c = j->options.by + 1;
+    if (!is_frame(a->frame, a->frame_len, c)) return ROWKEEPER_BAD_FRAME;
+    if (a->call == CALL_LEFT) return above(j->queue_words, a->frame_len, a->left_len) ? ROWKEEPER_NO_ROOM : 0;
+    if (above(j->held, (uint64_t)a->frame[0], a->right_len / (2 * c))) return ROWKEEPER_NO_ROOM;
+    return above(j->pruned + j->held, (uint64_t)a->frame[0], INT64_MAX) ? ROWKEEPER_USED_UP : 0;
+}
+
+/* The answer that is known before rows are compared, or -1 for a turn that goes on from there. */
+static int known_answer(const attempt *a) {
+    const uint64_t *p = a->ports;
+    if (a->call == CALL_OPEN) return judge_bad_options(&a->join.options) ? ROWKEEPER_BAD_OPTIONS : 0;
+    if (judge_bad_join(&a->join, a->left_len, a->right_len)) return ROWKEEPER_BAD_JOIN;
+    if (a->call == CALL_PORTS && (p[0] > 2 || p[1] > 2 || p[2] > 2)) return ROWKEEPER_BAD_JOIN;
+    if (a->join.failed) return ROWKEEPER_FAILED;
+    if (closed(a)) return ROWKEEPER_CLOSED;
+    if (a->call == CALL_LEFT || a->call == CALL_RIGHT) return frame_refusal(a);
+    if (a->call != CALL_TURN) return 0;
+    if (a->join.queue_words == 0) return ANSWER_IDLE;
+    return front(a) == 0 ? ROWKEEPER_BAD_FRAME : -1;
+}
+
+/* Whether a turn that got past Idle and refusal 5 may answer so. */
+static int turn_may(const attempt *a, int answer) {
+    int64_t n = a->left[a->join.queue_start];
+    int room = a->out_len >= ROWKEEPER_OUTPUT_WORDS(n), last = a->join.sequence == UINT64_MAX - 1;
+    switch (answer) {
+    case ANSWER_WANTS: return a->join.right_ended == 0 && n > 0;
+    case ROWKEEPER_NO_ROOM: return !room;
+    case ROWKEEPER_USED_UP: return room && last;
+    case ROWKEEPER_LEFT_ORDER:
+    case ROWKEEPER_RIGHT_ORDER: return room && !last && a->join.options.check == 1;
+    default: return answer == 0 && room && !last;
+    }
+}
+
+/* Whether two joins have the same words. */
+static int same_join(const rowkeeper_join *a, const rowkeeper_join *b) {
+    return memcmp(a, b, sizeof *a) == 0;
+}
+
+/* Whether the words that waited, and then the frame, stand in the queue. */
+static int left_taken(const attempt *a, const outcome *o) {
+    const rowkeeper_join *was = &a->join;
+    rowkeeper_join want = *was;
+    const int64_t *queue = o->left + o->join.queue_start;
+    want.queue_start = above(was->queue_start, was->queue_words + a->frame_len, a->left_len) ? 0 : was->queue_start;
+    want.queue_words += a->frame_len;
+    if (!same_join(&want, &o->join)) return 0;
+    return memcmp(queue, a->left + was->queue_start, was->queue_words * sizeof *queue) == 0 &&
+           memcmp(queue + was->queue_words, a->frame, a->frame_len * sizeof *queue) == 0;
+}
+
+/* Whether the held words of one array, values or marks, and then the frame's, stand in the right area. */
+static int rows_taken(const attempt *a, const outcome *o, size_t array, const int64_t *cells) {
+    size_t c = a->join.options.by + 1, kept = a->join.held * c;
+    const int64_t *was = a->right + array + a->join.base * c, *now = o->right + array + o->join.base * c;
+    return memcmp(now, was, kept * sizeof *now) == 0 &&
+           memcmp(now + kept, cells, (size_t)a->frame[0] * c * sizeof *now) == 0;
+}
+
+/* Whether the rows that were held, and then the frame's, are held. */
+static int right_taken(const attempt *a, const outcome *o) {
+    size_t c = a->join.options.by + 1, capacity = a->right_len / (2 * c), n = (size_t)a->frame[0];
+    rowkeeper_join want = a->join;
+    want.base = above(want.base + want.held, n, capacity) ? 0 : want.base;
+    want.held += n;
+    return same_join(&want, &o->join) && rows_taken(a, o, 0, a->frame + 2) &&
+           rows_taken(a, o, capacity * c, a->frame + 2 + n * c);
+}
+
+/* The node's state after a port call. */
+static uint64_t next_state(const attempt *a) {
+    uint64_t state = a->join.state;
+    if (a->ports[2] == ROWKEEPER_PORT_DONE) return ROWKEEPER_DONE;
+    if (state == ROWKEEPER_RUNNING && a->ports[0] == ROWKEEPER_PORT_DONE) state = ROWKEEPER_FLUSH;
+    return state == ROWKEEPER_FLUSH && a->join.queue_words == 0 ? ROWKEEPER_DONE : state;
+}
+
+/* Whether a port call moved the node and told each port its state. */
+static int ports_told(const attempt *a, const outcome *o) {
+    uint64_t l = a->ports[0] != 0, r = a->ports[1] != 0, s = a->ports[2] != 0;
+    const uint64_t told[3][3] = {{r & s, l & s, l & r}, {2, s, r}, {2, 2, 2}};
+    rowkeeper_join want = a->join;
+    want.state = next_state(a);
+    return same_join(&want, &o->join) && memcmp(told[want.state], o->told, sizeof o->told) == 0;
+}
+
+/* Whether a turn's output has the shape of matches, with numbers of rows that were held. */
+static int matches_written(const attempt *a, const outcome *o) {
+    int64_t n = a->left[a->join.queue_start], i;
+    const int64_t *numbers = o->out + 2, *marks = o->out + 2 + n;
+    uint64_t first = a->join.pruned, held = a->join.held;
+    if (o->out[0] != n || o->out[1] != 1) return 0;
+    for (i = 0; i < n; i++) {
+        uint64_t place = (uint64_t)numbers[i] - first;
+        if (marks[i] == 0 ? numbers[i] != 0 : marks[i] != 1 || (uint64_t)numbers[i] < first || place >= held) return 0;
+    }
+    return memcmp(o->out + 2 + 2 * n, a->out + 2 + 2 * n, (a->out_len - 2 - 2 * (size_t)n) * sizeof *numbers) == 0;
+}
+
+/* Whether a turn that wrote moved the join on by one frame and dropped rows from the front alone. */
+static int turn_moved(const attempt *a, const outcome *o) {
+    const rowkeeper_join *was = &a->join, *now = &o->join;
+    uint64_t dropped = now->pruned - was->pruned;
+    size_t frame = front(a);
+    if (dropped > was->held || now->held != was->held - dropped || now->base != was->base + dropped) return 0;
+    if (now->queue_start != was->queue_start + frame || now->queue_words != was->queue_words - frame) return 0;
+    if (o->sequence != was->sequence || now->sequence != was->sequence + 2) return 0;
+    if (now->last_left.some > 1 || now->last_right.some > 1) return 0;
+    return memcmp(&was->options, &now->options, sizeof was->options) == 0 && now->state == was->state &&
+           now->right_ended == was->right_ended && now->failed == 0;
+}
+
+/* What is wrong with a call that was accepted or wrote. */
+static const char *judge_done(const attempt *a, const outcome *o) {
+    rowkeeper_join want = a->join;
+    switch (a->call) {
+    case CALL_OPEN: return same_join(&want, &o->join) ? NULL : "the opened join is not a fresh one";
+    case CALL_LEFT: return left_taken(a, o) ? NULL : "the frame does not wait as it came";
+    case CALL_RIGHT: return right_taken(a, o) ? NULL : "the rows are not held as they came";
+    case CALL_END: want.right_ended = 1; return same_join(&want, &o->join) ? NULL : "the end changed something else";
+    case CALL_PORTS: return ports_told(a, o) ? NULL : "the ports are told something else";
+    default: break;
+    }
+    if (!turn_moved(a, o)) return "the turn left another join";
+    return matches_written(a, o) ? NULL : "the output is not one of matches";
+}
+
+/* What is wrong with a call that changes nothing, or with 8 and 9 marks the join failed. */
+static const char *judge_unchanged(const attempt *a, const outcome *o) {
+    rowkeeper_join want = a->join;
+    if (o->answer == ROWKEEPER_LEFT_ORDER || o->answer == ROWKEEPER_RIGHT_ORDER) want.failed = 1;
+    if (!same_join(&want, &o->join)) return "the join was changed";
+    if (o->sequence != 0 || (o->told[0] | o->told[1] | o->told[2]) != 0) return "an answer with something beside it";
+    if (memcmp(a->left, o->left, a->left_len * sizeof *a->left) != 0) return "the left area was altered";
+    if (memcmp(a->right, o->right, a->right_len * sizeof *a->right) != 0) return "the right area was altered";
+    return memcmp(a->out, o->out, a->out_len * sizeof *a->out) == 0 ? NULL : "the output was altered";
+}
+
+const char *judge(const attempt *a, const outcome *o) {
+    int known = known_answer(a);
+    if (known >= 0 && o->answer != known) return "another answer than 01 gives";
+    if (known < 0 && !turn_may(a, o->answer)) return "an answer that this turn cannot give";
+    return o->answer == 0 ? judge_done(a, o) : judge_unchanged(a, o);
+}

@@ -1,0 +1,39 @@
+/* What a call may answer and alter, told from what came in. */
+#ifndef JUDGE_H
+#define JUDGE_H
+
+#include "rowkeeper.h"
+
+/* The calls. */
+enum { CALL_OPEN, CALL_LEFT, CALL_RIGHT, CALL_END, CALL_PORTS, CALL_TURN, CALLS };
+
+/* Answers: 0 accepted or written, 1 to 9 refused, and two more. */
+enum { ANSWER_WANTS = 10, ANSWER_IDLE = 11, ANSWERS = 12 };
+
+/* A call with all that is lent to it. */
+typedef struct attempt {
+    int call;
+    rowkeeper_join join;
+    const int64_t *left, *right, *frame, *out;
+    size_t left_len, right_len, frame_len, out_len;
+    uint64_t ports[3];
+} attempt;
+
+/* What came back: the answer by its number, the join, and the words as they are now. */
+typedef struct outcome {
+    int answer;
+    uint64_t told[3], sequence;
+    rowkeeper_join join;
+    const int64_t *left, *right, *out;
+} outcome;
+
+/* Whether these options are refused. */
+int judge_bad_options(const rowkeeper_options *o);
+
+/* Whether every call on this join is refused by 2. */
+int judge_bad_join(const rowkeeper_join *j, size_t left_len, size_t right_len);
+
+/* What is wrong with an outcome, or null. Guard words, the frame and areas that are only read are not looked at here. */
+const char *judge(const attempt *a, const outcome *o);
+
+#endif

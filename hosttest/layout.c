@@ -1,0 +1,114 @@
+/*
+ * The layout of the structs: sizes and offsets, told by the compiler, and what the archive reads where, told by its
+ * answers. Compiles as C99 and as C++.
+ */
+#include <stdio.h>
+#include <string.h>
+
+#include "rowkeeper.h"
+
+/* A fact that does not compile where it does not hold. */
+#define HOLDS(name, fact) typedef char name[(fact) ? 1 : -1]
+/* A member's place in words. */
+#define AT(type, member) (offsetof(type, member) / 8)
+
+HOLDS(options_size, sizeof(rowkeeper_options) == 104);
+HOLDS(row_size, sizeof(rowkeeper_row) == 88);
+HOLDS(join_size, sizeof(rowkeeper_join) == 352);
+HOLDS(took_size, sizeof(rowkeeper_took) == 360);
+HOLDS(ported_size, sizeof(rowkeeper_ported) == 384);
+HOLDS(turned_size, sizeof(rowkeeper_turned) == 376);
+HOLDS(options_at, AT(rowkeeper_options, by) == 0 && AT(rowkeeper_options, strategy) == 1 &&
+                      AT(rowkeeper_options, allow_eq) == 2 && AT(rowkeeper_options, tolerance) == 3 &&
+                      AT(rowkeeper_options, check) == 4 && AT(rowkeeper_options, descending) == 5 &&
+                      AT(rowkeeper_options, nulls_last) == 9);
+HOLDS(row_at, AT(rowkeeper_row, some) == 0 && AT(rowkeeper_row, values) == 1 && AT(rowkeeper_row, marks) == 6);
+HOLDS(counters_at, AT(rowkeeper_join, options) == 0 && AT(rowkeeper_join, base) == 13 && AT(rowkeeper_join, held) == 14 &&
+                       AT(rowkeeper_join, pruned) == 15 && AT(rowkeeper_join, queue_start) == 16 &&
+                       AT(rowkeeper_join, queue_words) == 17);
+HOLDS(flags_at, AT(rowkeeper_join, state) == 18 && AT(rowkeeper_join, right_ended) == 19 &&
+                    AT(rowkeeper_join, failed) == 20 && AT(rowkeeper_join, sequence) == 21 &&
+                    AT(rowkeeper_join, last_left) == 22 && AT(rowkeeper_join, last_right) == 33);
+HOLDS(answers_at, AT(rowkeeper_took, refusal) == 0 && AT(rowkeeper_took, join) == 1 && AT(rowkeeper_ported, refusal) == 0 &&
+                      AT(rowkeeper_ported, left) == 1 && AT(rowkeeper_ported, right) == 2 &&
+                      AT(rowkeeper_ported, send) == 3 && AT(rowkeeper_ported, join) == 4 &&
+                      AT(rowkeeper_turned, answer) == 0 && AT(rowkeeper_turned, refusal) == 1 &&
+                      AT(rowkeeper_turned, sequence) == 2 && AT(rowkeeper_turned, join) == 3);
+
+enum { WORDS = sizeof(rowkeeper_join) / 8, LEFT = 20, RIGHT = 24 };
+static int64_t left[LEFT], right[RIGHT];
+static int failed;
+
+/* For each word of a join a value that is refused by 2, or 0 for words that may say anything. */
+static const uint64_t BAD[WORDS] = {
+    5, 3, 2, (uint64_t)-2, 2, 2, 2, 2, 2, 2, 2, 2, 2,                    /* options */
+    7, 7, (uint64_t)1 << 63, LEFT + 1, LEFT + 1, 3, 2, 2, 1,             /* counters, state, flags, sequence */
+    2, 0, 0, 0, 0, 0, 0, 0, 0, 0, 0, 2, 0, 0, 0, 0, 0, 0, 0, 0, 0, 0     /* remembered rows */
+};
+
+/* Says what does not hold. */
+static void want(int holds, const char *what, int word) {
+    if (holds) return;
+    printf("FAIL layout: %s (word %d of the join)\n", what, word);
+    failed = 1;
+}
+
+/* The answer to an end of right on this join with one word altered; the join must come back with that word. */
+static uint64_t end_with(rowkeeper_join join, int word, uint64_t value) {
+    uint64_t words[WORDS];
+    rowkeeper_took took;
+    memcpy(words, &join, sizeof words);
+    words[word] = value;
+    memcpy(&join, words, sizeof words);
+    took = rowkeeper_end_right(join, left, LEFT, right, RIGHT);
+    if (took.refusal == 0) join.right_ended = 1;
+    want(memcmp(&join, &took.join, sizeof join) == 0, "the join does not come back", word);
+    return took.refusal;
+}
+
+/* What each answer brings at its place, from one small join: a right row 4, a left row 5, a match, ports. */
+static void answers(rowkeeper_join join) {
+    static const int64_t FOUR[] = {1, 2, 9, 4, 1, 1}, FIVE[] = {1, 2, 9, 5, 1, 1};
+    int64_t out[4] = {-1, -1, -1, -1};
+    rowkeeper_took took = rowkeeper_right(join, left, LEFT, right, RIGHT, FOUR, 6);
+    rowkeeper_turned turned;
+    rowkeeper_ported ported;
+    want(took.refusal == 0 && took.join.held == 1, "right", 14);
+    took = rowkeeper_left(took.join, left, LEFT, right, RIGHT, FIVE, 6);
+    want(took.refusal == 0 && took.join.queue_words == 6, "left", 17);
+    turned = rowkeeper_turn(took.join, left, LEFT, right, RIGHT, out, 4);
+    want(turned.answer == ROWKEEPER_WANTS_RIGHT && turned.refusal == 0, "wants right", 19);
+    took = rowkeeper_end_right(took.join, left, LEFT, right, RIGHT);
+    turned = rowkeeper_turn(took.join, left, LEFT, right, RIGHT, out, 4);
+    want(turned.answer == ROWKEEPER_WROTE && turned.sequence == 0 && turned.join.sequence == 2, "wrote", 21);
+    want(out[0] == 1 && out[1] == 1 && out[2] == 0 && out[3] == 1, "the output", 0);
+    ported = rowkeeper_ports(turned.join, left, LEFT, right, RIGHT, ROWKEEPER_PORT_READY, ROWKEEPER_PORT_BLOCKED,
+                             ROWKEEPER_PORT_READY);
+    want(ported.refusal == 0 && ported.left == ROWKEEPER_PORT_BLOCKED && ported.right == ROWKEEPER_PORT_READY &&
+             ported.send == ROWKEEPER_PORT_BLOCKED && ported.join.state == ROWKEEPER_RUNNING, "ports", 18);
+    turned = rowkeeper_turn(turned.join, left, LEFT, right, RIGHT, out, 4);
+    want(turned.answer == ROWKEEPER_IDLE && turned.sequence == 0, "idle", 17);
+}
+
+int main(void) {
+    rowkeeper_options options;
+    rowkeeper_took took;
+    int word;
+    memset(&options, 0, sizeof options);
+    options.by = 1;
+    options.strategy = ROWKEEPER_BACKWARD;
+    options.allow_eq = 1;
+    options.tolerance = ROWKEEPER_NO_TOLERANCE;
+    took = rowkeeper_open(options);
+    want(took.refusal == 0, "opening", 0);
+    for (word = 0; word < WORDS; word++) {
+        uint64_t refusal = end_with(took.join, word, BAD[word] != 0 ? BAD[word] : 77);
+        want(refusal == (BAD[word] != 0 ? 2u : 0u), "another answer than the field gives", word);
+    }
+    want(end_with(took.join, 20, 1) == ROWKEEPER_FAILED, "failed", 20);
+    want(end_with(took.join, 19, 1) == ROWKEEPER_CLOSED, "right_ended", 19);
+    want(end_with(took.join, 18, ROWKEEPER_DONE) == ROWKEEPER_CLOSED, "state", 18);
+    answers(took.join);
+    if (!failed) printf("sizes, offsets, and each field of a join where the archive reads it\n");
+    return failed;
+}

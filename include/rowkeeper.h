@@ -1,0 +1,251 @@
+/*
+ * Rowkeeper's as-of join: the C interface.
+ *
+ * Each row of a left table takes, from a right table, the last row whose key is not greater (Backward), the first whose
+ * key is not smaller (Forward), or the one whose key is nearest, within its group. Both tables come in frames, cut
+ * anywhere; no cutting changes a match. The library never allocates, has no global state and calls nothing but memcpy,
+ * memmove and memset. It keeps what it must keep in two areas of words that the host lends.
+ *
+ * Link with the archive that `rt staticlib host` writes (64-bit x86 Linux):
+ *
+ *     cc host.c target/staticlib/libhost.a
+ *
+ * THE CALLS IN ORDER
+ *
+ *     rowkeeper_open        once: a join
+ *     rowkeeper_left        hands in a left frame, which then waits
+ *     rowkeeper_right       hands in a right frame, whose rows are then held
+ *     rowkeeper_end_right   no right frame comes any more
+ *     rowkeeper_turn        writes the matches of the waiting frame that came first, or says what it waits for
+ *     rowkeeper_ports       moves the node on, for hosts that run it in a pipeline; this is also how left ends
+ *
+ * They may come in any order. A host that only wants its matches needs no port call: it makes turns; where one answers
+ * ROWKEEPER_WANTS_RIGHT it hands in the next right frame, or ends right where there is none; where one answers
+ * ROWKEEPER_IDLE it hands in the next left frame, or is done where there is none.
+ *
+ * THE JOIN
+ *
+ * A join is a value: every call takes one and hands the next one back. Go on with the join that the last call handed
+ * back, and with the areas as that call left them. A join and its two areas hold no pointer: they can be copied, or kept
+ * in a file and read back later, by another process. Nothing in them is believed: every call judges the join that comes
+ * in anew, and any words whatever in joins, areas and frames are safe. Words that no join can have are refused.
+ *
+ * FRAMES
+ *
+ * A frame is 2 + 2nc words of 64 bits: the number of rows n (0 to 4,096), the number of columns c, then n × c values,
+ * row by row, then n × c marks, row by row. Mark 1: the value is present. Mark 0: it is null, and the value must be 0. No
+ * other mark. c is by + 1: the by-columns that make up the group (0 to 4 of them), the key last. Two rows of the left
+ * table with one by-column, (7, 12) and (7, null):
+ *
+ *     2, 2,   7, 12,  7, 0,   1, 1,  1, 0
+ *
+ * ORDER
+ *
+ * Both tables, each taken whole over all its frames, are to be sorted by the by-columns in order, then by the key.
+ * Numbers ascend, or descend in a by-column with the flag `descending`. Nulls come first, or last in a by-column with the
+ * flag `nulls_last`. The key ascends, nulls first. Where a table is not sorted the matches are not promised. With `check`
+ * on, a turn that sees rows out of order refuses by 8 or 9 (between frames it overlooks rows with a null key).
+ *
+ * MATCHES
+ *
+ * A right row qualifies for a left row if no key or by-value of either is null, all by-values are equal, its key is on
+ * the strategy's side (with or without equality) and the distance of the two keys is within the tolerance. Of these:
+ * Backward takes the last row with the greatest key, Forward the first row with the smallest, Nearest the least
+ * distance, then the greater key, then the last row. A right row's number is its place among all accepted right rows,
+ * from 0.
+ *
+ * AREAS
+ *
+ * Lend each call but opening a left and a right area, the same lengths from call to call. Their words may be anything
+ * before the first call. What is needed, in words:
+ *
+ *     left    the frames that wait at once: ROWKEEPER_FRAME_WORDS(rows, by) for each
+ *     right   the right rows that are held at once: ROWKEEPER_RIGHT_WORDS(rows, by)
+ *     output  ROWKEEPER_OUTPUT_WORDS(rows) for the waiting frame that came first; 8,194 words are enough for any
+ *
+ * Turns free what they no longer need, and freed words serve again. A right area for all right rows is always enough.
+ * Where it is smaller, a frame with no room is refused by 6 and can be handed in again after turns have freed room; but
+ * where a turn wants right rows and none fit, only a larger area helps. Held row i (from 0) has its values from word
+ * (base + i) × c of the right area and its marks from word (R + base + i) × c, where R is the area's length ÷ 2c, rounded
+ * down: so a host that changes the right area's length must move the marks. Waiting frames stand back to back in the left
+ * area, queue_words words from word queue_start on. All other words of both areas are free: they are not read, and the
+ * host may alter them between calls.
+ *
+ * REFUSALS
+ *
+ * A refused call gives one of the numbers below, the first that applies. It alters no word of areas, frame or output and
+ * hands the join back as it came, except that 8 and 9 mark it failed.
+ *
+ * POINTERS, OWNERSHIP, THREADS
+ *
+ * - A pointer must be aligned to 8 bytes and lead to as many words as its length says. Where the length is 0 any pointer
+ *   serves, null too: nothing is read or written through it.
+ * - What a call may write (a pointer that is not const) must not overlap anything else that the same call is given.
+ * - All memory stays the host's. No call keeps a pointer: what is lent is the host's again when the call returns.
+ * - A call never allocates, blocks, prints, exits, unwinds, sets errno or touches memory outside what it is lent.
+ * - There is no global state: calls on different joins with different areas may run at the same time on any threads. One
+ *   join with its areas is used by one thread at a time.
+ */
+#ifndef ROWKEEPER_H
+#define ROWKEEPER_H
+
+#include <stddef.h>
+#include <stdint.h>
+
+#ifdef __cplusplus
+extern "C" {
+#endif
+
+/* The archive is for machines with 64-bit lengths: elsewhere this line does not compile. */
+typedef char rowkeeper_lengths_have_64_bits[sizeof(size_t) == 8 ? 1 : -1];
+
+/* The rows that a frame can have at most, and the by-columns that a join can have at most. */
+#define ROWKEEPER_MOST_ROWS 4096
+#define ROWKEEPER_MOST_BY 4
+
+/* Lengths in words. A host's own `rows` and `by` are taken as they are: up to 4,096 and 4 nothing can overflow. */
+#define ROWKEEPER_FRAME_WORDS(rows, by) (2 + 2 * (size_t)(rows) * ((size_t)(by) + 1))
+#define ROWKEEPER_RIGHT_WORDS(rows, by) (2 * (size_t)(rows) * ((size_t)(by) + 1))
+#define ROWKEEPER_OUTPUT_WORDS(rows) (2 + 2 * (size_t)(rows))
+
+/* options.strategy */
+enum { ROWKEEPER_BACKWARD = 0, ROWKEEPER_FORWARD = 1, ROWKEEPER_NEAREST = 2 };
+
+/* options.tolerance where any distance will do */
+enum { ROWKEEPER_NO_TOLERANCE = -1 };
+
+/* join.state */
+enum { ROWKEEPER_RUNNING = 0, ROWKEEPER_FLUSH = 1, ROWKEEPER_DONE = 2 };
+
+/* What a port says in rowkeeper_ports, and what it is told. */
+enum { ROWKEEPER_PORT_BLOCKED = 0, ROWKEEPER_PORT_READY = 1, ROWKEEPER_PORT_DONE = 2 };
+
+/* turned.answer */
+enum { ROWKEEPER_WROTE = 0, ROWKEEPER_WANTS_RIGHT = 1, ROWKEEPER_IDLE = 2, ROWKEEPER_REFUSED = 3 };
+
+/* refusal, in checking order: where several apply the first is given. */
+enum {
+    /* Not refused. */
+    ROWKEEPER_ACCEPTED = 0,
+    /* Opening alone: by above 4, strategy above 2, tolerance below -1, Nearest without equality, or a flag that is neither
+       0 nor 1. There is no join then: what stands beside the refusal is refused by 2 in every call. */
+    ROWKEEPER_BAD_OPTIONS = 1,
+    /* The join does not hold together or does not fit its areas: options as in 1, base + held above R, queue_start +
+       queue_words above the left area, pruned + held above 2^63 - 1, an odd sequence, a state, flag or port code that
+       there is not. */
+    ROWKEEPER_BAD_JOIN = 2,
+    /* An earlier turn found rows out of order and marked the join failed; it answers nothing else any more. */
+    ROWKEEPER_FAILED = 3,
+    /* At the wrong time: a left frame outside Running; a right frame or an end of right after right has ended or in Done;
+       a turn in Done. */
+    ROWKEEPER_CLOSED = 4,
+    /* The words are no frame of this join's c. At a turn: the words that wait are none. */
+    ROWKEEPER_BAD_FRAME = 5,
+    /* No room: for the frame in the left area, for its rows in the right area, or for the matches in the output. */
+    ROWKEEPER_NO_ROOM = 6,
+    /* The numbers are used up: right rows past 2^63 - 1, or a turn at sequence 2^64 - 2. */
+    ROWKEEPER_USED_UP = 7,
+    /* Check on: left rows are out of order, in the frame or against an earlier one. The join is marked failed. */
+    ROWKEEPER_LEFT_ORDER = 8,
+    /* Check on: right rows are out of order. The join is marked failed. */
+    ROWKEEPER_RIGHT_ORDER = 9
+};
+
+/* What a join is opened with. Flags are 0 or 1, those past `by` too. */
+typedef struct rowkeeper_options {
+    uint64_t by;            /* by-columns, 0 to 4; rows have by + 1 columns, the key last */
+    uint64_t strategy;      /* ROWKEEPER_BACKWARD, ROWKEEPER_FORWARD or ROWKEEPER_NEAREST */
+    uint64_t allow_eq;      /* whether an equal key matches; Nearest needs it */
+    int64_t tolerance;      /* the greatest distance of two keys, or ROWKEEPER_NO_TOLERANCE */
+    uint64_t check;         /* whether turns check that rows are in order */
+    uint64_t descending[4]; /* for each by-column: whether its numbers descend */
+    uint64_t nulls_last[4]; /* for each by-column: whether its nulls come last */
+} rowkeeper_options;
+
+/* A row that the order check remembers, or none. A mark other than 0 is present. */
+typedef struct rowkeeper_row {
+    uint64_t some;
+    int64_t values[5];
+    int64_t marks[5];
+} rowkeeper_row;
+
+/* A join: 44 words, no padding. A host may read every field and need not. */
+typedef struct rowkeeper_join {
+    rowkeeper_options options;
+    uint64_t base;           /* the place of the first held row in the right area, in rows */
+    uint64_t held;           /* right rows held */
+    uint64_t pruned;         /* right rows dropped: held row i has the number pruned + i */
+    uint64_t queue_start;    /* the place of the first waiting frame in the left area, in words */
+    uint64_t queue_words;    /* words waiting there; 0: no frame waits */
+    uint64_t state;          /* ROWKEEPER_RUNNING, ROWKEEPER_FLUSH or ROWKEEPER_DONE */
+    uint64_t right_ended;    /* 0 or 1 */
+    uint64_t failed;         /* 0 or 1 */
+    uint64_t sequence;       /* twice the number of turns that wrote */
+    rowkeeper_row last_left; /* what the order check remembers of left */
+    rowkeeper_row last_right;
+} rowkeeper_join;
+
+/* The answer of opening, left, right and the end of right: 0 accepted, else the refusal's number; and the join. */
+typedef struct rowkeeper_took {
+    uint64_t refusal;
+    rowkeeper_join join;
+} rowkeeper_took;
+
+/* The answer of a port call: 0 or the refusal's number; what each port is told (0, 0, 0 where refused); the join. */
+typedef struct rowkeeper_ported {
+    uint64_t refusal;
+    uint64_t left;
+    uint64_t right;
+    uint64_t send;
+    rowkeeper_join join;
+} rowkeeper_ported;
+
+/* The answer of a turn: which it is; with ROWKEEPER_REFUSED the refusal's number, else 0; with ROWKEEPER_WROTE the number
+   of the frame that was written (0, 2, 4 and so on), else 0; and the join. */
+typedef struct rowkeeper_turned {
+    uint64_t answer;
+    uint64_t refusal;
+    uint64_t sequence;
+    rowkeeper_join join;
+} rowkeeper_turned;
+
+/* Opens a join: Running, right not ended, nothing held, waiting or remembered. Refused by 1 alone. */
+rowkeeper_took rowkeeper_open(rowkeeper_options options);
+
+/* Hands in a left frame. Its words are copied behind those that wait; where they would pass the area's end, the waiting
+   frames move to the front first. The right area and the frame are only read. Refused by 2 to 6. */
+rowkeeper_took rowkeeper_left(rowkeeper_join join, int64_t *left, size_t left_len, const int64_t *right, size_t right_len,
+                              const int64_t *frame, size_t frame_len);
+
+/* Hands in a right frame. Its rows are copied behind those held; where they would pass the area's end, the held rows move
+   to the front first. The left area and the frame are only read. Refused by 2 to 7. */
+rowkeeper_took rowkeeper_right(rowkeeper_join join, const int64_t *left, size_t left_len, int64_t *right, size_t right_len,
+                               const int64_t *frame, size_t frame_len);
+
+/* Ends right: turns want no more right rows from here on. Alters no word. Refused by 2 to 4. */
+rowkeeper_took rowkeeper_end_right(rowkeeper_join join, const int64_t *left, size_t left_len, const int64_t *right,
+                                   size_t right_len);
+
+/* A port call: what left, right and send say comes in, what each is told comes back. Send Done makes the node Done. Left
+   Done makes a Running node Flush: it takes no left frame any more. A node in Flush with nothing waiting is Done. Running:
+   each port is told Ready unless another one came Blocked. Flush: left is told Done, right and send each Ready unless the
+   other came Blocked. Done: all are told Done. Right Done is not the end of right: that is rowkeeper_end_right. Alters no
+   word. Refused by 2 and 3; a port code above 2 by 2. */
+rowkeeper_ported rowkeeper_ports(rowkeeper_join join, const int64_t *left, size_t left_len, const int64_t *right,
+                                 size_t right_len, uint64_t left_port, uint64_t right_port, uint64_t send_port);
+
+/* A turn, for the waiting frame that came first.
+   ROWKEEPER_IDLE: no frame waits. Nothing is changed.
+   ROWKEEPER_WANTS_RIGHT: right rows that are still to come might match. Nothing is changed.
+   ROWKEEPER_WROTE: the output has n, 1, then the n numbers of the right rows that match, then n marks, for the frame's n
+   rows in order: mark 1 with a number, or 0 and 0 where no row matches. The words behind these 2 + 2n are untouched. The
+   frame no longer waits, and right rows that no later left row can match are dropped.
+   ROWKEEPER_REFUSED: by 2 to 9. Both areas are only read in every case. */
+rowkeeper_turned rowkeeper_turn(rowkeeper_join join, const int64_t *left, size_t left_len, const int64_t *right,
+                                size_t right_len, int64_t *out, size_t out_len);
+
+#ifdef __cplusplus
+}
+#endif
+
+#endif

@@ -1,0 +1,95 @@
+//! A join as words, in the order of include/rowkeeper.h: options, counters and flags, the two remembered rows.
+use crate::rules::Row;
+use crate::script::{JoinWords, Look, Open};
+
+/// A remembered row's words: whether there is one, five values, five marks.
+pub type RowWords = [i64; 11];
+
+/// The place of the first counter, of the left remembered row and of the right one.
+const COUNTERS: usize = 13;
+const ROWS: [usize; 2] = [22, 33];
+
+/// A row that is remembered: "value and mark 1, or 0 and 0, zeros up to five words".
+pub fn row_words(row: &Row) -> RowWords {
+    let mut out = [0; 11];
+    out[0] = 1;
+    for (j, cell) in row.iter().enumerate() {
+        (out[1 + j], out[6 + j]) = (cell.unwrap_or(0), cell.is_some() as i64);
+    }
+    out
+}
+
+/// A remembered row's cells: "any nonzero mark is present, and a null's value is not read".
+fn row_cells(c: usize, w: &RowWords) -> Option<Option<Row>> {
+    let cell = |j: usize| (w[6 + j] != 0).then_some(w[1 + j]);
+    Some(flag(w[0])?.then(|| (0..c.min(5)).map(cell).collect()))
+}
+
+/// A flag's word, or none where it is neither 0 nor 1.
+fn flag(word: i64) -> Option<bool> {
+    match word {
+        0 => Some(false),
+        1 => Some(true),
+        _ => None,
+    }
+}
+
+/// Four flags' words.
+fn flags(words: &[i64]) -> Option<Vec<bool>> {
+    words.iter().map(|w| flag(*w)).collect()
+}
+
+/// The options' words.
+pub fn options(o: &Open) -> [i64; 13] {
+    let mut out = [0; 13];
+    out[..5].copy_from_slice(&[o.b as i64, o.strategy, o.eq as i64, o.tolerance, o.check as i64]);
+    for j in 0..o.descending.len().min(4) {
+        (out[5 + j], out[9 + j]) = (o.descending[j] as i64, o.nulls_last[j] as i64);
+    }
+    out
+}
+
+/// A join's words.
+pub fn encode(o: &Open, l: &Look, rows: &[RowWords; 2]) -> JoinWords {
+    let mut out = [0; 44];
+    out[..COUNTERS].copy_from_slice(&options(o));
+    let counters = [l.base as i64, l.held as i64, l.pruned as i64, l.queue_start as i64, l.queue_words as i64];
+    let flags = [l.state as i64, l.ended as i64, l.failed as i64, l.sequence as i64];
+    out[COUNTERS..COUNTERS + 5].copy_from_slice(&counters);
+    out[COUNTERS + 5..ROWS[0]].copy_from_slice(&flags);
+    for (row, at) in rows.iter().zip(ROWS) {
+        out[at..at + 11].copy_from_slice(row);
+    }
+    out
+}
+
+/// The join of these words, or none where no join has them: a node state or a flag that there is not.
+pub fn decode(w: &JoinWords) -> Option<(Open, Look, [RowWords; 2])> {
+    let o = Open {
+        b: w[0] as usize,
+        strategy: w[1],
+        eq: flag(w[2])?,
+        tolerance: w[3],
+        check: flag(w[4])?,
+        descending: flags(&w[5..9])?,
+        nulls_last: flags(&w[9..13])?,
+        left_words: 0,
+        right_words: 0,
+    };
+    let rows = ROWS.map(|at| w[at..at + 11].try_into().unwrap());
+    let c = o.b.saturating_add(1);
+    let look = Look {
+        base: w[13] as usize,
+        held: w[14] as usize,
+        pruned: w[15] as u64,
+        queue_start: w[16] as usize,
+        queue_words: w[17] as usize,
+        state: u8::try_from(w[18]).ok().filter(|s| *s <= 2)?,
+        ended: flag(w[19])?,
+        failed: flag(w[20])?,
+        sequence: w[21] as u64,
+        left: row_cells(c, &rows[0])?,
+        right: row_cells(c, &rows[1])?,
+    };
+    Some((o, look, rows))
+}

@@ -1,0 +1,160 @@
+//! Running a script through the port, through 01's step rules and through the Rust, and making a script that differs small.
+use std::fmt;
+use std::panic::{AssertUnwindSafe, catch_unwind};
+
+use judges::generate::Kind;
+use judges::rules::Rules;
+use judges::script::{Answer, Call, Judge};
+use oracle::compare::{Tally, no_counterpart, panic_text, parted};
+use oracle::rust::Rust;
+use port::Port;
+
+/// What a run had in it.
+#[derive(Default, Clone)]
+pub struct Counts {
+    pub tally: Tally,
+    pub refused: [u64; 10],
+    /// Calls that the host made on words that it altered itself.
+    pub altered: u64,
+}
+
+impl Counts {
+    /// Adds another run's counts.
+    pub fn add(&mut self, other: &Counts) {
+        self.tally.add(&other.tally);
+        self.altered += other.altered;
+        (0..10).for_each(|n| self.refused[n] += other.refused[n]);
+    }
+
+    /// Counts one answer, given in this node state.
+    fn count(&mut self, answer: &Answer, state: u8) {
+        self.tally.calls += 1;
+        self.tally.count(answer, state);
+        if let Answer::Refused(n) = answer {
+            self.refused[(*n as usize).min(9)] += 1;
+        }
+    }
+}
+
+impl fmt::Display for Counts {
+    /// The counts on one line.
+    fn fmt(&self, f: &mut fmt::Formatter<'_>) -> fmt::Result {
+        write!(f, "{}; refused by 1 to 9: {:?}; {} words altered", self.tally, &self.refused[1..], self.altered)
+    }
+}
+
+/// Whether the Rust is asked too: it has no counterpart of what these kinds are made of.
+fn asks_rust(kind: Kind) -> bool {
+    !matches!(kind, Kind::Refusals | Kind::Handed)
+}
+
+/// The Rust beside the port, as far as both go the same way.
+struct Beside {
+    rust: Rust,
+    parted: bool,
+}
+
+impl Beside {
+    /// How the Rust's answer differs from the port's, and whether it was compared at all.
+    fn differs(&mut self, call: &Call, said: &Answer) -> Result<bool, String> {
+        if self.parted {
+            return Ok(false);
+        }
+        let rust = self.rust.call(call);
+        self.parted = parted(said);
+        if no_counterpart(said) {
+            return Ok(false);
+        } else if rust != *said {
+            return Err(format!("the port says {said}, the Rust says {rust}"));
+        }
+        Ok(true)
+    }
+}
+
+/// What stands first in two lists at the same place and differs.
+fn first_difference(what: &str, port: &[i64], rules: &[i64]) -> Option<String> {
+    let at = (0..port.len().max(rules.len())).find(|i| port.get(*i) != rules.get(*i))?;
+    Some(format!("word {at} of {what}: the port has {:?}, 01 has {:?}", port.get(at), rules.get(at)))
+}
+
+/// How the port's join and areas differ from the rules', word by word.
+fn words_differ(port: &Port, rules: &Rules) -> Option<String> {
+    match (port.all_words(), rules.all_words()) {
+        (None, None) => None,
+        (Some((join, left, right)), Some((join2, left2, right2))) => first_difference("the join", &join, &join2)
+            .or_else(|| first_difference("the left area", left, left2))
+            .or_else(|| first_difference("the right area", right, right2)),
+        (port, _) => Some(format!("{} the port has a join", if port.is_some() { "only" } else { "not" })),
+    }
+}
+
+/// Runs a script through all; the first difference, if any.
+fn run(calls: &[Call], kind: Kind, counts: &mut Counts) -> Result<(), String> {
+    let (mut port, mut rules) = (Port::default(), Rules::default());
+    let mut beside = Beside { rust: Rust::default(), parted: !asks_rust(kind) };
+    for (i, call) in calls.iter().enumerate() {
+        let state = rules.look().map_or(0, |l| l.state);
+        let (said, ruled) = (port.call(call), rules.call(call));
+        let differs = |why: String| format!("call {}, {call}: {why}", i + 1);
+        if said != ruled {
+            return Err(differs(format!("the port says {said}, 01 says {ruled}")));
+        } else if let Some(wrong) = port.wrong() {
+            return Err(differs(wrong.to_string()));
+        } else if let Some(why) = words_differ(&port, &rules) {
+            return Err(differs(why));
+        }
+        counts.tally.compared += beside.differs(call, &said).map_err(differs)? as u64;
+        counts.altered += matches!(call, Call::Put(..)) as u64;
+        counts.count(&said, state);
+    }
+    counts.tally.scripts += 1;
+    rules.fault().into_iter().for_each(|f| counts.tally.fault(f));
+    Ok(())
+}
+
+/// Runs a script through all. A panic is a difference like any other.
+pub fn all(calls: &[Call], kind: Kind, counts: &mut Counts) -> Result<(), String> {
+    let run = catch_unwind(AssertUnwindSafe(|| run(calls, kind, counts)));
+    run.unwrap_or_else(|p| Err(format!("panic: {}", panic_text(p))))
+}
+
+/// The frame of a call without one of its rows.
+fn without_row(words: &[i64], row: usize) -> Vec<i64> {
+    let (n, c) = (words[0] as usize, words[1] as usize);
+    let keep = |at: &usize| (at % (n * c)) / c != row;
+    let cells = (0..2 * n * c).filter(keep).map(|at| words[2 + at]);
+    [n as i64 - 1, c as i64].into_iter().chain(cells).collect()
+}
+
+/// How many rows a call's frame has, if it is one that a row can be taken from.
+fn rows(call: &Call) -> usize {
+    let (Call::Left(w) | Call::Right(w)) = call else { return 0 };
+    let [n @ 1..=4096, c @ 1..=5, cells @ ..] = w.as_slice() else { return 0 };
+    if cells.len() == 2 * *n as usize * *c as usize { *n as usize } else { 0 }
+}
+
+/// All scripts that are this one less a call, or less a row of a frame.
+fn smaller(calls: &[Call]) -> Vec<Vec<Call>> {
+    let less = |i: usize| [&calls[..i], &calls[i + 1..]].concat();
+    let mut out: Vec<Vec<Call>> = (0..calls.len()).map(less).collect();
+    for (i, call) in calls.iter().enumerate() {
+        for row in 0..rows(call) {
+            let mut script = calls.to_vec();
+            if let Call::Left(w) | Call::Right(w) = &mut script[i] {
+                *w = without_row(w, row);
+            }
+            out.push(script);
+        }
+    }
+    out
+}
+
+/// A script that still differs and that no call and no row can be taken from, with how it differs.
+pub fn smallest(calls: &[Call], kind: Kind) -> (Vec<Call>, String) {
+    let differs = |calls: &[Call]| all(calls, kind, &mut Counts::default()).err();
+    let (mut script, mut why) = (calls.to_vec(), differs(calls).unwrap_or_default());
+    while let Some((less, new)) = smaller(&script).into_iter().find_map(|s| differs(&s).map(|w| (s, w))) {
+        (script, why) = (less, new);
+    }
+    (script, why)
+}

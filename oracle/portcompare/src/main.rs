@@ -1,0 +1,75 @@
+//! The port beside its judges, over random scripts. See oracle/README.md.
+use std::process::ExitCode;
+use std::time::Instant;
+
+mod compare;
+
+use compare::Counts;
+use judges::drive::{exit, number};
+use judges::generate::{COMPARED, Kind, script};
+
+/// How many differences are told before a run ends.
+const TOLD: usize = 10;
+
+/// All kinds of scripts.
+const KINDS: [Kind; 8] = {
+    let [a, b, c, d, e, f] = COMPARED;
+    [a, b, c, d, e, f, Kind::Refusals, Kind::Handed]
+};
+
+/// Prints a difference with its smallest script.
+fn tell(kind: Kind, seed: u64, number: u64) {
+    let (calls, why) = compare::smallest(&script(kind, seed, number), kind);
+    println!("DIFFERENCE {kind:?}, seed {seed}, script {number}: {why}");
+    calls.iter().for_each(|call| println!("    {call}"));
+}
+
+/// What a run never met, though it is made to.
+fn missing(all: &Counts) -> Option<String> {
+    let tally = &all.tally;
+    let met =
+        [("matches", tally.matched), ("wants", tally.wants), ("idle turns", tally.idle), ("Flush", tally.in_flush)];
+    let none = met.iter().find(|(_, n)| *n == 0).map(|(what, _)| what.to_string());
+    none.or_else(|| (1..10).find(|n| all.refused[*n] == 0).map(|n| format!("refusals by {n}")))
+}
+
+/// Runs COUNT scripts, the kinds in turn; whether there was no difference and everything was met.
+fn compare_all(seed: u64, count: u64) -> bool {
+    let start = Instant::now();
+    let mut by_kind = vec![Counts::default(); KINDS.len()];
+    let mut told = 0;
+    for i in 0..count {
+        let (at, number) = ((i % 8) as usize, i / 8);
+        if compare::all(&script(KINDS[at], seed, number), KINDS[at], &mut by_kind[at]).is_err() {
+            tell(KINDS[at], seed, number);
+            told += 1;
+        }
+        if told == TOLD {
+            println!("{TOLD} differences after {} scripts: no more are looked for", i + 1);
+            break;
+        }
+    }
+    let mut all = Counts::default();
+    for (kind, counts) in KINDS.iter().zip(&by_kind) {
+        println!("  {kind:?}: {counts}");
+        all.add(counts);
+    }
+    let missing = missing(&all).filter(|_| told == 0);
+    missing.iter().for_each(|what| println!("FAIL {what}: none in the whole run"));
+    println!("compared with the port: {all}; {told} differences ({:.1} s)", start.elapsed().as_secs_f64());
+    told == 0 && missing.is_none()
+}
+
+/// Does what the command line asks for; whether it went well.
+fn run(args: &[&str]) -> Result<bool, String> {
+    let [seed, count] = args else { return Err("compare: wants a seed and a count of scripts".to_string()) };
+    let (seed, count) = (number(seed)?, number(count)?);
+    // A panic is told as a difference, so its own words need not be.
+    std::panic::set_hook(Box::new(|_| ()));
+    Ok(compare_all(seed, count))
+}
+
+/// Runs what the command line asks for.
+fn main() -> ExitCode {
+    exit(run)
+}
