@@ -28,15 +28,16 @@ def number(cell):
     return value
 
 
-def numbers(cells):
-    """The numbers in some cells; the first that is none raises ValueError with its place among them and why."""
-    found = []
-    for place, cell in enumerate(cells):
+def column_numbers(cells):
+    """The numbers of a column, None for each null; ValueError where a cell is none. Python's own reader of numbers is
+    taken where all cells are plain: it would take other things for numbers too."""
+    text = ''.join(cells)
+    if text.isascii() and '_' not in text:
         try:
-            found.append(int(cell) if len(cell) < DIGITS and cell.isdigit() and cell.isascii() else number(cell))
-        except ValueError as why:
-            raise ValueError(place, str(why)) from None
-    return found
+            return array('q', map(int, cells))
+        except (ValueError, OverflowError):
+            pass
+    return [number(cell) for cell in cells]
 
 
 def frame_words(rows, columns):

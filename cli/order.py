@@ -14,10 +14,17 @@ class Order:
         signs = [-1 if down else 1 for down in self.descending] + [1]
         nulls = [ABOVE if last else BELOW for last in self.nulls_last] + [BELOW]
         self.rules = list(zip(signs, nulls))
+        self.plain = not any(self.descending)
 
     def rank(self, row):
         """What a row is compared by: of two rows the one with the smaller rank comes first."""
-        return [null if cell is None else sign * cell for cell, (sign, null) in zip(row, self.rules)]
+        return tuple(null if cell is None else sign * cell for cell, (sign, null) in zip(row, self.rules))
+
+    def ranks(self, rows):
+        """The ranks of rows. Where no column descends, a row without a null is its own rank."""
+        if self.plain:
+            return [self.rank(row) if None in row else row for row in rows]
+        return [self.rank(row) for row in rows]
 
     def fault(self, before, after):
         """The column by which the later of two rows should have come first, from 0; None where they are in order."""
