@@ -1,6 +1,7 @@
 """The shared object that the command loads, made from the proved archive; the first run makes what is missing."""
 import contextlib
 import fcntl
+import functools
 import hashlib
 import os
 import shutil
@@ -85,7 +86,7 @@ def alone(folder):
 def make(path):
     """Makes the shared object: the archive by the Rattle kit, then one file by the C compiler, which appears whole."""
     command = compiler()
-    say('making the library: the Rattle kit proves it first, which takes some minutes; later runs start at once')
+    say('making the library: the Rattle kit proves it first, which takes some minutes, once')
     archive = output_of([os.path.join(ROOT, 'hosttest', 'archive')], 'the library cannot be made')
     new = f'{path}.new'
     output_of([command, '-shared', '-o', new, '-Wl,--whole-archive', archive, '-Wl,--no-whole-archive', '-Wl,-z,defs'],
@@ -94,11 +95,20 @@ def make(path):
     say('the library is ready')
 
 
+@functools.lru_cache(maxsize=None)
 def shared_object():
-    """The path of the shared object, made first where it is missing or older than the crates."""
+    """The path of the shared object, made first where it is missing or older than the crates; looked for once a process."""
     path = goal()
     if stale(path):
         with alone(os.path.dirname(path)):
             if stale(path):
                 make(path)
     return path
+
+
+if __name__ == '__main__':
+    try:
+        shared_object()
+    except Problem as problem:
+        say(str(problem))
+        sys.exit(problem.status)
