@@ -7,7 +7,7 @@ ghost use Rattle.buffer.specs.Area.{capacity, moved, written};
 ghost use Rattle.buffer.specs.Room.{Columns, BaseIn, WordsIn, AppendIn, Appended, BothIn, AppendedBoth, PushIn, Pushed};
 
 // Right capacity R: how many rows of c columns the area has room for, values and marks.
-pub fn capacity(area: &[i64], c: usize) -> usize
+pub(crate) fn capacity(area: &[i64], c: usize) -> usize
     requires { ⌜ Columns c ⌝ }
     ensures { λ r. ⌜ r ≡ capacity c (now (area .entry)) ⌝ }
 {

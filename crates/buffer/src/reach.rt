@@ -68,7 +68,7 @@ fn narrow_by(
 }
 
 // The held rows whose by-values are those of the left row at p, as a stretch of all n: narrowed by each by-column in order.
-pub fn narrow(
+pub(crate) fn narrow(
     lv: &[i64],
     lm: &[i64],
     p: usize,

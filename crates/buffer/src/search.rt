@@ -49,7 +49,7 @@ fn probe(
 }
 
 // The first row of lower..upper whose cell in column j is one that is looked for, by the column's rule; the end of the range where there is none.
-pub fn find(
+pub(crate) fn find(
     seek: Seek,
     descending: bool,
     nulls_last: bool,

@@ -18,7 +18,12 @@ ghost use Rattle.buffer.specs.Split.{wordsBefore, hasBefore, outOfOrderA
 ghost use Rattle.buffer.specs.Room.{BeforeIn, SplitIn, LastIn};
 
 // The row before the split, its values or its marks: the last row with a key in the part before it, or else the remembered row.
-pub fn before_split<'a>(held: &'a [i64], remembered: &'a [i64], found: Keyed, w: usize) -> &'a [i64]
+pub(crate) fn before_split<'a>(
+    held: &'a [i64],
+    remembered: &'a [i64],
+    found: Keyed,
+    w: usize,
+) -> &'a [i64]
     requires { ⌜ BeforeIn w found (now held) (now remembered) ⌝ }
     ensures { λ r. ⌜ now r ≡ wordsBefore w (now (held .entry)) (now (remembered .entry)) found ⌝ }
 {

@@ -50,7 +50,7 @@ pub fn cmp_cell(va: i64, ma: i64, vb: i64, mb: i64, descending: bool, nulls_last
 }
 
 // The cell at place ka of the one side, and that at place kb of the other.
-pub fn cmp_at(
+pub(crate) fn cmp_at(
     va: &[i64],
     ma: &[i64],
     ka: usize,
@@ -112,7 +112,7 @@ pub fn cmp_group(
 }
 
 // The keys of the rows at pa and pb: ascending, nulls first.
-pub fn cmp_key(
+pub(crate) fn cmp_key(
     va: &[i64],
     ma: &[i64],
     pa: usize,

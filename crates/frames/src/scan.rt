@@ -18,7 +18,7 @@ pub fn null_at(marks: &[i64], k: usize) -> bool
 }
 
 // Whether the key of the row at p is null, whatever the row's width.
-pub fn null_key(marks: &[i64], p: usize, o: Options) -> bool
+pub(crate) fn null_key(marks: &[i64], p: usize, o: Options) -> bool
     requires { ⌜ MarksAt o p (now marks) ⌝ }
     ensures { λ r. ⌜ ((w : ℕ) (vs : Words) → o .by < w → p + o .by < length vs → r ≡ nullKey o (rowFrom w p vs (now (marks .entry)))) ⌝ }
 {

@@ -1,17 +1,19 @@
 -- Flags, states and ports there and back, and lists of four. Assumes nothing.
-use mathlib.Core.Path.{_≡_, refl, sym, _∙_}
-use mathlib.Core.Bool.{Bool, true, false, cond, _&&_}
+use mathlib.Core.Path.{_≡_, refl}
+use mathlib.Core.Bool.{Bool, true, false, _&&_}
 use mathlib.Core.List.{List, [], _∷_}
-use Prim.Native.Nat.{ℕ, zero, suc, _<_}
+use Prim.Native.Nat.{ℕ, zero, suc}
 use native.Mathlib.Omega.{arith}
 use borrow.Author.Tests.{ltb-true}
 use lib.ListN.{length, getD}
 use Rattle.frames.specs.declared.Check.{Check}
 use Rattle.frames.specs.declared.Check.the-variants.{Off, On}
-use Rattle.node.specs.State.{stateCode}
+use Rattle.node.specs.State.{stateCode, portCode}
 use Rattle.node.specs.declared.NodeState.{NodeState}
 use Rattle.node.specs.declared.NodeState.the-variants.{Running, Flush, Done}
-use Rattle.host.specs.Codes.{isFlag, flagOf, flagCode, areFlags, flagsOf, flagCodes, checkOf, checkCode, isCode, stateOf}
+use Rattle.node.specs.declared.PortState.{PortState}
+use Rattle.node.specs.declared.PortState.the-variants.{Blocked, Ready, Done as PortDone}
+use Rattle.host.specs.Codes.{isFlag, flagOf, flagCode, areFlags, flagsOf, flagCodes, checkOf, checkCode, isCode, stateOf, portOf}
 
 -- Of two tests that both hold each does.
 pub and-both : (a b : Bool) → (a && b) ≡ true → (a ≡ true) × (b ≡ true)
@@ -78,6 +80,17 @@ state-there zero e = refl
 state-there (suc zero) e = refl
 state-there (suc (suc zero)) e = refl
 state-there (suc (suc (suc x))) e = absurd (omega (arith, ltb-true (suc (suc (suc x))) 3 e))
+
+-- ---- ports
+pub port-is : (s : PortState) → isCode (portCode s) ≡ true
+port-is Blocked = refl
+port-is Ready = refl
+port-is PortDone = refl
+
+pub port-back : (s : PortState) → portOf (portCode s) ≡ s
+port-back Blocked = refl
+port-back Ready = refl
+port-back PortDone = refl
 
 -- ---- lists of four
 -- What holds of any four elements holds of every list of four.

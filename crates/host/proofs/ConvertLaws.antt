@@ -1,7 +1,7 @@
 -- Options and joins there and back. Assumes nothing.
-use mathlib.Core.Path.{_≡_, refl, sym, _∙_, ap}
+use mathlib.Core.Path.{_≡_, refl}
 use mathlib.Core.Bool.{Bool, true, false, cond, _&&_}
-use mathlib.Core.Option.{Option, none, some}
+use mathlib.Core.Option.{none, some}
 use Prim.Native.Nat.{ℕ, _<_}
 use native.Mathlib.Omega.{arith}
 use borrow.Author.Tests.{ltb-true, lt-ltb}
@@ -93,6 +93,23 @@ join-numbers h e =
 passed : {A : Type 0} (t : Bool) (x y : A) → cond t (some x) none ≡ some y → (t ≡ true) × (x ≡ y)
 passed true x y e = (refl, cc)
 passed false x y e = let z : _≡_ {A = ℕ} 0 1 = cc in absurd (omega arith)
+
+-- Numbers that are options o.
+pub decoded-options : (h : HostOptions) (o : Options) → decodeOptions h ≡ some o → (isOptions h ≡ true) × (optionsOf h ≡ o)
+unfolding decodeOptions
+decoded-options h o e = passed (isOptions h) (optionsOf h) o e
+
+-- Numbers that are join j.
+pub record Is (h : HostJoin) (j : Join) : Type 0 where
+  pub numbers : isJoin h ≡ true
+  pub join : joinOf h ≡ j
+  pub byte : j .options .strategy < 256
+
+pub decoded : (h : HostJoin) (j : Join) → decode h ≡ some j → Is h j
+unfolding decode
+decoded h j e =
+    let p = passed (isJoin h) (joinOf h) j e in
+    record { numbers = p .0; join = p .1; byte = rw (← p .1) (options-parts (h .options) (join-parts h (p .0) .options) .byte) }
 
 pub there-and-back : ThereAndBack
 unfolding decodeOptions decode

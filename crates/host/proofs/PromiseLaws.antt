@@ -1,16 +1,16 @@
 -- A refused call keeps all, and the join of a refused opening is refused by every call. Assumes nothing.
 use mathlib.Core.Path.{_≡_, refl, sym, _∙_, ap, subst}
-use mathlib.Core.Bool.{Bool, true, false, cond, _&&_, _||_}
+use mathlib.Core.Bool.{Bool, true, false, cond, _&&_}
 use mathlib.Core.List.{[]}
-use mathlib.Core.Option.{none, some}
-use Prim.Native.Nat.{ℕ}
+use mathlib.Core.Option.{some}
+use Prim.Native.Nat.{ℕ, _<_}
 use native.Mathlib.Omega.{arith}
 use borrow.Author.Tests.{not-true}
 use Rattle.frames.specs.Cells.{Words}
 use Rattle.frames.specs.Options.{badOptions}
 use Rattle.frames.specs.declared.Options.{Options}
-use Rattle.node.specs.State.{fresh, badJoin, stateAt, endedRight}
-use Rattle.node.specs.Calls.{After, after, openAnswer, leftAnswer, leftCall, queued, rightAnswer, rightCall, pushedRight, endAnswer, endCall, portsAnswer, portsState, portsCall, turnAnswer, turnCall, turned, spoiled}
+use Rattle.node.specs.State.{portCode, fresh, badJoin, stateAt, endedRight}
+use Rattle.node.specs.Calls.{After, after, openAnswer, leftAnswer, leftCall, queued, rightAnswer, rightCall, pushedRight, endAnswer, endCall, portsAnswer, portsState, portsCall, turnAnswer, turnCall, turned, dequeued, dropped, spoiled}
 use Rattle.node.specs.declared.Join.{Join}
 use Rattle.node.specs.declared.PortState.{PortState}
 use Rattle.node.specs.declared.Refusal.{Refusal}
@@ -23,12 +23,14 @@ use Rattle.node.specs.declared.Answer.{Answer}
 use Rattle.node.specs.declared.Answer.the-variants.{Wrote, WantsRight, Idle, Refused as TurnRefused}
 use Rattle.node.proofs.Good.{opened-bad}
 use Rattle.host.specs.Codes.{isCode, portOf, tookCode}
-use Rattle.host.specs.Convert.{isOptions, optionsOf, isJoin, joinOf, encode}
+use Rattle.host.specs.Convert.{isOptions, optionsOf, decodeOptions, isJoin, joinOf, decode}
 use Rattle.host.specs.Calls.{HostAfter, afterHost, encodeAfter, byJoin, freshHost, openHost, leftHost, rightHost, endHost, portsHost, turnHost}
-use Rattle.host.specs.Promises.{spoils, stays, Kept, Shut, Promises}
+use Rattle.host.specs.Promises.{spoils, stays, Shut, Same, Follows, Promises}
 use Rattle.host.specs.declared.HostOptions.{HostOptions}
 use Rattle.host.specs.declared.HostJoin.{HostJoin}
-use Rattle.host.proofs.ConvertLaws.{join-numbers, join-same}
+use Rattle.host.specs.declared.HostTook.{HostTook}
+use Rattle.host.proofs.CodeLaws.{port-is, port-back}
+use Rattle.host.proofs.ConvertLaws.{join-numbers, join-same, options-parts, decoded-options, Is, decoded, there-and-back}
 use Rattle.host.proofs.CallLaws.{open-bad, open-through, by-none, by-some}
 
 -- ---- the node's calls that change nothing
@@ -211,6 +213,69 @@ opened o left right = go (isOptions o) refl
         let b : badOptions (optionsOf o) ≡ true = refused-bad (optionsOf o) (rw (open-through o e) at r) in
         rw (open-through o e, join-same (fresh (optionsOf o))) (opened-bad (optionsOf o) left right b)
 
+-- ---- a list of calls in numbers follows the node's
+-- No call changes the options.
+took-options : (t : Took) (done : After Took) (j : Join) (left right : Words) → done .join .options ≡ j .options → byTook t done j left right .join .options ≡ j .options
+took-options Accepted done j left right e = e
+took-options (Refused n) done j left right e = refl
+
+ports-options : (p : Ported) (k j : Join) (left right : Words) → k .options ≡ j .options → byPorts p k j left right .join .options ≡ j .options
+ports-options (Ports a b d) k j left right e = e
+ports-options (PortsRefused n) k j left right e = refl
+
+spoiled-options : (n : Refusal) (j : Join) → spoiled n j .options ≡ j .options
+spoiled-options BadOptions j = refl
+spoiled-options BadJoin j = refl
+spoiled-options Failed j = refl
+spoiled-options Closed j = refl
+spoiled-options BadFrame j = refl
+spoiled-options NoRoom j = refl
+spoiled-options UsedUp j = refl
+spoiled-options LeftOrder j = refl
+spoiled-options RightOrder j = refl
+
+turn-options : (a : Answer) (done : After Answer) (j : Join) (left right out : Words) → done .join .options ≡ j .options → byTurn a done j left right out .join .options ≡ j .options
+turn-options (Wrote s) done j left right out e = e
+turn-options WantsRight done j left right out e = refl
+turn-options Idle done j left right out e = refl
+turn-options (TurnRefused n) done j left right out e = spoiled-options n j
+
+-- A call that keeps the options is the node's, and hands back numbers that are its join.
+followed : {A : Type 0} (h : HostJoin) (j : Join) (bad : HostAfter A) (call : Join → After A) → Is h j → call j .join .options ≡ j .options → Same (byJoin h bad call) (call j)
+followed {A} h j bad call is e =
+    let b : call j .join .options .strategy < 256 = rw e (is .byte) in
+    let w : byJoin h bad call ≡ encodeAfter (call j) = by-some h bad call (is .numbers) ∙ ap (λ (k : Join). encodeAfter (call k)) (is .join) in
+    record { whole = w; again = ap (λ (x : HostAfter A). decode (x .join)) w ∙ there-and-back .join-back (call j .join) b }
+
+module _ (h : HostJoin) (j : Join) (left right : Words) (is : Is h j) where
+  -- What every port can say is taken.
+  said : (l r s : PortState) → portsHost h left right (portCode l) (portCode r) (portCode s) ≡ byJoin h (afterHost (PortsRefused BadJoin) h left right []) (λ k. portsCall k left right l r s)
+  unfolding portsHost
+  said l r s = simp (port-is, port-back)
+
+  follow : Follows h j left right
+  unfolding leftHost rightHost endHost turnHost leftCall queued rightCall pushedRight endCall portsCall turnCall turned dequeued dropped
+  follow = record {
+    by-left = λ f. followed h j (afterHost (Refused BadJoin) h left right []) (λ k. leftCall k left right f) is
+        (took-options (leftAnswer j left right f) (queued j left right f) j left right refl);
+    by-right = λ f. followed h j (afterHost (Refused BadJoin) h left right []) (λ k. rightCall k left right f) is
+        (took-options (rightAnswer j left right f) (pushedRight j left right f) j left right refl);
+    by-end = followed h j (afterHost (Refused BadJoin) h left right []) (λ k. endCall k left right) is
+        (took-options (endAnswer j left right) (after Accepted (endedRight j) left right []) j left right refl);
+    by-ports = λ l r s. rw (said l r s)
+        (followed h j (afterHost (PortsRefused BadJoin) h left right []) (λ k. portsCall k left right l r s) is
+        (ports-options (portsAnswer j left right l r s) (stateAt j (portsState j l s)) j left right refl));
+    by-turn = λ out. followed h j (afterHost (TurnRefused BadJoin) h left right out) (λ k. turnCall k left right out) is
+        (turn-options (turnAnswer j left right out) (turned j left right out) j left right out refl);
+  }
+
+-- An opening whose numbers are options o.
+opening : (h : HostOptions) (o : Options) → decodeOptions h ≡ some o → decode (openHost h .join) ≡ some (fresh o)
+opening h o e =
+    let p = decoded-options h o e in
+    ap (λ (x : HostTook). decode (x .join)) (open-through h (p .0)) ∙ there-and-back .join-back (fresh (optionsOf h)) (options-parts h (p .0) .byte)
+    ∙ ap (λ (x : Options). some (fresh x)) (p .1)
+
 pub promises : Promises
 promises = record {
   kept = λ h left right. record {
@@ -221,4 +286,6 @@ promises = record {
     by-turn = turn-kept h left right;
   };
   shut = λ o left right e. shut-by (openHost o .join) left right (opened o left right e);
+  opens = opening;
+  follows = λ h j left right e. follow h j left right (decoded h j e);
 }

@@ -2,15 +2,22 @@
 use mathlib.Core.Path.{_≡_}
 use mathlib.Core.Bool.{Bool, true, false, not}
 use mathlib.Core.List.{[]}
+use mathlib.Core.Option.{some}
 use Prim.Native.Nat.{ℕ}
 use Rattle.frames.specs.Cells.{Words}
+use Rattle.frames.specs.declared.Options.{Options}
+use Rattle.node.specs.State.{portCode, fresh}
+use Rattle.node.specs.Calls.{After, leftCall, rightCall, endCall, portsCall, turnCall}
+use Rattle.node.specs.declared.Join.{Join}
+use Rattle.node.specs.declared.PortState.{PortState}
 use Rattle.node.specs.declared.Refusal.{Refusal}
 use Rattle.node.specs.declared.Refusal.the-variants.{BadOptions, BadJoin, Failed, Closed, BadFrame, NoRoom, UsedUp, LeftOrder, RightOrder}
 use Rattle.node.specs.declared.Took.the-variants.{Refused}
 use Rattle.node.specs.declared.Ported.the-variants.{Refused as PortsRefused}
 use Rattle.node.specs.declared.Answer.{Answer}
 use Rattle.node.specs.declared.Answer.the-variants.{Wrote, WantsRight, Idle, Refused as TurnRefused}
-use Rattle.host.specs.Calls.{afterHost, openHost, leftHost, rightHost, endHost, portsHost, turnHost}
+use Rattle.host.specs.Convert.{decodeOptions, decode}
+use Rattle.host.specs.Calls.{HostAfter, afterHost, encodeAfter, openHost, leftHost, rightHost, endHost, portsHost, turnHost}
 use Rattle.host.specs.declared.HostOptions.{HostOptions}
 use Rattle.host.specs.declared.HostJoin.{HostJoin}
 
@@ -49,7 +56,22 @@ pub record Shut (h : HostJoin) (left right : Words) : Type 0 where
   pub by-ports : (l r s : ℕ) → portsHost h left right l r s .answer ≡ PortsRefused BadJoin
   pub by-turn : (out : Words) → turnHost h left right out .answer ≡ TurnRefused BadJoin
 
--- Of any numbers and any areas; of any opening that answers 1.
+-- What a call in numbers leaves is what the node's call leaves, and its join is read as the node's.
+pub record Same {A : Type 0} (x : HostAfter A) (y : After A) : Type 0 where
+  pub whole : x ≡ encodeAfter y
+  pub again : decode (x .join) ≡ some (y .join)
+
+-- Where the numbers are join j, each call is the node's call of j; so a list of calls in numbers is a list of the node's.
+pub record Follows (h : HostJoin) (j : Join) (left right : Words) : Type 0 where
+  pub by-left : (f : Words) → Same (leftHost h left right f) (leftCall j left right f)
+  pub by-right : (f : Words) → Same (rightHost h left right f) (rightCall j left right f)
+  pub by-end : Same (endHost h left right) (endCall j left right)
+  pub by-ports : (l r s : PortState) → Same (portsHost h left right (portCode l) (portCode r) (portCode s)) (portsCall j left right l r s)
+  pub by-turn : (out : Words) → Same (turnHost h left right out) (turnCall j left right out)
+
+-- Of any numbers and any areas; of any opening.
 pub record Promises : Type 0 where
   pub kept : (h : HostJoin) (left right : Words) → Kept h left right
   pub shut : (o : HostOptions) (left right : Words) → openHost o .refusal ≡ 1 → Shut (openHost o .join) left right
+  pub opens : (h : HostOptions) (o : Options) → decodeOptions h ≡ some o → decode (openHost h .join) ≡ some (fresh o)
+  pub follows : (h : HostJoin) (j : Join) (left right : Words) → decode h ≡ some j → Follows h j left right
