@@ -11,7 +11,7 @@ from .explain import explanation
 from .joined import Join
 from .order import Order
 from .pricing import Pricing
-from .problem import DONE, Problem
+from .problem import BAD_INPUT, DONE, Problem
 from .progress import Progress
 from .sink import sink
 from .source import Source
@@ -44,15 +44,17 @@ def no_reader():
     return BY_SIGNAL + signal.SIGPIPE
 
 
+class Ended(BaseException):
+    """A signal has asked the program to end."""
+
+
 def ended(number, _):
-    """A signal that asks the program to end: what is half written is removed first."""
-    sys.exit(BY_SIGNAL + number)
+    """Ends the run from wherever it is: what is half written is removed on the way out."""
+    raise Ended(number)
 
 
 def main(words):
     """Runs the command; its status."""
-    for number in (signal.SIGTERM, signal.SIGHUP):
-        signal.signal(number, ended)
     try:
         price(parse(words))
     except Problem as problem:
@@ -60,9 +62,18 @@ def main(words):
         return problem.status
     except MemoryError:
         print('rowkeeper: there is not enough memory', file=sys.stderr)
-        return 1
+        return BAD_INPUT
     except BrokenPipeError:
         return no_reader()
     except KeyboardInterrupt:
         return BY_SIGNAL + signal.SIGINT
+    except Ended as signalled:
+        return BY_SIGNAL + signalled.args[0]
     return DONE
+
+
+def command(words):
+    """Runs the command as a program: signals that ask it to end are heeded."""
+    for number in (signal.SIGTERM, signal.SIGHUP):
+        signal.signal(number, ended)
+    return main(words)

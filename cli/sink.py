@@ -5,7 +5,6 @@ import io
 import os
 import stat
 import sys
-import tempfile
 
 from .problem import Problem, at, reason
 
@@ -39,36 +38,30 @@ def standard_output():
             text.detach()
 
 
-def permissions(path):
-    """What the file that is replaced allows, or what a new file would."""
-    try:
-        return stat.S_IMODE(os.stat(path).st_mode)
-    except OSError:
-        mask = os.umask(0)
-        os.umask(mask)
-        return 0o666 & ~mask
+def take_over(made, goal):
+    """Gives a new file the name, and what the file of that name allowed, if there was one."""
+    with contextlib.suppress(FileNotFoundError):
+        os.chmod(made, stat.S_IMODE(os.stat(goal).st_mode))
+    os.replace(made, goal)
 
 
 @contextlib.contextmanager
 def whole_file(path):
-    """Rows to a new file beside this one, which takes its name at the end; where anything fails it is removed."""
-    made = None
+    """Rows to a new file beside this one, which takes its name at the end. Whatever ends the run before, the new file is
+    removed: its name is settled before it is made, so that there is no moment at which it could be left behind."""
+    goal = os.path.realpath(path)
+    made = os.path.join(os.path.dirname(goal), f'.rowkeeper-{os.urandom(8).hex()}.part')
     try:
-        goal = os.path.realpath(path)
-        handle, made = tempfile.mkstemp(dir=os.path.dirname(goal), prefix=f'.{os.path.basename(goal)}.', suffix='.part')
-        with open(handle, 'w', encoding='utf-8', newline='') as text:
+        with open(os.open(made, os.O_WRONLY | os.O_CREAT | os.O_EXCL, 0o666), 'w', encoding='utf-8', newline='') as text:
             yield rows_to(text)
             text.flush()
             os.fsync(text.fileno())
-        os.chmod(made, permissions(goal))
-        os.replace(made, goal)
-        made = None
+        take_over(made, goal)
     except OSError as error:
         raise Problem(f'{at(path)}: cannot be written: {reason(error)}') from None
     finally:
-        if made is not None:
-            with contextlib.suppress(OSError):
-                os.unlink(made)
+        with contextlib.suppress(OSError):
+            os.unlink(made)
 
 
 @contextlib.contextmanager
