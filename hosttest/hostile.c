@@ -413,6 +413,7 @@ static uint64_t number(const char *word) {
     return n;
 }
 
+/* Opens joins and makes calls on them until there were enough. */
 int main(int argc, char **argv) {
     uint64_t calls, steps;
     if (argc != 3) {

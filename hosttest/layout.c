@@ -90,6 +90,7 @@ static void answers(rowkeeper_join join) {
     want(turned.answer == ROWKEEPER_IDLE && turned.sequence == 0, "idle", 17);
 }
 
+/* Alters each word of a fresh join in turn, then looks at each kind of answer. */
 int main(void) {
     rowkeeper_options options;
     rowkeeper_took took;

@@ -1,6 +1,7 @@
 /*
  * Joins a theatre's season: each sale takes the last price notice of its performance that was in force at its minute.
  *
+ *     cc -Iinclude examples/c/season.c target/staticlib/libhost.a -o season
  *     season SEASON STATE MATCHES
  *
  * SEASON has a line for each notice and each sale, both sorted by performance, then minute ('#' starts a comment):
@@ -315,6 +316,7 @@ static void lay_out(till *t, const char *state_name) {
     if (t->right == NULL) die("no memory");
 }
 
+/* Goes on with the season until every sale is answered. */
 int main(int argc, char **argv) {
     static till t;
     if (argc != 4) die("wants three files: the season, the state, the matches");

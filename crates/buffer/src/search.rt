@@ -1,7 +1,7 @@
 // Binary search over the rows of a stretch, by the cells of one column.
 use crate::Seek;
 use frames::Order;
-use frames::cmp_cell;
+use order::cmp_cell;
 ghost use mathlib.Core.Path.{_≡_};
 ghost use Prim.Native.Nat.{ℕ, _≤_};
 ghost use Rattle.frames.specs.Cells.{cellOf, rowsOf};

@@ -1,5 +1,6 @@
-// The frame rule's cases of document 01: a line for each, with what is_frame, row_count and front_words answer.
+// The frame rule's cases of document 01: a line for each, with what is_frame, row_count and front_words answer; and cells of a frame, as read_cell tells them.
 use frames::Front;
+use view::Found;
 
 // Says whether the words are a frame of c columns, and of how many rows.
 fn frame(name: &[u8], words: &[i64], c: usize) {
@@ -24,6 +25,24 @@ fn front(name: &[u8], words: &[i64], c: usize) {
     io::write_all(1, b": front, words ");
     io::print_decimal(1, k as u64);
     io::write_all(1, b"\n");
+}
+
+// Says what a reader is told of a cell. A value here is its distance from 0.
+fn cell(name: &[u8], words: &[i64], c: usize, row: usize, column: usize) {
+    io::write_all(1, name);
+    match view::read_cell(words, c, row, column) {
+        Found::Value(v) => {
+            io::write_all(1, b": value ");
+            io::print_decimal(1, frames::distance(v, 0));
+            io::write_all(1, b"\n");
+        }
+        Found::Null => {
+            io::write_all(1, b": null\n");
+        }
+        Found::Nothing => {
+            io::write_all(1, b": no cell\n");
+        }
+    }
 }
 
 // No row and one row; a length one short and one over.
@@ -156,6 +175,19 @@ fn fronts() {
     front(b"mark 2 behind the front", &[0, 1, 1, 1, 9, 2], 1);
 }
 
+// The cells of a frame of two rows, and places outside of it.
+fn cells() {
+    let words = [2i64, 2, 7, 0, 8, 9, 1, 0, 1, 1];
+    cell(b"row 0, column 0", &words, 2, 0, 0);
+    cell(b"row 0, column 1", &words, 2, 0, 1);
+    cell(b"row 1, column 0", &words, 2, 1, 0);
+    cell(b"row 1, column 1", &words, 2, 1, 1);
+    cell(b"row 2, column 0", &words, 2, 2, 0);
+    cell(b"row 0, column 2", &words, 2, 0, 2);
+    cell(b"row 0, column 0 of 3 columns", &words, 3, 0, 0);
+    cell(b"row 0, column 0 of one word less", &words[..9], 2, 0, 0);
+}
+
 fn main() {
     few_rows();
     all_rows();
@@ -166,4 +198,5 @@ fn main() {
     products();
     marks();
     fronts();
+    cells();
 }

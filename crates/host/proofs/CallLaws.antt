@@ -7,12 +7,14 @@ use Prim.Native.Nat.{ℕ}
 use Rattle.frames.specs.Cells.{Words}
 use Rattle.node.specs.State.{fresh}
 use Rattle.node.specs.Calls.{After, openAnswer, leftCall, rightCall, endCall, portsCall, turnCall}
-use Rattle.node.specs.Leaves.{LeftLeaves, RightLeaves, EndLeaves, PortsLeaves, TurnLeaves}
+use Rattle.node.specs.Run.{runCall}
+use Rattle.node.specs.Leaves.{LeftLeaves, RightLeaves, EndLeaves, PortsLeaves, TurnLeaves, RunLeaves}
 use Rattle.node.specs.declared.Join.{Join}
 use Rattle.node.specs.declared.PortState.{PortState}
 use Rattle.node.specs.declared.TookJoin.{TookJoin}
 use Rattle.node.specs.declared.PortedJoin.{PortedJoin}
 use Rattle.node.specs.declared.TurnedJoin.{TurnedJoin}
+use Rattle.node.specs.declared.RanJoin.{RanJoin}
 use Rattle.node.specs.declared.Refusal.the-variants.{BadOptions, BadJoin}
 use Rattle.node.specs.declared.Took.{Took}
 use Rattle.node.specs.declared.Took.the-variants.{Refused}
@@ -21,13 +23,14 @@ use Rattle.node.specs.declared.Answer.{Answer}
 use Rattle.node.specs.declared.Answer.the-variants.{Refused as TurnRefused}
 use Rattle.host.specs.Codes.{isCode, portOf}
 use Rattle.host.specs.Convert.{isOptions, optionsOf, decodeOptions, isJoin, joinOf, encode, decode}
-use Rattle.host.specs.Calls.{HostAfter, afterHost, encodeAfter, byJoin, tookHost, portedHost, turnedHost, freshHost, openHost, leftHost, rightHost, endHost, portsHost, turnHost}
-use Rattle.host.specs.Leaves.{HostLeftLeaves, HostRightLeaves, HostEndLeaves, HostPortsLeaves, HostTurnLeaves}
+use Rattle.host.specs.Calls.{HostAfter, afterHost, encodeAfter, byJoin, tookHost, portedHost, turnedHost, freshHost, openHost, leftHost, rightHost, endHost, portsHost, turnHost, Made, ranHost, ranAfter, refusedRun, runHost}
+use Rattle.host.specs.Leaves.{HostLeftLeaves, HostRightLeaves, HostEndLeaves, HostPortsLeaves, HostTurnLeaves, HostRunLeaves}
 use Rattle.host.specs.declared.HostOptions.{HostOptions}
 use Rattle.host.specs.declared.HostJoin.{HostJoin}
 use Rattle.host.specs.declared.HostTook.{HostTook}
 use Rattle.host.specs.declared.HostPorted.{HostPorted}
 use Rattle.host.specs.declared.HostTurned.{HostTurned}
+use Rattle.host.specs.declared.HostRan.{HostRan}
 
 -- ---- what is read
 options-none : (h : HostOptions) → isOptions h ≡ false → decodeOptions h ≡ none
@@ -157,3 +160,21 @@ module _ (h : HostJoin) (left right out : Words) where
       let no = afterHost (TurnRefused BadJoin) h left right out in
       let call : Join → After Answer = λ j. turnCall j left right out in
       record { result = through h no call turnedHost e i (l .answer) (l .join) x; words = words-through h no call (λ y. y .out) e i (l .words) }
+
+-- ---- a run
+module _ (h : HostJoin) (k : ℕ) (left right out : Words) where
+  pub run-bad : (r : HostRan) → isJoin h ≡ false → r ≡ ranHost refusedRun h → HostRunLeaves h k left right out r out
+  unfolding runHost
+  run-bad r e x =
+      let no = afterHost refusedRun h left right out in
+      let call : Join → After Made = λ j. ranAfter (runCall k j left right out) left right in
+      record { result = refuses h no call ranHost e x; words = words-refused h no call (λ y. y .out) e refl }
+
+  pub run-through : (j : Join) (t : RanJoin) (r : HostRan) (ws : Words) → isJoin h ≡ true → j ≡ joinOf h → RunLeaves j k left right out t ws
+      → r ≡ ranHost (record { turns = t .turns; words = t .words; stop = t .stop }) (encode (t .join)) → HostRunLeaves h k left right out r ws
+  unfolding runHost
+  run-through j t r ws e i l x =
+      let no = afterHost refusedRun h left right out in
+      let call : Join → After Made = λ j. ranAfter (runCall k j left right out) left right in
+      let made : _≡_ {A = Made} (record { turns = t .turns; words = t .words; stop = t .stop }) (call j .answer) = rw (l .turns, l .written, l .stop) in
+      record { result = through h no call ranHost e i made (l .join) x; words = words-through h no call (λ y. y .out) e i (l .words) }

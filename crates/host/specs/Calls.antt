@@ -6,23 +6,27 @@ use Prim.Native.Nat.{ℕ}
 use Rattle.frames.specs.Cells.{Words}
 use Rattle.frames.specs.Keyed.{noRow}
 use Rattle.node.specs.State.{number, stateCode, portCode, fresh}
-use Rattle.node.specs.Calls.{After, openAnswer, leftCall, rightCall, endCall, portsCall, turnCall}
+use Rattle.node.specs.Calls.{After, after, openAnswer, leftCall, rightCall, endCall, portsCall, turnCall}
+use Rattle.node.specs.Run.{Ran, runCall}
 use Rattle.node.specs.declared.Join.{Join}
 use Rattle.node.specs.declared.NodeState.the-variants.{Running}
 use Rattle.node.specs.declared.Refusal.the-variants.{BadOptions, BadJoin}
+use Rattle.node.specs.declared.Stop.{Stop}
+use Rattle.node.specs.declared.Stop.the-variants.{Refused as StopRefused}
 use Rattle.node.specs.declared.Took.{Took}
 use Rattle.node.specs.declared.Took.the-variants.{Refused}
 use Rattle.node.specs.declared.Ported.{Ported}
 use Rattle.node.specs.declared.Ported.the-variants.{Ports, Refused as PortsRefused}
 use Rattle.node.specs.declared.Answer.{Answer}
 use Rattle.node.specs.declared.Answer.the-variants.{Wrote, WantsRight, Idle, Refused as TurnRefused}
-use Rattle.host.specs.Codes.{isCode, portOf, tookCode}
+use Rattle.host.specs.Codes.{isCode, portOf, tookCode, stopCode, stopRefusal}
 use Rattle.host.specs.Convert.{decodeOptions, decode, encode, encodeRow}
 use Rattle.host.specs.declared.HostOptions.{HostOptions}
 use Rattle.host.specs.declared.HostJoin.{HostJoin}
 use Rattle.host.specs.declared.HostTook.{HostTook}
 use Rattle.host.specs.declared.HostPorted.{HostPorted}
 use Rattle.host.specs.declared.HostTurned.{HostTurned}
+use Rattle.host.specs.declared.HostRan.{HostRan}
 
 -- ---- answers in numbers
 -- Of opening, a left or right frame, and the end of right: 0 accepted, or the refusal's number.
@@ -40,6 +44,16 @@ turnedHost (Wrote s) h = record { answer = 0; refusal = 0; sequence = s; join = 
 turnedHost WantsRight h = record { answer = 1; refusal = 0; sequence = 0; join = h }
 turnedHost Idle h = record { answer = 2; refusal = 0; sequence = 0; join = h }
 turnedHost (TurnRefused n) h = record { answer = 3; refusal = number n; sequence = 0; join = h }
+
+-- What a run made: its turns, the words that they wrote, and what ended it.
+pub record Made : Type 0 where
+  pub turns : ℕ
+  pub words : ℕ
+  pub stop : Stop
+
+-- Of a run: its turns, its words, and what ended it, with the refusal's number.
+abbrev pub ranHost : Made → HostJoin → HostRan
+ranHost m h = record { turns = m .turns; words = m .words; stop = stopCode (m .stop); refusal = stopRefusal (m .stop); join = h }
 
 -- ---- the calls
 -- A fresh join with any options, in numbers.
@@ -108,3 +122,15 @@ portsHost h left right l r s =
 -- A turn.
 unfoldable pub turnHost : HostJoin → Words → Words → Words → HostAfter Answer
 turnHost h left right out = byJoin h (afterHost (TurnRefused BadJoin) h left right out) (λ j. turnCall j left right out)
+
+-- What the node's run leaves, as a call does.
+abbrev pub ranAfter : Ran → Words → Words → After Made
+ranAfter r left right = after (record { turns = r .turns; words = r .words; stop = r .stop }) (r .join) left right (r .out)
+
+-- A run of no join makes no turn.
+abbrev pub refusedRun : Made
+refusedRun = record { turns = 0; words = 0; stop = StopRefused BadJoin }
+
+-- A run of at most k turns.
+unfoldable pub runHost : HostJoin → ℕ → Words → Words → Words → HostAfter Made
+runHost h k left right out = byJoin h (afterHost refusedRun h left right out) (λ j. ranAfter (runCall k j left right out) left right)

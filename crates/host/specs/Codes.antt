@@ -10,6 +10,8 @@ use Rattle.node.specs.declared.NodeState.{NodeState}
 use Rattle.node.specs.declared.NodeState.the-variants.{Running, Flush, Done}
 use Rattle.node.specs.declared.PortState.{PortState}
 use Rattle.node.specs.declared.PortState.the-variants.{Blocked, Ready, Done as PortDone}
+use Rattle.node.specs.declared.Stop.{Stop}
+use Rattle.node.specs.declared.Stop.the-variants.{Used, WantsRight, Idle, Refused as StopRefused}
 use Rattle.node.specs.declared.Took.{Took}
 use Rattle.node.specs.declared.Took.the-variants.{Accepted, Refused}
 
@@ -65,3 +67,17 @@ portOf x = cond (eqb x 0) Blocked (cond (eqb x 1) Ready PortDone)
 abbrev pub tookCode : Took → ℕ
 tookCode Accepted = 0
 tookCode (Refused n) = number n
+
+-- What ended a run: 0 its turns are used, 1 wants right, 2 idle, 3 refused.
+abbrev pub stopCode : Stop → ℕ
+stopCode Used = 0
+stopCode WantsRight = 1
+stopCode Idle = 2
+stopCode (StopRefused n) = 3
+
+-- The refusal's number, where a refused turn ended it.
+abbrev pub stopRefusal : Stop → ℕ
+stopRefusal Used = 0
+stopRefusal WantsRight = 0
+stopRefusal Idle = 0
+stopRefusal (StopRefused n) = number n

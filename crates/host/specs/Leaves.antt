@@ -2,12 +2,13 @@
 use mathlib.Core.Path.{_≡_}
 use Prim.Native.Nat.{ℕ}
 use Rattle.frames.specs.Cells.{Words}
-use Rattle.host.specs.Calls.{tookHost, portedHost, turnedHost, openHost, leftHost, rightHost, endHost, portsHost, turnHost}
+use Rattle.host.specs.Calls.{tookHost, portedHost, turnedHost, openHost, leftHost, rightHost, endHost, portsHost, turnHost, ranHost, runHost}
 use Rattle.host.specs.declared.HostOptions.{HostOptions}
 use Rattle.host.specs.declared.HostJoin.{HostJoin}
 use Rattle.host.specs.declared.HostTook.{HostTook}
 use Rattle.host.specs.declared.HostPorted.{HostPorted}
 use Rattle.host.specs.declared.HostTurned.{HostTurned}
+use Rattle.host.specs.declared.HostRan.{HostRan}
 
 -- Opening.
 pub record HostOpenLeaves (h : HostOptions) (r : HostTook) : Type 0 where
@@ -35,3 +36,8 @@ pub record HostPortsLeaves (h : HostJoin) (left right : Words) (l r s : ℕ) (x 
 pub record HostTurnLeaves (h : HostJoin) (left right out : Words) (r : HostTurned) (out′ : Words) : Type 0 where
   pub result : r ≡ turnedHost (turnHost h left right out .answer) (turnHost h left right out .join)
   pub words : out′ ≡ turnHost h left right out .out
+
+-- A run of at most k turns; the output's words as they are afterwards.
+pub record HostRunLeaves (h : HostJoin) (k : ℕ) (left right out : Words) (r : HostRan) (out′ : Words) : Type 0 where
+  pub result : r ≡ ranHost (runHost h k left right out .answer) (runHost h k left right out .join)
+  pub words : out′ ≡ runHost h k left right out .out

@@ -2,26 +2,30 @@
 use crate::HostJoin;
 use crate::HostOptions;
 use crate::HostPorted;
+use crate::HostRan;
 use crate::HostTook;
 use crate::HostTurned;
 use crate::codes::number_of;
 use crate::codes::port_code;
+use crate::codes::stop_code;
+use crate::codes::stop_refusal;
 use crate::codes::took_code;
 use crate::convert::encode_join;
 use crate::convert::encode_row;
-use frames::no_row;
 use node::Answer;
 use node::Ported;
 use node::PortedJoin;
+use node::RanJoin;
 use node::TookJoin;
 use node::TurnedJoin;
+use order::no_row;
 ghost use mathlib.Core.Path.{_≡_};
 ghost use Rattle.node.specs.declared.Refusal.the-variants.{BadJoin};
 ghost use Rattle.node.specs.declared.Took.the-variants.{Refused};
 ghost use Rattle.node.specs.declared.Ported.the-variants.{Refused as PortsRefused};
 ghost use Rattle.node.specs.declared.Answer.the-variants.{Refused as TurnRefused};
 ghost use Rattle.host.specs.Convert.{encode};
-ghost use Rattle.host.specs.Calls.{tookHost, portedHost, turnedHost, freshHost};
+ghost use Rattle.host.specs.Calls.{tookHost, portedHost, turnedHost, ranHost, refusedRun, freshHost};
 
 // A fresh join with any options.
 pub(crate) fn fresh_host(o: HostOptions) -> HostJoin
@@ -146,5 +150,33 @@ pub(crate) fn turned_host(t: TurnedJoin) -> HostTurned
             sequence: 0,
             join: join,
         },
+    }
+}
+
+// The same of a run.
+pub(crate) fn bad_ran(h: HostJoin) -> HostRan
+    ensures { λ r. ⌜ r ≡ ranHost refusedRun h ⌝ }
+{
+    HostRan {
+        turns: 0,
+        words: 0,
+        stop: 3,
+        refusal: 2,
+        join: h,
+    }
+}
+
+// What a run made.
+pub(crate) fn ran_host(t: RanJoin) -> HostRan
+    ensures { λ r. ⌜ r ≡ ranHost (record { turns = t .turns; words = t .words; stop = t .stop }) (encode (t .join)) ⌝ }
+{
+    let stop = t.stop;
+    let join = encode_join(t.join);
+    HostRan {
+        turns: t.turns,
+        words: t.words,
+        stop: stop_code(stop),
+        refusal: stop_refusal(stop),
+        join: join,
     }
 }

@@ -3,11 +3,12 @@ use frames::Check;
 use node::NodeState;
 use node::PortState;
 use node::Refusal;
+use node::Stop;
 use node::Took;
 ghost use mathlib.Core.Path.{_≡_};
 ghost use mathlib.Core.Bool.{_&&_};
 ghost use Rattle.node.specs.State.{number, stateCode, portCode};
-ghost use Rattle.host.specs.Codes.{isFlag, flagOf, flagCode, areFlags, flagsOf, flagCodes, checkOf, checkCode, isCode, stateOf, portOf, tookCode};
+ghost use Rattle.host.specs.Codes.{isFlag, flagOf, flagCode, areFlags, flagsOf, flagCodes, checkOf, checkCode, isCode, stateOf, portOf, tookCode, stopCode, stopRefusal};
 
 // Whether two tests hold.
 pub(crate) fn both(a: bool, b: bool) -> bool
@@ -170,5 +171,29 @@ pub(crate) fn took_code(t: Took) -> u64
     match t {
         Took::Accepted => 0,
         Took::Refused(n) => number_of(n),
+    }
+}
+
+// The number of what ended a run.
+pub(crate) fn stop_code(s: Stop) -> u64
+    ensures { λ r. ⌜ r ≡ stopCode s ⌝ }
+{
+    match s {
+        Stop::Used => 0,
+        Stop::WantsRight => 1,
+        Stop::Idle => 2,
+        Stop::Refused(_) => 3,
+    }
+}
+
+// The number of the refusal that ended a run; 0 where none did.
+pub(crate) fn stop_refusal(s: Stop) -> u64
+    ensures { λ r. ⌜ r ≡ stopRefusal s ⌝ }
+{
+    match s {
+        Stop::Used => 0,
+        Stop::WantsRight => 0,
+        Stop::Idle => 0,
+        Stop::Refused(n) => number_of(n),
     }
 }

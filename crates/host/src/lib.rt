@@ -4,10 +4,12 @@ mod codes;
 mod convert;
 
 use answers::bad_ported;
+use answers::bad_ran;
 use answers::bad_took;
 use answers::bad_turned;
 use answers::fresh_host;
 use answers::ported_host;
+use answers::ran_host;
 use answers::took_host;
 use answers::turned_host;
 use codes::are_codes;
@@ -17,7 +19,7 @@ use convert::is_options;
 use convert::join_of;
 use convert::options_of;
 use node::Join;
-ghost use Rattle.host.specs.Leaves.{HostOpenLeaves, HostLeftLeaves, HostRightLeaves, HostEndLeaves, HostPortsLeaves, HostTurnLeaves};
+ghost use Rattle.host.specs.Leaves.{HostOpenLeaves, HostLeftLeaves, HostRightLeaves, HostEndLeaves, HostPortsLeaves, HostTurnLeaves, HostRunLeaves};
 
 // The options in numbers. A flag is 0 or 1; check is 0 off, 1 on.
 #[repr(C)]
@@ -79,6 +81,16 @@ pub struct HostTurned {
     pub answer: u64,
     pub refusal: u64,
     pub sequence: u64,
+    pub join: HostJoin,
+}
+
+// What a run made: the turns that wrote and the words that they wrote back to back; stop is 0 its turns are used, 1 wants right, 2 idle, 3 refused.
+#[repr(C)]
+pub struct HostRan {
+    pub turns: usize,
+    pub words: usize,
+    pub stop: u64,
+    pub refusal: u64,
     pub join: HostJoin,
 }
 
@@ -174,4 +186,21 @@ pub extern "C" fn rowkeeper_turn(
         return turned_host(join_of(h).turn(left, right, out));
     }
     bad_turned(h)
+}
+
+// At most k turns, each writing behind the one before; the first that does not write ends it.
+#[no_mangle]
+pub extern "C" fn rowkeeper_run(
+    h: HostJoin,
+    k: usize,
+    left: &[i64],
+    right: &[i64],
+    out: &mut [i64],
+) -> HostRan
+    ensures { λ r. ⌜ HostRunLeaves h k (now (left .entry)) (now (right .entry)) (now (out .entry)) r (now (out .exit)) ⌝ }
+{
+    if is_join(h) {
+        return ran_host(join_of(h).run(k, left, right, out));
+    }
+    bad_ran(h)
 }

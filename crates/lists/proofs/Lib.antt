@@ -8,3 +8,4 @@ pub mod Sound
 pub mod Steps
 pub mod Demand3
 pub mod Example
+pub mod RunTurns

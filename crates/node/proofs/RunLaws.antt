@@ -15,7 +15,7 @@ use Rattle.frames.proofs.FrameLaws.{frame-rows}
 use Rattle.frames.proofs.FrontLaws.{frame-few}
 use Rattle.buffer.specs.Reach.{needMore}
 use Rattle.matching.specs.Groups.{matchFrame}
-use Rattle.matching.specs.Answer.{answered}
+use Rattle.matching.specs.Answer.{answerWords, answered}
 use Rattle.matching.specs.declared.Choice.{Choice}
 use Rattle.matching.proofs.AnswerLaws.{answered-is, answered-rest, answered-count, answer-length}
 use Rattle.matching.proofs.GroupLaws.{frame-length}
@@ -34,15 +34,17 @@ use Rattle.node.specs.declared.Stop.the-variants.{Used}
 use Rattle.node.specs.declared.TurnedJoin.{TurnedJoin}
 
 -- ---- what a turn that writes leaves in its output
--- The words that were written are there, as many as the first of them gives.
+-- The words that were written are there, as many as the first of them gives; the rest is as it was.
 pub record Fits (out out′ : Words) : Type 0 where
   pub count : HasCount out′
   pub room : turnWords out′ ≤ length out
+  pub rest : drop (turnWords out′) out′ ≡ drop (turnWords out′) out
 
 answered-fits : (ms : List Choice) (out : Words) → length ms ≤ 4096 → 2 + 2 * length ms ≤ length out → Fits out (answered ms out)
 answered-fits ms out few room = record {
   count = rw (answered-is ms out) (record { long = omega arith; few = rw (le-leb 0 (length ms) (omega arith), le-leb (length ms) 4096 few) });
   room = rw (answered-count ms out) room;
+  rest = rw (answered-count ms out, answered-rest ms out) (drop-at (answerWords ms) (drop (2 + 2 * length ms) out) (2 + 2 * length ms) (answer-length ms));
 }
 
 answered-length : (ms : List Choice) (out : Words) → 2 + 2 * length ms ≤ length out → length (answered ms out) ≡ length out
@@ -108,6 +110,27 @@ module _ (j : Join) (left right out : Words) where
       go WantsRight e = rw (e, turnCall)
       go Idle e = rw (e, turnCall)
       go (Refused n) e = rw (e, turnCall)
+
+  -- A turn that does not write leaves the output as it was; no turn changes an area.
+  pub turn-untouched : wrote (turnCall j left right out .answer) ≡ false → turnCall j left right out .out ≡ out
+  unfolding turnCall turned
+  turn-untouched = go (turnAnswer j left right out) refl
+    where
+      go : (a : Answer) → turnAnswer j left right out ≡ a → wrote (turnCall j left right out .answer) ≡ false → turnCall j left right out .out ≡ out
+      go (Wrote s) e = rw (e, turnCall) (λ g. let z : _≡_ {A = ℕ} 0 1 = cc in absurd (omega arith))
+      go WantsRight e = rw (e, turnCall) (λ g. refl)
+      go Idle e = rw (e, turnCall) (λ g. refl)
+      go (Refused n) e = rw (e, turnCall) (λ g. refl)
+
+  pub turn-areas : (turnCall j left right out .left ≡ left) × (turnCall j left right out .right ≡ right)
+  unfolding turnCall turned
+  turn-areas = go (turnAnswer j left right out) refl
+    where
+      go : (a : Answer) → turnAnswer j left right out ≡ a → (turnCall j left right out .left ≡ left) × (turnCall j left right out .right ≡ right)
+      go (Wrote s) e = rw (e, turnCall) (refl, refl)
+      go WantsRight e = rw (e, turnCall) (refl, refl)
+      go Idle e = rw (e, turnCall) (refl, refl)
+      go (Refused n) e = rw (e, turnCall) (refl, refl)
 
 -- ---- a run
 then-then : (a b c d : ℕ) (xs ys : Words) (r : Ran) → andThen a b xs (andThen c d ys r) ≡ andThen (a + c) (b + d) (xs ++ ys) r
