@@ -11,12 +11,15 @@ class Parser(argparse.ArgumentParser):
     """A parser whose faults are one line, and whose help is a page."""
 
     def error(self, message):
+        """One line, and the status of a bad command line."""
         raise Problem(f'{message}; rowkeeper --help tells more', BAD_USAGE)
 
     def format_help(self):
+        """The page."""
         return PAGE
 
     def format_usage(self):
+        """The two lines of usage."""
         return SHORT
 
 
@@ -72,6 +75,7 @@ def parse(words):
     """The arguments, judged. `--help` prints the page and ends the program."""
     args = parser().parse_args(words)
     if args.command is None:
-        raise Problem('say what to do: rowkeeper join SALES.csv NOTICES.csv --on COLUMN; rowkeeper --help tells more', BAD_USAGE)
+        raise Problem('say what to do: rowkeeper join SALES.csv NOTICES.csv --on COLUMN; rowkeeper --help tells more',
+                      BAD_USAGE)
     judge(args)
     return args

@@ -9,10 +9,11 @@ PATIENCE, PACE = 2.0, 0.25
 class Progress:
     """One line that is written over itself."""
 
-    def __init__(self, stream=None, clock=time.monotonic):
+    def __init__(self, stream=None, clock=time.monotonic, wanted=True):
+        """Not wanted: the rows themselves go to the terminal."""
         self.stream = sys.stderr if stream is None else stream
         self.clock = clock
-        self.due = clock() + PATIENCE if self.stream.isatty() else None
+        self.due = clock() + PATIENCE if wanted and self.stream.isatty() else None
         self.shown = False
 
     def show(self, sales, notices):

@@ -40,6 +40,7 @@ class Case(unittest.TestCase):
     """A test with a folder of its own."""
 
     def setUp(self):
+        """Makes the folder; it goes with the test."""
         folder = tempfile.TemporaryDirectory()
         self.addCleanup(folder.cleanup)
         self.folder = folder.name

@@ -19,15 +19,18 @@ class Season(Case):
     """The example of the first page."""
 
     def test_priced(self):
+        """The output is the file beside the season."""
         run = apart(['join', SALES, NOTICES, *ON])
         self.assertEqual((run.status, run.err), (0, ''))
         self.assertEqual(run.out, self.read(PRICED))
 
     def test_from_another_folder_in_another_locale(self):
+        """Where it is started and the machine's own encoding do not matter."""
         run = apart(['join', SALES, NOTICES, *ON], cwd=self.folder, env={**os.environ, 'LC_ALL': 'C', 'PYTHONUTF8': '0'})
         self.assertEqual((run.status, run.out), (0, self.read(PRICED)))
 
     def test_explain(self):
+        """The options, rows, turns and areas are told, and the output stays as it is."""
         run = apart(['join', SALES, NOTICES, *ON, '--explain'])
         self.assertEqual((run.status, run.out), (0, self.read(PRICED)))
         for said in ('strategy    backward, equal keys match, tolerance none', 'order       performance, then minute; checked',
@@ -36,6 +39,7 @@ class Season(Case):
             self.assertIn(said, run.err)
 
     def test_picture(self):
+        """The picture under docs/ is the one that its script draws."""
         made = subprocess.run([sys.executable, os.path.join(ROOT, 'docs', 'picture')], stdout=subprocess.PIPE, check=True)
         self.assertEqual(made.stdout.decode('utf-8'), self.read(os.path.join(ROOT, 'docs', 'season.svg')))
 
@@ -44,6 +48,7 @@ class Help(Case):
     """The page."""
 
     def test_page(self):
+        """However help is asked for, the page comes."""
         for words in (['--help'], ['-h'], ['join', '--help']):
             run = apart(words)
             self.assertEqual((run.status, run.out, run.err), (0, PAGE, ''))
@@ -53,6 +58,7 @@ class Usage(Case):
     """Words that do not go together: one line, status 2, and no file is opened."""
 
     def test_words(self):
+        """Each case says what is wrong with the words."""
         join = ['join', 'none.csv', 'none.csv']
         for words, said in (([], 'say what to do'), (['merge'], "'merge'"), (['join'], 'SALES.csv'), (join, '--on'),
                             ([*join, '--on', 'm', '--by', 'm'], 'column m is named twice'),
@@ -78,6 +84,7 @@ class BadFiles(Case):
     GOOD = 'performance,minute\n1,5\n'
 
     def test_files(self):
+        """Each fault, in the sales and in the notices."""
         beyond = str(2**63)
         for content, said in (
                 ('', 'line 1: the file is empty'), ('\n\n', 'line 1: the file is empty'),
@@ -102,6 +109,7 @@ class BadFiles(Case):
                     self.assertEqual(sorted(os.listdir(self.folder)), ['bad.csv', 'good.csv'])
 
     def test_no_file(self):
+        """A file that is not there, and a folder."""
         good = self.file('good.csv', self.GOOD)
         for bad, said in ((os.path.join(self.folder, 'none.csv'), 'No such file'), (self.folder, 'directory')):
             for files in ((bad, good), (good, bad)):
@@ -134,31 +142,38 @@ class Tables(Case):
         return run.out
 
     def test_no_sales(self):
+        """Only the header comes out."""
         self.assertEqual(self.priced('performance,minute\n', 'performance,minute,price\n1,5,9\n', *ON),
                          'performance,minute,notice_row,notice_minute,price\n')
 
     def test_no_notices(self):
-        self.assertEqual(self.priced('performance,minute\n1,5\n,\n'.replace('1,5\n,', ',\n1,5'), 'performance,minute\n', *ON),
+        """Every sale comes out without a notice."""
+        self.assertEqual(self.priced('performance,minute\n,\n1,5\n', 'performance,minute\n', *ON),
                          'performance,minute,notice_row,notice_minute\n,,,\n1,5,,\n')
 
     def test_names_that_are_taken(self):
+        """Columns of the same name are told apart."""
         self.assertEqual(self.priced('m,notice_row,x,notice_x\n5,a,b,c\n', 'm,x\n5,z\n', '--on', 'm'),
                          'm,notice_row,x,notice_x,notice_notice_row,notice_m,notice_notice_x\n5,a,b,c,0,5,z\n')
 
     def test_text_is_carried_as_it_is(self):
+        """Quotes, line ends, blanks, signs and letters of any script come out as they went in."""
         self.assertEqual(self.priced('m,t\r\n +05 ,"a, ""b""\r\nc"\r\n', '\ufeffm,t\r\n4,  ü ☂ \r\n', '--on', 'm'),
                          'm,t,notice_row,notice_m,notice_t\n +05 ,"a, ""b""\r\nc",0,4,  ü ☂ \n')
 
     def test_four_by_columns(self):
+        """The most by-columns, in another order of columns in each file."""
         self.assertEqual(self.priced('a,b,c,d,m\n1,2,3,4,9\n1,2,3,5,9\n', 'm,d,c,b,a\n8,4,3,2,1\n9,4,3,2,1\n',
                                      '--on', 'm', *'--by a --by b --by c --by d'.split()),
                          'a,b,c,d,m,notice_row,notice_m\n1,2,3,4,9,1,9\n1,2,3,5,9,,\n')
 
     def test_a_file_with_itself(self):
+        """One file may serve as both."""
         path = self.file('s.csv', 'm\n1\n1\n2\n')
         self.assertEqual(within(['join', path, path, '--on', 'm']).out, 'm,notice_row,notice_m\n1,1,1\n1,1,1\n2,2,2\n')
 
     def test_from_a_pipe(self):
+        """A table need not be a file whose length is known."""
         sales = self.file('s.csv', 'm\n1\n2\n')
         run = apart(['join', '/dev/stdin', sales, '--on', 'm'], input=b'm\n2\n')
         self.assertEqual((run.status, run.out), (0, 'm,notice_row,notice_m\n2,1,2\n'))
@@ -168,6 +183,7 @@ class Output(Case):
     """Where the output goes."""
 
     def test_file(self):
+        """The same as on the screen; a new file follows the umask, one that is replaced keeps its permissions."""
         out = os.path.join(self.folder, 'out.csv')
         mask = os.umask(0o027)
         self.addCleanup(os.umask, mask)
@@ -179,6 +195,7 @@ class Output(Case):
             os.chmod(out, 0o604)
 
     def test_file_stays_as_it_was(self):
+        """A fault near the end of a long file leaves the old output."""
         out = self.file('out.csv', 'kept')
         rows = ''.join(f'1,{minute}\n' for minute in range(50000))
         bad = self.file('bad.csv', 'performance,minute\n' + rows + '1,x\n')
@@ -186,6 +203,7 @@ class Output(Case):
         self.assertEqual((self.read(out), sorted(os.listdir(self.folder))), ('kept', ['bad.csv', 'out.csv']))
 
     def test_link_stays_a_link(self):
+        """The file that a link leads to is replaced, not the link."""
         goal, link = self.file('goal.csv', ''), os.path.join(self.folder, 'link.csv')
         os.symlink('goal.csv', link)
         self.assertEqual(within(['join', SALES, NOTICES, *ON, '--output', link]).status, 0)
@@ -193,20 +211,24 @@ class Output(Case):
         self.assertEqual(self.read(goal), self.read(PRICED))
 
     def test_not_over_its_input(self):
+        """An input is never overwritten."""
         sales = self.file('s.csv', self.read(SALES))
         self.refused(within(['join', sales, NOTICES, *ON, '--output', sales]), 'is one of the files to be read')
         self.assertEqual(self.read(sales), self.read(SALES))
 
     def test_no_place_for_it(self):
+        """A folder that is not there, and a folder of that name."""
         for out, said in ((os.path.join(self.folder, 'none', 'out'), 'No such file'), (self.folder, 'it is a folder')):
             self.refused(within(['join', SALES, NOTICES, *ON, '--output', out]), said)
 
     def test_device(self):
+        """A device is written to and stays a device."""
         self.assertEqual(within(['join', SALES, NOTICES, *ON, '--output', '/dev/null']).status, 0)
         self.assertFalse(os.path.isfile('/dev/null'))
         self.refused(within(['join', SALES, NOTICES, *ON, '--output', '/dev/full']), '/dev/full: cannot be written')
 
     def test_full_screen(self):
+        """What cannot be written is told."""
         with open('/dev/full', 'wb') as full:
             self.refused(apart(['join', SALES, NOTICES, *ON], stdout=full), 'standard output: cannot be written')
 
@@ -219,6 +241,7 @@ class Ends(Case):
         return self.file('long.csv', 'performance,minute\n' + ''.join(f'1,{minute}\n' for minute in range(300000)))
 
     def test_reader_goes(self):
+        """A reader that stops reading ends the run without a word."""
         run = subprocess.Popen([sys.executable, PROGRAM, 'join', self.long(), NOTICES, *ON], stdout=subprocess.PIPE,
                                stderr=subprocess.PIPE)
         self.assertTrue(run.stdout.readline().startswith(b'performance,minute,notice_row'))
