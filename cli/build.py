@@ -79,7 +79,11 @@ def alone(folder):
     except OSError as error:
         raise Problem(f'the library cannot be made: {folder}: {reason(error)}', NO_LIBRARY) from None
     with lock:
-        fcntl.flock(lock, fcntl.LOCK_EX)
+        try:
+            fcntl.flock(lock, fcntl.LOCK_EX | fcntl.LOCK_NB)
+        except OSError:
+            say('another run is making the library: waiting for it')
+            fcntl.flock(lock, fcntl.LOCK_EX)
         yield
 
 

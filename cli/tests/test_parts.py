@@ -1,6 +1,8 @@
 """The parts that need no library."""
 import io
 import os
+import threading
+import time
 import unittest
 from unittest import mock
 
@@ -215,3 +217,14 @@ class Building(Case):
                     build.make(os.path.join(self.folder, 'x.so'))
             self.assertIn(said, str(caught.exception))
             self.assertEqual(caught.exception.status, 3)
+
+    def test_one_at_a_time(self):
+        """A second run waits, and says so."""
+        said = io.StringIO()
+        with build.alone(self.folder), mock.patch('sys.stderr', said):
+            other = threading.Thread(target=lambda: build.alone(self.folder).__enter__())
+            other.start()
+            while 'another run' not in said.getvalue():
+                self.assertTrue(other.is_alive())
+                time.sleep(0.01)
+        other.join()
