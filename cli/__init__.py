@@ -1,0 +1,1 @@
+"""The command rowkeeper: an as-of join of two CSV files, over the C interface of the proved library."""

@@ -1,0 +1,70 @@
+"""The help pages."""
+
+SHORT = '''usage: rowkeeper join SALES.csv NOTICES.csv --on KEY [--by COLUMN] [options]
+       rowkeeper --help
+'''
+
+PAGE = '''rowkeeper: gives every sale of a season the price notice that was in force
+
+  ./rowkeeper join SALES.csv NOTICES.csv --on minute --by performance
+
+  Both files are CSV with a header line that names the columns. Each sale takes,
+  among the notices of its performance, the last one that is not later than the
+  sale. The sales come out in their order, each with its notice, as CSV.
+
+  Try it:
+
+    ./rowkeeper join examples/season/sales.csv examples/season/notices.csv \\
+        --on minute --by performance
+
+WHAT COMES OUT
+  All columns of the sale; then notice_row, the notice's number in its file (the
+  first notice is number 0); then the columns of the notice, without those named
+  by --by, which are the sale's own. A name that the sale has already gets
+  'notice_' in front. A sale without a notice has these cells empty.
+
+WHAT GOES IN
+  The columns named by --on and --by hold whole numbers (64 bits, minus sign
+  allowed); an empty cell there means 'not known'. All other columns are text
+  and are carried along as they are. A sale whose minute or performance is not
+  known gets no notice, and a notice without them is given to no sale.
+  Both files must be sorted: by the --by columns in turn, then by the --on
+  column; numbers ascending, empty cells first. Files can be of any length.
+
+WHICH NOTICE
+  --on COLUMN          the column that is compared, as the minute of the sale
+                       and of the notice
+  --by COLUMN          sale and notice must be equal here, as the performance;
+                       up to four times: --by performance --by band
+  --strategy WHICH     backward  the last notice not later than the sale (this
+                                 is what happens when nothing is said)
+                       forward   the first notice not earlier than the sale
+                       nearest   the notice nearest to the sale; of two equally
+                                 near the later one
+  --no-exact           a notice of the sale's own minute does not count (does
+                       not go with nearest)
+  --tolerance N        the notice may be at most N away from the sale
+
+HOW THE FILES ARE SORTED
+  --descending COLUMN  the numbers of this --by column fall
+  --nulls-last COLUMN  the empty cells of this --by column come last
+  --check              look that both files are sorted, to their ends (this is
+                       what happens when nothing is said)
+  --no-check           do not look: faster, but sales may get a wrong notice
+                       where a file is not sorted
+
+WHERE IT GOES
+  --output FILE        write to this file instead of the screen; the file
+                       appears only when it is whole, else it stays as it was
+  --explain            tell at the end what was done: options, rows, frames,
+                       turns, memory
+
+WHEN SOMETHING IS WRONG
+  One line says what, with file, line and column, and the status is 1 for the
+  files, 2 for the command line, 3 for the library. Lines are counted as an
+  editor counts them: the header is line 1. What was printed on the screen
+  before that line is not to be used; a file of --output is not written at all.
+
+  The first run makes the library that does the join, from its proved source. It
+  needs the Rattle kit and a C compiler, and takes some minutes, once.
+'''

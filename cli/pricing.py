@@ -1,0 +1,112 @@
+"""The main job: sales and notices go through the join in frames, and each sale is written with its notice."""
+from .cells import frame_words
+from .library import IDLE, WANTS_RIGHT
+
+
+# The rows of a frame: fewer than the library takes. A turn's work is the sales of a run times the notices of its group that
+# are held, so frames of this height are quicker than larger ones, and smaller ones cost more calls.
+ROWS = 1024
+
+
+class Heights:
+    """How many sales a frame has: few at first. Many notices held at once cost time and memory, so the next frame gets fewer
+    sales where one needed many notices, and more where it needed few."""
+
+    def __init__(self, most=ROWS, comfort=4 * ROWS, first=16):
+        self.most, self.comfort, self.rows = most, comfort, min(most, first)
+
+    def learn(self, held):
+        """Goes by the notices that a turn had."""
+        self.rows = max(1, self.rows // 2) if held > self.comfort else min(self.most, 2 * self.rows)
+
+
+class Notices:
+    """The text of the notices that can still be matched, by number."""
+
+    def __init__(self, places):
+        self.places, self.first, self.rows = places, 0, []
+        self.nothing = [''] * (1 + len(places))
+
+    def add(self, rows):
+        """Keeps the cells of new notices that are to be written."""
+        places = self.places
+        self.rows.extend([[cells[place] for place in places] for cells in rows])
+
+    def drop(self, pruned):
+        """Forgets the notices that the join has dropped."""
+        del self.rows[:pruned - self.first]
+        self.first = pruned
+
+    def found(self, number):
+        """What is written beside a sale: the notice's number and columns, all empty where it has none."""
+        if number is None:
+            return self.nothing
+        return [number, *self.rows[number - self.first]]
+
+
+class Pricing:
+    """Sales and notices on their way through a join, and what is counted on it."""
+
+    def __init__(self, sales, notices, join, writer, progress, heights=None, right_height=ROWS):
+        self.sales, self.notices, self.join = sales, notices, join
+        self.writer, self.progress = writer, progress
+        self.heights, self.right_height = heights or Heights(), right_height
+        by = notices.places[:-1]
+        self.kept = Notices([place for place in range(len(notices.header)) if place not in by])
+        self.waiting = None
+        self.left_frames = self.right_frames = self.matched = 0
+
+    def header(self):
+        """The columns of the output: those of the sales, the notice's number, and the notice's own but the by-columns,
+        which are those of the sale. A name that is taken gets `notice_` in front."""
+        names = list(self.sales.header)
+        for name in ['notice_row'] + [self.notices.header[place] for place in self.kept.places]:
+            while name in names:
+                name = 'notice_' + name
+            names.append(name)
+        return names
+
+    def next_sales(self):
+        """Hands in the next sales; whether there were any."""
+        self.waiting = self.sales.frame(self.heights.rows)
+        if self.waiting.cells:
+            self.join.left(frame_words(self.waiting.numbers, self.join.columns))
+            self.left_frames += 1
+        return bool(self.waiting.cells)
+
+    def next_notices(self):
+        """Hands in the next notices, or says that there are no more."""
+        frame = self.notices.frame(self.right_height)
+        if frame.cells:
+            self.join.right(frame_words(frame.numbers, self.join.columns))
+            self.kept.add(frame.cells)
+            self.right_frames += 1
+        else:
+            self.join.end_right()
+
+    def write(self):
+        """Writes the sales of a turn, each with its notice."""
+        matches = self.join.matches()
+        found = self.kept.found
+        self.writer.writerows([cells + found(number) for cells, number in zip(self.waiting.cells, matches)])
+        self.matched += len(matches) - matches.count(None)
+        self.heights.learn(len(self.kept.rows))
+        self.kept.drop(self.join.words.pruned)
+
+    def run(self):
+        """Prices all sales. With the check on, the rest of the notices is read too: one that is out of order might have
+        been a sale's notice."""
+        self.writer.writerow(self.header())
+        while True:
+            answer = self.join.turn()
+            if answer == IDLE:
+                if not self.next_sales():
+                    break
+            elif answer == WANTS_RIGHT:
+                self.next_notices()
+            else:
+                self.write()
+            self.progress.show(self.sales, self.notices)
+        while self.notices.check and self.notices.frame(self.right_height).cells:
+            self.progress.show(self.sales, self.notices)
+        self.progress.clear()

@@ -1,0 +1,40 @@
+"""What stops a run, told in one line."""
+
+# The statuses that the command ends with.
+DONE, BAD_INPUT, BAD_USAGE, NO_LIBRARY = 0, 1, 2, 3
+
+# How much of a cell a message shows.
+SHOWN = 40
+
+
+class Problem(Exception):
+    """One line for the user, and the status that the command ends with."""
+
+    def __init__(self, line, status=BAD_INPUT):
+        super().__init__(line)
+        self.status = status
+
+
+def quoted(text):
+    """A cell or a column's name as a message shows it: in quotes, without line ends, and not too long."""
+    return repr(text if len(text) <= SHOWN else text[:SHOWN] + '…')
+
+
+def named(path):
+    """A file's name as a message shows it: as it was given, unless that would spoil the line."""
+    return path if path.isprintable() else repr(path)
+
+
+def at(path, line=None, column=None):
+    """The place that a message speaks of."""
+    places = [named(path)]
+    if line is not None:
+        places.append(f'line {line}')
+    if column is not None:
+        places.append(f'column {column if column.isprintable() and len(column) <= SHOWN else quoted(column)}')
+    return ', '.join(places)
+
+
+def reason(error):
+    """Why the system refused something, in its own words."""
+    return error.strerror or str(error)

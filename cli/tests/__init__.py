@@ -1,0 +1,1 @@
+"""Tests of the command; cli/check runs them all."""

@@ -1,0 +1,65 @@
+"""Runs the command, as a program of its own or within the test."""
+import contextlib
+import io
+import os
+import subprocess
+import sys
+import tempfile
+import unittest
+
+from ..build import ROOT
+from ..main import main
+
+PROGRAM = os.path.join(ROOT, 'rowkeeper')
+SEASON = os.path.join(ROOT, 'examples', 'season')
+
+
+class Run:
+    """A run's status, and what it wrote."""
+
+    def __init__(self, status, out, err):
+        self.status, self.out, self.err = status, out, err
+
+
+def within(words):
+    """The command within this program."""
+    out, err = io.TextIOWrapper(io.BytesIO(), encoding='ascii'), io.StringIO()
+    with contextlib.redirect_stdout(out), contextlib.redirect_stderr(err):
+        status = main([str(word) for word in words])
+    return Run(status, out.buffer.getvalue().decode('utf-8'), err.getvalue())
+
+
+def apart(words, **how):
+    """The command as a program of its own."""
+    ran = subprocess.run([sys.executable, PROGRAM, *words], stdout=how.pop('stdout', subprocess.PIPE),
+                         stderr=subprocess.PIPE, **how)
+    return Run(ran.returncode, (ran.stdout or b'').decode('utf-8'), ran.stderr.decode('utf-8'))
+
+
+class Case(unittest.TestCase):
+    """A test with a folder of its own."""
+
+    def setUp(self):
+        """Makes the folder; it goes with the test."""
+        folder = tempfile.TemporaryDirectory()
+        self.addCleanup(folder.cleanup)
+        self.folder = folder.name
+
+    def file(self, name, content):
+        """Writes a file; its path."""
+        path = os.path.join(self.folder, name)
+        with open(path, 'wb') as file:
+            file.write(content if isinstance(content, bytes) else content.encode('utf-8'))
+        return path
+
+    def read(self, path):
+        """A file's text."""
+        with open(path, encoding='utf-8', newline='') as file:
+            return file.read()
+
+    def refused(self, run, said, status=1):
+        """The run ended with one line that says this, and no Python shows through."""
+        self.assertEqual(run.status, status, run.err)
+        self.assertEqual(run.err.count('\n'), 1, run.err)
+        self.assertIn(said, run.err)
+        self.assertTrue(run.err.startswith('rowkeeper: '), run.err)

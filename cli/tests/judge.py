@@ -1,0 +1,60 @@
+"""An as-of join in plain Python, over whole tables and by document 01's sentences alone: the tests' judge."""
+
+
+def distance(left, right):
+    """The distance of two keys."""
+    return max(left, right) - min(left, right)
+
+
+def qualifies(left, right, strategy, exact, tolerance):
+    """Whether a right row may be the match of a left row: both without nulls, groups equal, the key on the strategy's side,
+    the distance within the tolerance."""
+    if None in left or None in right or left[:-1] != right[:-1]:
+        return False
+    a, b = left[-1], right[-1]
+    side = {'backward': b <= a, 'forward': b >= a, 'nearest': True}[strategy]
+    return side and (exact or a != b) and (tolerance is None or distance(a, b) <= tolerance)
+
+
+def choice(left, numbered, strategy):
+    """The number of the match among the right rows that qualify."""
+    if strategy == 'backward':
+        return max(numbered, key=lambda each: (each[1][-1], each[0]))[0]
+    if strategy == 'forward':
+        return min(numbered, key=lambda each: (each[1][-1], each[0]))[0]
+    return min(numbered, key=lambda each: (distance(left[-1], each[1][-1]), -each[1][-1], -each[0]))[0]
+
+
+def matches(lefts, rights, strategy='backward', exact=True, tolerance=None):
+    """For each left row the number of its right row, or None."""
+    found = []
+    for left in lefts:
+        numbered = [each for each in enumerate(rights) if qualifies(left, each[1], strategy, exact, tolerance)]
+        found.append(choice(left, numbered, strategy) if numbered else None)
+    return found
+
+
+def cell_before(a, b, descending, nulls_last):
+    """Whether a cell comes strictly before another."""
+    if a is None or b is None:
+        return a != b and (b is None) == nulls_last
+    return a > b if descending else a < b
+
+
+def row_before(a, b, descending, nulls_last):
+    """Whether a row comes strictly before another: by-columns in turn, then the key, ascending with nulls first."""
+    for x, y, down, last in zip(a, b, [*descending, False], [*nulls_last, False]):
+        if x != y:
+            return cell_before(x, y, down, last)
+    return False
+
+
+def in_order(rows, descending, nulls_last):
+    """Rows sorted, by putting each in its place."""
+    done = []
+    for row in rows:
+        place = len(done)
+        while place and row_before(row, done[place - 1], descending, nulls_last):
+            place -= 1
+        done.insert(place, row)
+    return done

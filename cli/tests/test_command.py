@@ -1,0 +1,268 @@
+"""The command from outside: the season, bad input, where the output goes."""
+import os
+import signal
+import stat
+import subprocess
+import sys
+import time
+import unittest
+
+from ..build import ROOT
+from ..page import PAGE
+from .command import PROGRAM, SEASON, Case, apart, within
+
+ON = ('--on', 'minute', '--by', 'performance')
+SALES, NOTICES, PRICED = (os.path.join(SEASON, name) for name in ('sales.csv', 'notices.csv', 'priced.csv'))
+
+
+class Season(Case):
+    """The example of the first page."""
+
+    def test_priced(self):
+        """The output is the file beside the season."""
+        run = apart(['join', SALES, NOTICES, *ON])
+        self.assertEqual((run.status, run.err), (0, ''))
+        self.assertEqual(run.out, self.read(PRICED))
+
+    def test_from_another_folder_in_another_locale(self):
+        """Where it is started and the machine's own encoding do not matter."""
+        run = apart(['join', SALES, NOTICES, *ON], cwd=self.folder, env={**os.environ, 'LC_ALL': 'C', 'PYTHONUTF8': '0'})
+        self.assertEqual((run.status, run.out), (0, self.read(PRICED)))
+
+    def test_explain(self):
+        """The options, rows, turns and areas are told, and the output stays as it is."""
+        run = apart(['join', SALES, NOTICES, *ON, '--explain'])
+        self.assertEqual((run.status, run.out), (0, self.read(PRICED)))
+        for said in ('strategy    backward, equal keys match, tolerance none', 'order       performance, then minute; checked',
+                     'sales       30 rows', 'notices     11 rows', '27 sales with a notice, 3 without', 'turns       2 wrote',
+                     'left area   16,386 words', 'right area  ', 'output      8,194 words'):
+            self.assertIn(said, run.err)
+
+    def test_picture(self):
+        """The picture under docs/ is the one that its script draws."""
+        made = subprocess.run([sys.executable, os.path.join(ROOT, 'docs', 'picture')], stdout=subprocess.PIPE, check=True)
+        self.assertEqual(made.stdout.decode('utf-8'), self.read(os.path.join(ROOT, 'docs', 'season.svg')))
+
+
+class Help(Case):
+    """The page."""
+
+    def test_page(self):
+        """However help is asked for, the page comes."""
+        for words in (['--help'], ['-h'], ['join', '--help']):
+            run = apart(words)
+            self.assertEqual((run.status, run.out, run.err), (0, PAGE, ''))
+
+
+class Usage(Case):
+    """Words that do not go together: one line, status 2, and no file is opened."""
+
+    def test_words(self):
+        """Each case says what is wrong with the words."""
+        join = ['join', 'none.csv', 'none.csv']
+        for words, said in (([], 'say what to do'), (['merge'], "'merge'"), (['join'], 'SALES.csv'), (join, '--on'),
+                            ([*join, '--on', 'm', '--by', 'm'], 'column m is named twice'),
+                            ([*join, '--on', 'm', *'--by a --by b --by c --by d --by e'.split()], '4 at most'),
+                            ([*join, '--on', 'm', '--descending', 'm'], '--descending: m is not a --by column'),
+                            ([*join, '--on', 'm', '--by', 'p', '--nulls-last', 'q'], '--nulls-last: q is not'),
+                            ([*join, '--on', 'm', '--strategy', 'nearest', '--no-exact'], 'does not go with'),
+                            ([*join, '--on', 'm', '--strategy', 'sideways'], 'sideways'),
+                            ([*join, '--on', 'm', '--tolerance', '-1'], '--tolerance'),
+                            ([*join, '--on', 'm', '--tolerance', '1.5'], 'not a whole number'),
+                            ([*join, '--on', 'm', '--tolerance', ''], '--tolerance'),
+                            ([*join, '--on', 'm', '--tolerance', str(2**63)], 'beyond 64 bits'),
+                            ([*join, '--on', 'm', '--strat', 'nearest'], '--strat')):
+            with self.subTest(words=words):
+                run = apart(words)
+                self.refused(run, said, 2)
+                self.assertEqual(run.out, '')
+
+
+class BadFiles(Case):
+    """Files that are not as they must be: one line with file, line and column, status 1, and no output file."""
+
+    GOOD = 'performance,minute\n1,5\n'
+
+    def test_files(self):
+        """Each fault, in the sales and in the notices."""
+        beyond = str(2**63)
+        for content, said in (
+                ('', 'line 1: the file is empty'), ('\n\n', 'line 1: the file is empty'),
+                ('performance,hour\n1,5\n', 'line 1, column minute: there is no such column; the columns are performance, hour'),
+                ('performance,minute,minute\n1,5,5\n', 'line 1, column minute: 2 columns have this name'),
+                ('performance,minute\n1,5\n1,soon\n', "line 3, column minute: 'soon' is not a whole number"),
+                (f'performance,minute\n1,5\n{beyond},5\n', f"line 3, column performance: '{beyond}' is beyond 64 bits"),
+                ('performance,minute\n1,7\n1,5\n', 'line 3, column minute: out of order: 5 comes after 7 of line 2'),
+                ('performance,minute\n2,5\n1,7\n', 'line 3, column performance: out of order: 1 comes after 2 of line 2'),
+                ('performance,minute\n1,5\n1,\n', 'line 3, column minute: out of order: an empty cell comes after 5'),
+                ('performance,minute\n1,5,9\n', 'line 2: columns: 3, but the header names 2'),
+                ('performance,minute\n1,"5\n', 'line 2: the line cannot be read as CSV: a quote is opened and never closed'),
+                ('performance,minute\n1,"5"6\n', 'line 2: the line cannot be read as CSV'),
+                ('performance,minute\r1,5\r', 'line 1: the line cannot be read as CSV: there is a carriage return'),
+                (b'performance,minute\n1,\xff\n', 'line 2: byte 3 of the line is not UTF-8 text'),
+                ('performance,minute\n1,"a\nb\x1b[0m"\n', "line 2, column minute: 'a\\nb\\x1b[0m' is not a whole number"),
+                ('performance,minute\n1,' + '7' * 500 + '\n', "line 2, column minute: '7777777")):
+            bad, good, out = self.file('bad.csv', content), self.file('good.csv', self.GOOD), os.path.join(self.folder, 'out')
+            for files in ((bad, good), (good, bad)):
+                with self.subTest(said=said, files=files):
+                    self.refused(within(['join', *files, *ON, '--output', out]), f'{bad}, {said}')
+                    self.assertEqual(sorted(os.listdir(self.folder)), ['bad.csv', 'good.csv'])
+
+    def test_no_file(self):
+        """A file that is not there, and a folder."""
+        good = self.file('good.csv', self.GOOD)
+        for bad, said in ((os.path.join(self.folder, 'none.csv'), 'No such file'), (self.folder, 'directory')):
+            for files in ((bad, good), (good, bad)):
+                self.refused(within(['join', *files, *ON]), f'{bad}: cannot be read: ')
+                self.assertIn(said, within(['join', *files, *ON]).err)
+
+    def test_fault_behind_the_last_sale(self):
+        """A notice that no sale asked for is read too: it might have been one's notice."""
+        sales = self.file('sales.csv', self.GOOD)
+        late = ''.join(f'9,{minute}\n' for minute in range(9000))
+        notices = self.file('notices.csv', 'performance,minute\n1,4\n' + late + '1,5\n')
+        self.refused(within(['join', sales, notices, *ON]), 'line 9003, column performance: out of order: 1 comes after 9')
+        run = within(['join', sales, notices, *ON, '--no-check'])
+        self.assertEqual((run.status, run.out), (0, 'performance,minute,notice_row,notice_minute\n1,5,0,4\n'))
+
+    def test_null_keys_between_frames(self):
+        """What the library's own check overlooks: a row with a null key of a later performance, then one before it."""
+        sales = self.file('sales.csv', 'performance,minute\n2,5\n3,\n2,8\n')
+        notices = self.file('notices.csv', 'performance,minute\n2,1\n2,7\n3,1\n4,1\n')
+        self.refused(within(['join', sales, notices, *ON]), 'sales.csv, line 4, column performance: out of order')
+
+
+class Tables(Case):
+    """Tables at their ends."""
+
+    def priced(self, sales, notices, *words):
+        """The output for these two tables."""
+        run = within(['join', self.file('s.csv', sales), self.file('n.csv', notices), *words])
+        self.assertEqual((run.status, run.err), (0, ''))
+        return run.out
+
+    def test_no_sales(self):
+        """Only the header comes out."""
+        self.assertEqual(self.priced('performance,minute\n', 'performance,minute,price\n1,5,9\n', *ON),
+                         'performance,minute,notice_row,notice_minute,price\n')
+
+    def test_no_notices(self):
+        """Every sale comes out without a notice."""
+        self.assertEqual(self.priced('performance,minute\n,\n1,5\n', 'performance,minute\n', *ON),
+                         'performance,minute,notice_row,notice_minute\n,,,\n1,5,,\n')
+
+    def test_names_that_are_taken(self):
+        """Columns of the same name are told apart."""
+        self.assertEqual(self.priced('m,notice_row,x,notice_x\n5,a,b,c\n', 'm,x\n5,z\n', '--on', 'm'),
+                         'm,notice_row,x,notice_x,notice_notice_row,notice_m,notice_notice_x\n5,a,b,c,0,5,z\n')
+
+    def test_text_is_carried_as_it_is(self):
+        """Quotes, line ends, blanks, signs and letters of any script come out as they went in."""
+        self.assertEqual(self.priced('m,t\r\n +05 ,"a, ""b""\r\nc"\r\n', '\ufeffm,t\r\n4,  ü ☂ \r\n', '--on', 'm'),
+                         'm,t,notice_row,notice_m,notice_t\n +05 ,"a, ""b""\r\nc",0,4,  ü ☂ \n')
+
+    def test_four_by_columns(self):
+        """The most by-columns, in another order of columns in each file."""
+        self.assertEqual(self.priced('a,b,c,d,m\n1,2,3,4,9\n1,2,3,5,9\n', 'm,d,c,b,a\n8,4,3,2,1\n9,4,3,2,1\n',
+                                     '--on', 'm', *'--by a --by b --by c --by d'.split()),
+                         'a,b,c,d,m,notice_row,notice_m\n1,2,3,4,9,1,9\n1,2,3,5,9,,\n')
+
+    def test_a_file_with_itself(self):
+        """One file may serve as both."""
+        path = self.file('s.csv', 'm\n1\n1\n2\n')
+        self.assertEqual(within(['join', path, path, '--on', 'm']).out, 'm,notice_row,notice_m\n1,1,1\n1,1,1\n2,2,2\n')
+
+    def test_from_a_pipe(self):
+        """A table need not be a file whose length is known."""
+        sales = self.file('s.csv', 'm\n1\n2\n')
+        run = apart(['join', '/dev/stdin', sales, '--on', 'm'], input=b'm\n2\n')
+        self.assertEqual((run.status, run.out), (0, 'm,notice_row,notice_m\n2,1,2\n'))
+
+
+class Output(Case):
+    """Where the output goes."""
+
+    def test_file(self):
+        """The same as on the screen; a new file follows the umask, one that is replaced keeps its permissions."""
+        out = os.path.join(self.folder, 'out.csv')
+        mask = os.umask(0o027)
+        self.addCleanup(os.umask, mask)
+        for mode in (0o640, 0o604):
+            run = within(['join', SALES, NOTICES, *ON, '--output', out])
+            self.assertEqual((run.status, run.out, run.err), (0, '', ''))
+            self.assertEqual((self.read(out), os.listdir(self.folder)), (self.read(PRICED), ['out.csv']))
+            self.assertTrue(mode == 0o640 or stat.S_IMODE(os.stat(out).st_mode) == mode)
+            os.chmod(out, 0o604)
+
+    def test_file_stays_as_it_was(self):
+        """A fault near the end of a long file leaves the old output."""
+        out = self.file('out.csv', 'kept')
+        rows = ''.join(f'1,{minute}\n' for minute in range(50000))
+        bad = self.file('bad.csv', 'performance,minute\n' + rows + '1,x\n')
+        self.refused(within(['join', bad, NOTICES, *ON, '--output', out]), 'line 50002, column minute')
+        self.assertEqual((self.read(out), sorted(os.listdir(self.folder))), ('kept', ['bad.csv', 'out.csv']))
+
+    def test_link_stays_a_link(self):
+        """The file that a link leads to is replaced, not the link."""
+        goal, link = self.file('goal.csv', ''), os.path.join(self.folder, 'link.csv')
+        os.symlink('goal.csv', link)
+        self.assertEqual(within(['join', SALES, NOTICES, *ON, '--output', link]).status, 0)
+        self.assertTrue(os.path.islink(link))
+        self.assertEqual(self.read(goal), self.read(PRICED))
+
+    def test_not_over_its_input(self):
+        """An input is never overwritten."""
+        sales = self.file('s.csv', self.read(SALES))
+        self.refused(within(['join', sales, NOTICES, *ON, '--output', sales]), 'is one of the files to be read')
+        self.assertEqual(self.read(sales), self.read(SALES))
+
+    def test_no_place_for_it(self):
+        """A folder that is not there, and a folder of that name."""
+        for out, said in ((os.path.join(self.folder, 'none', 'out'), 'No such file'), (self.folder, 'it is a folder')):
+            self.refused(within(['join', SALES, NOTICES, *ON, '--output', out]), said)
+
+    def test_device(self):
+        """A device is written to and stays a device."""
+        self.assertEqual(within(['join', SALES, NOTICES, *ON, '--output', '/dev/null']).status, 0)
+        self.assertFalse(os.path.isfile('/dev/null'))
+        self.refused(within(['join', SALES, NOTICES, *ON, '--output', '/dev/full']), '/dev/full: cannot be written')
+
+    def test_full_screen(self):
+        """What cannot be written is told."""
+        with open('/dev/full', 'wb') as full:
+            self.refused(apart(['join', SALES, NOTICES, *ON], stdout=full), 'standard output: cannot be written')
+
+
+class Ends(Case):
+    """Runs that are ended from outside."""
+
+    def long(self):
+        """A file of sales that takes a while."""
+        return self.file('long.csv', 'performance,minute\n' + ''.join(f'1,{minute}\n' for minute in range(300000)))
+
+    def test_reader_goes(self):
+        """A reader that stops reading ends the run without a word."""
+        run = subprocess.Popen([sys.executable, PROGRAM, 'join', self.long(), NOTICES, *ON], stdout=subprocess.PIPE,
+                               stderr=subprocess.PIPE)
+        self.assertTrue(run.stdout.readline().startswith(b'performance,minute,notice_row'))
+        run.stdout.close()
+        self.assertEqual((run.stderr.read(), run.wait()), (b'', 128 + signal.SIGPIPE))
+        run.stderr.close()
+
+    def test_signals(self):
+        """Whenever it comes, the file of --output is not there, nor a part of it."""
+        long, out = self.long(), os.path.join(self.folder, 'out.csv')
+        for number in (signal.SIGTERM, signal.SIGINT, signal.SIGHUP):
+            run = subprocess.Popen([sys.executable, PROGRAM, 'join', long, NOTICES, *ON, '--output', out],
+                                   stdout=subprocess.DEVNULL, stderr=subprocess.PIPE)
+            until = time.monotonic() + 30
+            while len(os.listdir(self.folder)) < 2 and time.monotonic() < until:
+                time.sleep(0.005)
+            run.send_signal(number)
+            self.assertEqual((run.stderr.read(), run.wait()), (b'', 128 + number))
+            run.stderr.close()
+            self.assertEqual(os.listdir(self.folder), ['long.csv'])
+
+
+if __name__ == '__main__':
+    unittest.main()

@@ -1,0 +1,230 @@
+"""The parts that need no library."""
+import io
+import os
+import threading
+import time
+import unittest
+from unittest import mock
+
+from .. import build
+from ..arguments import parse, parser
+from ..cells import column_numbers, frame_words, number
+from ..library import JoinWords
+from ..order import Order
+from ..page import PAGE
+from ..problem import Problem, at
+from ..progress import Progress
+from ..source import Source
+from .command import Case
+from .judge import row_before
+
+
+class Cells(unittest.TestCase):
+    """Cells of whole-number columns."""
+
+    def test_numbers(self):
+        """What is a number or a null, alone and in a column."""
+        for cell, value in (('0', 0), (' 12 ', 12), ('-5', -5), ('+7', 7), ('007', 7), ('-0', 0), ('', None), ('  ', None),
+                            ('9223372036854775807', 2**63 - 1), ('-9223372036854775808', -2**63), ('0' * 5000 + '1', 1)):
+            self.assertEqual(number(cell), value)
+            self.assertEqual(list(column_numbers([cell, '3'])), [value, 3])
+
+    def test_no_numbers(self):
+        """What is none, though Python might take it for one."""
+        for cell, said in (('x', 'not a whole number'), ('1.0', 'not a whole number'), ('1_000', 'not a whole number'),
+                           ('٣', 'not a whole number'), ('1 2', 'not a whole number'), ('--1', 'not a whole number'),
+                           ('9223372036854775808', 'beyond 64 bits'), ('-9223372036854775809', 'beyond 64 bits'),
+                           ('9' * 5000, 'beyond 64 bits')):
+            for read in (number, lambda each: column_numbers(['1', each])):
+                with self.assertRaisesRegex(ValueError, said):
+                    read(cell)
+
+    def test_frame(self):
+        """The example of the header file, and no rows."""
+        self.assertEqual(list(frame_words([(7, 12), (7, None)], 2)), [2, 2, 7, 12, 7, 0, 1, 1, 1, 0])
+        self.assertEqual(list(frame_words([], 3)), [0, 3])
+
+
+class Orders(unittest.TestCase):
+    """The order, against the judge's own."""
+
+    def test_all_pairs(self):
+        """All pairs of rows with nulls and the ends of the range, in all directions."""
+        cells = (None, -2**63, -1, 0, 5, 2**63 - 1)
+        rows = [(a, b) for a in cells for b in cells]
+        for down in (False, True):
+            for last in (False, True):
+                order = Order(['p'], 'm', ['p'] * down, ['p'] * last)
+                for a in rows:
+                    for b in rows:
+                        before = row_before(b, a, [down], [last])
+                        self.assertEqual(order.fault(a, b) is not None, before)
+                        ranks = order.ranks([a, b])
+                        self.assertEqual(ranks[1] < ranks[0], before)
+
+    def test_column(self):
+        """The column that a message names, and the order in words."""
+        order = Order(['p', 'q'], 'm', ['q'], ['p'])
+        self.assertEqual(order.fault((1, 2, 3), (1, 2, 2)), 2)
+        self.assertEqual(order.fault((1, 2, 3), (1, 3, 9)), 1)
+        self.assertEqual(order.fault((None, 2, 3), (1, 2, 3)), 0)
+        self.assertEqual(str(order), 'p (empty cells last), then q (descending), then m')
+
+
+class Sources(Case):
+    """Reading."""
+
+    def source(self, content, by=('p',), check=True):
+        """A source over a new file."""
+        source = Source(self.file('t.csv', content), Order(by, 'm'), check)
+        self.addCleanup(source.close)
+        return source
+
+    def test_frames(self):
+        """However many rows a frame has, the same rows come."""
+        text = 'p,m,t\n' + ''.join(f'{i // 4},{i},x{i}\n' for i in range(10))
+        for most in (1, 3, 10, 99):
+            source = self.source(text)
+            rows = []
+            while True:
+                frame = source.frame(most)
+                self.assertLessEqual(len(frame.cells), most)
+                if not frame.cells:
+                    break
+                rows += frame.numbers
+            self.assertEqual(rows, [(i // 4, i) for i in range(10)])
+            self.assertEqual(source.rows, 10)
+            self.assertEqual(source.share(), 1.0)
+
+    def test_kinds_of_text(self):
+        """Line ends, a byte order mark, blanks, blank lines, quotes."""
+        for text in ('p,m,t\r\n1,2,x\r\n', '\ufeffp,m,t\n1,2,x', 'p, m ,t\n\n1, 2,x\n\n', '"p","m","t"\n"1","2","x"\n'):
+            frame = self.source(text).frame(9)
+            self.assertEqual((frame.numbers, [cells[2] for cells in frame.cells]), ([(1, 2)], ['x']))
+
+    def test_quotes_over_lines(self):
+        """A cell may run over lines, and lines are still counted right."""
+        text = 'p,m,t\n1,1,"a\nb\nc"\n1,2,"d,""e"""\n1,x,f\n'
+        self.assertEqual(self.source(text).frame(2).cells, [['1', '1', 'a\nb\nc'], ['1', '2', 'd,"e"']])
+        with self.assertRaisesRegex(Problem, "line 6, column m: 'x' is not"):
+            self.source(text).frame(3)
+
+    def test_one_column(self):
+        """An empty cell in quotes is a row, a blank line is none."""
+        self.assertEqual(self.source('m\n""\n\n3\n', by=()).frame(9).numbers, [(None,), (3,)])
+
+    def test_first_fault_is_told(self):
+        """Of several faults the first in the file is told, wherever frames end."""
+        for text, said in (('p,m\n1,2\n1,1\n1,x\n', 'line 3, column m: out of order: 1 comes after 2 of line 2'),
+                           ('p,m\n1,2\n1,x\n1,1\n', "line 3, column m: 'x'"),
+                           ('p,m\n1,x\n"a"b,1\n', "line 2, column m: 'x'"),
+                           ('p,m\n1,2\n"a"b,1\n1,x\n', 'line 3: the line cannot be read as CSV: a quote is closed inside'),
+                           ('p,m\n1,1\n1\n1,1,1\n', 'line 3: columns: 1, but the header names 2'),
+                           ('p,m\n2,1\n,1\n', 'line 3, column p: out of order: an empty cell comes after 2 of line 2'),
+                           ('p,m\n1,1\n1,"2\n1,3\n', 'line 3: the line cannot be read as CSV: a quote is opened')):
+            for most in (1, 2, 9):
+                source = self.source(text)
+                with self.assertRaises(Problem) as caught:
+                    while source.frame(most).cells:
+                        pass
+                self.assertIn(said, str(caught.exception))
+
+    def test_without_check(self):
+        """Rows in any order are taken where no check is wanted."""
+        self.assertEqual(self.source('p,m\n1,2\n1,1\n', check=False).frame(9).numbers, [(1, 2), (1, 1)])
+
+    def test_place(self):
+        """Places are told in one line."""
+        self.assertEqual(at('a.csv', 3, 'm'), 'a.csv, line 3, column m')
+        self.assertEqual(at('a\nb.csv').count('\n'), 0)
+
+
+class Words(unittest.TestCase):
+    """The command line and the page."""
+
+    def test_page_tells_every_option(self):
+        """No option is missing on the page, and it fits a screen."""
+        join = parser()._subparsers._group_actions[0].choices['join']
+        for action in join._actions:
+            for option in action.option_strings:
+                if option not in ('-h', '--help'):
+                    self.assertIn(f'  {option} ', PAGE)
+        self.assertLessEqual(max(map(len, PAGE.splitlines())), 80)
+
+    def test_check_is_on(self):
+        """Unless it is turned off; the last word counts."""
+        words = ['join', 'a', 'b', '--on', 'm']
+        self.assertTrue(parse(words).check)
+        self.assertFalse(parse(words + ['--no-check']).check)
+        self.assertTrue(parse(words + ['--no-check', '--check']).check)
+
+    def test_layout(self):
+        """A join is 44 words without padding."""
+        self.assertEqual(8 * 44, JoinWords.last_right.offset + JoinWords.last_right.size)
+
+
+class Shown(unittest.TestCase):
+    """Progress."""
+
+    class Terminal(io.StringIO):
+        """A stream that is a terminal."""
+
+        def isatty(self):
+            """It is one."""
+            return True
+
+    def shown(self, stream, now, wanted=True):
+        """What is on the stream after a run at these times."""
+        times = iter(now)
+        progress = Progress(stream, lambda: next(times), wanted)
+        source = mock.Mock(rows=1234, **{'share.return_value': 0.5})
+        progress.show(source, source)
+        progress.clear()
+        return stream.getvalue()
+
+    def test_only_long_runs_on_a_terminal(self):
+        """Nothing is shown of a short run, or where no one looks; at the end the line is gone."""
+        self.assertIn('1,234 sales (50 %)', self.shown(self.Terminal(), [0, 5, 5]))
+        self.assertTrue(self.shown(self.Terminal(), [0, 5, 5]).endswith('\r\033[K'))
+        self.assertEqual(self.shown(self.Terminal(), [0, 1]), '')
+        self.assertEqual(self.shown(io.StringIO(), [0, 5]), '')
+        self.assertEqual(self.shown(self.Terminal(), [0, 5], wanted=False), '')
+
+
+class Building(Case):
+    """What is made, and when."""
+
+    def test_stale(self):
+        """What is missing or older is made again."""
+        archive = self.file('a.a', b'')
+        with mock.patch.dict(os.environ, ROWKEEPER_ARCHIVE=archive):
+            self.assertEqual(build.inputs(), [archive])
+            self.assertTrue(build.stale(os.path.join(self.folder, 'none.so')))
+            made = self.file('made.so', b'')
+            os.utime(archive, (1000, 1000))
+            self.assertFalse(build.stale(made))
+            os.utime(made, (999, 999))
+            self.assertTrue(build.stale(made))
+            self.assertNotEqual(build.goal(), os.path.join(build.ROOT, 'target', 'rowkeeper', 'librowkeeper.so'))
+
+    def test_says_why_not(self):
+        """No archive, a broken one, no compiler: one reason, status 3."""
+        for name, value, said in (('ROWKEEPER_ARCHIVE', os.path.join(self.folder, 'none.a'), 'there is no file'),
+                                  ('ROWKEEPER_ARCHIVE', self.file('bad.a', b'no archive'), 'the shared object cannot be made'),
+                                  ('PATH', self.folder, 'there is no C compiler')):
+            with mock.patch.dict(os.environ, {name: value}), mock.patch('sys.stderr', io.StringIO()):
+                with self.assertRaises(Problem) as caught:
+                    build.make(os.path.join(self.folder, 'x.so'))
+            self.assertIn(said, str(caught.exception))
+            self.assertEqual(caught.exception.status, 3)
+
+    def test_one_at_a_time(self):
+        """A second run waits, and says so."""
+        said = io.StringIO()
+        with build.alone(self.folder), mock.patch('sys.stderr', said):
+            other = threading.Thread(target=lambda: build.alone(self.folder).__enter__())
+            other.start()
+            while 'another run' not in said.getvalue():
+                self.assertTrue(other.is_alive())
+                time.sleep(0.01)
+        other.join()
