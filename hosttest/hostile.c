@@ -1,7 +1,7 @@
 /*
  * A hostile host. Makes calls with joins, areas and frames that real calls left, that were altered in some words, or that
  * are random words, over slices of any length between guard words and pages that cannot be touched. Every answer, the join
- * and every word afterwards are judged (judge.c).
+ * and every word afterwards are judged (judge.c); a run is also made again by single turns, which must leave the same.
  *
  *     hostile SEED CALLS     prints how often each call gave each answer; status 1 at the first fault
  */
@@ -17,12 +17,17 @@
 #include "judge.h"
 #include "lend.h"
 
-static const char *const CALL_NAMES[CALLS] = {"open", "left", "right", "end_right", "ports", "turn"};
+static const char *const CALL_NAMES[CALLS] = {"open", "left", "right", "end_right", "ports", "turn", "run"};
 static const char *const ANSWER_NAMES[ANSWERS] = {"done", "1", "2", "3", "4", "5", "6", "7", "8", "9", "wants", "idle"};
 
 /* Which answers each call can give. The run fails where one was never met. */
 static const char *const POSSIBLE[CALLS] = {"110000000000", "101111100000", "101111110000",
-                                            "101110000000", "101100000000", "101111111111"};
+                                            "101110000000", "101100000000", "101111111111",
+                                            "101111111111"};
+
+/* Which answers must have stopped a run after a turn that wrote: those that a turn can change. 9 can too, where the host
+   itself has altered the remembered row and the frame before had no row; it is not waited for. */
+static const char POSSIBLE_AFTER[] = "100001111011";
 
 /* How many words a join is. */
 enum { JOIN_WORDS = sizeof(rowkeeper_join) / sizeof(int64_t) };
@@ -33,12 +38,15 @@ typedef struct host {
     size_t left_len, right_len;
     int64_t left[LEND_MOST], right[LEND_MOST];
     int64_t left_group, left_key, right_group, right_key;
+    int gathers; /* whether it lets frames wait for a run */
 } host;
 
 static host now, before;
-static int64_t frame[LEND_MOST], out[LEND_MOST];
+static int64_t frame[LEND_MOST], out[LEND_MOST], again[LEND_MOST];
 static lend left_lend, right_lend, frame_lend, out_lend;
 static uint64_t seed, state, made, met[CALLS][ANSWERS], altered_joins, altered_past_2;
+/* Of runs: the turns that they made, those of more than one, and what stopped those in which a turn wrote. */
+static uint64_t run_turns, several, met_after[ANSWERS];
 
 /* Any 64 bits (splitmix64). */
 static uint64_t any(void) {
@@ -213,13 +221,15 @@ static void copy_host(host *to, const host *from) {
     to->left_key = from->left_key;
     to->right_group = from->right_group;
     to->right_key = from->right_key;
+    to->gathers = from->gathers;
 }
 
 /* Ends the run with what was found and with what it takes to see it again. */
 static void fault(const attempt *a, const char *why) {
     size_t i;
     printf("FAIL seed %" PRIu64 ", call %" PRIu64 ", rowkeeper_%s: %s\n", seed, made, CALL_NAMES[a->call], why);
-    printf("lengths: left %zu, right %zu, frame %zu, output %zu\njoin:", a->left_len, a->right_len, a->frame_len, a->out_len);
+    printf("lengths: left %zu, right %zu, frame %zu, output %zu\n", a->left_len, a->right_len, a->frame_len, a->out_len);
+    printf("turns of a run: %zu\njoin:", a->turns);
     for (i = 0; i < JOIN_WORDS; i++) printf(" %" PRId64, ((const int64_t *)&a->join)[i]);
     printf("\n");
     exit(1);
@@ -259,6 +269,16 @@ static void turned(outcome *o, rowkeeper_turned t) {
     o->join = t.join;
 }
 
+/* Reads the answer of a run. */
+static void ran(outcome *o, rowkeeper_ran r) {
+    static const int PLAIN[3] = {0, ANSWER_WANTS, ANSWER_IDLE};
+    int strange = r.stop > 3 || r.refusal > 9 || (r.stop == ROWKEEPER_REFUSED) != (r.refusal != 0);
+    o->answer = strange ? ANSWERS : r.stop == ROWKEEPER_REFUSED ? (int)r.refusal : PLAIN[r.stop];
+    o->turns = r.turns;
+    o->words = r.words;
+    o->join = r.join;
+}
+
 /* Makes the call over slices that are lent for it alone. */
 static void make(const attempt *a, outcome *o) {
     int64_t *l = lent(&left_lend, a->left, a->left_len), *r = lent(&right_lend, a->right, a->right_len);
@@ -271,6 +291,7 @@ static void make(const attempt *a, outcome *o) {
     case CALL_RIGHT: took(o, rowkeeper_right(a->join, l, ln, r, rn, f, a->frame_len)); break;
     case CALL_END: took(o, rowkeeper_end_right(a->join, l, ln, r, rn)); break;
     case CALL_PORTS: ported(o, rowkeeper_ports(a->join, l, ln, r, rn, a->ports[0], a->ports[1], a->ports[2])); break;
+    case CALL_RUN: ran(o, rowkeeper_run(a->join, a->turns, l, ln, r, rn, w, a->out_len)); break;
     default: turned(o, rowkeeper_turn(a->join, l, ln, r, rn, w, a->out_len)); break;
     }
     o->left = left_lend.at;
@@ -288,6 +309,39 @@ static const char *untouched(const attempt *a) {
     return NULL;
 }
 
+/* Whether single turns over the same words make as many turns as the run did and leave the same join and output. A run of
+   no turns has none to be compared with. */
+static const char *same_by_turns(const attempt *a, const outcome *o) {
+    rowkeeper_turned t;
+    outcome last;
+    uint64_t turns = 0;
+    size_t at = 0;
+    if (a->turns == 0) return NULL;
+    memcpy(again, a->out, a->out_len * sizeof *again);
+    memset(&last, 0, sizeof last);
+    last.join = a->join;
+    while (turns < a->turns && last.answer == 0) {
+        t = rowkeeper_turn(last.join, a->left, a->left_len, a->right, a->right_len, again + at, a->out_len - at);
+        turned(&last, t);
+        if (last.answer == 0) {
+            at += ROWKEEPER_OUTPUT_WORDS(again[at]);
+            turns++;
+        }
+    }
+    if (turns != o->turns || at != o->words || last.answer != o->answer) return "single turns answer otherwise";
+    if (memcmp(&last.join, &o->join, sizeof last.join) != 0) return "single turns leave another join";
+    return memcmp(again, o->out, a->out_len * sizeof *again) == 0 ? NULL : "single turns write otherwise";
+}
+
+/* Counts an answer, and what a run made. */
+static void count(const attempt *a, const outcome *o) {
+    met[a->call][o->answer]++;
+    if (a->call != CALL_RUN) return;
+    run_turns += o->turns;
+    several += o->turns > 1;
+    met_after[o->answer] += o->turns > 0;
+}
+
 /* Makes a call, judges it, counts it; the answer. The host goes on with what it left. */
 static int try_call(attempt *a) {
     outcome o;
@@ -296,8 +350,9 @@ static int try_call(attempt *a) {
     make(a, &o);
     why = untouched(a);
     if (why == NULL) why = o.answer >= ANSWERS ? "an answer that there is not" : judge(a, &o);
+    if (why == NULL && a->call == CALL_RUN) why = same_by_turns(a, &o);
     if (why != NULL) fault(a, why);
-    met[a->call][o.answer]++;
+    count(a, &o);
     if (a->call == CALL_LEFT) memcpy(now.left, left_lend.at, now.left_len * sizeof *now.left);
     if (a->call == CALL_RIGHT) memcpy(now.right, right_lend.at, now.right_len * sizeof *now.right);
     now.join = o.join;
@@ -324,7 +379,25 @@ static int any_call(void) {
     static const int OFTEN[16] = {CALL_LEFT, CALL_LEFT, CALL_LEFT, CALL_RIGHT, CALL_RIGHT, CALL_RIGHT, CALL_RIGHT, CALL_TURN,
                                   CALL_TURN, CALL_TURN, CALL_TURN, CALL_TURN, CALL_TURN, CALL_PORTS, CALL_TURN, CALL_END};
     int call = OFTEN[below(16)];
-    return call == CALL_END && !percent(30) ? CALL_TURN : call;
+    if (call == CALL_END && !percent(30)) call = CALL_TURN;
+    if (call == CALL_TURN && now.gathers) call = percent(30) ? CALL_RUN : CALL_LEFT;
+    return call == CALL_TURN && percent(15) ? CALL_RUN : call;
+}
+
+/* How many turns a run may make: mostly few, at times none or more than there can be. */
+static size_t any_turns(void) {
+    switch (below(8)) {
+    case 0: return below(2);
+    case 1: return (size_t)any_word();
+    default: return 1 + below(7);
+    }
+}
+
+/* The length of a run's output: for all that waits, or too short for it, or any. */
+static size_t run_output(void) {
+    size_t enough = now.join.queue_words < 4000 ? (size_t)now.join.queue_words : 4000;
+    if (percent(10)) return any_length();
+    return percent(40) ? below(enough + 1) : enough + below(30);
 }
 
 /* Gives a call its frame, its output or its ports. */
@@ -333,10 +406,10 @@ static void equip(attempt *a) {
     if (a->call == CALL_LEFT) a->frame_len = next_frame(&now.left_group, &now.left_key, most);
     if (a->call == CALL_RIGHT) a->frame_len = next_frame(&now.right_group, &now.right_key, most);
     if (a->call <= CALL_RIGHT && percent(12)) a->frame_len = alter_frame(a->frame_len);
-    if (a->call == CALL_TURN) {
-        a->out_len = percent(10) ? any_length() : percent(95) ? 2 + 2 * most + below(30) : LEND_MOST;
-        for (i = 0; i < a->out_len; i++) out[i] = (int64_t)(3 * i % 7) - 9;
-    }
+    if (a->call == CALL_TURN) a->out_len = percent(10) ? any_length() : percent(95) ? 2 + 2 * most + below(30) : LEND_MOST;
+    if (a->call == CALL_RUN) a->out_len = run_output();
+    if (a->call == CALL_RUN) a->turns = any_turns();
+    for (i = 0; i < a->out_len; i++) out[i] = (int64_t)(3 * i % 7) - 9;
     for (i = 0; i < 3; i++) a->ports[i] = percent(97) ? percent(95) ? below(2) : 2 : (uint64_t)any_word();
 }
 
@@ -373,7 +446,8 @@ static int open_host(void) {
     size_t i;
     memset(&now.join, 0, sizeof now.join);
     now.join.options = o;
-    now.left_len = any_length();
+    now.gathers = percent(40);
+    now.left_len = now.gathers ? 60 + below(600) : any_length();
     now.right_len = any_length();
     for (i = 0; i < now.left_len; i++) now.left[i] = any_word();
     for (i = 0; i < now.right_len; i++) now.right[i] = any_word();
@@ -382,20 +456,28 @@ static int open_host(void) {
     return try_call(&a) == 0;
 }
 
+/* Prints one line of counts; whether none is missing that can be there. */
+static int report_line(const char *name, const uint64_t *counts, const char *possible) {
+    int answer, all = 1;
+    printf("%-10s", name);
+    for (answer = 0; answer < ANSWERS; answer++) {
+        printf(" %9" PRIu64, counts[answer]);
+        all &= possible[answer] == '0' || counts[answer] > 0;
+    }
+    printf("\n");
+    return all;
+}
+
 /* Prints the counts; whether every answer that a call can give was met. */
 static int report(void) {
     int call, answer, all = 1;
     printf("%-10s", "call");
     for (answer = 0; answer < ANSWERS; answer++) printf(" %9s", ANSWER_NAMES[answer]);
     printf("\n");
-    for (call = 0; call < CALLS; call++) {
-        printf("%-10s", CALL_NAMES[call]);
-        for (answer = 0; answer < ANSWERS; answer++) {
-            printf(" %9" PRIu64, met[call][answer]);
-            all &= POSSIBLE[call][answer] == '0' || met[call][answer] > 0;
-        }
-        printf("\n");
-    }
+    for (call = 0; call < CALLS; call++) all &= report_line(CALL_NAMES[call], met[call], POSSIBLE[call]);
+    all &= report_line("run, later", met_after, POSSIBLE_AFTER);
+    printf("runs made %" PRIu64 " turns, %" PRIu64 " runs more than one; 'later' are runs in which a turn wrote\n", run_turns,
+           several);
     if (!all) printf("FAIL an answer that a call can give was never met\n");
     printf("hostile: seed %" PRIu64 ", %" PRIu64 " calls, %" PRIu64 " on altered joins, %" PRIu64
            " of these not refused by 2; no fault\n", seed, made, altered_joins, altered_past_2);

@@ -1,4 +1,5 @@
-/* See judge.h. Left, right, end and ports are told exactly; of a turn, all that needs no look at the order of rows. */
+/* See judge.h. Left, right, end and ports are told exactly; of a turn, and of each turn of a run, all
+   that needs no look at the order of rows. */
 #include "judge.h"
 
 #include <string.h>
@@ -8,16 +9,25 @@ static int above(uint64_t a, uint64_t b, uint64_t limit) {
     return a > limit || b > limit - a;
 }
 
-int judge_bad_options(const rowkeeper_options *o) {
+/* Whether a flag of the options is neither 0 nor 1. */
+static int strange_flags(const rowkeeper_options *o) {
     int j, strange = o->allow_eq > 1 || o->check > 1;
     for (j = 0; j < 4; j++) strange |= o->descending[j] > 1 || o->nulls_last[j] > 1;
-    return strange || o->by > 4 || o->strategy > 2 || o->tolerance < -1 || (o->strategy == 2 && o->allow_eq == 0);
+    return strange;
+}
+
+int judge_bad_options(const rowkeeper_options *o) {
+    return strange_flags(o) || o->by > 4 || o->strategy > 2 || o->tolerance < -1 || (o->strategy == 2 && o->allow_eq == 0);
+}
+
+/* Whether no join has these numbers. */
+static int no_join(const rowkeeper_join *j) {
+    if (strange_flags(&j->options) || j->options.strategy > 255) return 1;
+    return j->state > 2 || j->right_ended > 1 || j->failed > 1 || j->last_left.some > 1 || j->last_right.some > 1;
 }
 
 int judge_bad_join(const rowkeeper_join *j, size_t left_len, size_t right_len) {
-    if (judge_bad_options(&j->options)) return 1;
-    if (j->state > 2 || j->right_ended > 1 || j->failed > 1) return 1;
-    if (j->last_left.some > 1 || j->last_right.some > 1) return 1;
+    if (no_join(j) || judge_bad_options(&j->options)) return 1;
     return above(j->base, j->held, right_len / (2 * (j->options.by + 1))) ||
            above(j->queue_start, j->queue_words, left_len) || above(j->pruned, j->held, INT64_MAX) || j->sequence % 2 == 1;
 }
@@ -145,30 +155,44 @@ static int ports_told(const attempt *a, const outcome *o) {
     return same_join(&want, &o->join) && memcmp(told[want.state], o->told, sizeof o->told) == 0;
 }
 
-/* Whether a turn's output has the shape of matches, with numbers of rows that were held. */
-static int matches_written(const attempt *a, const outcome *o) {
+/* Whether these words have the shape of the matches of the frame that waits first, with numbers of rows that were held. */
+static int are_matches(const attempt *a, const int64_t *words) {
     int64_t n = a->left[a->join.queue_start], i;
-    const int64_t *numbers = o->out + 2, *marks = o->out + 2 + n;
+    const int64_t *numbers = words + 2, *marks = words + 2 + n;
     uint64_t first = a->join.pruned, held = a->join.held;
-    if (o->out[0] != n || o->out[1] != 1) return 0;
+    if (words[0] != n || words[1] != 1) return 0;
     for (i = 0; i < n; i++) {
         uint64_t place = (uint64_t)numbers[i] - first;
         if (marks[i] == 0 ? numbers[i] != 0 : marks[i] != 1 || (uint64_t)numbers[i] < first || place >= held) return 0;
     }
-    return memcmp(o->out + 2 + 2 * n, a->out + 2 + 2 * n, (a->out_len - 2 - 2 * (size_t)n) * sizeof *numbers) == 0;
+    return 1;
 }
 
-/* Whether a turn that wrote moved the join on by one frame and dropped rows from the front alone. */
-static int turn_moved(const attempt *a, const outcome *o) {
-    const rowkeeper_join *was = &a->join, *now = &o->join;
+/* Whether the output is as it was behind so many words. */
+static int rest_untouched(const attempt *a, const outcome *o, size_t words) {
+    return memcmp(o->out + words, a->out + words, (a->out_len - words) * sizeof *o->out) == 0;
+}
+
+/* Whether a turn's output has its matches and nothing else. */
+static int matches_written(const attempt *a, const outcome *o) {
+    return are_matches(a, o->out) && rest_untouched(a, o, ROWKEEPER_OUTPUT_WORDS(a->left[a->join.queue_start]));
+}
+
+/* Whether turns that wrote moved the join on to this sequence and these words of the queue, and dropped rows from the front
+   alone. */
+static int moved_on(const rowkeeper_join *was, const rowkeeper_join *now, uint64_t frames, uint64_t turns) {
     uint64_t dropped = now->pruned - was->pruned;
-    size_t frame = front(a);
     if (dropped > was->held || now->held != was->held - dropped || now->base != was->base + dropped) return 0;
-    if (now->queue_start != was->queue_start + frame || now->queue_words != was->queue_words - frame) return 0;
-    if (o->sequence != was->sequence || now->sequence != was->sequence + 2) return 0;
+    if (now->queue_start != was->queue_start + frames || now->queue_words != was->queue_words - frames) return 0;
+    if (now->sequence != was->sequence + 2 * turns) return 0;
     if (now->last_left.some > 1 || now->last_right.some > 1) return 0;
     return memcmp(&was->options, &now->options, sizeof was->options) == 0 && now->state == was->state &&
-           now->right_ended == was->right_ended && now->failed == 0;
+           now->right_ended == was->right_ended;
+}
+
+/* Whether a turn that wrote moved the join on by one frame. */
+static int turn_moved(const attempt *a, const outcome *o) {
+    return moved_on(&a->join, &o->join, front(a), 1) && o->sequence == a->join.sequence && o->join.failed == 0;
 }
 
 /* What is wrong with a call that was accepted or wrote. */
@@ -197,8 +221,60 @@ static const char *judge_unchanged(const attempt *a, const outcome *o) {
     return memcmp(a->out, o->out, a->out_len * sizeof *a->out) == 0 ? NULL : "the output was altered";
 }
 
+/* What is wrong with the turns of a run that wrote. `next` becomes the turn after them, but for the rows that they dropped
+   and remembered, and `at` the count of the words that they wrote. */
+static const char *judge_written(attempt *next, const outcome *o, size_t *at) {
+    uint64_t turns;
+    for (turns = 0; turns < o->turns; turns++) {
+        size_t frame, words;
+        if (known_answer(next) >= 0 || !turn_may(next, 0)) return "a turn of the run cannot have written";
+        if (!are_matches(next, o->out + *at)) return "the output is not one of matches";
+        frame = front(next);
+        words = ROWKEEPER_OUTPUT_WORDS(next->left[next->join.queue_start]);
+        next->join.queue_start += frame;
+        next->join.queue_words -= frame;
+        next->join.sequence += 2;
+        next->out_len -= words;
+        *at += words;
+    }
+    return NULL;
+}
+
+/* Whether this may have stopped a run, before the turn `next`. */
+static int run_may_stop(const attempt *a, const outcome *o, const attempt *next) {
+    int known = known_answer(next);
+    if (no_join(&a->join)) return o->answer == ROWKEEPER_BAD_JOIN;
+    if (o->turns == a->turns) return o->answer == 0;
+    return known >= 0 ? o->answer == known : o->answer != 0 && turn_may(next, o->answer);
+}
+
+/* What is wrong with a run: with the turns that wrote, with what it left, or with what stopped it. */
+static const char *judge_run(const attempt *a, const outcome *o) {
+    attempt next = *a;
+    rowkeeper_join left = o->join;
+    int fault = o->answer == ROWKEEPER_LEFT_ORDER || o->answer == ROWKEEPER_RIGHT_ORDER;
+    size_t at = 0;
+    const char *why;
+    next.call = CALL_TURN;
+    if (o->turns > a->turns) return "more turns than the run may make";
+    why = judge_written(&next, o, &at);
+    if (why != NULL) return why;
+    if (o->words != at) return "another count of words than was written";
+    if (!rest_untouched(a, o, at)) return "the output was altered behind what was written";
+    if (fault && left.failed != 1) return "an order fault did not mark the join failed";
+    if (fault) left.failed = 0;
+    if (o->turns == 0 && !same_join(&a->join, &left)) return "the join was changed";
+    if (o->turns > 0 && left.failed != 0) return "the join was marked failed";
+    if (o->turns > 0 && !moved_on(&a->join, &left, next.join.queue_start - a->join.queue_start, o->turns))
+        return "the run left another join";
+    next.join = left;
+    return run_may_stop(a, o, &next) ? NULL : "an answer that cannot stop this run";
+}
+
 const char *judge(const attempt *a, const outcome *o) {
-    int known = known_answer(a);
+    int known;
+    if (a->call == CALL_RUN) return judge_run(a, o);
+    known = known_answer(a);
     if (known >= 0 && o->answer != known) return "another answer than 01 gives";
     if (known < 0 && !turn_may(a, o->answer)) return "an answer that this turn cannot give";
     return o->answer == 0 ? judge_done(a, o) : judge_unchanged(a, o);

@@ -5,9 +5,9 @@
 #include "rowkeeper.h"
 
 /* The calls. */
-enum { CALL_OPEN, CALL_LEFT, CALL_RIGHT, CALL_END, CALL_PORTS, CALL_TURN, CALLS };
+enum { CALL_OPEN, CALL_LEFT, CALL_RIGHT, CALL_END, CALL_PORTS, CALL_TURN, CALL_RUN, CALLS };
 
-/* Answers: 0 accepted or written, 1 to 9 refused, and two more. */
+/* Answers: 0 accepted, written or all turns of a run used, 1 to 9 refused, and two more. */
 enum { ANSWER_WANTS = 10, ANSWER_IDLE = 11, ANSWERS = 12 };
 
 /* A call with all that is lent to it. */
@@ -17,12 +17,14 @@ typedef struct attempt {
     const int64_t *left, *right, *frame, *out;
     size_t left_len, right_len, frame_len, out_len;
     uint64_t ports[3];
+    size_t turns; /* how many a run may make */
 } attempt;
 
 /* What came back: the answer by its number, the join, and the words as they are now. */
 typedef struct outcome {
     int answer;
     uint64_t told[3], sequence;
+    uint64_t turns, words; /* what a run made and wrote */
     rowkeeper_join join;
     const int64_t *left, *right, *out;
 } outcome;

@@ -18,6 +18,7 @@ HOLDS(join_size, sizeof(rowkeeper_join) == 352);
 HOLDS(took_size, sizeof(rowkeeper_took) == 360);
 HOLDS(ported_size, sizeof(rowkeeper_ported) == 384);
 HOLDS(turned_size, sizeof(rowkeeper_turned) == 376);
+HOLDS(ran_size, sizeof(rowkeeper_ran) == 384);
 HOLDS(options_at, AT(rowkeeper_options, by) == 0 && AT(rowkeeper_options, strategy) == 1 &&
                       AT(rowkeeper_options, allow_eq) == 2 && AT(rowkeeper_options, tolerance) == 3 &&
                       AT(rowkeeper_options, check) == 4 && AT(rowkeeper_options, descending) == 5 &&
@@ -34,6 +35,8 @@ HOLDS(answers_at, AT(rowkeeper_took, refusal) == 0 && AT(rowkeeper_took, join) =
                       AT(rowkeeper_ported, send) == 3 && AT(rowkeeper_ported, join) == 4 &&
                       AT(rowkeeper_turned, answer) == 0 && AT(rowkeeper_turned, refusal) == 1 &&
                       AT(rowkeeper_turned, sequence) == 2 && AT(rowkeeper_turned, join) == 3);
+HOLDS(ran_at, AT(rowkeeper_ran, turns) == 0 && AT(rowkeeper_ran, words) == 1 && AT(rowkeeper_ran, stop) == 2 &&
+                  AT(rowkeeper_ran, refusal) == 3 && AT(rowkeeper_ran, join) == 4);
 
 enum { WORDS = sizeof(rowkeeper_join) / 8, LEFT = 20, RIGHT = 24 };
 static int64_t left[LEFT], right[RIGHT];
@@ -90,6 +93,35 @@ static void answers(rowkeeper_join join) {
     want(turned.answer == ROWKEEPER_IDLE && turned.sequence == 0, "idle", 17);
 }
 
+/* Whether a run says this, and leaves so many words waiting. */
+static int says(rowkeeper_ran ran, uint64_t turns, uint64_t words, uint64_t stop, uint64_t refusal, uint64_t waiting) {
+    return ran.turns == turns && ran.words == words && ran.stop == stop && ran.refusal == refusal &&
+           ran.join.queue_words == waiting && ran.join.sequence == 2 * turns;
+}
+
+/* What a run brings at its place, from one small join: a right row 4, left frames 5 and 6, each way to stop. */
+static void runs(rowkeeper_join join) {
+    static const int64_t FOUR[] = {1, 2, 9, 4, 1, 1}, FIVE[] = {1, 2, 9, 5, 1, 1}, SIX[] = {1, 2, 9, 6, 1, 1};
+    static const int64_t BOTH[] = {1, 1, 0, 1, 1, 1, 0, 1, -1};
+    int64_t out[9] = {-1, -1, -1, -1, -1, -1, -1, -1, -1};
+    rowkeeper_ran ran;
+    join = rowkeeper_right(join, left, LEFT, right, RIGHT, FOUR, 6).join;
+    join = rowkeeper_left(join, left, LEFT, right, RIGHT, FIVE, 6).join;
+    join = rowkeeper_left(join, left, LEFT, right, RIGHT, SIX, 6).join;
+    ran = rowkeeper_run(join, 9, left, LEFT, right, RIGHT, out, 9);
+    want(says(ran, 0, 0, ROWKEEPER_WANTS_RIGHT, 0, 12), "a run that wants right", 19);
+    join = rowkeeper_end_right(join, left, LEFT, right, RIGHT).join;
+    ran = rowkeeper_run(join, 0, left, LEFT, right, RIGHT, out, 9);
+    want(says(ran, 0, 0, ROWKEEPER_TURNS_USED, 0, 12), "a run of no turns", 17);
+    ran = rowkeeper_run(join, 1, left, LEFT, right, RIGHT, out, ROWKEEPER_RUN_WORDS(1, 1));
+    want(says(ran, 1, 4, ROWKEEPER_TURNS_USED, 0, 6), "a run of one turn", 17);
+    ran = rowkeeper_run(join, 9, left, LEFT, right, RIGHT, out, ROWKEEPER_RUN_WORDS(2, 1) - 1);
+    want(says(ran, 1, 4, ROWKEEPER_REFUSED, ROWKEEPER_NO_ROOM, 6) && out[4] == -1, "a run without room", 17);
+    ran = rowkeeper_run(join, 9, left, LEFT, right, RIGHT, out, 9);
+    want(says(ran, 2, 8, ROWKEEPER_IDLE, 0, 0), "a run that is idle at last", 17);
+    want(memcmp(out, BOTH, sizeof out) == 0, "a run's output", 0);
+}
+
 /* Alters each word of a fresh join in turn, then looks at each kind of answer. */
 int main(void) {
     rowkeeper_options options;
@@ -110,6 +142,7 @@ int main(void) {
     want(end_with(took.join, 19, 1) == ROWKEEPER_CLOSED, "right_ended", 19);
     want(end_with(took.join, 18, ROWKEEPER_DONE) == ROWKEEPER_CLOSED, "state", 18);
     answers(took.join);
-    if (!failed) printf("sizes, offsets, and each field of a join where the archive reads it\n");
+    runs(took.join);
+    if (!failed) printf("sizes, offsets, each field of a join where the archive reads it, and each answer\n");
     return failed;
 }

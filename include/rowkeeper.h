@@ -17,6 +17,7 @@
  *     rowkeeper_right       hands in a right frame, whose rows are then held
  *     rowkeeper_end_right   no right frame comes any more
  *     rowkeeper_turn        writes the matches of the waiting frame that came first, or says what it waits for
+ *     rowkeeper_run         makes turns, so many at most, and writes their matches one behind the other
  *     rowkeeper_ports       moves the node on, for hosts that run it in a pipeline; this is also how left ends
  *
  * They may come in any order. A host that only wants its matches needs no port call: it makes turns; where one answers
@@ -62,6 +63,8 @@
  *     left    the frames that wait at once: ROWKEEPER_FRAME_WORDS(rows, by) for each
  *     right   the right rows that are held at once: ROWKEEPER_RIGHT_WORDS(rows, by)
  *     output  ROWKEEPER_OUTPUT_WORDS(rows) for the waiting frame that came first; 8,194 words are enough for any
+ *             for a run, these for each frame that it turns: ROWKEEPER_RUN_WORDS(turns, rows) where no frame has more
+ *             rows; as many words as wait (the join's queue_words) are enough for any number of turns
  *
  * Turns free what they no longer need, and freed words serve again. A right area for all right rows is always enough.
  * Where it is smaller, a frame with no room is refused by 6 and can be handed in again after turns have freed room; but
@@ -107,6 +110,8 @@ typedef char rowkeeper_lengths_have_64_bits[sizeof(size_t) == 8 ? 1 : -1];
 #define ROWKEEPER_FRAME_WORDS(rows, by) (2 + 2 * (size_t)(rows) * ((size_t)(by) + 1))
 #define ROWKEEPER_RIGHT_WORDS(rows, by) (2 * (size_t)(rows) * ((size_t)(by) + 1))
 #define ROWKEEPER_OUTPUT_WORDS(rows) (2 + 2 * (size_t)(rows))
+/* What so many turns write at most where no frame has more rows. The product is the host's own: a huge `turns` overflows. */
+#define ROWKEEPER_RUN_WORDS(turns, rows) ((size_t)(turns) * ROWKEEPER_OUTPUT_WORDS(rows))
 
 /* options.strategy */
 enum { ROWKEEPER_BACKWARD = 0, ROWKEEPER_FORWARD = 1, ROWKEEPER_NEAREST = 2 };
@@ -122,6 +127,9 @@ enum { ROWKEEPER_PORT_BLOCKED = 0, ROWKEEPER_PORT_READY = 1, ROWKEEPER_PORT_DONE
 
 /* turned.answer */
 enum { ROWKEEPER_WROTE = 0, ROWKEEPER_WANTS_RIGHT = 1, ROWKEEPER_IDLE = 2, ROWKEEPER_REFUSED = 3 };
+
+/* ran.stop: this, or the answer of the turn that wrote nothing: ROWKEEPER_WANTS_RIGHT, ROWKEEPER_IDLE or ROWKEEPER_REFUSED */
+enum { ROWKEEPER_TURNS_USED = 0 };
 
 /* refusal, in checking order: where several apply the first is given. */
 enum {
@@ -209,6 +217,17 @@ typedef struct rowkeeper_turned {
     rowkeeper_join join;
 } rowkeeper_turned;
 
+/* The answer of a run: how many turns wrote; how many words they wrote, one behind the other, from the output's first word
+   on; what stopped it, ROWKEEPER_TURNS_USED or the answer of the turn that wrote nothing; with ROWKEEPER_REFUSED that turn's
+   refusal, else 0; and the join. */
+typedef struct rowkeeper_ran {
+    uint64_t turns;
+    uint64_t words;
+    uint64_t stop;
+    uint64_t refusal;
+    rowkeeper_join join;
+} rowkeeper_ran;
+
 /* Opens a join: Running, right not ended, nothing held, waiting or remembered. Refused by 1 alone. */
 rowkeeper_took rowkeeper_open(rowkeeper_options options);
 
@@ -243,6 +262,21 @@ rowkeeper_ported rowkeeper_ports(rowkeeper_join join, const int64_t *left, size_
    ROWKEEPER_REFUSED: by 2 to 9. Both areas are only read in every case. */
 rowkeeper_turned rowkeeper_turn(rowkeeper_join join, const int64_t *left, size_t left_len, const int64_t *right,
                                 size_t right_len, int64_t *out, size_t out_len);
+
+/* A run: turns one after the other, `turns` of them at most, each writing behind the one before: what a host gets that makes
+   these turns itself. Only turns that write count; the first that does not write ends the run.
+   ROWKEEPER_TURNS_USED: `turns` turns wrote. No other was tried, so frames may still wait, or none.
+   ROWKEEPER_IDLE, ROWKEEPER_WANTS_RIGHT: what the next turn answered; it changed nothing.
+   ROWKEEPER_REFUSED: the next turn was refused, by 2 to 9. It altered no word; 8 or 9 marks the join failed. After 6, where
+   what is left of the output is too short for the next frame, go on with another output.
+   Whatever ends the run, what the earlier turns wrote and the join that they left stand. The output has `words` words: what
+   each turn that wrote writes, in order, so the first word n of each tells that the next begins 2 + 2n words further on. The
+   words behind them are untouched. The frames' numbers are not told: the first is the sequence of the join that came in, and
+   each further one is 2 more. With `turns` 0 no turn is tried: nothing is refused and the join comes back as it came,
+   whatever it is; only numbers that no join has (a flag above 1, a state above 2, a strategy above 255) are refused by 2.
+   Both areas are only read in every case. No run goes on for ever: each turn takes a waiting frame. */
+rowkeeper_ran rowkeeper_run(rowkeeper_join join, size_t turns, const int64_t *left, size_t left_len, const int64_t *right,
+                            size_t right_len, int64_t *out, size_t out_len);
 
 #ifdef __cplusplus
 }

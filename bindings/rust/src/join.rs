@@ -22,6 +22,57 @@ pub enum Turn<'o> {
     Idle,
 }
 
+/// What a run made, and what ended it.
+#[derive(Clone, Copy, Debug, PartialEq, Eq)]
+pub struct Run<'o> {
+    /// What its turns wrote. It stands whatever ended the run.
+    pub written: Written<'o>,
+    pub stop: Stop,
+}
+
+/// What ended a run.
+#[derive(Clone, Copy, Debug, PartialEq, Eq)]
+pub enum Stop {
+    /// As many turns wrote as the run was given; no other was tried.
+    TurnsUsed,
+    /// The next turn wants right rows: hand in more, or end right.
+    WantsRight,
+    /// No frame waits any more.
+    Idle,
+    /// The next turn was refused.
+    Refused(Refusal),
+}
+
+/// What the turns of a run wrote, one behind the other.
+#[derive(Clone, Copy, Debug, PartialEq, Eq)]
+pub struct Written<'o> {
+    first: u64,
+    turns: usize,
+    words: &'o [i64],
+}
+
+impl<'o> Written<'o> {
+    /// How many turns wrote.
+    pub fn len(&self) -> usize {
+        self.turns
+    }
+
+    /// Whether no turn wrote.
+    pub fn is_empty(&self) -> bool {
+        self.turns == 0
+    }
+
+    /// For each turn, in order, the number of its frame (0, 2, 4 and so on) and its matches.
+    pub fn iter(&self) -> impl Iterator<Item = (u64, Matches<'o>)> + use<'o> {
+        let (first, mut rest) = (self.first, self.words);
+        (0..self.turns as u64).map(move |turn| {
+            let matches = Matches::of(rest);
+            rest = &rest[2 + 2 * matches.len()..];
+            (first + 2 * turn, matches)
+        })
+    }
+}
+
 /// The matches that a turn wrote, one for each row of its frame.
 #[derive(Clone, Copy, Debug, PartialEq, Eq)]
 pub struct Matches<'o> {
@@ -47,7 +98,7 @@ impl<'o> Matches<'o> {
     }
 
     /// For each row of the frame, in order, the number of its right row: its place among all right rows, from 0.
-    pub fn iter(&self) -> impl Iterator<Item = Option<u64>> + 'o {
+    pub fn iter(&self) -> impl Iterator<Item = Option<u64>> + use<'o> {
         self.numbers.iter().zip(self.marks).map(|(number, mark)| (*mark != 0).then_some(*number as u64))
     }
 }
@@ -71,6 +122,12 @@ impl Join<Vec<i64>> {
     /// The words of an output for a frame of so many rows.
     pub fn output_words(rows: usize) -> usize {
         2 + 2 * rows
+    }
+
+    /// The words of an output for a run of so many turns, where no frame has more rows than this. As many words as wait
+    /// ([`Join::waiting_words`]) are enough for any number of turns.
+    pub fn run_words(turns: usize, rows: usize) -> usize {
+        turns * Join::output_words(rows)
     }
 }
 
@@ -150,6 +207,20 @@ impl<A: AsRef<[i64]> + AsMut<[i64]>> Join<A> {
             1 => Turn::WantsRight,
             _ => Turn::Idle,
         })
+    }
+
+    /// A run: so many turns at most, each writing behind the one before; the first that does not write ends it.
+    pub fn run<'o>(&mut self, turns: usize, output: &'o mut [i64]) -> Run<'o> {
+        let first = self.join.sequence;
+        let ran = safe::run(self.join, turns, self.left.as_ref(), self.right.as_ref(), output);
+        self.join = ran.join;
+        let stop = match (Refusal::of(ran.refusal), ran.stop) {
+            (Err(refusal), _) => Stop::Refused(refusal),
+            (_, 0) => Stop::TurnsUsed,
+            (_, 1) => Stop::WantsRight,
+            _ => Stop::Idle,
+        };
+        Run { written: Written { first, turns: ran.turns as usize, words: &output[..ran.words as usize] }, stop }
     }
 
     /// The node's state. A join that was made of any words can have another number than there is: then it is none.

@@ -17,6 +17,23 @@
 //! # Ok::<(), Box<dyn std::error::Error>>(())
 //! ```
 //!
+//! A run makes many turns in one call; what it wrote stands whatever ended it:
+//!
+//! ```
+//! use rowkeeper::{Frame, Join, Options, Stop};
+//!
+//! let mut join = Join::open(&Options::default(), 64, 64)?;
+//! join.right(&Frame::of_keys(&[10, 20, 20, 30])?)?;
+//! join.left(&Frame::of_keys(&[5, 20])?)?;
+//! join.left(&Frame::of_keys(&[25])?)?;
+//! let mut output = vec![0; join.waiting_words() as usize];
+//! let run = join.run(usize::MAX, &mut output);
+//! assert_eq!(run.stop, Stop::Idle);
+//! let all: Vec<_> = run.written.iter().flat_map(|(_, matches)| matches.iter()).collect();
+//! assert_eq!(all, [None, Some(2), Some(2)]);
+//! # Ok::<(), Box<dyn std::error::Error>>(())
+//! ```
+//!
 //! A join cannot be lent its own area as a frame, and an output cannot be altered while its matches are looked at:
 //!
 //! ```compile_fail,E0502
@@ -38,7 +55,7 @@ mod join;
 pub mod raw;
 
 pub use frame::{Frame, FrameError};
-pub use join::{Join, Matches, Turn};
+pub use join::{Join, Matches, Run, Stop, Turn, Written};
 
 /// Which right row a left row takes.
 #[derive(Clone, Copy, Debug, PartialEq, Eq)]

@@ -69,6 +69,17 @@ pub struct Turned {
     pub join: Join,
 }
 
+/// The answer of a run.
+#[repr(C)]
+#[derive(Clone, Copy, Debug)]
+pub struct Ran {
+    pub turns: u64,
+    pub words: u64,
+    pub stop: u64,
+    pub refusal: u64,
+    pub join: Join,
+}
+
 /// How many words a join is.
 pub const JOIN_WORDS: usize = size_of::<Join>() / 8;
 const _: () = assert!(JOIN_WORDS == 44 && align_of::<Join>() == 8 && size_of::<usize>() == 8);
@@ -139,6 +150,17 @@ unsafe extern "C" {
         out: *mut i64,
         out_len: usize,
     ) -> Turned;
+    /// A run of turns.
+    pub fn rowkeeper_run(
+        join: Join,
+        turns: usize,
+        left: *const i64,
+        left_len: usize,
+        right: *const i64,
+        right_len: usize,
+        out: *mut i64,
+        out_len: usize,
+    ) -> Ran;
 }
 
 /// The calls with slices in the place of pointers and lengths. A slice of Rust is never null, is aligned and as long as it
@@ -178,5 +200,12 @@ pub mod safe {
         let (o, n) = (out.as_mut_ptr(), out.len());
         // SAFETY: see the module.
         unsafe { rowkeeper_turn(join, left.as_ptr(), left.len(), right.as_ptr(), right.len(), o, n) }
+    }
+
+    /// A run of so many turns at most.
+    pub fn run(join: Join, turns: usize, left: &[i64], right: &[i64], out: &mut [i64]) -> Ran {
+        let (o, n) = (out.as_mut_ptr(), out.len());
+        // SAFETY: see the module.
+        unsafe { rowkeeper_run(join, turns, left.as_ptr(), left.len(), right.as_ptr(), right.len(), o, n) }
     }
 }

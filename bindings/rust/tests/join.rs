@@ -1,5 +1,5 @@
-//! The wrapper over the archive: 01's counter cases, every refusal, any cut, keeping a join, and threads.
-use rowkeeper::{ByColumn, Frame, Join, NodeState, Options, Port, Ports, Refusal, Strategy, Turn, raw};
+//! The wrapper over the archive: 01's counter cases, every refusal, any cut, runs, keeping a join, and threads.
+use rowkeeper::{ByColumn, Frame, Join, NodeState, Options, Port, Ports, Refusal, Run, Stop, Strategy, Turn, raw};
 
 type Row = [Option<i64>; 2];
 
@@ -240,6 +240,114 @@ fn any_cut() {
         assert_eq!(join_cut(r, &left, &right), want, "left {left:?}, right {right:?}");
     }
     assert!(matched > 1000);
+}
+
+/// What a run wrote: the number of each frame, and its matches.
+fn written(run: &Run) -> Vec<(u64, Vec<Option<u64>>)> {
+    assert_eq!((run.written.len(), run.written.is_empty()), (run.written.iter().count(), run.written.len() == 0));
+    run.written.iter().map(|(sequence, matches)| (sequence, matches.iter().collect())).collect()
+}
+
+/// Right 10, 20, 20, 30 and left frames of 5, 20; of none; of 25.
+fn three_frames() -> Join {
+    let mut join = open(&options(Strategy::Backward, true, None));
+    join.right(&keys(&[10, 20, 20, 30])).unwrap();
+    [&[5, 20][..], &[], &[25]].into_iter().for_each(|left| join.left(&keys(left)).unwrap());
+    join
+}
+
+/// A run's turns, its output and each way in which it ends.
+#[test]
+fn runs() {
+    let frames = [(0, vec![None, Some(2)]), (2, vec![]), (4, vec![Some(2)])];
+    let cases = [
+        (0, 9, 0, Stop::TurnsUsed),
+        (2, 9, 2, Stop::TurnsUsed),
+        (3, 12, 3, Stop::TurnsUsed),
+        (4, 12, 3, Stop::Idle),
+        (usize::MAX, 12, 3, Stop::Idle),
+        (9, 11, 2, Stop::Refused(Refusal::NoRoom)),
+        (9, 5, 0, Stop::Refused(Refusal::NoRoom)),
+        (2, 8, 2, Stop::TurnsUsed),
+    ];
+    for (turns, words, made, stop) in cases {
+        let (mut join, mut output) = (three_frames(), [7; 20]);
+        let run = join.run(turns, &mut output[..words]);
+        assert_eq!((written(&run), run.stop), (frames[..made].to_vec(), stop), "{turns} turns, {words} words");
+        let used = [0, 6, 8, 12][made];
+        assert!(output[used..].iter().all(|w| *w == 7));
+        assert_eq!(join.parts().0.sequence, 2 * made as u64);
+    }
+    assert_eq!((Join::run_words(3, 2), three_frames().waiting_words()), (18, 12));
+}
+
+/// A run that wants right rows after some turns, and one that finds an order fault then: what came before stands.
+#[test]
+fn runs_that_stop() {
+    let mut join = open(&Options::default());
+    join.right(&keys(&[1, 3])).unwrap();
+    [&[1][..], &[2], &[5, 4], &[6]].into_iter().for_each(|left| join.left(&keys(left)).unwrap());
+    let mut output = [7; 20];
+    let run = join.run(9, &mut output);
+    assert_eq!((written(&run), run.stop), (vec![(0, vec![Some(0)]), (2, vec![Some(0)])], Stop::WantsRight));
+    assert!(output[8..].iter().all(|w| *w == 7));
+    join.end_right().unwrap();
+    let mut failing = three_frames();
+    failing.left(&keys(&[40, 35])).unwrap();
+    let mut failing = altered(&failing, |j| (j.options.check, j.right_ended) = (1, 1));
+    for (join, before) in [(&mut join, 0), (&mut failing, 3)] {
+        let run = join.run(9, &mut output);
+        assert_eq!((run.written.len(), run.stop), (before, Stop::Refused(Refusal::LeftOrder)));
+        assert!(join.failed());
+        assert_eq!(join.run(9, &mut output).stop, Stop::Refused(Refusal::Failed));
+        assert_eq!(join.run(0, &mut output).stop, Stop::TurnsUsed);
+    }
+}
+
+/// A run of no turns tries none, so a join that does not hold together is not refused; numbers that are no join are.
+#[test]
+fn runs_of_no_turns() {
+    let join = three_frames();
+    let odd = altered(&join, |j| j.sequence = 1);
+    let strange = altered(&join, |j| j.state = 3);
+    let cases = [(join, Stop::TurnsUsed), (odd, Stop::TurnsUsed), (strange, Stop::Refused(Refusal::BadJoin))];
+    for (mut join, stop) in cases {
+        let before = join.clone();
+        assert_eq!(join.run(0, &mut []).stop, stop);
+        assert_eq!(join.parts(), before.parts());
+    }
+}
+
+/// A run is its turns: on tables cut anywhere, with outputs of any length, both leave the same join and the same words.
+#[test]
+fn runs_are_turns() {
+    let r = &mut Random(2);
+    let (mut several, mut short) = (0, 0);
+    let options = Options { by: vec![ByColumn::default()], ..Options::default() };
+    for _ in 0..500 {
+        let (left, right) = (table(r), table(r));
+        let mut join = Join::open(&options, 400, 400).unwrap();
+        join.right(&Frame::new(2, &right).unwrap()).unwrap();
+        left.chunks(1 + r.below(9) as usize).for_each(|rows| join.left(&Frame::new(2, rows).unwrap()).unwrap());
+        (r.below(3) > 0).then(|| join.end_right().unwrap());
+        let (turns, words) = (r.below(8) as usize, r.below(120) as usize);
+        let (mut one, mut output, mut other) = (join.clone(), vec![7; words], vec![7; words]);
+        let run = join.run(turns, &mut output);
+        let (mut made, mut at, mut last) = (0, 0, Stop::TurnsUsed);
+        while made < turns && last == Stop::TurnsUsed {
+            match one.turn(&mut other[at..]) {
+                Ok(Turn::Wrote { matches, .. }) => (made, at) = (made + 1, at + 2 + 2 * matches.len()),
+                Ok(Turn::WantsRight) => last = Stop::WantsRight,
+                Ok(Turn::Idle) => last = Stop::Idle,
+                Err(refusal) => last = Stop::Refused(refusal),
+            }
+        }
+        assert_eq!((run.written.len(), run.stop), (made, last));
+        several += (made > 1) as u32;
+        short += (made > 0 && last == Stop::Refused(Refusal::NoRoom)) as u32;
+        assert_eq!((join.parts(), output), (one.parts(), other));
+    }
+    assert!(several > 50 && short > 5, "{several} runs of several turns, {short} cut short");
 }
 
 /// Areas that are lent, and joins on several threads at once.

@@ -27,7 +27,7 @@ fn count_of(word: i64) -> usize {
     if word < 0 {
         return 18446744073709551615;
     }
-    frames::distance(word, 0) as usize
+    order::distance(word, 0) as usize
 }
 
 // The number at place k.

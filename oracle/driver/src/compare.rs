@@ -3,7 +3,7 @@ use std::fmt;
 use std::panic::{AssertUnwindSafe, catch_unwind};
 
 use judges::rules::{Fault, Rules};
-use judges::script::{Answer, Call, Judge};
+use judges::script::{Answer, Call, Judge, Ran, Stop};
 use judges::whole_table;
 
 use crate::rust::{Inside, Rust, Ways};
@@ -22,6 +22,81 @@ pub struct Tally {
     pub faults: [u64; 4],
     pub in_flush: u64,
     pub states: [u64; 3],
+    pub runs: Runs,
+}
+
+/// The runs among the calls.
+#[derive(Default, Clone)]
+pub struct Runs {
+    pub made: u64,
+    pub turns: u64,
+    /// Runs of more than one turn.
+    pub several: u64,
+    pub rows: u64,
+    pub matched: u64,
+    /// How often each stopped a run: k used, wants, idle, and the refusals 1 to 9 in the places 3 to 11.
+    pub stops: [u64; 12],
+    /// The same of runs in which a turn had written before.
+    pub after: [u64; 12],
+}
+
+impl Runs {
+    /// Adds another run's counts.
+    fn add(&mut self, other: &Runs) {
+        self.made += other.made;
+        self.turns += other.turns;
+        self.several += other.several;
+        self.rows += other.rows;
+        self.matched += other.matched;
+        (0..12).for_each(|i| self.stops[i] += other.stops[i]);
+        (0..12).for_each(|i| self.after[i] += other.after[i]);
+    }
+
+    /// Counts one run, with the rows that its turns wrote.
+    fn count(&mut self, ran: &Ran) {
+        let stop = match ran.stop {
+            Stop::Used => 0,
+            Stop::Wants => 1,
+            Stop::Idle => 2,
+            Stop::Refused(n) => 2 + (n as usize).clamp(1, 9),
+        };
+        self.made += 1;
+        self.turns += ran.turns;
+        self.several += (ran.turns > 1) as u64;
+        self.stops[stop] += 1;
+        self.after[stop] += (ran.turns > 0) as u64;
+        let mut rest = &ran.words[..];
+        while let [n, _, cells @ ..] = rest {
+            let (written, further) = cells.split_at(2 * *n as usize);
+            self.rows += *n as u64;
+            self.matched += written[*n as usize..].iter().sum::<i64>() as u64;
+            rest = further;
+        }
+    }
+}
+
+impl fmt::Display for Runs {
+    /// The counts on one line.
+    fn fmt(&self, f: &mut fmt::Formatter<'_>) -> fmt::Result {
+        let Runs { made, turns, several, rows, matched, stops, after } = self;
+        write!(f, "{made} runs of {turns} turns, {several} of more than one, wrote {rows} rows, {matched} matched; ")?;
+        write!(
+            f,
+            "stopped by k {}, wants {}, idle {}, refused by 1 to 9 {:?}; ",
+            stops[0],
+            stops[1],
+            stops[2],
+            &stops[3..]
+        )?;
+        write!(
+            f,
+            "after a turn by k {}, wants {}, idle {}, refused by 1 to 9 {:?}",
+            after[0],
+            after[1],
+            after[2],
+            &after[3..]
+        )
+    }
 }
 
 impl Tally {
@@ -36,6 +111,7 @@ impl Tally {
         self.wants += other.wants;
         self.idle += other.idle;
         self.in_flush += other.in_flush;
+        self.runs.add(&other.runs);
         (0..4).for_each(|i| self.faults[i] += other.faults[i]);
         (0..3).for_each(|i| self.states[i] += other.states[i]);
     }
@@ -49,6 +125,7 @@ impl Tally {
                 self.matched += words[2 + words[0] as usize..].iter().sum::<i64>() as u64;
                 self.in_flush += (state == 1) as u64;
             },
+            Answer::Ran(ran) => self.runs.count(ran),
             Answer::Wants => self.wants += 1,
             Answer::Idle => self.idle += 1,
             Answer::Ports(_, state) => self.states[*state as usize] += 1,
@@ -72,7 +149,8 @@ impl fmt::Display for Tally {
         write!(f, "{} of the turns in Flush; ", self.in_flush)?;
         write!(f, "{} wants, {} idle; ", self.wants, self.idle)?;
         write!(f, "faults 8: {continuity} between frames, {frame} in a frame, 9: {held} held, {split} split; ")?;
-        write!(f, "ports: {running} Running, {flush} Flush, {done} Done")
+        write!(f, "ports: {running} Running, {flush} Flush, {done} Done")?;
+        if self.runs.made == 0 { Ok(()) } else { write!(f, "; {}", self.runs) }
     }
 }
 
@@ -85,14 +163,26 @@ pub enum Difference {
     Inside(String),
 }
 
-/// Whether 01 refuses the call by 1 to 7: the Rust has no counterpart.
+/// Whether 01 refuses the call by 1 to 7, a run in its first turn: the Rust has no counterpart.
 pub fn no_counterpart(answer: &Answer) -> bool {
     matches!(answer, Answer::Refused(1..=7) | Answer::State(_) | Answer::NoJoin)
+        || matches!(answer, Answer::Ran(Ran { turns: 0, stop: Stop::Refused(1..=7), .. }))
 }
 
-/// Whether the Rust went another way than 01 from here on: it knows no areas, so it took what 01 refused.
+/// Whether the Rust went another way than 01 from here on: it knows no areas and no outputs, so it took what 01 refused.
 pub fn parted(answer: &Answer) -> bool {
-    matches!(answer, Answer::Refused(2 | 6 | 7))
+    matches!(answer, Answer::Refused(2 | 6 | 7) | Answer::Ran(Ran { stop: Stop::Refused(2 | 6 | 7), .. }))
+}
+
+/// Whether the Rust's answer is this one. Where 01 refuses a later turn of a run by 1 to 7 the Rust may go on: its first
+/// turns must have written the same.
+pub fn agrees(rust: &Answer, said: &Answer) -> bool {
+    match (rust, said) {
+        (Answer::Ran(all), Answer::Ran(part)) if matches!(part.stop, Stop::Refused(1..=7)) => {
+            all.turns >= part.turns && all.words.starts_with(&part.words)
+        },
+        _ => rust == said,
+    }
 }
 
 /// What the rules hold and remember, as the Rust tells it.
@@ -114,17 +204,18 @@ fn run_both(calls: &[Call], ways: Ways, tally: &mut Tally) -> Result<(), Differe
         let state = rules.look().map_or(0, |l| l.state);
         let (said, ruled) = (rust.call(call), rules.call(call));
         tally.calls += 1;
+        let known = !no_counterpart(&ruled);
+        if known && !agrees(&said, &ruled) {
+            return Err(Difference::Answer(format!("call {}, {call}: the Rust says {said}, 01 says {ruled}", i + 1)));
+        } else if known {
+            tally.compared += 1;
+            tally.count(&ruled, state);
+        }
         if parted(&ruled) {
             break;
-        } else if no_counterpart(&ruled) {
-            continue;
-        } else if said != ruled {
-            return Err(Difference::Answer(format!("call {}, {call}: the Rust says {said}, 01 says {ruled}", i + 1)));
         }
-        tally.compared += 1;
-        tally.count(&ruled, state);
         let (is, should) = (rust_inside(&rust), rules_inside(&rules));
-        if inside.is_ok() && is != should {
+        if known && inside.is_ok() && is != should {
             let text = format!("call {}, {call}: the Rust has {is:?}, 01 has {should:?}", i + 1);
             inside = Err(Difference::Inside(text));
         }

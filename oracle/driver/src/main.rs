@@ -4,14 +4,16 @@ use std::path::Path;
 use std::process::ExitCode;
 
 use judges::drive::{drive, exit, number};
-use judges::generate::{Kind, script};
+use judges::generate::{Kind, script, script_with_runs};
 use judges::rules::Rules;
+use judges::script::Call;
 use oracle::rust::{Rust, Ways};
 use oracle::{edits, notice, sample, selftest};
 
 /// What the program can be asked for.
 const USAGE: &str = "oracle rust | rules                   answer the script on standard input
 oracle generate KIND SEED COUNT       print random scripts (whole mixed flush nullslast order ends refusals handed)
+oracle generate KIND SEED COUNT runs  the same scripts with runs in the place of turns
 oracle selftest SEED COUNT            the test of the oracle itself, COUNT scripts a kind
 oracle whole SEED COUNT               the whole-table rule over COUNT scripts
 oracle compare SEED COUNT             the Rust and the step rules over COUNT scripts a kind
@@ -20,10 +22,10 @@ oracle edits LIST                     print the edits of the Rust
 oracle edit LIST NAME FROM TO         lay an edited copy of the source down
 oracle notice SEED COUNT FOLDER       which judge sees that the Rust was edited, and whether the sample does";
 
-/// Prints random scripts of a kind.
-fn print_scripts(kind: &str, seed: u64, count: u64) -> Result<(), String> {
+/// Prints random scripts of a kind, made by one of the two ways to make them.
+fn print_scripts(make: fn(Kind, u64, u64) -> Vec<Call>, kind: &str, seed: u64, count: u64) -> Result<(), String> {
     let kind = Kind::named(kind).ok_or(format!("{kind} is no kind of script"))?;
-    let scripts = (0..count).flat_map(|i| script(kind, seed, i));
+    let scripts = (0..count).flat_map(|i| make(kind, seed, i));
     let mut output = BufWriter::new(std::io::stdout());
     scripts.into_iter().try_for_each(|call| writeln!(output, "{call}")).map_err(|e| e.to_string())
 }
@@ -38,7 +40,10 @@ fn run(args: &[&str]) -> Result<bool, String> {
     match *args {
         ["rust"] => drive(&mut Rust::default())?,
         ["rules"] => drive(&mut Rules::default())?,
-        ["generate", kind, seed, count] => print_scripts(kind, number(seed)?, number(count)?)?,
+        ["generate", kind, seed, count] => print_scripts(script, kind, number(seed)?, number(count)?)?,
+        ["generate", kind, seed, count, "runs"] => {
+            print_scripts(script_with_runs, kind, number(seed)?, number(count)?)?
+        },
         ["selftest", seed, count] => return Ok(selftest::all(number(seed)?, number(count)?)),
         ["whole", seed, count] => {
             let (seed, count) = (number(seed)?, number(count)?);

@@ -14,7 +14,7 @@ use polars_stream::nodes::joins::asof_join::AsOfJoinNode;
 use polars_stream::pipe::{PhysicalPipe, PortSender};
 use slotmap::Key;
 
-use judges::script::{Answer, Call, Judge, Open};
+use judges::script::{Answer, Call, Judge, Open, Ran, Stop};
 
 /// How the node is fed. No answer may depend on it, save `right_pipe` on rows that are not sorted as declared.
 #[derive(Clone, Copy)]
@@ -247,6 +247,25 @@ impl Join {
         }
     }
 
+    /// 01, `run`: at most k turns, one frame at a time. Outputs are as long as needed.
+    fn run(&mut self, k: usize) -> Ran {
+        let (mut turns, mut words) = (0, vec![]);
+        let stop = loop {
+            if turns == k {
+                break Stop::Used;
+            }
+            match self.turn() {
+                Answer::Wrote(_, more) => words.extend(more),
+                Answer::Wants => break Stop::Wants,
+                Answer::Idle => break Stop::Idle,
+                Answer::Refused(number) => break Stop::Refused(number),
+                answer => panic!("a turn of a run: {answer}"),
+            }
+            turns += 1;
+        };
+        Ran { turns: turns as u64, count: words.len() as u64, stop, words }
+    }
+
     /// 01, Ports: the node's own `update_state`.
     fn ports(&mut self, ports: [u8; 3]) -> Answer {
         let [left, right, send] = ports.map(|p| [PortState::Blocked, PortState::Ready, PortState::Done][p as usize]);
@@ -308,6 +327,11 @@ impl Join {
         self.spoiled.is_some()
     }
 
+    /// Whether a turn has a counterpart: the node is not Done and no order fault has stopped it.
+    fn turns(&self) -> bool {
+        !self.failed() && self.node.hook_state() != 2
+    }
+
     /// What was seen of the turn that stopped the join.
     pub fn spoiled(&self) -> Option<Spoiled> {
         self.spoiled
@@ -333,14 +357,15 @@ impl Join {
     }
 
     /// The answer to a call on an open join. Where 01 refuses, the Rust has no counterpart: `left`, `right` and `end`
-    /// say ok and nothing changes; `turn` and `ports` say nothing.
+    /// say ok and nothing changes; `turn`, `run` and `ports` say nothing.
     pub fn call(&mut self, call: &Call) -> Answer {
         match call {
             Call::Left(w) => self.left(w),
             Call::Right(w) => self.right(w),
             Call::End => self.end(),
             Call::Ports(p) if !self.failed() => return self.ports(*p),
-            Call::Turn(_) if !self.failed() && self.node.hook_state() != 2 => return self.turn(),
+            Call::Turn(_) if self.turns() => return self.turn(),
+            Call::Run(k, _) if *k == 0 || self.turns() => return Answer::Ran(self.run(*k)),
             _ => return Answer::Nothing,
         }
         Answer::Ok

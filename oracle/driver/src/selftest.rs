@@ -3,7 +3,7 @@
 use std::time::Instant;
 
 use judges::exhaustive;
-use judges::generate::{COMPARED, Kind, script};
+use judges::generate::{COMPARED, Kind, script, script_with_runs};
 use judges::rules::{Rules, frame_rows};
 use judges::script::{Answer, Call, Judge, parse_script};
 use judges::whole_table::{self, Counts};
@@ -28,27 +28,34 @@ fn expected_answers(text: &str) -> Vec<&str> {
     text.lines().filter_map(|l| l.strip_prefix("= ")).collect()
 }
 
-/// Whether an expected answer is one that the Rust can give.
-fn known_to_rust(expected: &str) -> bool {
-    !expected.starts_with("refused") && !expected.starts_with("base")
-}
-
-/// 01, At the counter, by the Rust and by the rules.
-pub fn counter_cases() -> Step {
-    let text = include_str!("../counter.txt");
+/// Calls with the answers that were read from 01 by hand, by the rules, and by the Rust where it has a counterpart.
+fn cases(text: &str) -> Step {
     let lines: Vec<&str> = text.lines().filter(|l| !l.starts_with('=')).collect();
     let calls = parse_script(&lines.join("\n"))?;
     let expected = expected_answers(text);
     assert_eq!(calls.len(), expected.len());
-    let (mut rust, mut rules, mut asked) = (Rust::default(), Rules::default(), 0);
+    let (mut rust, mut rules, mut parted, mut asked) = (Rust::default(), Rules::default(), false, 0);
     for (call, want) in calls.iter().zip(&expected) {
-        let (said, ruled) = (rust.call(call).to_string(), rules.call(call).to_string());
-        if ruled != *want || (known_to_rust(want) && said != *want) {
+        let (said, ruled) = (rust.call(call), rules.call(call));
+        parted &= !matches!(call, Call::Open(_));
+        let known = !parted && !compare::no_counterpart(&ruled);
+        if ruled.to_string() != *want || (known && !compare::agrees(&said, &ruled)) {
             return Err(format!("{call}: wanted {want}, the Rust says {said}, the rules say {ruled}"));
         }
-        asked += known_to_rust(want) as usize;
+        asked += known as usize;
+        parted |= compare::parted(&ruled);
     }
     Ok(format!("{} calls, {asked} of them answered by the Rust", calls.len()))
+}
+
+/// 01, At the counter.
+pub fn counter_cases() -> Step {
+    cases(include_str!("../counter.txt"))
+}
+
+/// 01, After demand 3.
+pub fn run_cases() -> Step {
+    cases(include_str!("../runs.txt"))
 }
 
 /// 01, At the counter: "4,096 rows pass, 4,097 are refusal 5".
@@ -101,11 +108,14 @@ fn text(d: Difference) -> String {
     }
 }
 
+/// How a script is made from its kind, seed and number.
+type Make = fn(Kind, u64, u64) -> Vec<Call>;
+
 /// Random scripts of one kind, by the step rules.
-pub fn steps(kind: Kind, seed: u64, count: u64, ways: Ways) -> Result<Tally, String> {
+pub fn steps(make: Make, kind: Kind, seed: u64, count: u64, ways: Ways) -> Result<Tally, String> {
     let mut tally = Tally::default();
     for i in 0..count {
-        let calls = script(kind, seed, i);
+        let calls = make(kind, seed, i);
         let compared = compare::with_rules(&calls, ways, &mut tally);
         compared.map_err(|d| failure(&format!("{kind:?}, seed {seed}, script {i}"), &calls, &text(d)))?;
     }
@@ -116,7 +126,7 @@ pub fn steps(kind: Kind, seed: u64, count: u64, ways: Ways) -> Result<Tally, Str
 pub fn all_kinds(seed: u64, count: u64) -> Step {
     let mut all = Tally::default();
     for kind in COMPARED {
-        let tally = steps(kind, seed, count, Ways::default())?;
+        let tally = steps(script, kind, seed, count, Ways::default())?;
         println!("  {kind:?}: {tally}");
         all.add(&tally);
     }
@@ -128,6 +138,30 @@ pub fn all_kinds(seed: u64, count: u64) -> Step {
         return Err("a fault at the split alone, which docs/DIFFERENCES.md calls impossible".into());
     }
     Ok(format!("{all}"))
+}
+
+/// Random scripts with runs in the place of turns: the Rust by the step rules, and both by the whole-table rule. Runs must
+/// have stopped in every way that the Rust knows, and for want of output, after turns that wrote. A fault of right rows alone
+/// comes in a run's first turn: no right row comes in during a run.
+pub fn runs(seed: u64, count: u64) -> Step {
+    let mut all = Tally::default();
+    for kind in COMPARED {
+        all.add(&steps(script_with_runs, kind, seed, count, Ways::default())?);
+    }
+    for i in 0..count {
+        let calls = script_with_runs(Kind::Whole, seed, i);
+        let rules = whole_table::judge(&calls, &compare::answers(&mut Rules::default(), &calls)).map(|_| ());
+        let both = rules.and_then(|_| compare::with_whole_table(&calls, Ways::default(), &mut Counts::default()));
+        both.map_err(|why| failure("runs by the whole table", &calls, &why))?;
+    }
+    let [used, wants, idle, .., short, _, left, right_after] = all.runs.after;
+    let right = all.runs.stops[11];
+    if [all.runs.several, all.runs.matched, used, wants, idle, short, left, right].contains(&0) {
+        return Err(format!("nothing was tested: {}", all.runs));
+    } else if right_after != 0 {
+        return Err(format!("a fault of right rows after a turn of the same run: {}", all.runs));
+    }
+    Ok(format!("{} scripts, {count} of them by the whole-table rule too: {}", all.scripts, all.runs))
 }
 
 /// All short scripts, by the step rules.
@@ -151,11 +185,11 @@ pub fn ways(seed: u64, count: u64) -> Step {
     for (order, ways) in [(0, many), (seed, many), (seed, Ways::default())] {
         polars_async::executor::shuffle(order);
         for kind in [Kind::Mixed, Kind::Flush, Kind::Order] {
-            all.add(&steps(kind, seed, count, ways)?);
+            all.add(&steps(script, kind, seed, count, ways)?);
         }
     }
     whole(seed, count, pulled)?;
-    all.add(&steps(Kind::Whole, seed, count, pulled)?);
+    all.add(&steps(script, Kind::Whole, seed, count, pulled)?);
     for i in 0..count {
         let calls = script(Kind::Whole, seed, i);
         burst(&calls).map_err(|why| failure("all frames in one phase", &calls, &why))?;
@@ -251,12 +285,14 @@ pub fn run(steps: Vec<Named>) -> bool {
 pub fn all(seed: u64, count: u64) -> bool {
     run(vec![
         ("01's counter cases", Box::new(counter_cases)),
+        ("01's runs", Box::new(run_cases)),
         ("longest frames", Box::new(longest_frames)),
         ("findings", Box::new(crate::findings::all)),
         ("all short scripts", Box::new(short_scripts)),
         ("whole-table rule", Box::new(move || whole(seed, 2 * count, Ways::default()))),
         ("the two judges", Box::new(move || judges(seed, count))),
         ("step rules", Box::new(move || all_kinds(seed, count))),
+        ("runs", Box::new(move || runs(seed, count))),
         ("ways of feeding", Box::new(move || ways(seed, count / 4))),
         ("refusals", Box::new(move || refusals(seed, count))),
     ])

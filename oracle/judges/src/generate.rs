@@ -531,21 +531,130 @@ fn tighten(r: &mut Random, calls: &mut [Call]) {
     }
 }
 
-/// The script of this number among a seed's scripts of a kind.
-pub fn script(kind: Kind, seed: u64, number: u64) -> Vec<Call> {
-    let r = &mut Random::new(seed, kind, number);
+/// How many turns a run may make at most: none, few, or more than wait.
+fn run_turns(r: &mut Random) -> usize {
+    match r.below(10) {
+        0 => 0,
+        1..=6 => 1 + r.below(4),
+        7 => 5 + r.below(20),
+        _ => r.pick(&[1000, 1 << 32, i64::MAX as usize]),
+    }
+}
+
+/// The length of a run's output: what its turns write, a little more, much more; or, in so many of a hundred cases, less,
+/// so that it is too short at first or after some turns.
+fn run_output(r: &mut Random, rules: &Rules, k: usize, short: usize) -> usize {
+    const ENOUGH: usize = 1 << 16;
+    let Answer::Ran(ran) = rules.clone().call(&Call::Run(k, ENOUGH)) else { return r.below(20) };
+    match (r.percent(short), ran.words.len()) {
+        (true, 0) => r.below(6),
+        (true, needed) if r.percent(30) => needed - 1,
+        (true, needed) => r.below(needed),
+        (false, needed) => needed + r.pick(&[0, 0, 1, 2, 9, 200]),
+    }
+}
+
+/// What a host alters before a run, so that a later turn of it is refused: the numbers of turns are used up after some, or,
+/// where the first frame has no row, the remembered right row is greater than most and right has ended.
+fn alter_for_run(r: &mut Random, rules: &Rules) -> Vec<Call> {
+    let Some((words, left, _)) = rules.all_words() else { return vec![] };
+    let put = |at: usize, word: i64| Call::Put(Place::Join, at, word);
+    if left.get(words[16] as usize) == Some(&0) && r.percent(70) {
+        let row = (0..11).map(|j| put(33 + j, if (1..=5).contains(&j) { i64::MAX } else { 1 }));
+        return row.chain([put(4, 1), put(19, 1)]).collect();
+    }
+    vec![put(21, r.pick(&[-2, -4, -4, -6, -8]))]
+}
+
+/// A script that gets runs in it, the rules' join beside it.
+struct Runs {
+    calls: Vec<Call>,
+    rules: Rules,
+    /// How many of a hundred outputs are too short.
+    short: usize,
+    /// Whether the host alters words.
+    alters: bool,
+}
+
+impl Runs {
+    /// Adds a call.
+    fn push(&mut self, call: Call) {
+        self.rules.call(&call);
+        self.calls.push(call);
+    }
+
+    /// Adds a run, most often only where a frame waits.
+    fn run(&mut self, r: &mut Random) {
+        let waits = self.rules.look().is_some_and(|l| l.queue_words > 0);
+        if !waits && r.percent(70) {
+            return;
+        } else if self.alters && r.percent(15) {
+            alter_for_run(r, &self.rules).into_iter().for_each(|call| self.push(call));
+        }
+        let k = run_turns(r);
+        let output = run_output(r, &self.rules, k, self.short);
+        self.push(Call::Run(k, output));
+    }
+}
+
+/// A script with runs in it: some turns become runs, others fall away, so that frames pile up for the next run; runs come
+/// where no turn was too, and at the end.
+fn with_runs(r: &mut Random, kind: Kind, calls: Vec<Call>) -> Vec<Call> {
+    let (short, piling) = match kind {
+        Kind::Whole => (0, r.pick(&[10, 50, 80])),
+        Kind::Refusals | Kind::Handed => (30, r.pick(&[50, 80, 95])),
+        _ => (6, r.pick(&[10, 50, 80])),
+    };
+    let mut out = Runs { calls: vec![], rules: Rules::default(), short, alters: kind == Kind::Handed };
+    for call in calls {
+        match call {
+            Call::Turn(_) if r.percent(piling) => {},
+            Call::Turn(_) if r.percent(75) => out.run(r),
+            call => out.push(call),
+        }
+        if r.percent(5) {
+            out.run(r);
+        }
+    }
+    (0..r.below(4)).for_each(|_| out.run(r));
+    out.calls
+}
+
+/// The calls of a kind's script over areas that are large enough, save for kinds that are to find no room.
+fn calls(r: &mut Random, kind: Kind) -> Vec<Call> {
     let s = shape(r, kind);
     let [left, right] = arrangements(r, kind).map(|how| table(r, &s, how));
     let d = Draft::new(r, s, &left, &right);
-    let mut calls = match kind {
+    match kind {
         Kind::Whole => whole(r, d),
         Kind::Mixed | Kind::Ends => mixed(r, d),
         Kind::Flush => flush(r, d),
         Kind::NullsLast | Kind::Order => plain(r, d),
-        Kind::Refusals => return refusals(r, d),
-        Kind::Handed => return handed(r, d),
-    };
-    if r.percent(50) {
+        Kind::Refusals => refusals(r, d),
+        Kind::Handed => handed(r, d),
+    }
+}
+
+/// The script of this number among a seed's scripts of a kind.
+pub fn script(kind: Kind, seed: u64, number: u64) -> Vec<Call> {
+    let r = &mut Random::new(seed, kind, number);
+    let mut calls = calls(r, kind);
+    if COMPARED.contains(&kind) && r.percent(50) {
+        tighten(r, &mut calls);
+    }
+    calls
+}
+
+/// The same script with runs in the place of turns. One for the whole-table rule has outputs enough, and turns at its end
+/// what still waits.
+pub fn script_with_runs(kind: Kind, seed: u64, number: u64) -> Vec<Call> {
+    let r = &mut Random::new(seed, kind, number);
+    let calls = calls(r, kind);
+    let mut calls = with_runs(r, kind, calls);
+    if kind == Kind::Whole {
+        calls.push(Call::Run(1 << 20, 1 << 16));
+    }
+    if COMPARED.contains(&kind) && r.percent(50) {
         tighten(r, &mut calls);
     }
     calls

@@ -3,7 +3,7 @@
 //! with the stand-ins or with the judge of the whole-table rule.
 use std::cmp::Ordering;
 
-use crate::script::{Answer, Call, JoinWords, Judge, Look, Open, Place};
+use crate::script::{Answer, Call, JoinWords, Judge, Look, Open, Place, Ran, Stop};
 use crate::words::{self, RowWords};
 
 /// A cell: null, or a number.
@@ -262,6 +262,7 @@ struct Written {
 }
 
 /// An open join with its two areas.
+#[derive(Clone)]
 pub struct Join {
     o: Open,
     left_area: Vec<i64>,
@@ -559,10 +560,30 @@ impl Join {
         Answer::Wrote(sequence, words)
     }
 
-    /// "numbers in checking order": 2 and 3 come first in every call.
+    /// "`run` makes at most k turns and reports how many it made, the words written back to back, and the answer that
+    /// stopped it … Only turns that wrote count; after k of them, or with k = 0, it tries no other." Each turn is lent
+    /// what the earlier ones left of the output. Numbers that no join has are refused before any turn is.
+    fn run(&mut self, k: usize, output: usize) -> Ran {
+        let (mut turns, mut words) = (0, vec![]);
+        let mut stop = self.strange.map_or(Stop::Used, |_| Stop::Refused(2));
+        while stop == Stop::Used && turns < k as u64 {
+            match self.call(&Call::Turn(output - words.len())) {
+                Answer::Wrote(_, more) => (turns, words) = (turns + 1, [words, more].concat()),
+                Answer::Wants => stop = Stop::Wants,
+                Answer::Idle => stop = Stop::Idle,
+                Answer::Refused(number) => stop = Stop::Refused(number),
+                _ => unreachable!(),
+            }
+        }
+        Ran { turns, count: words.len() as u64, stop, words }
+    }
+
+    /// "numbers in checking order": 2 and 3 come first in every call; in a run, in each of its turns.
     fn call(&mut self, call: &Call) -> Answer {
         if let Some(answer) = self.host(call) {
             return answer;
+        } else if let Call::Run(k, output) = *call {
+            return Answer::Ran(self.run(k, output));
         } else if self.broken() {
             return Answer::Refused(2);
         } else if self.look.failed {
@@ -574,13 +595,13 @@ impl Join {
             Call::End => self.end(),
             Call::Ports(ports) => self.ports(*ports),
             Call::Turn(output) => self.turn(*output),
-            Call::Open(_) | Call::State | Call::Areas | Call::Words | Call::Put(..) => unreachable!(),
+            Call::Open(_) | Call::Run(..) | Call::State | Call::Areas | Call::Words | Call::Put(..) => unreachable!(),
         }
     }
 }
 
 /// The judge that answers by 01's step rules.
-#[derive(Default)]
+#[derive(Default, Clone)]
 pub struct Rules {
     join: Option<Join>,
 }

@@ -24,6 +24,8 @@ pub enum Call {
     End,
     Ports([u8; 3]),
     Turn(usize),
+    /// At most so many turns, and the length of the output in words.
+    Run(usize, usize),
     State,
     /// Not of the shared script form: the words of both areas, for tests of the definitions.
     Areas,
@@ -61,6 +63,24 @@ pub struct Look {
     pub right: Option<Vec<Option<i64>>>,
 }
 
+/// What stopped a run: its turns are used, or the answer of the turn that wrote nothing.
+#[derive(Clone, Copy, Debug, PartialEq)]
+pub enum Stop {
+    Used,
+    Wants,
+    Idle,
+    Refused(u8),
+}
+
+/// What a run made: the turns that wrote, the count of the words that they wrote, what stopped it, and these words.
+#[derive(Clone, Debug, PartialEq)]
+pub struct Ran {
+    pub turns: u64,
+    pub count: u64,
+    pub stop: Stop,
+    pub words: Vec<i64>,
+}
+
 /// The answer to one line.
 #[derive(Clone, Debug, PartialEq)]
 pub enum Answer {
@@ -68,6 +88,7 @@ pub enum Answer {
     Refused(u8),
     Ports([u8; 3], u8),
     Wrote(u64, Vec<i64>),
+    Ran(Ran),
     Wants,
     Idle,
     NoJoin,
@@ -101,6 +122,26 @@ impl fmt::Display for Look {
     }
 }
 
+impl fmt::Display for Stop {
+    /// As in a turn's answer, or `k`.
+    fn fmt(&self, f: &mut fmt::Formatter<'_>) -> fmt::Result {
+        match self {
+            Stop::Used => write!(f, "k"),
+            Stop::Wants => write!(f, "{}", Answer::Wants),
+            Stop::Idle => write!(f, "{}", Answer::Idle),
+            Stop::Refused(n) => write!(f, "{}", Answer::Refused(*n)),
+        }
+    }
+}
+
+impl fmt::Display for Ran {
+    /// The answer to `run`.
+    fn fmt(&self, f: &mut fmt::Formatter<'_>) -> fmt::Result {
+        write!(f, "ran {} {} {}", self.turns, self.count, self.stop)?;
+        words(f, &self.words)
+    }
+}
+
 impl fmt::Display for Answer {
     /// The answer's line.
     fn fmt(&self, f: &mut fmt::Formatter<'_>) -> fmt::Result {
@@ -109,6 +150,7 @@ impl fmt::Display for Answer {
             Answer::Refused(n) => write!(f, "refused {n}"),
             Answer::Ports([l, r, s], state) => write!(f, "ok {l} {r} {s} {state}"),
             Answer::Wrote(seq, w) => write!(f, "wrote {seq}").and_then(|_| words(f, w)),
+            Answer::Ran(ran) => write!(f, "{ran}"),
             Answer::Wants => write!(f, "wants"),
             Answer::Idle => write!(f, "idle"),
             Answer::NoJoin => write!(f, "no join"),
@@ -138,6 +180,7 @@ impl fmt::Display for Call {
             Call::End => write!(f, "end"),
             Call::Ports([l, r, s]) => write!(f, "ports {l} {r} {s}"),
             Call::Turn(o) => write!(f, "turn {o}"),
+            Call::Run(k, o) => write!(f, "run {k} {o}"),
             Call::State => write!(f, "state"),
             Call::Areas => write!(f, "areas"),
             Call::Words => write!(f, "words"),
@@ -213,6 +256,7 @@ pub fn parse_line(line: &str) -> Result<Option<Call>, String> {
         ("right", _) => Call::Right(a),
         ("ports", a) => Call::Ports(parse_ports(a)?),
         ("turn", [o]) => Call::Turn(count(*o)?),
+        ("run", [k, o]) => Call::Run(count(*k)?, count(*o)?),
         ("end", []) => Call::End,
         ("state", []) => Call::State,
         ("areas", []) => Call::Areas,
@@ -220,7 +264,7 @@ pub fn parse_line(line: &str) -> Result<Option<Call>, String> {
         ("put", a) => parse_put(Place::Join, a)?,
         ("put-left", a) => parse_put(Place::Left, a)?,
         ("put-right", a) => parse_put(Place::Right, a)?,
-        ("turn" | "end" | "state" | "areas" | "words", a) => {
+        ("turn" | "run" | "end" | "state" | "areas" | "words", a) => {
             return Err(format!("{name} does not take {} words", a.len()));
         },
         _ => return Err(format!("{name} is no call")),

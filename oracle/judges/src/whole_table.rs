@@ -1,7 +1,7 @@
 //! A judge of sorted sides that knows nothing of steps: 01's whole-table rule by brute force, straight from its
 //! sentences. It shares no code with the step rules, the stand-ins or the Rust's driver, and looks at no call's inside:
 //! only at what was handed in and what was written.
-use crate::script::{Answer, Call, Open};
+use crate::script::{Answer, Call, Open, Ran, Stop};
 
 /// A row as handed in: b by-values, then the key; none is null.
 type Row = Vec<Option<i64>>;
@@ -82,32 +82,78 @@ fn tables(calls: &[Call]) -> Tables<'_> {
     out
 }
 
+/// How far the answers to a script are judged.
+struct Judged<'a> {
+    tables: Tables<'a>,
+    waiting: usize,
+    turned: usize,
+    ended: bool,
+    counts: Counts,
+}
+
+impl Judged<'_> {
+    /// A turn that wrote these words; how it is wrong, if it is.
+    fn wrote(&mut self, words: &[i64]) -> Result<(), String> {
+        if self.waiting == 0 {
+            return Err(format!("{words:?} written, but no frame waits"));
+        }
+        let want = expected(self.tables.open, self.tables.left_frames[self.turned], &self.tables.right_rows);
+        if *words != want {
+            return Err(format!("{words:?} written, but the whole table gives {want:?}"));
+        }
+        self.counts.rows += words[0] as u64;
+        self.counts.matched += words[2 + words[0] as usize..].iter().sum::<i64>() as u64;
+        (self.waiting, self.turned) = (self.waiting - 1, self.turned + 1);
+        Ok(())
+    }
+
+    /// A run of at most k turns: its words are those of its turns, and it stopped where a turn would write nothing, or
+    /// after k of them.
+    fn ran(&mut self, k: usize, ran: &Ran) -> Result<(), String> {
+        let (mut rest, before) = (&ran.words[..], self.turned);
+        while let [n, ..] = rest {
+            let (words, further) = rest.split_at_checked(2 + 2 * *n as usize).ok_or("a turn's words are cut off")?;
+            self.wrote(words)?;
+            rest = further;
+        }
+        let made = self.turned - before;
+        let right = match ran.stop {
+            Stop::Used => made == k,
+            Stop::Wants => made < k && self.waiting > 0 && !self.ended,
+            Stop::Idle => made < k && self.waiting == 0,
+            Stop::Refused(_) => false,
+        };
+        let counted = ran.turns == made as u64 && ran.count == ran.words.len() as u64;
+        self.counts.wants += (ran.stop == Stop::Wants) as u64;
+        if right && counted { Ok(()) } else { Err(format!("{made} turns wrote, {} frames wait", self.waiting)) }
+    }
+
+    /// One call and its answer; how it is wrong, if it is.
+    fn judge(&mut self, call: &Call, answer: &Answer) -> Result<(), String> {
+        match (call, answer) {
+            (Call::Left(_), Answer::Ok) => self.waiting += 1,
+            (Call::End, Answer::Ok) => self.ended = true,
+            (Call::Open(_) | Call::Right(_), Answer::Ok) => {},
+            (Call::Turn(_), Answer::Idle) if self.waiting == 0 => {},
+            (Call::Turn(_), Answer::Wants) if self.waiting > 0 && !self.ended => self.counts.wants += 1,
+            (Call::Turn(_), Answer::Wrote(sequence, words)) if *sequence == 2 * self.turned as u64 => {
+                self.wrote(words)?
+            },
+            (Call::Run(k, _), Answer::Ran(ran)) => self.ran(*k, ran)?,
+            _ => return Err("no such answer is due".to_string()),
+        }
+        Ok(())
+    }
+}
+
 /// Judges the answers to a script whose sides are sorted as declared, in which nothing is refused, and which ends right
 /// and then makes enough turns: every turn writes what the whole table gives, in sequence; no order fault; once right
-/// has ended nothing is wanted; idle only where no frame waits; at the end no frame does.
+/// has ended nothing is wanted; idle only where no frame waits; at the end no frame does. A run is its turns.
 pub fn judge(calls: &[Call], answers: &[Answer]) -> Result<Counts, String> {
-    let tables = tables(calls);
-    let (mut waiting, mut ended, mut turned) = (0usize, false, 0usize);
-    let mut counts = Counts::default();
+    let mut judged = Judged { tables: tables(calls), waiting: 0, turned: 0, ended: false, counts: Counts::default() };
     for (call, answer) in calls.iter().zip(answers) {
-        let said = || format!("{call}: {answer}");
-        match (call, answer) {
-            (Call::Left(_), Answer::Ok) => waiting += 1,
-            (Call::End, Answer::Ok) => ended = true,
-            (Call::Open(_) | Call::Right(_), Answer::Ok) => {},
-            (Call::Turn(_), Answer::Idle) if waiting == 0 => {},
-            (Call::Turn(_), Answer::Wants) if waiting > 0 && !ended => counts.wants += 1,
-            (Call::Turn(_), Answer::Wrote(sequence, words)) if waiting > 0 && *sequence == 2 * turned as u64 => {
-                let want = expected(tables.open, tables.left_frames[turned], &tables.right_rows);
-                if *words != want {
-                    return Err(format!("{}, but the whole table gives {want:?}", said()));
-                }
-                counts.rows += words[0] as u64;
-                counts.matched += words[2 + words[0] as usize..].iter().sum::<i64>() as u64;
-                (waiting, turned) = (waiting - 1, turned + 1);
-            },
-            _ => return Err(said()),
-        }
+        judged.judge(call, answer).map_err(|why| format!("{call}: {answer}: {why}"))?;
     }
+    let Judged { waiting, counts, .. } = judged;
     if waiting > 0 { Err(format!("{waiting} frames never turned")) } else { Ok(counts) }
 }

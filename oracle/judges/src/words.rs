@@ -63,11 +63,12 @@ pub fn encode(o: &Open, l: &Look, rows: &[RowWords; 2]) -> JoinWords {
     out
 }
 
-/// The join of these words, or none where no join has them: a node state or a flag that there is not.
+/// The join of these words, or none where no join has them: a node state or a flag that there is not, or a strategy that is
+/// no byte.
 pub fn decode(w: &JoinWords) -> Option<(Open, Look, [RowWords; 2])> {
     let o = Open {
         b: w[0] as usize,
-        strategy: w[1],
+        strategy: u8::try_from(w[1]).ok()?.into(),
         eq: flag(w[2])?,
         tolerance: w[3],
         check: flag(w[4])?,

@@ -1,5 +1,5 @@
 //! The port itself: calls over the archive, with areas, frames and outputs between guard words.
-use judges::script::{Answer, Call, JoinWords, Judge, Open, Place};
+use judges::script::{Answer, Call, JoinWords, Judge, Open, Place, Ran, Stop};
 use judges::words;
 use rowkeeper::raw::{self, safe};
 
@@ -34,7 +34,7 @@ impl Guarded {
     }
 }
 
-/// Word i of an output before a turn, so that what is untouched is visibly not zero.
+/// Word i of an output before a turn or a run, so that what is untouched is visibly not zero.
 fn blank(i: usize) -> i64 {
     (3 * i as i64) % 7 - 9
 }
@@ -132,6 +132,26 @@ impl Host {
         }
     }
 
+    /// A run of at most k turns with an output of this length.
+    fn run(&mut self, k: usize, length: usize) -> Ran {
+        let mut out = Guarded::new((0..length).map(blank));
+        let said = safe::run(self.join, k, self.left.get(), self.right.get(), out.get_mut());
+        self.join = said.join;
+        self.note(!out.intact(), "a guard word of the output was altered");
+        self.note((said.stop == 3) != (said.refusal != 0), "a refusal's number without a refusal, or none with one");
+        self.note(said.stop > 3, "a run was stopped by what there is not");
+        let written = usize::try_from(said.words).unwrap_or(usize::MAX).min(length);
+        let rest = out.get().iter().enumerate().skip(written).all(|(i, w)| *w == blank(i));
+        self.note(!rest || said.words > length as u64, "the output was altered where nothing is written");
+        let stop = match said.stop {
+            0 => Stop::Used,
+            1 => Stop::Wants,
+            2 => Stop::Idle,
+            _ => Stop::Refused(u8::try_from(said.refusal).unwrap_or(u8::MAX)),
+        };
+        Ran { turns: said.turns, count: said.words, stop, words: out.get()[..written].to_vec() }
+    }
+
     /// A word of an area is altered by the host. Nothing happens where the area has no such word.
     fn put(area: &mut Guarded, at: usize, word: i64) -> Answer {
         let Some(place) = area.get_mut().get_mut(at) else { return Answer::Nothing };
@@ -171,6 +191,7 @@ impl Host {
             },
             Call::Ports(ports) => self.ports(*ports),
             Call::Turn(length) => self.turn(*length),
+            Call::Run(k, length) => Answer::Ran(self.run(*k, *length)),
             _ => unreachable!(),
         };
         self.note(!self.left.intact() || !self.right.intact(), "a guard word of an area was altered");

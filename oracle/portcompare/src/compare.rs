@@ -5,7 +5,7 @@ use std::panic::{AssertUnwindSafe, catch_unwind};
 use judges::generate::Kind;
 use judges::rules::Rules;
 use judges::script::{Answer, Call, Judge};
-use oracle::compare::{Tally, no_counterpart, panic_text, parted};
+use oracle::compare::{Tally, agrees, no_counterpart, panic_text, parted};
 use oracle::rust::Rust;
 use port::Port;
 
@@ -64,7 +64,7 @@ impl Beside {
         self.parted = parted(said);
         if no_counterpart(said) {
             return Ok(false);
-        } else if rust != *said {
+        } else if !agrees(&rust, said) {
             return Err(format!("the port says {said}, the Rust says {rust}"));
         }
         Ok(true)

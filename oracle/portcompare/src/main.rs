@@ -6,7 +6,8 @@ mod compare;
 
 use compare::Counts;
 use judges::drive::{exit, number};
-use judges::generate::{COMPARED, Kind, script};
+use judges::generate::{COMPARED, Kind, script, script_with_runs};
+use judges::script::Call;
 
 /// How many differences are told before a run ends.
 const TOLD: usize = 10;
@@ -17,12 +18,36 @@ const KINDS: [Kind; 8] = {
     [a, b, c, d, e, f, Kind::Refusals, Kind::Handed]
 };
 
+/// The script of this number among a seed's scripts of a kind: every second one with runs.
+fn made(kind: Kind, seed: u64, number: u64) -> Vec<Call> {
+    let make = if number % 2 == 0 { script } else { script_with_runs };
+    make(kind, seed, number)
+}
+
 /// Prints a difference with its smallest script.
 fn tell(kind: Kind, seed: u64, number: u64) {
-    let (calls, why) = compare::smallest(&script(kind, seed, number), kind);
+    let (calls, why) = compare::smallest(&made(kind, seed, number), kind);
     println!("DIFFERENCE {kind:?}, seed {seed}, script {number}: {why}");
     calls.iter().for_each(|call| println!("    {call}"));
 }
+
+/// What can stop a run, with its place among the counts.
+const STOPS: [(&str, usize); 11] = [
+    ("k", 0),
+    ("wants", 1),
+    ("idle", 2),
+    ("2", 4),
+    ("3", 5),
+    ("4", 6),
+    ("5", 7),
+    ("6", 8),
+    ("7", 9),
+    ("8", 10),
+    ("9", 11),
+];
+
+/// The places of those that must also have been met after a turn that wrote. 2, 3 and 4 come in the first turn.
+const LATER: [usize; 8] = [0, 1, 2, 7, 8, 9, 10, 11];
 
 /// What a run never met, though it is made to.
 fn missing(all: &Counts) -> Option<String> {
@@ -30,7 +55,12 @@ fn missing(all: &Counts) -> Option<String> {
     let met =
         [("matches", tally.matched), ("wants", tally.wants), ("idle turns", tally.idle), ("Flush", tally.in_flush)];
     let none = met.iter().find(|(_, n)| *n == 0).map(|(what, _)| what.to_string());
+    let runs = &tally.runs;
+    let stopped = STOPS.iter().find(|(_, at)| runs.stops[*at] == 0).map(|(what, _)| format!("runs stopped by {what}"));
+    let after = STOPS.iter().find(|(_, at)| LATER.contains(at) && runs.after[*at] == 0);
     none.or_else(|| (1..10).find(|n| all.refused[*n] == 0).map(|n| format!("refusals by {n}")))
+        .or(stopped)
+        .or(after.map(|(what, _)| format!("runs stopped by {what} after a turn")))
 }
 
 /// Runs COUNT scripts, the kinds in turn; whether there was no difference and everything was met.
@@ -40,7 +70,7 @@ fn compare_all(seed: u64, count: u64) -> bool {
     let mut told = 0;
     for i in 0..count {
         let (at, number) = ((i % 8) as usize, i / 8);
-        if compare::all(&script(KINDS[at], seed, number), KINDS[at], &mut by_kind[at]).is_err() {
+        if compare::all(&made(KINDS[at], seed, number), KINDS[at], &mut by_kind[at]).is_err() {
             tell(KINDS[at], seed, number);
             told += 1;
         }
