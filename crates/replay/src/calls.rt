@@ -203,12 +203,12 @@ fn unmade(j: Join) -> Called {
     }
 }
 
-// A turn with an output of so many words as the call tells.
-fn turn(j: Join, left: &[i64], right: &[i64], call: &[i64], said: &mut [i64]) -> Called {
-    if call.len() != 2 {
+// A turn with an output of so many words as `rest` tells.
+fn turn(j: Join, left: &[i64], right: &[i64], rest: &[i64], said: &mut [i64]) -> Called {
+    if rest.len() != 1 {
         return unmade(j);
     }
-    let room = count_at(call, 1);
+    let room = count_at(rest, 0);
     if said.len() < 2 {
         return unmade(j);
     }
@@ -220,36 +220,42 @@ fn turn(j: Join, left: &[i64], right: &[i64], call: &[i64], said: &mut [i64]) ->
     turned(t, said)
 }
 
-// A port call.
-fn ports(j: Join, left: &[i64], right: &[i64], call: &[i64], said: &mut [i64]) -> Called {
-    if call.len() != 4 {
+// A port call, of the three states that `rest` tells.
+fn ports(j: Join, left: &[i64], right: &[i64], rest: &[i64], said: &mut [i64]) -> Called {
+    if rest.len() != 3 {
         return unmade(j);
     }
-    let l = port_of(word_at(call, 1));
-    let r = port_of(word_at(call, 2));
-    let s = port_of(word_at(call, 3));
+    let l = port_of(word_at(rest, 0));
+    let r = port_of(word_at(rest, 1));
+    let s = port_of(word_at(rest, 2));
     ported(j.ports(left, right, l, r, s), said)
 }
 
-// A call of the join that is open, by its kind.
+// A call of the join that is open, by its kind and the numbers behind it.
 fn make_call(
     j: Join,
     left: &mut [i64],
     right: &mut [i64],
-    call: &[i64],
+    kind: usize,
+    rest: &[i64],
     said: &mut [i64],
 ) -> Called {
-    if call.len() == 0 {
-        return unmade(j);
-    }
-    match count_at(call, 0) {
-        2 => took(j.left(left, right, &call[1..]), said),
-        3 => took(j.right(left, right, &call[1..]), said),
+    match kind {
+        2 => took(j.left(left, right, rest), said),
+        3 => took(j.right(left, right, rest), said),
         4 => took(j.end_right(left, right), said),
-        5 => ports(j, left, right, call, said),
-        6 => turn(j, left, right, call, said),
+        5 => ports(j, left, right, rest, said),
+        6 => turn(j, left, right, rest, said),
         _ => unmade(j),
     }
+}
+
+// The numbers of a call behind its kind.
+fn behind_kind(call: &[i64]) -> &[i64] {
+    if call.len() == 0 {
+        return call;
+    }
+    &call[1..]
 }
 
 // The join before the first opening: options that are refused, so every call is.
@@ -312,7 +318,9 @@ fn go_on(o: Opened, left: &mut [i64], right: &mut [i64], call: &[i64], said: &mu
     let join = o.join;
     let l = within(o.left, left);
     let r = within(o.right, right);
-    let called = make_call(join, &mut left[..l], &mut right[..r], call, said);
+    let kind = count_at(call, 0);
+    let rest = behind_kind(call);
+    let called = make_call(join, &mut left[..l], &mut right[..r], kind, rest, said);
     let next = called.join;
     Made {
         opened: Opened {

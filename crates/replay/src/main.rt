@@ -84,6 +84,7 @@ enum Status {
     Malformed,
 }
 
+// The replay so far: where reading stands, the join that is open, what was counted, and whether more is to come.
 struct Replay {
     place: Place,
     opened: Opened,
@@ -216,6 +217,7 @@ fn unread(calls: u64) {
     io::write_all(1, b"\n");
 }
 
+// Lends the memory of the replay: the part of the input, the areas, a call, the recorded answer to it, and the answer.
 fn main() {
     let mut buf = io::large_buffer();
     let mut left = [0i64; 256];

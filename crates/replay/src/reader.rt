@@ -23,11 +23,13 @@ struct Number {
     after: After,
 }
 
+// A number, and the place behind what stands behind it.
 struct Reading {
     number: Number,
     place: Place,
 }
 
+// A byte of the input, and the place behind it.
 struct Byte {
     byte: u8,
     place: Place,

@@ -40,86 +40,69 @@ fn same(a: &[i64], b: &[i64]) -> bool {
 }
 
 // A call counts, and an opening begins a script.
-fn with_call(t: Tally, call: &[i64]) -> Tally {
+fn with_call(mut t: Tally, call: &[i64]) -> Tally {
+    t.calls = more(t.calls);
     if is_open(call) {
-        return Tally {
-            scripts: more(t.scripts),
-            calls: more(t.calls),
-            ..t
-        };
+        t.scripts = more(t.scripts);
     }
-    Tally {
-        calls: more(t.calls),
-        ..t
-    }
+    t
 }
 
 // A turn that wrote counts, and its rows.
-fn with_wrote(t: Tally, numbers: usize) -> Tally {
+fn with_wrote(mut t: Tally, numbers: usize) -> Tally {
     if numbers < 4 {
         return t;
     }
     let rows = (numbers - 4) / 2;
-    Tally {
-        wrote: more(t.wrote),
-        rows: std::num::wrapping_add_u64(t.rows, rows as u64),
-        ..t
-    }
+    t.wrote = more(t.wrote);
+    t.rows = std::num::wrapping_add_u64(t.rows, rows as u64);
+    t
 }
 
-// An order fault counts, and so does any other refusal.
-fn with_refusal(t: Tally, number: i64) -> Tally {
+// An order fault counts, and so does any other refusal; a call that is accepted is no refusal.
+fn with_refusal(mut t: Tally, number: i64) -> Tally {
     if number >= 8 {
-        return Tally {
-            faults: more(t.faults),
-            ..t
-        };
+        t.faults = more(t.faults);
+        return t;
     }
-    Tally {
-        refused: more(t.refused),
-        ..t
+    if number > 0 {
+        t.refused = more(t.refused);
     }
+    t
+}
+
+// A turn that did not write counts by its answer.
+fn with_unwritten(mut t: Tally, kind: i64) -> Tally {
+    if kind == 12 {
+        t.wants = more(t.wants);
+        return t;
+    }
+    t.idle = more(t.idle);
+    t
 }
 
 // An answer counts by its kind.
 fn with_answer(t: Tally, said: &[i64]) -> Tally {
     let kind = word_at(said, 0);
+    if kind < 10 {
+        return with_refusal(t, kind);
+    }
+    if kind == 10 {
+        return t;
+    }
     if kind == 11 {
         return with_wrote(t, said.len());
     }
-    if kind == 12 {
-        return Tally {
-            wants: more(t.wants),
-            ..t
-        };
-    }
-    if kind == 13 {
-        return Tally {
-            idle: more(t.idle),
-            ..t
-        };
-    }
-    if kind > 0 {
-        if kind < 10 {
-            return with_refusal(t, kind);
-        }
-    }
-    t
+    with_unwritten(t, kind)
 }
 
 // An answer that differs counts, and the script of the first one is kept.
-fn with_difference(t: Tally) -> Tally {
+fn with_difference(mut t: Tally) -> Tally {
     if t.differ == 0 {
-        return Tally {
-            differ: 1,
-            first: t.scripts,
-            ..t
-        };
+        t.first = t.scripts;
     }
-    Tally {
-        differ: more(t.differ),
-        ..t
-    }
+    t.differ = more(t.differ);
+    t
 }
 
 // A call with its answer counts, and whether that is the recorded one.
