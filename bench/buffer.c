@@ -123,8 +123,8 @@ static void pushes(host *h, size_t by) {
     }
 }
 
-/* The area is filled to its end, then a turn drops all rows but `held`: its left row matches the last row that is dropped
-   no more. The next push passes the end; the one after that does not. */
+/* The area is filled to its end, then a turn drops all rows but `held`. The next push passes the end; the one after that
+   does not. */
 static void move(host *h, size_t by, size_t held, size_t rows) {
     rowkeeper_turned t;
     start(h, by, ROWKEEPER_BACKWARD);

@@ -5,8 +5,8 @@
 //! GROUPS 0: no by-column, else one with so many groups. STRATEGY: backward, forward or nearest. CHECK: on or off. FEED:
 //! `wanted` hands in a right frame where a turn wants one, `first` hands in all right rows before the first turn. Both
 //! tables have ROWS rows. Prints the medians of RUNS runs: nanoseconds of the walk, of the port and of one pass over the
-//! words of all frames, then the left rows that matched. All matches of the two are compared in every run: where one
-//! differs the program says which and ends with status 1.
+//! words of all frames; then the right rows that were held at a turn that wrote, on average. All matches of the two are
+//! compared in every run: where one differs the program says which and ends with status 1.
 use std::hint::black_box;
 use std::time::Instant;
 
@@ -117,6 +117,9 @@ struct Host {
     right: Vec<i64>,
     output: Vec<i64>,
     written: usize,
+    /// Turns that wrote, and the right rows that were held at them.
+    turns: u64,
+    held: u64,
 }
 
 impl Host {
@@ -139,6 +142,8 @@ impl Host {
             right: vec![0; 2 * room * (by + 1)],
             output: vec![0; 2 * turns + 2 * case.rows],
             written: 0,
+            turns: 0,
+            held: 0,
         }
     }
 
@@ -160,10 +165,12 @@ impl Host {
     /// A turn, which writes behind the one before; its answer.
     fn turn(&mut self) -> u64 {
         let t = raw::safe::turn(self.join, &self.left, &self.right, &mut self.output[self.written..]);
-        self.join = t.join;
         if t.answer == WROTE {
             self.written += 2 + 2 * self.output[self.written] as usize;
+            self.turns += 1;
+            self.held += self.join.held;
         }
+        self.join = t.join;
         t.answer
     }
 
@@ -248,7 +255,7 @@ fn main() {
     let Some(case) = case_of(&words) else { die(2, "wants GROUPS STRATEGY CHECK FEED ROWS RUNS") };
     let (left, right) = (make_table(case.rows, case.groups, 1), make_table(case.rows, case.groups, 2));
     let (left_frames, right_frames) = (make_frames(&left), make_frames(&right));
-    let (mut walks, mut ports, mut passes, mut matched) = (vec![], vec![], vec![], 0);
+    let (mut walks, mut ports, mut passes, mut held) = (vec![], vec![], vec![], 0);
     for _ in 0..case.runs {
         let (walked, walk_time) = timed(|| walk(&left, &right, case.strategy));
         let mut host = Host::open(&case);
@@ -256,10 +263,10 @@ fn main() {
         let pass = || one_pass(&left_frames, black_box(i64::MIN)) | one_pass(&right_frames, black_box(i64::MIN));
         let (_, pass_time) = timed(pass);
         compare(&walked, &host.matches());
-        matched = walked.iter().filter(|number| **number >= 0).count();
+        held = host.held / host.turns.max(1);
         walks.push(walk_time);
         ports.push(port_time);
         passes.push(pass_time);
     }
-    println!("{} {} {} {matched}", median(walks), median(ports), median(passes));
+    println!("{} {} {} {held}", median(walks), median(ports), median(passes));
 }

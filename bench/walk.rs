@@ -65,7 +65,11 @@ fn nearest(left: &[i64], right: &[i64], first: usize, matches: &mut Vec<i64>) {
             at += 1;
         }
         let after_is_nearer = at > 0 && at < right.len() && right[at].abs_diff(*key) <= key.abs_diff(right[at - 1]);
-        let row = if at < right.len() && (at == 0 || after_is_nearer) { Some(last_equal(right, at)) } else { at.checked_sub(1) };
+        let row = if at < right.len() && (at == 0 || after_is_nearer) {
+            Some(last_equal(right, at))
+        } else {
+            at.checked_sub(1)
+        };
         matches.push(row.map_or(-1, |row| (first + row) as i64));
     }
 }
