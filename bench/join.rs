@@ -1,0 +1,272 @@
+//! The port, through its C interface, beside a plain Rust walk over the same rows.
+//!
+//!     join GROUPS STRATEGY CHECK FEED ROWS RUNS
+//!
+//! GROUPS 0: no by-column, else one with so many groups. STRATEGY: backward, forward or nearest. CHECK: on or off. FEED:
+//! `wanted` hands in a right frame where a turn wants one, `first` hands in all right rows before the first turn. Both
+//! tables have ROWS rows. Prints the medians of RUNS runs: nanoseconds of the walk, of the port and of one pass over the
+//! words of all frames; then the right rows that were held at a turn that wrote, on average. All matches of the two are
+//! compared in every run: where one differs the program says which and ends with status 1.
+use std::hint::black_box;
+use std::time::Instant;
+
+#[path = "../bindings/rust/src/raw.rs"]
+#[allow(dead_code)]
+mod raw;
+
+mod walk;
+
+use walk::{Strategy, Table, walk};
+
+/// Rows in a frame.
+const FRAME_ROWS: usize = 4096;
+/// Right rows that the right area has room for where right frames come as they are wanted: four frames.
+const WANTED_ROOM: usize = 4 * FRAME_ROWS;
+/// The answers of a turn.
+const WROTE: u64 = 0;
+const WANTS_RIGHT: u64 = 1;
+const IDLE: u64 = 2;
+
+/// What a run is asked to do.
+struct Case {
+    groups: usize,
+    strategy: Strategy,
+    check: bool,
+    right_first: bool,
+    rows: usize,
+    runs: usize,
+}
+
+/// Ends the program with one line.
+fn die(status: i32, why: &str) -> ! {
+    eprintln!("join: {why}");
+    std::process::exit(status)
+}
+
+/// The case of the arguments, or none where they are none.
+fn case_of(words: &[String]) -> Option<Case> {
+    let [groups, strategy, check, feed, rows, runs] = words else { return None };
+    let one_of = |word: &str, no: &str, yes: &str| [no, yes].iter().position(|w| *w == word).map(|i| i == 1);
+    let case = Case {
+        groups: groups.parse().ok()?,
+        strategy: Strategy::of_name(strategy)?,
+        check: one_of(check, "off", "on")?,
+        right_first: one_of(feed, "wanted", "first")?,
+        rows: rows.parse().ok()?,
+        runs: runs.parse().ok()?,
+    };
+    (case.runs > 0).then_some(case)
+}
+
+/// Numbers that look random and are the same in every run (xorshift).
+struct Random(u64);
+
+impl Random {
+    /// The next number below a bound.
+    fn below(&mut self, bound: u64) -> u64 {
+        self.0 ^= self.0 << 13;
+        self.0 ^= self.0 >> 7;
+        self.0 ^= self.0 << 17;
+        self.0 % bound
+    }
+}
+
+/// A sorted table: its rows in groups of equal size, in each of which the key goes up by 0 to 6 from row to row.
+fn make_table(rows: usize, groups: usize, seed: u64) -> Table {
+    let mut random = Random(seed);
+    let size = rows.div_ceil(groups.max(1));
+    let mut table = Table { groups: vec![], keys: vec![] };
+    let mut key = 0;
+    for row in 0..rows {
+        if row % size == 0 {
+            key = 0;
+        }
+        key += random.below(7) as i64;
+        table.keys.push(key);
+        if groups > 0 {
+            table.groups.push((row / size) as i64);
+        }
+    }
+    table
+}
+
+/// Rows from..to of a table as a frame: n, c, the values row by row, the marks.
+fn make_frame(table: &Table, from: usize, to: usize) -> Vec<i64> {
+    let columns = if table.groups.is_empty() { 1 } else { 2 };
+    let mut frame = vec![(to - from) as i64, columns as i64];
+    for row in from..to {
+        if columns == 2 {
+            frame.push(table.groups[row]);
+        }
+        frame.push(table.keys[row]);
+    }
+    frame.resize(2 + 2 * (to - from) * columns, 1);
+    frame
+}
+
+/// A table cut into frames.
+fn make_frames(table: &Table) -> Vec<Vec<i64>> {
+    let rows = table.keys.len();
+    (0..rows).step_by(FRAME_ROWS).map(|from| make_frame(table, from, rows.min(from + FRAME_ROWS))).collect()
+}
+
+/// A join with its areas, and what its turns wrote, back to back.
+struct Host {
+    join: raw::Join,
+    left: Vec<i64>,
+    right: Vec<i64>,
+    output: Vec<i64>,
+    written: usize,
+    /// Turns that wrote, and the right rows that were held at them.
+    turns: u64,
+    held: u64,
+}
+
+impl Host {
+    /// Opens a join. All memory is there before the first call.
+    fn open(case: &Case) -> Host {
+        let by = (case.groups > 0) as usize;
+        let options = raw::Options {
+            by: by as u64,
+            strategy: case.strategy as u64,
+            allow_eq: 1,
+            tolerance: -1,
+            check: case.check as u64,
+            ..raw::Options::default()
+        };
+        let room = if case.right_first { case.rows } else { WANTED_ROOM };
+        let turns = case.rows.div_ceil(FRAME_ROWS);
+        Host {
+            join: took(raw::rowkeeper_open(options)),
+            left: vec![0; 2 + 2 * FRAME_ROWS * (by + 1)],
+            right: vec![0; 2 * room * (by + 1)],
+            output: vec![0; 2 * turns + 2 * case.rows],
+            written: 0,
+            turns: 0,
+            held: 0,
+        }
+    }
+
+    /// Hands in a right frame.
+    fn right(&mut self, frame: &[i64]) {
+        self.join = took(raw::safe::right(self.join, &self.left, &mut self.right, frame));
+    }
+
+    /// Hands in a left frame.
+    fn left(&mut self, frame: &[i64]) {
+        self.join = took(raw::safe::left(self.join, &mut self.left, &self.right, frame));
+    }
+
+    /// Ends right.
+    fn end_right(&mut self) {
+        self.join = took(raw::safe::end_right(self.join, &self.left, &self.right));
+    }
+
+    /// A turn, which writes behind the one before; its answer.
+    fn turn(&mut self) -> u64 {
+        let t = raw::safe::turn(self.join, &self.left, &self.right, &mut self.output[self.written..]);
+        if t.answer == WROTE {
+            self.written += 2 + 2 * self.output[self.written] as usize;
+            self.turns += 1;
+            self.held += self.join.held;
+        }
+        self.join = t.join;
+        t.answer
+    }
+
+    /// What was written, as the walk tells it: a right row's number for each left row, -1 for none.
+    fn matches(&self) -> Vec<i64> {
+        let mut matches = vec![];
+        let mut at = 0;
+        while at < self.written {
+            let n = self.output[at] as usize;
+            let (numbers, marks) = self.output[at + 2..at + 2 + 2 * n].split_at(n);
+            matches.extend(numbers.iter().zip(marks).map(|(number, mark)| if *mark == 1 { *number } else { -1 }));
+            at += 2 + 2 * n;
+        }
+        matches
+    }
+}
+
+/// The join of a call that must be accepted.
+fn took(t: raw::Took) -> raw::Join {
+    if t.refusal != 0 {
+        die(1, &format!("a call is refused by {}", t.refusal));
+    }
+    t.join
+}
+
+/// Makes turns until every left frame is written: the next right frame where one is wanted, the next left frame where none
+/// waits.
+fn run_port(host: &mut Host, case: &Case, left: &[Vec<i64>], right: &[Vec<i64>]) {
+    let (mut lefts, mut rights) = (left.iter(), right.iter());
+    if case.right_first {
+        rights.by_ref().for_each(|frame| host.right(frame));
+        host.end_right();
+    }
+    loop {
+        match host.turn() {
+            WROTE => {},
+            WANTS_RIGHT => match rights.next() {
+                Some(frame) => host.right(frame),
+                None => host.end_right(),
+            },
+            IDLE => match lefts.next() {
+                Some(frame) => host.left(frame),
+                None => return,
+            },
+            _ => die(1, "a turn is refused"),
+        }
+    }
+}
+
+/// One pass over the words of the frames: each is read and compared once. It finds none of them.
+#[inline(never)]
+fn one_pass(frames: &[Vec<i64>], sought: i64) -> bool {
+    frames.iter().any(|frame| frame.contains(&sought))
+}
+
+/// What a call returns, and how many nanoseconds it took.
+fn timed<T>(call: impl FnOnce() -> T) -> (T, u128) {
+    let start = Instant::now();
+    let returned = black_box(call());
+    (returned, start.elapsed().as_nanos())
+}
+
+/// The middle one of an odd number of numbers, the lower middle one of an even number.
+fn median(mut numbers: Vec<u128>) -> u128 {
+    numbers.sort_unstable();
+    numbers[(numbers.len() - 1) / 2]
+}
+
+/// Ends the program where a match differs.
+fn compare(walked: &[i64], matched: &[i64]) {
+    if walked.len() != matched.len() {
+        die(1, &format!("{} rows by the walk, {} by the port", walked.len(), matched.len()));
+    }
+    if let Some(row) = (0..walked.len()).find(|row| walked[*row] != matched[*row]) {
+        die(1, &format!("left row {row}: {} by the walk, {} by the port", walked[row], matched[row]));
+    }
+}
+
+/// Runs the case and prints its medians.
+fn main() {
+    let words: Vec<String> = std::env::args().skip(1).collect();
+    let Some(case) = case_of(&words) else { die(2, "wants GROUPS STRATEGY CHECK FEED ROWS RUNS") };
+    let (left, right) = (make_table(case.rows, case.groups, 1), make_table(case.rows, case.groups, 2));
+    let (left_frames, right_frames) = (make_frames(&left), make_frames(&right));
+    let (mut walks, mut ports, mut passes, mut held) = (vec![], vec![], vec![], 0);
+    for _ in 0..case.runs {
+        let (walked, walk_time) = timed(|| walk(&left, &right, case.strategy));
+        let mut host = Host::open(&case);
+        let ((), port_time) = timed(|| run_port(&mut host, &case, &left_frames, &right_frames));
+        let pass = || one_pass(&left_frames, black_box(i64::MIN)) | one_pass(&right_frames, black_box(i64::MIN));
+        let (_, pass_time) = timed(pass);
+        compare(&walked, &host.matches());
+        held = host.held / host.turns.max(1);
+        walks.push(walk_time);
+        ports.push(port_time);
+        passes.push(pass_time);
+    }
+    println!("{} {} {} {held}", median(walks), median(ports), median(passes));
+}
