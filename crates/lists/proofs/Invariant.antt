@@ -15,7 +15,7 @@ use Rattle.frames.specs.Options.{columns, badOptions}
 use Rattle.frames.specs.declared.Options.{Options}
 use Rattle.frames.proofs.FrameLaws.{frame-length}
 use Rattle.buffer.specs.Area.{capacity}
-use Rattle.node.proofs.Tests.{past}
+use Rattle.node.proofs.Good.{left-taken, right-taken}
 use Rattle.node.specs.declared.Join.{Join}
 use Rattle.node.specs.declared.NodeState.{NodeState}
 use Rattle.node.specs.declared.NodeState.the-variants.{Running, Flush, Done}
@@ -128,10 +128,6 @@ plain6 = record { not2 = refl; not8 = refl; not9 = refl }
 
 abbrev plain7 : Plain 7
 plain7 = record { not2 = refl; not8 = refl; not9 = refl }
-
--- Refused and accepted are two answers.
-took-apart : (n : Refusal) → _≡_ {A = Took} (Refused n) Accepted → ⊥
-took-apart n e = let z : _≡_ {A = ℕ} 0 1 = cc in omega arith
 
 -- ---- the rule of the ports, for the node's state: ps and pl say that send and left came Done, none that no word waits, before that left came Done earlier
 pub record Moves (t : NodeState) (ps pl none before : Bool) (u : NodeState) : Type 0 where
@@ -253,17 +249,7 @@ module _ (o : Options) (l r : Words) (allowed : badOptions o ≡ false) (es : Li
     pub room : j .«queue_words» + length f ≤ length (w .left)
 
   pub left-passed : (f : Words) → leftAnswer j (w .left) (w .right) f ≡ Accepted → LeftPassed f
-  unfolding leftAnswer
-  left-passed f e =
-      let p2 = past (badJoin j (w .left) (w .right)) (Refused BadJoin) _ Accepted (took-apart BadJoin) e in
-      let p3 = past (j .failed) (Refused Failed) _ Accepted (took-apart Failed) (p2 .1) in
-      let p4 = past (not (isRunning (j .state))) (Refused Closed) _ Accepted (took-apart Closed) (p3 .1) in
-      let p5 = past (not (isFrame (widthOf j) f)) (Refused BadFrame) _ Accepted (took-apart BadFrame) (p4 .1) in
-      let p6 = past (ltb (length (w .left)) (j .«queue_words» + length f)) (Refused NoRoom) Accepted Accepted (took-apart NoRoom) (p5 .1) in
-      record {
-        frame = rw (s .options) at (not-false (isFrame (widthOf j) f) (p5 .0));
-        room = ltb-false (length (w .left)) (j .«queue_words» + length f) (p6 .0);
-      }
+  left-passed f e = let t = left-taken j (w .left) (w .right) f e in record { frame = rw (s .options) at (t .frame); room = t .room }
 
   inv-queued : (f : Words) → LeftPassed f
       → Inv o l r (es ++ (onLeft f (queued j (w .left) (w .right) f .answer) ∷ []))
@@ -303,20 +289,9 @@ module _ (o : Options) (l r : Words) (allowed : badOptions o ≡ false) (es : Li
     pub few : j .pruned + j .held + rowCount f ≤ mostRows
 
   pub right-passed : (f : Words) → rightAnswer j (w .left) (w .right) f ≡ Accepted → RightPassed f
-  unfolding rightAnswer
   right-passed f e =
-      let p2 = past (badJoin j (w .left) (w .right)) (Refused BadJoin) _ Accepted (took-apart BadJoin) e in
-      let p3 = past (j .failed) (Refused Failed) _ Accepted (took-apart Failed) (p2 .1) in
-      let p4 = past (j .«right_ended» || isDone (j .state)) (Refused Closed) _ Accepted (took-apart Closed) (p3 .1) in
-      let p5 = past (not (isFrame (widthOf j) f)) (Refused BadFrame) _ Accepted (took-apart BadFrame) (p4 .1) in
-      let p6 = past (ltb (capacity (widthOf j) (w .right)) (j .held + rowCount f)) (Refused NoRoom) _ Accepted (took-apart NoRoom) (p5 .1) in
-      let p7 = past (ltb mostRows (j .pruned + j .held + rowCount f)) (Refused UsedUp) Accepted Accepted (took-apart UsedUp) (p6 .1) in
-      record {
-        unended = p4 .0;
-        frame = rw (s .options) at (not-false (isFrame (widthOf j) f) (p5 .0));
-        room = rw (s .options) at (ltb-false (capacity (widthOf j) (w .right)) (j .held + rowCount f) (p6 .0));
-        few = ltb-false mostRows (j .pruned + j .held + rowCount f) (p7 .0);
-      }
+      let t = right-taken j (w .left) (w .right) f e in
+      record { unended = t .unended; frame = rw (s .options) at (t .frame); room = rw (s .options) at (t .room); few = t .rows }
 
   inv-pushed : (f : Words) → RightPassed f
       → Inv o l r (es ++ (onRight f (pushedRight j (w .left) (w .right) f .answer) ∷ []))
