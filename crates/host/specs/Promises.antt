@@ -48,7 +48,7 @@ pub record Kept (h : HostJoin) (left right : Words) : Type 0 where
   pub by-ports : (l r s : ℕ) (n : Refusal) → portsHost h left right l r s .answer ≡ PortsRefused n → portsHost h left right l r s ≡ afterHost (PortsRefused n) h left right []
   pub by-turn : (out : Words) (a : Answer) → stays a ≡ true → turnHost h left right out .answer ≡ a → turnHost h left right out ≡ afterHost a h left right out
 
--- Every call answers 2 to the join of a refused opening.
+-- Every call answers 2 to the join of a refused opening; of a run, which is made of turns, nothing is said here.
 pub record Shut (h : HostJoin) (left right : Words) : Type 0 where
   pub by-left : (f : Words) → leftHost h left right f .answer ≡ Refused BadJoin
   pub by-right : (f : Words) → rightHost h left right f .answer ≡ Refused BadJoin

@@ -94,7 +94,7 @@ pub struct HostRan {
     pub join: HostJoin,
 }
 
-// Opens a join. The join of a refused opening holds the options that came, and every call answers 2 to it.
+// Opens a join. The join of a refused opening holds the options that came, and every call but a run of no turns answers 2 to it.
 #[no_mangle]
 pub extern "C" fn rowkeeper_open(h: HostOptions) -> HostTook
     ensures { λ r. ⌜ HostOpenLeaves h r ⌝ }
