@@ -14,7 +14,7 @@ use Rattle.frames.specs.Frame.{rowCount, isFrame, frameRows, front}
 use Rattle.frames.specs.Options.{columns, badOptions}
 use Rattle.frames.specs.declared.Options.{Options}
 use Rattle.frames.proofs.FrameLaws.{frame-length}
-use Rattle.buffer.specs.Area.{capacity}
+use Rattle.area.specs.Area.{capacity}
 use Rattle.node.proofs.Good.{left-taken, right-taken}
 use Rattle.node.specs.declared.Join.{Join}
 use Rattle.node.specs.declared.NodeState.{NodeState}

@@ -11,7 +11,7 @@ use Rattle.frames.specs.Options.{badOptions}
 use Rattle.frames.specs.Order.{cmpFirst, cmpRow, sorted, nullIn}
 use Rattle.frames.specs.Keyed.{firstFrom, lastBelow, recall, remember, rememberLast}
 use Rattle.frames.specs.declared.Options.{Options}
-use Rattle.buffer.specs.Area.{heldRows, movedRows, pushed}
+use Rattle.area.specs.Area.{heldRows, movedRows, pushed}
 use Rattle.buffer.specs.Search.{searchFor, search, find}
 use Rattle.buffer.specs.Reach.{narrowBy, narrow, keyNeedsMore, rowNeedsMore, needMore, splitAt, pruneBy, rowBefore, badSplit}
 use Rattle.matching.specs.Match.{fits, takesOver, choose, tolerate, matchIn}

@@ -15,8 +15,8 @@ use Rattle.frames.specs.declared.Options.{Options}
 use Rattle.frames.specs.declared.Row.{Row}
 use Rattle.frames.proofs.WordLaws.{map-append, drop-take, rows-read, rows-append, rows-drop, rows-length}
 use Rattle.frames.proofs.FrameLaws.{frame-length, values-length, marks-length, frame-rows, count-append}
-use Rattle.buffer.specs.Area.{capacity, heldRows, newBase, pushed, moved, written}
-use Rattle.buffer.proofs.PushLaws.{newBase-room, append-length, append-part, pushed-length, pushed-values, pushed-marks}
+use Rattle.area.specs.Area.{capacity, heldRows, newBase, pushed, moved, written}
+use Rattle.area.proofs.PushLaws.{newBase-room, append-length, append-part, pushed-length, pushed-values, pushed-marks}
 use Rattle.matching.specs.declared.Choice.{Choice}
 use Rattle.matching.specs.Answer.{answered, numberWord, choiceMark}
 use Rattle.matching.proofs.AnswerLaws.{answered-count, answered-numbers, answered-marks}

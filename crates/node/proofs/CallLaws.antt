@@ -7,7 +7,7 @@ use lib.Dec.{ltb}
 use lib.ListN.{length}
 use Rattle.frames.specs.Cells.{Words}
 use Rattle.frames.specs.Frame.{rowCount, isFrame}
-use Rattle.buffer.specs.Area.{capacity, newBase, pushed, moved, written}
+use Rattle.area.specs.Area.{capacity, newBase, pushed, moved, written}
 use Rattle.node.specs.State.{queueAt, heldAt, stateAt, endedRight, isDone, widthOf, mostRows, badJoin}
 use Rattle.node.specs.Calls.{leftAnswer, leftCall, queued, rightAnswer, rightCall, pushedRight, endAnswer, endCall, portsIn, portsState, portsAnswer, portsCall}
 use Rattle.node.specs.Leaves.{LeftLeaves, RightLeaves, EndLeaves, PortsLeaves}

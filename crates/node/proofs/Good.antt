@@ -13,7 +13,7 @@ use Rattle.frames.specs.Options.{badOptions}
 use Rattle.frames.specs.Room.{HasCount}
 use Rattle.frames.specs.declared.Options.{Options}
 use Rattle.frames.proofs.FrontLaws.{frame-parts}
-use Rattle.buffer.specs.Area.{capacity}
+use Rattle.area.specs.Area.{capacity}
 use Rattle.node.specs.State.{fresh, isRunning, isDone, widthOf, mostRows, lastSequence, badJoin, overRight, overLeft, overRows, oddSequence}
 use Rattle.node.specs.Calls.{leftAnswer, rightAnswer, endAnswer}
 use Rattle.node.specs.declared.Join.{Join}

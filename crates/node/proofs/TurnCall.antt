@@ -11,10 +11,10 @@ use Rattle.frames.specs.Frame.{isFrame, frameRows, front}
 use Rattle.frames.specs.Front.{frontOf}
 use Rattle.frames.specs.declared.Front.the-variants.{Words as Long, Nothing}
 use Rattle.frames.proofs.FrontLaws.{Fronted, front-told}
-use Rattle.buffer.specs.Area.{capacity}
+use Rattle.area.specs.Area.{capacity}
 use Rattle.buffer.specs.Reach.{needMore}
-use Rattle.buffer.proofs.PushLaws.{capacity-room}
-use Rattle.buffer.proofs.AreaLaws.{rows-words}
+use Rattle.area.proofs.PushLaws.{capacity-room}
+use Rattle.area.proofs.AreaLaws.{rows-words}
 use Rattle.matching.specs.Groups.{matchFrame}
 use Rattle.matching.specs.Answer.{answered}
 use Rattle.matching.proofs.ChoiceLaws.{cond-ind}

@@ -17,11 +17,12 @@ use Rattle.frames.specs.declared.Row.{Row}
 use Rattle.frames.proofs.WordLaws.{rows-length, rows-drop}
 use Rattle.frames.proofs.FrontLaws.{frame-parts, values-part, marks-part}
 use Rattle.buffer.specs.Reach.{needMore, pruneBy, noPrune, badSplit}
-use Rattle.buffer.specs.Room.{BaseIn, LastIn}
-use Rattle.buffer.specs.Area.{capacity, heldRows}
-use Rattle.buffer.proofs.AreaLaws.{held-in}
+use Rattle.area.specs.Room.{BaseIn}
+use Rattle.splits.specs.Room.{LastIn}
+use Rattle.area.specs.Area.{capacity, heldRows}
+use Rattle.area.proofs.AreaLaws.{held-in}
 use Rattle.buffer.proofs.SplitLaw.{split-within}
-use Rattle.buffer.proofs.BeforeLaws.{bad-split-is, rows-take}
+use Rattle.splits.proofs.BeforeLaws.{bad-split-is, rows-take}
 use Rattle.matching.proofs.ChoiceLaws.{cond-ind}
 use Rattle.node.specs.State.{heldOf, nextTurn, markedFailed, lastSequence, widthOf}
 use Rattle.node.specs.Calls.{wrote, badLeft, badRight, firstPrune, remembered, dropped, dequeued, spoiled}

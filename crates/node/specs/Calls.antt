@@ -11,7 +11,7 @@ use Rattle.frames.specs.Order.{sorted}
 use Rattle.frames.specs.Keyed.{firstKeyed, rowAt, recall, rememberLast, outOfOrder}
 use Rattle.frames.specs.declared.Options.{Options}
 use Rattle.frames.specs.declared.Row.{Row}
-use Rattle.buffer.specs.Area.{capacity, newBase, pushed, moved, written}
+use Rattle.area.specs.Area.{capacity, newBase, pushed, moved, written}
 use Rattle.buffer.specs.Reach.{needMore, pruneBy, badSplit}
 use Rattle.matching.specs.Groups.{matchFrame}
 use Rattle.matching.specs.Answer.{answered}

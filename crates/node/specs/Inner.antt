@@ -12,9 +12,9 @@ use Rattle.frames.specs.Order.{sorted}
 use Rattle.frames.specs.Room.{RowsIn}
 use Rattle.frames.specs.declared.Options.{Options}
 use Rattle.frames.specs.declared.Row.{Row}
-use Rattle.buffer.specs.Area.{capacity}
+use Rattle.area.specs.Area.{capacity}
 use Rattle.buffer.specs.Reach.{needMore, pruneBy, noPrune}
-use Rattle.buffer.specs.Split.{outOfOrderAt}
+use Rattle.splits.specs.Split.{outOfOrderAt}
 use Rattle.matching.specs.Groups.{matchFrame}
 use Rattle.matching.specs.Answer.{answered}
 use Rattle.node.specs.State.{nextTurn, isDone, widthOf, mostRows, lastSequence, badJoin}

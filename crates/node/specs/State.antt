@@ -8,7 +8,7 @@ use Rattle.frames.specs.Options.{badOptions, columns}
 use Rattle.frames.specs.Keyed.{noRow}
 use Rattle.frames.specs.declared.Options.{Options}
 use Rattle.frames.specs.declared.Row.{Row}
-use Rattle.buffer.specs.Area.{capacity, heldRows}
+use Rattle.area.specs.Area.{capacity, heldRows}
 use Rattle.node.specs.declared.Join.{Join}
 use Rattle.node.specs.declared.NodeState.{NodeState}
 use Rattle.node.specs.declared.NodeState.the-variants.{Running, Flush, Done}

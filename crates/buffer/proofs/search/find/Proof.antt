@@ -10,7 +10,7 @@ use Rattle.frames.specs.Cells.{Cell, cellOf, rowsOf}
 use Rattle.frames.specs.Options.{Rule}
 use Rattle.frames.proofs.RowLaws.{row-room}
 use Rattle.buffer.specs.Search.{find}
-use Rattle.buffer.proofs.AreaLaws.{rows-words}
+use Rattle.area.proofs.AreaLaws.{rows-words}
 use Rattle.buffer.proofs.FindLaws.{held-cell, Met, find-true, find-false, find-end}
 use Rattle.buffer.proofs.search.find.Statement.{statement}
 use Rattle.buffer.proofs.search.find.Tie as tie

@@ -3,7 +3,7 @@ use Rattle.host.proofs.answers.fresh_host.Statement.{statement}
 use Rattle.host.proofs.answers.fresh_host.Tie as tie
 use Rattle.host.proofs.answers.fresh_host.Reads as reads
 use Rattle.host.proofs.answers.fresh_host.Lts as lts
-use Rattle.order.proofs.no_row.Reads as no-row-reads
+use Rattle.keyed.proofs.no_row.Reads as no-row-reads
 use Rattle.host.proofs.convert.encode_row.Reads as encode-row-reads
 
 no-row-requires : tie.Need-no-row-requires

@@ -8,7 +8,7 @@ use Rattle.node.proofs.Join.left.Statement.{statement}
 use Rattle.node.proofs.Join.left.Tie as tie
 use Rattle.node.proofs.Join.left.Reads as reads
 use Rattle.node.proofs.Join.left.Lts as lts
-use Rattle.buffer.proofs.append.Reads as append-reads
+use Rattle.area.proofs.append.Reads as append-reads
 use Rattle.node.proofs.judge.judge_left.Reads as judge-left-reads
 use Rattle.node.proofs.judge.kept.Reads as kept-reads
 

@@ -9,7 +9,7 @@ use Rattle.node.proofs.Join.right.Statement.{statement}
 use Rattle.node.proofs.Join.right.Tie as tie
 use Rattle.node.proofs.Join.right.Reads as reads
 use Rattle.node.proofs.Join.right.Lts as lts
-use Rattle.buffer.proofs.push.Reads as push-reads
+use Rattle.area.proofs.push.Reads as push-reads
 use Rattle.frames.proofs.row_count.Reads as row-count-reads
 use Rattle.node.proofs.judge.judge_right.Reads as judge-right-reads
 use Rattle.node.proofs.judge.kept.Reads as kept-reads

@@ -6,7 +6,7 @@ use borrow.Author.Tests.{not-false}
 use denote.Ref.{now}
 use lib.Dec.{ltb}
 use Rattle.frames.specs.Frame.{isFrame, rowCount}
-use Rattle.buffer.specs.Area.{capacity}
+use Rattle.area.specs.Area.{capacity}
 use Rattle.node.specs.State.{widthOf, mostRows}
 use Rattle.node.specs.Calls.{rightAnswer, endAnswer}
 use Rattle.node.specs.declared.Took.the-variants.{Accepted}

@@ -5,7 +5,7 @@ use Rattle.node.proofs.turn.bad_left.Statement.{statement}
 use Rattle.node.proofs.turn.bad_left.Tie as tie
 use Rattle.node.proofs.turn.bad_left.Reads as reads
 use Rattle.node.proofs.turn.bad_left.Lts as lts
-use Rattle.buffer.proofs.out_of_order.Reads as out-of-order-reads
+use Rattle.splits.proofs.out_of_order.Reads as out-of-order-reads
 use Rattle.order.proofs.is_sorted.Reads as is-sorted-reads
 use Rattle.node.proofs.turn.checks.Reads as checks-reads
 

@@ -6,7 +6,7 @@ use Rattle.node.proofs.turn.bad_right.Statement.{statement}
 use Rattle.node.proofs.turn.bad_right.Tie as tie
 use Rattle.node.proofs.turn.bad_right.Reads as reads
 use Rattle.node.proofs.turn.bad_right.Lts as lts
-use Rattle.buffer.proofs.bad_split.Reads as bad-split-reads
+use Rattle.splits.proofs.bad_split.Reads as bad-split-reads
 use Rattle.order.proofs.is_sorted.Reads as is-sorted-reads
 use Rattle.node.proofs.turn.checks.Reads as checks-reads
 

@@ -1,6 +1,6 @@
 use Prim.Native.Nat.{_*_}
 use denote.Ref.{now}
-use Rattle.buffer.proofs.AreaLaws.{to-end}
+use Rattle.area.proofs.AreaLaws.{to-end}
 use borrow.Author.Needs.{needs}
 use Rattle.node.proofs.turn.from_row.Statement.{statement}
 use Rattle.node.proofs.turn.from_row.Tie as tie

@@ -5,7 +5,7 @@ use Rattle.node.proofs.turn.remembered.Statement.{statement}
 use Rattle.node.proofs.turn.remembered.Tie as tie
 use Rattle.node.proofs.turn.remembered.Reads as reads
 use Rattle.node.proofs.turn.remembered.Lts as lts
-use Rattle.buffer.proofs.remember_last.Reads as remember-last-reads
+use Rattle.splits.proofs.remember_last.Reads as remember-last-reads
 use Rattle.node.proofs.turn.checks.Reads as checks-reads
 
 checks-requires : tie.Need-checks-requires

@@ -11,8 +11,8 @@ use Rattle.node.proofs.turn.turn_frame.Statement.{statement}
 use Rattle.node.proofs.turn.turn_frame.Tie as tie
 use Rattle.node.proofs.turn.turn_frame.Reads as reads
 use Rattle.node.proofs.turn.turn_frame.Lts as lts
-use Rattle.buffer.proofs.held_marks.Reads as held-marks-reads
-use Rattle.buffer.proofs.held_values.Reads as held-values-reads
+use Rattle.area.proofs.held_marks.Reads as held-marks-reads
+use Rattle.area.proofs.held_values.Reads as held-values-reads
 use Rattle.frames.proofs.row_count.Reads as row-count-reads
 use Rattle.node.proofs.turn.turn_rows.Reads as turn-rows-reads
 
