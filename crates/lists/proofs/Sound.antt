@@ -30,8 +30,8 @@ use Rattle.matching.specs.declared.Choice.{Choice}
 use Rattle.matching.specs.Match.{matchTable}
 use Rattle.matching.specs.Answer.{answered}
 use Rattle.matching.specs.Groups.{matchFrame}
-use Rattle.matching.proofs.PruneLaw.{prune-keeps}
-use Rattle.matching.proofs.EnoughLaw.{enough-keeps}
+use Rattle.lists.proofs.PruneLaw.{prune-keeps}
+use Rattle.lists.proofs.EnoughLaw.{enough-keeps}
 use Rattle.matching.proofs.GroupLaws.{frame-match}
 use Rattle.node.specs.declared.Join.{Join}
 use Rattle.node.specs.Calls.{badLeft, badRight, firstPrune, remembered, dropped, dequeued}
