@@ -7,14 +7,15 @@ use Prim.Native.Nat.{ℕ}
 use Rattle.frames.specs.Cells.{Words}
 use Rattle.node.specs.State.{fresh}
 use Rattle.node.specs.Calls.{After, openAnswer, leftCall, rightCall, endCall, portsCall, turnCall}
-use Rattle.node.specs.Run.{runCall}
-use Rattle.node.specs.Leaves.{LeftLeaves, RightLeaves, EndLeaves, PortsLeaves, TurnLeaves, RunLeaves}
+use Rattle.runs.specs.Run.{runCall}
+use Rattle.node.specs.Leaves.{LeftLeaves, RightLeaves, EndLeaves, PortsLeaves, TurnLeaves}
+use Rattle.runs.specs.RunLeaves.{RunLeaves}
 use Rattle.node.specs.declared.Join.{Join}
 use Rattle.node.specs.declared.PortState.{PortState}
 use Rattle.node.specs.declared.TookJoin.{TookJoin}
 use Rattle.node.specs.declared.PortedJoin.{PortedJoin}
 use Rattle.node.specs.declared.TurnedJoin.{TurnedJoin}
-use Rattle.node.specs.declared.RanJoin.{RanJoin}
+use Rattle.runs.specs.declared.RanJoin.{RanJoin}
 use Rattle.node.specs.declared.Refusal.the-variants.{BadOptions, BadJoin}
 use Rattle.node.specs.declared.Took.{Took}
 use Rattle.node.specs.declared.Took.the-variants.{Refused}

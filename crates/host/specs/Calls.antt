@@ -7,12 +7,12 @@ use Rattle.frames.specs.Cells.{Words}
 use Rattle.frames.specs.Keyed.{noRow}
 use Rattle.node.specs.State.{number, stateCode, portCode, fresh}
 use Rattle.node.specs.Calls.{After, after, openAnswer, leftCall, rightCall, endCall, portsCall, turnCall}
-use Rattle.node.specs.Run.{Ran, runCall}
+use Rattle.runs.specs.Run.{Ran, runCall}
 use Rattle.node.specs.declared.Join.{Join}
 use Rattle.node.specs.declared.NodeState.the-variants.{Running}
 use Rattle.node.specs.declared.Refusal.the-variants.{BadOptions, BadJoin}
-use Rattle.node.specs.declared.Stop.{Stop}
-use Rattle.node.specs.declared.Stop.the-variants.{Refused as StopRefused}
+use Rattle.runs.specs.declared.Stop.{Stop}
+use Rattle.runs.specs.declared.Stop.the-variants.{Refused as StopRefused}
 use Rattle.node.specs.declared.Took.{Took}
 use Rattle.node.specs.declared.Took.the-variants.{Refused}
 use Rattle.node.specs.declared.Ported.{Ported}

@@ -10,8 +10,8 @@ use Rattle.node.specs.declared.NodeState.{NodeState}
 use Rattle.node.specs.declared.NodeState.the-variants.{Running, Flush, Done}
 use Rattle.node.specs.declared.PortState.{PortState}
 use Rattle.node.specs.declared.PortState.the-variants.{Blocked, Ready, Done as PortDone}
-use Rattle.node.specs.declared.Stop.{Stop}
-use Rattle.node.specs.declared.Stop.the-variants.{Used, WantsRight, Idle, Refused as StopRefused}
+use Rattle.runs.specs.declared.Stop.{Stop}
+use Rattle.runs.specs.declared.Stop.the-variants.{Used, WantsRight, Idle, Refused as StopRefused}
 use Rattle.node.specs.declared.Took.{Took}
 use Rattle.node.specs.declared.Took.the-variants.{Accepted, Refused}
 

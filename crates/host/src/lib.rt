@@ -19,6 +19,7 @@ use convert::is_options;
 use convert::join_of;
 use convert::options_of;
 use node::Join;
+use runs::run;
 ghost use Rattle.host.specs.Leaves.{HostOpenLeaves, HostLeftLeaves, HostRightLeaves, HostEndLeaves, HostPortsLeaves, HostTurnLeaves, HostRunLeaves};
 
 // The options in numbers. A flag is 0 or 1; check is 0 off, 1 on.
@@ -200,7 +201,7 @@ pub extern "C" fn rowkeeper_run(
     ensures { λ r. ⌜ HostRunLeaves h k (now (left .entry)) (now (right .entry)) (now (out .entry)) r (now (out .exit)) ⌝ }
 {
     if is_join(h) {
-        return ran_host(join_of(h).run(k, left, right, out));
+        return ran_host(run(join_of(h), k, left, right, out));
     }
     bad_ran(h)
 }

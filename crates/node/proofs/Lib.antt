@@ -4,4 +4,3 @@ pub mod Tests
 pub mod PortRule
 pub mod TurnLaws
 pub mod TurnCall
-pub mod RunLaws

@@ -9,7 +9,7 @@ use Rattle.host.proofs.answers.bad_ran.Reads as bad-ran-reads
 use Rattle.host.proofs.answers.ran_host.Reads as ran-host-reads
 use Rattle.host.proofs.convert.is_join.Reads as is-join-reads
 use Rattle.host.proofs.convert.join_of.Reads as join-of-reads
-use Rattle.node.proofs.Join.run.Reads as run-reads
+use Rattle.runs.proofs.run.Reads as run-reads
 
 is-join-requires : tie.Need-is-join-requires
 is-join-requires c κs = search needs

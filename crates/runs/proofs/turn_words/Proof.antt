@@ -5,8 +5,8 @@ use lib.ListN.{getD}
 use denote.Ref.{now}
 use borrow.Author.Needs.{needs}
 use Rattle.frames.proofs.FrontLaws.{few-count}
-use Rattle.node.proofs.run.turn_words.Statement.{statement}
-use Rattle.node.proofs.run.turn_words.Tie as tie
+use Rattle.runs.proofs.turn_words.Statement.{statement}
+use Rattle.runs.proofs.turn_words.Tie as tie
 
 row-count-requires : tie.Need-row-count-requires
 row-count-requires c κs = search needs

@@ -4,11 +4,11 @@ use mathlib.Core.Bool.{true}
 use Prim.Native.Nat.{_-_, _<_}
 use native.Mathlib.Omega.{arith}
 use borrow.Author.Tests.{not-true, not-false}
 use Rattle.node.specs.Calls.{wrote}
-use Rattle.node.proofs.RunLaws.{Made, run-starts, put-length, run-stops, run-count, run-within, run-more, run-used}
+use Rattle.runs.proofs.RunLaws.{Made, run-starts, put-length, run-stops, run-count, run-within, run-more, run-used}
 use borrow.Author.Needs.{needs}
-use Rattle.node.proofs.Join.run.Statement.{statement}
-use Rattle.node.proofs.Join.run.Tie as tie
+use Rattle.runs.proofs.run.Statement.{statement}
+use Rattle.runs.proofs.run.Tie as tie
 
 abbrev Inv-loop : tie.InvT-loop
 Inv-loop self₀ k left right out₀ made₀ at₀ self out made at = Made k self₀ left right out₀ made at self out

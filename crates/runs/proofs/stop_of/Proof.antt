@@ -1,6 +1,6 @@
 use borrow.Author.Needs.{needs}
-use Rattle.node.proofs.run.stop_of.Statement.{statement}
-use Rattle.node.proofs.run.stop_of.Tie as tie
+use Rattle.runs.proofs.stop_of.Statement.{statement}
+use Rattle.runs.proofs.stop_of.Tie as tie
 
 enum-told : tie.Need-enum-told
 enum-told c = search needs
