@@ -22,7 +22,7 @@ use Rattle.node.specs.declared.Took.the-variants.{Refused}
 use Rattle.node.specs.declared.Ported.the-variants.{Refused as PortsRefused}
 use Rattle.node.specs.declared.Answer.{Answer}
 use Rattle.node.specs.declared.Answer.the-variants.{Refused as TurnRefused}
-use Rattle.host.specs.Codes.{isCode, portOf}
+use Rattle.codes.specs.Codes.{isCode, portOf}
 use Rattle.host.specs.Convert.{isOptions, optionsOf, decodeOptions, isJoin, joinOf, encode, decode}
 use Rattle.host.specs.Calls.{HostAfter, afterHost, encodeAfter, byJoin, tookHost, portedHost, turnedHost, freshHost, openHost, leftHost, rightHost, endHost, portsHost, turnHost, Made, ranHost, ranAfter, refusedRun, runHost}
 use Rattle.host.specs.Leaves.{HostLeftLeaves, HostRightLeaves, HostEndLeaves, HostPortsLeaves, HostTurnLeaves, HostRunLeaves}

@@ -9,12 +9,12 @@ use lib.Dec.{ltb}
 use Rattle.frames.specs.declared.Options.{Options}
 use Rattle.frames.specs.declared.Row.{Row}
 use Rattle.node.specs.declared.Join.{Join}
-use Rattle.host.specs.Codes.{isFlag, areFlags, isCode}
+use Rattle.codes.specs.Codes.{isFlag, areFlags, isCode}
 use Rattle.host.specs.Convert.{isOptions, optionsOf, encodeOptions, decodeOptions, rowOf, encodeRow, isJoin, joinOf, encode, decode, ThereAndBack}
 use Rattle.host.specs.declared.HostOptions.{HostOptions}
 use Rattle.host.specs.declared.HostRow.{HostRow}
 use Rattle.host.specs.declared.HostJoin.{HostJoin}
-use Rattle.host.proofs.CodeLaws.{and-both, flag-is, flag-back, flag-there, flags-are, flags-back, flags-there, check-is, check-back, check-there, state-is, state-back, state-there}
+use Rattle.codes.proofs.CodeLaws.{and-both, flag-is, flag-back, flag-there, flags-are, flags-back, flags-there, check-is, check-back, check-there, state-is, state-back, state-there}
 
 -- ---- options
 -- What numbers that tell options have: a strategy that a byte holds, and flags.

@@ -22,14 +22,14 @@ use Rattle.node.specs.declared.Ported.the-variants.{Ports, Refused as PortsRefu
 use Rattle.node.specs.declared.Answer.{Answer}
 use Rattle.node.specs.declared.Answer.the-variants.{Wrote, WantsRight, Idle, Refused as TurnRefused}
 use Rattle.node.proofs.Good.{opened-bad}
-use Rattle.host.specs.Codes.{isCode, portOf, tookCode}
+use Rattle.codes.specs.Codes.{isCode, portOf, tookCode}
 use Rattle.host.specs.Convert.{isOptions, optionsOf, decodeOptions, isJoin, joinOf, decode}
 use Rattle.host.specs.Calls.{HostAfter, afterHost, encodeAfter, byJoin, freshHost, openHost, leftHost, rightHost, endHost, portsHost, turnHost}
 use Rattle.host.specs.Promises.{spoils, stays, Shut, Same, Follows, Promises}
 use Rattle.host.specs.declared.HostOptions.{HostOptions}
 use Rattle.host.specs.declared.HostJoin.{HostJoin}
 use Rattle.host.specs.declared.HostTook.{HostTook}
-use Rattle.host.proofs.CodeLaws.{port-is, port-back}
+use Rattle.codes.proofs.CodeLaws.{port-is, port-back}
 use Rattle.host.proofs.ConvertLaws.{join-numbers, join-same, options-parts, decoded-options, Is, decoded, there-and-back}
 use Rattle.host.proofs.CallLaws.{open-bad, open-through, by-none, by-some}
 

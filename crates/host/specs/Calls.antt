@@ -19,7 +19,7 @@ use Rattle.node.specs.declared.Ported.{Ported}
 use Rattle.node.specs.declared.Ported.the-variants.{Ports, Refused as PortsRefused}
 use Rattle.node.specs.declared.Answer.{Answer}
 use Rattle.node.specs.declared.Answer.the-variants.{Wrote, WantsRight, Idle, Refused as TurnRefused}
-use Rattle.host.specs.Codes.{isCode, portOf, tookCode, stopCode, stopRefusal}
+use Rattle.codes.specs.Codes.{isCode, portOf, tookCode, stopCode, stopRefusal}
 use Rattle.host.specs.Convert.{decodeOptions, decode, encode, encodeRow}
 use Rattle.host.specs.declared.HostOptions.{HostOptions}
 use Rattle.host.specs.declared.HostJoin.{HostJoin}

@@ -8,7 +8,7 @@ use Rattle.frames.specs.declared.Options.{Options}
 use Rattle.frames.specs.declared.Row.{Row}
 use Rattle.node.specs.State.{stateCode}
 use Rattle.node.specs.declared.Join.{Join}
-use Rattle.host.specs.Codes.{isFlag, flagOf, flagCode, areFlags, flagsOf, flagCodes, checkOf, checkCode, isCode, stateOf}
+use Rattle.codes.specs.Codes.{isFlag, flagOf, flagCode, areFlags, flagsOf, flagCodes, checkOf, checkCode, isCode, stateOf}
 use Rattle.host.specs.declared.HostOptions.{HostOptions}
 use Rattle.host.specs.declared.HostRow.{HostRow}
 use Rattle.host.specs.declared.HostJoin.{HostJoin}

@@ -1,6 +1,5 @@
 // The join for hosts in C: every call over structs of numbers, all of 64 bits, and words that the host lends.
 mod answers;
-mod codes;
 mod convert;
 
 use answers::bad_ported;

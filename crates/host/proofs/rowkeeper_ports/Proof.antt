@@ -8,8 +8,8 @@ use Rattle.host.proofs.rowkeeper_ports.Reads as reads
 use Rattle.host.proofs.rowkeeper_ports.Lts as lts
 use Rattle.host.proofs.answers.bad_ported.Reads as bad-ported-reads
 use Rattle.host.proofs.answers.ported_host.Reads as ported-host-reads
-use Rattle.host.proofs.codes.are_codes.Reads as are-codes-reads
-use Rattle.host.proofs.codes.port_of.Reads as port-of-reads
+use Rattle.codes.proofs.are_codes.Reads as are-codes-reads
+use Rattle.codes.proofs.port_of.Reads as port-of-reads
 use Rattle.host.proofs.convert.is_join.Reads as is-join-reads
 use Rattle.host.proofs.convert.join_of.Reads as join-of-reads
 use Rattle.node.proofs.Join.ports.Reads as ports-reads

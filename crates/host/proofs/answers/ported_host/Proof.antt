@@ -3,8 +3,8 @@ use Rattle.host.proofs.answers.ported_host.Statement.{statement}
 use Rattle.host.proofs.answers.ported_host.Tie as tie
 use Rattle.host.proofs.answers.ported_host.Reads as reads
 use Rattle.host.proofs.answers.ported_host.Lts as lts
-use Rattle.host.proofs.codes.number_of.Reads as number-of-reads
-use Rattle.host.proofs.codes.port_code.Reads as port-code-reads
+use Rattle.codes.proofs.number_of.Reads as number-of-reads
+use Rattle.codes.proofs.port_code.Reads as port-code-reads
 use Rattle.host.proofs.convert.encode_join.Reads as encode-join-reads
 
 encode-join-requires : tie.Need-encode-join-requires

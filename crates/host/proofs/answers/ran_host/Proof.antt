@@ -3,8 +3,8 @@ use Rattle.host.proofs.answers.ran_host.Statement.{statement}
 use Rattle.host.proofs.answers.ran_host.Tie as tie
 use Rattle.host.proofs.answers.ran_host.Reads as reads
 use Rattle.host.proofs.answers.ran_host.Lts as lts
-use Rattle.host.proofs.codes.stop_code.Reads as stop-code-reads
-use Rattle.host.proofs.codes.stop_refusal.Reads as stop-refusal-reads
+use Rattle.codes.proofs.stop_code.Reads as stop-code-reads
+use Rattle.codes.proofs.stop_refusal.Reads as stop-refusal-reads
 use Rattle.host.proofs.convert.encode_join.Reads as encode-join-reads
 
 encode-join-requires : tie.Need-encode-join-requires

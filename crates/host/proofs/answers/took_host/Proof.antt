@@ -3,7 +3,7 @@ use Rattle.host.proofs.answers.took_host.Statement.{statement}
 use Rattle.host.proofs.answers.took_host.Tie as tie
 use Rattle.host.proofs.answers.took_host.Reads as reads
 use Rattle.host.proofs.answers.took_host.Lts as lts
-use Rattle.host.proofs.codes.took_code.Reads as took-code-reads
+use Rattle.codes.proofs.took_code.Reads as took-code-reads
 use Rattle.host.proofs.convert.encode_join.Reads as encode-join-reads
 
 encode-join-requires : tie.Need-encode-join-requires

@@ -3,8 +3,8 @@ use Rattle.host.proofs.convert.encode_join.Statement.{statement}
 use Rattle.host.proofs.convert.encode_join.Tie as tie
 use Rattle.host.proofs.convert.encode_join.Reads as reads
 use Rattle.host.proofs.convert.encode_join.Lts as lts
-use Rattle.host.proofs.codes.flag_code.Reads as flag-code-reads
-use Rattle.host.proofs.codes.state_code.Reads as state-code-reads
+use Rattle.codes.proofs.flag_code.Reads as flag-code-reads
+use Rattle.codes.proofs.state_code.Reads as state-code-reads
 use Rattle.host.proofs.convert.encode_options.Reads as encode-options-reads
 use Rattle.host.proofs.convert.encode_row.Reads as encode-row-reads
 

@@ -4,9 +4,9 @@ use Rattle.host.proofs.convert.encode_options.Statement.{statement}
 use Rattle.host.proofs.convert.encode_options.Tie as tie
 use Rattle.host.proofs.convert.encode_options.Reads as reads
 use Rattle.host.proofs.convert.encode_options.Lts as lts
-use Rattle.host.proofs.codes.check_code.Reads as check-code-reads
-use Rattle.host.proofs.codes.flag_code.Reads as flag-code-reads
-use Rattle.host.proofs.codes.flag_codes.Reads as flag-codes-reads
+use Rattle.codes.proofs.check_code.Reads as check-code-reads
+use Rattle.codes.proofs.flag_code.Reads as flag-code-reads
+use Rattle.codes.proofs.flag_codes.Reads as flag-codes-reads
 
 flag-codes-requires : tie.Need-flag-codes-requires
 flag-codes-requires c κs = search needs

@@ -3,7 +3,7 @@ use Rattle.host.proofs.convert.encode_row.Statement.{statement}
 use Rattle.host.proofs.convert.encode_row.Tie as tie
 use Rattle.host.proofs.convert.encode_row.Reads as reads
 use Rattle.host.proofs.convert.encode_row.Lts as lts
-use Rattle.host.proofs.codes.flag_code.Reads as flag-code-reads
+use Rattle.codes.proofs.flag_code.Reads as flag-code-reads
 
 flag-code-requires : tie.Need-flag-code-requires
 flag-code-requires c κs = search needs

@@ -4,9 +4,9 @@ use Rattle.host.proofs.convert.is_join.Statement.{statement}
 use Rattle.host.proofs.convert.is_join.Tie as tie
 use Rattle.host.proofs.convert.is_join.Reads as reads
 use Rattle.host.proofs.convert.is_join.Lts as lts
-use Rattle.host.proofs.codes.both.Reads as both-reads
-use Rattle.host.proofs.codes.is_code.Reads as is-code-reads
-use Rattle.host.proofs.codes.is_flag.Reads as is-flag-reads
+use Rattle.codes.proofs.both.Reads as both-reads
+use Rattle.codes.proofs.is_code.Reads as is-code-reads
+use Rattle.codes.proofs.is_flag.Reads as is-flag-reads
 use Rattle.host.proofs.convert.is_options.Reads as is-options-reads
 
 is-options-requires : tie.Need-is-options-requires

@@ -4,9 +4,9 @@ use Rattle.host.proofs.convert.is_options.Statement.{statement}
 use Rattle.host.proofs.convert.is_options.Tie as tie
 use Rattle.host.proofs.convert.is_options.Reads as reads
 use Rattle.host.proofs.convert.is_options.Lts as lts
-use Rattle.host.proofs.codes.are_flags.Reads as are-flags-reads
-use Rattle.host.proofs.codes.both.Reads as both-reads
-use Rattle.host.proofs.codes.is_flag.Reads as is-flag-reads
+use Rattle.codes.proofs.are_flags.Reads as are-flags-reads
+use Rattle.codes.proofs.both.Reads as both-reads
+use Rattle.codes.proofs.is_flag.Reads as is-flag-reads
 
 is-flag-requires : tie.Need-is-flag-requires
 is-flag-requires c κs = search needs

@@ -4,8 +4,8 @@ use Rattle.host.proofs.convert.join_of.Statement.{statement}
 use Rattle.host.proofs.convert.join_of.Tie as tie
 use Rattle.host.proofs.convert.join_of.Reads as reads
 use Rattle.host.proofs.convert.join_of.Lts as lts
-use Rattle.host.proofs.codes.flag_of.Reads as flag-of-reads
-use Rattle.host.proofs.codes.state_of.Reads as state-of-reads
+use Rattle.codes.proofs.flag_of.Reads as flag-of-reads
+use Rattle.codes.proofs.state_of.Reads as state-of-reads
 use Rattle.host.proofs.convert.options_of.Reads as options-of-reads
 use Rattle.host.proofs.convert.row_of.Reads as row-of-reads
 

@@ -6,9 +6,9 @@ use Rattle.host.proofs.convert.options_of.Statement.{statement}
 use Rattle.host.proofs.convert.options_of.Tie as tie
 use Rattle.host.proofs.convert.options_of.Reads as reads
 use Rattle.host.proofs.convert.options_of.Lts as lts
-use Rattle.host.proofs.codes.check_of.Reads as check-of-reads
-use Rattle.host.proofs.codes.flag_of.Reads as flag-of-reads
-use Rattle.host.proofs.codes.flags_of.Reads as flags-of-reads
+use Rattle.codes.proofs.check_of.Reads as check-of-reads
+use Rattle.codes.proofs.flag_of.Reads as flag-of-reads
+use Rattle.codes.proofs.flags_of.Reads as flags-of-reads
 
 flags-of-requires : tie.Need-flags-of-requires
 flags-of-requires c κs = search needs

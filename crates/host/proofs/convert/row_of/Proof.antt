@@ -3,7 +3,7 @@ use Rattle.host.proofs.convert.row_of.Statement.{statement}
 use Rattle.host.proofs.convert.row_of.Tie as tie
 use Rattle.host.proofs.convert.row_of.Reads as reads
 use Rattle.host.proofs.convert.row_of.Lts as lts
-use Rattle.host.proofs.codes.flag_of.Reads as flag-of-reads
+use Rattle.codes.proofs.flag_of.Reads as flag-of-reads
 
 flag-of-requires : tie.Need-flag-of-requires
 flag-of-requires c κs = search needs

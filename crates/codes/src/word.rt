@@ -8,38 +8,38 @@ use runs::Stop;
 ghost use mathlib.Core.Path.{_≡_};
 ghost use mathlib.Core.Bool.{_&&_};
 ghost use Rattle.node.specs.State.{number, stateCode, portCode};
-ghost use Rattle.host.specs.Codes.{isFlag, flagOf, flagCode, areFlags, flagsOf, flagCodes, checkOf, checkCode, isCode, stateOf, portOf, tookCode, stopCode, stopRefusal};
+ghost use Rattle.codes.specs.Codes.{isFlag, flagOf, flagCode, areFlags, flagsOf, flagCodes, checkOf, checkCode, isCode, stateOf, portOf, tookCode, stopCode, stopRefusal};
 
 // Whether two tests hold.
-pub(crate) fn both(a: bool, b: bool) -> bool
+pub fn both(a: bool, b: bool) -> bool
     ensures { λ r. ⌜ r ≡ (a && b) ⌝ }
 {
     if a { b } else { false }
 }
 
 // Whether a number is a flag: 0 or 1.
-pub(crate) fn is_flag(x: u64) -> bool
+pub fn is_flag(x: u64) -> bool
     ensures { λ r. ⌜ r ≡ isFlag x ⌝ }
 {
     x < 2
 }
 
 // What a flag says: 1 is yes.
-pub(crate) fn flag_of(x: u64) -> bool
+pub fn flag_of(x: u64) -> bool
     ensures { λ r. ⌜ r ≡ flagOf x ⌝ }
 {
     x == 1
 }
 
 // The flag of yes and of no.
-pub(crate) fn flag_code(b: bool) -> u64
+pub fn flag_code(b: bool) -> u64
     ensures { λ r. ⌜ r ≡ flagCode b ⌝ }
 {
     if b { 1 } else { 0 }
 }
 
 // Whether the four numbers are flags.
-pub(crate) fn are_flags(a: [u64; 4]) -> bool
+pub fn are_flags(a: [u64; 4]) -> bool
     ensures { λ r. ⌜ r ≡ areFlags a ⌝ }
 {
     let first = both(is_flag(a[0]), is_flag(a[1]));
@@ -47,14 +47,14 @@ pub(crate) fn are_flags(a: [u64; 4]) -> bool
 }
 
 // What the four flags say.
-pub(crate) fn flags_of(a: [u64; 4]) -> [bool; 4]
+pub fn flags_of(a: [u64; 4]) -> [bool; 4]
     ensures { λ r. ⌜ r ≡ flagsOf a ⌝ }
 {
     [flag_of(a[0]), flag_of(a[1]), flag_of(a[2]), flag_of(a[3])]
 }
 
 // The flags of the four.
-pub(crate) fn flag_codes(a: [bool; 4]) -> [u64; 4]
+pub fn flag_codes(a: [bool; 4]) -> [u64; 4]
     ensures { λ r. ⌜ r ≡ flagCodes a ⌝ }
 {
     [
@@ -66,7 +66,7 @@ pub(crate) fn flag_codes(a: [bool; 4]) -> [u64; 4]
 }
 
 // The order check's setting: 1 is on.
-pub(crate) fn check_of(x: u64) -> Check
+pub fn check_of(x: u64) -> Check
     ensures { λ r. ⌜ r ≡ checkOf x ⌝ }
 {
     if x == 1 {
@@ -76,7 +76,7 @@ pub(crate) fn check_of(x: u64) -> Check
 }
 
 // Its flag.
-pub(crate) fn check_code(c: Check) -> u64
+pub fn check_code(c: Check) -> u64
     ensures { λ r. ⌜ r ≡ checkCode c ⌝ }
 {
     match c {
@@ -86,21 +86,21 @@ pub(crate) fn check_code(c: Check) -> u64
 }
 
 // Whether a number tells a state of the node or of a port.
-pub(crate) fn is_code(x: u64) -> bool
+pub fn is_code(x: u64) -> bool
     ensures { λ r. ⌜ r ≡ isCode x ⌝ }
 {
     x < 3
 }
 
 // Whether what three ports come with can be said.
-pub(crate) fn are_codes(l: u64, r: u64, s: u64) -> bool
+pub fn are_codes(l: u64, r: u64, s: u64) -> bool
     ensures { λ x. ⌜ x ≡ (isCode l && isCode r && isCode s) ⌝ }
 {
     both(both(is_code(l), is_code(r)), is_code(s))
 }
 
 // The node's state by its number.
-pub(crate) fn state_of(x: u64) -> NodeState
+pub fn state_of(x: u64) -> NodeState
     ensures { λ r. ⌜ r ≡ stateOf x ⌝ }
 {
     if x == 0 {
@@ -113,7 +113,7 @@ pub(crate) fn state_of(x: u64) -> NodeState
 }
 
 // The number of the node's state.
-pub(crate) fn state_code(s: NodeState) -> u64
+pub fn state_code(s: NodeState) -> u64
     ensures { λ r. ⌜ r ≡ stateCode s ⌝ }
 {
     match s {
@@ -124,7 +124,7 @@ pub(crate) fn state_code(s: NodeState) -> u64
 }
 
 // A port's state by its number.
-pub(crate) fn port_of(x: u64) -> PortState
+pub fn port_of(x: u64) -> PortState
     ensures { λ r. ⌜ r ≡ portOf x ⌝ }
 {
     if x == 0 {
@@ -137,7 +137,7 @@ pub(crate) fn port_of(x: u64) -> PortState
 }
 
 // The number of a port's state.
-pub(crate) fn port_code(s: PortState) -> u64
+pub fn port_code(s: PortState) -> u64
     ensures { λ r. ⌜ r ≡ portCode s ⌝ }
 {
     match s {
@@ -148,7 +148,7 @@ pub(crate) fn port_code(s: PortState) -> u64
 }
 
 // The number of a refusal.
-pub(crate) fn number_of(n: Refusal) -> u64
+pub fn number_of(n: Refusal) -> u64
     ensures { λ r. ⌜ r ≡ number n ⌝ }
 {
     match n {
@@ -165,7 +165,7 @@ pub(crate) fn number_of(n: Refusal) -> u64
 }
 
 // The number of an answer: 0 where the call was accepted.
-pub(crate) fn took_code(t: Took) -> u64
+pub fn took_code(t: Took) -> u64
     ensures { λ r. ⌜ r ≡ tookCode t ⌝ }
 {
     match t {
@@ -175,7 +175,7 @@ pub(crate) fn took_code(t: Took) -> u64
 }
 
 // The number of what ended a run.
-pub(crate) fn stop_code(s: Stop) -> u64
+pub fn stop_code(s: Stop) -> u64
     ensures { λ r. ⌜ r ≡ stopCode s ⌝ }
 {
     match s {
@@ -187,7 +187,7 @@ pub(crate) fn stop_code(s: Stop) -> u64
 }
 
 // The number of the refusal that ended a run; 0 where none did.
-pub(crate) fn stop_refusal(s: Stop) -> u64
+pub fn stop_refusal(s: Stop) -> u64
     ensures { λ r. ⌜ r ≡ stopRefusal s ⌝ }
 {
     match s {

@@ -13,7 +13,7 @@ use Rattle.node.specs.declared.NodeState.{NodeState}
 use Rattle.node.specs.declared.NodeState.the-variants.{Running, Flush, Done}
 use Rattle.node.specs.declared.PortState.{PortState}
 use Rattle.node.specs.declared.PortState.the-variants.{Blocked, Ready, Done as PortDone}
-use Rattle.host.specs.Codes.{isFlag, flagOf, flagCode, areFlags, flagsOf, flagCodes, checkOf, checkCode, isCode, stateOf, portOf}
+use Rattle.codes.specs.Codes.{isFlag, flagOf, flagCode, areFlags, flagsOf, flagCodes, checkOf, checkCode, isCode, stateOf, portOf}
 
 -- Of two tests that both hold each does.
 pub and-both : (a b : Bool) → (a && b) ≡ true → (a ≡ true) × (b ≡ true)

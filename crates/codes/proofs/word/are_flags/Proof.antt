@@ -1,13 +1,13 @@
 use mathlib.Core.Path.{_≡_}
 use lib.ListN.{length}
-use Rattle.host.proofs.CodeLaws.{four-are}
+use Rattle.codes.proofs.CodeLaws.{four-are}
 use borrow.Author.Needs.{needs}
-use Rattle.host.proofs.codes.are_flags.Statement.{statement}
-use Rattle.host.proofs.codes.are_flags.Tie as tie
-use Rattle.host.proofs.codes.are_flags.Reads as reads
-use Rattle.host.proofs.codes.are_flags.Lts as lts
-use Rattle.host.proofs.codes.both.Reads as both-reads
-use Rattle.host.proofs.codes.is_flag.Reads as is-flag-reads
+use Rattle.codes.proofs.word.are_flags.Statement.{statement}
+use Rattle.codes.proofs.word.are_flags.Tie as tie
+use Rattle.codes.proofs.word.are_flags.Reads as reads
+use Rattle.codes.proofs.word.are_flags.Lts as lts
+use Rattle.codes.proofs.word.both.Reads as both-reads
+use Rattle.codes.proofs.word.is_flag.Reads as is-flag-reads
 
 array-read-is-flag : tie.Need-array-read-is-flag
 array-read-is-flag c = search needs

@@ -1,12 +1,12 @@
 use mathlib.Core.Path.{_≡_}
 use lib.ListN.{length}
-use Rattle.host.proofs.CodeLaws.{four-of}
+use Rattle.codes.proofs.CodeLaws.{four-of}
 use borrow.Author.Needs.{needs}
-use Rattle.host.proofs.codes.flags_of.Statement.{statement}
-use Rattle.host.proofs.codes.flags_of.Tie as tie
-use Rattle.host.proofs.codes.flags_of.Reads as reads
-use Rattle.host.proofs.codes.flags_of.Lts as lts
-use Rattle.host.proofs.codes.flag_of.Reads as flag-of-reads
+use Rattle.codes.proofs.word.flags_of.Statement.{statement}
+use Rattle.codes.proofs.word.flags_of.Tie as tie
+use Rattle.codes.proofs.word.flags_of.Reads as reads
+use Rattle.codes.proofs.word.flags_of.Lts as lts
+use Rattle.codes.proofs.word.flag_of.Reads as flag-of-reads
 
 array-read-flag-of : tie.Need-array-read-flag-of
 array-read-flag-of c = search needs

@@ -1,12 +1,12 @@
 use mathlib.Core.Path.{_≡_}
 use lib.ListN.{length}
-use Rattle.host.proofs.CodeLaws.{four-codes}
+use Rattle.codes.proofs.CodeLaws.{four-codes}
 use borrow.Author.Needs.{needs}
-use Rattle.host.proofs.codes.flag_codes.Statement.{statement}
-use Rattle.host.proofs.codes.flag_codes.Tie as tie
-use Rattle.host.proofs.codes.flag_codes.Reads as reads
-use Rattle.host.proofs.codes.flag_codes.Lts as lts
-use Rattle.host.proofs.codes.flag_code.Reads as flag-code-reads
+use Rattle.codes.proofs.word.flag_codes.Statement.{statement}
+use Rattle.codes.proofs.word.flag_codes.Tie as tie
+use Rattle.codes.proofs.word.flag_codes.Reads as reads
+use Rattle.codes.proofs.word.flag_codes.Lts as lts
+use Rattle.codes.proofs.word.flag_code.Reads as flag-code-reads
 
 array-read-flag-code : tie.Need-array-read-flag-code
 array-read-flag-code c = search needs

@@ -1,8 +1,8 @@
 use borrow.Author.Tests.{eq-eqb, ne-eqb}
-use Rattle.host.proofs.codes.port_of.Statement.{statement}
-use Rattle.host.proofs.codes.port_of.Tie as tie
-use Rattle.host.proofs.codes.port_of.Reads as reads
-use Rattle.host.proofs.codes.port_of.Lts as lts
+use Rattle.codes.proofs.word.port_of.Statement.{statement}
+use Rattle.codes.proofs.word.port_of.Tie as tie
+use Rattle.codes.proofs.word.port_of.Reads as reads
+use Rattle.codes.proofs.word.port_of.Lts as lts
 
 returns : tie.Need-returns
 returns c = rw (eq-eqb _ _ (c .if1 .taken))

@@ -1,10 +1,10 @@
 use borrow.Author.Needs.{needs}
-use Rattle.host.proofs.codes.are_codes.Statement.{statement}
-use Rattle.host.proofs.codes.are_codes.Tie as tie
-use Rattle.host.proofs.codes.are_codes.Reads as reads
-use Rattle.host.proofs.codes.are_codes.Lts as lts
-use Rattle.host.proofs.codes.both.Reads as both-reads
-use Rattle.host.proofs.codes.is_code.Reads as is-code-reads
+use Rattle.codes.proofs.word.are_codes.Statement.{statement}
+use Rattle.codes.proofs.word.are_codes.Tie as tie
+use Rattle.codes.proofs.word.are_codes.Reads as reads
+use Rattle.codes.proofs.word.are_codes.Lts as lts
+use Rattle.codes.proofs.word.both.Reads as both-reads
+use Rattle.codes.proofs.word.is_code.Reads as is-code-reads
 
 is-code-requires : tie.Need-is-code-requires
 is-code-requires c κs = search needs
