@@ -4,7 +4,7 @@ use Rattle.node.proofs.turn.first_prune.Statement.{statement}
 use Rattle.node.proofs.turn.first_prune.Tie as tie
 use Rattle.node.proofs.turn.first_prune.Reads as reads
 use Rattle.node.proofs.turn.first_prune.Lts as lts
-use Rattle.buffer.proofs.prune_by.Reads as prune-by-reads
+use Rattle.reach.proofs.prune_by.Reads as prune-by-reads
 use Rattle.node.proofs.turn.checks.Reads as checks-reads
 
 checks-requires : tie.Need-checks-requires

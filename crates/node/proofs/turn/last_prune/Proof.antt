@@ -6,7 +6,7 @@ use Rattle.node.proofs.turn.last_prune.Statement.{statement}
 use Rattle.node.proofs.turn.last_prune.Tie as tie
 use Rattle.node.proofs.turn.last_prune.Reads as reads
 use Rattle.node.proofs.turn.last_prune.Lts as lts
-use Rattle.buffer.proofs.prune_by.Reads as prune-by-reads
+use Rattle.reach.proofs.prune_by.Reads as prune-by-reads
 
 returns : tie.Need-returns
 unfolding pruneBy

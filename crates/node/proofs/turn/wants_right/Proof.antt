@@ -3,7 +3,7 @@ use Rattle.node.proofs.turn.wants_right.Statement.{statement}
 use Rattle.node.proofs.turn.wants_right.Tie as tie
 use Rattle.node.proofs.turn.wants_right.Reads as reads
 use Rattle.node.proofs.turn.wants_right.Lts as lts
-use Rattle.buffer.proofs.need_more.Reads as need-more-reads
+use Rattle.reach.proofs.need_more.Reads as need-more-reads
 
 returns : tie.Need-returns
 returns c = simp (c .if1 .taken)

@@ -7,12 +7,12 @@ use Rattle.frames.specs.Cells.{rowsOf}
 use Rattle.frames.specs.Room.{cellAt}
 use Rattle.frames.proofs.WordLaws.{rows-length}
 use Rattle.frames.proofs.RowLaws.{row-room}
 use Rattle.buffer.specs.Reach.{findKey, seekOf}
 use Rattle.buffer.proofs.FindLaws.{held-cell}
 use Rattle.buffer.proofs.ReachLaws.{column-in, key-past, key-backward, key-forward, key-nearest}
 use borrow.Author.Needs.{needs}
-use Rattle.buffer.proofs.reach.key_needs_more.Statement.{statement}
-use Rattle.buffer.proofs.reach.key_needs_more.Tie as tie
+use Rattle.reach.proofs.key_needs_more.Statement.{statement}
+use Rattle.reach.proofs.key_needs_more.Tie as tie
 
 strategy-of-requires : tie.Need-strategy-of-requires
 strategy-of-requires c κs = search needs

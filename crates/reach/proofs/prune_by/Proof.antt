@@ -6,9 +6,9 @@ use lib.ListN.{length}
 use Rattle.frames.specs.Cells.{rowsOf}
 use Rattle.frames.proofs.WordLaws.{rows-length}
 use Rattle.frames.proofs.RowLaws.{row-room, rows-from}
 use Rattle.buffer.proofs.ReachLaws.{row-at, prune-no-left, prune-no-held, prune-split}
-use Rattle.buffer.proofs.reach.prune_by.Statement.{statement}
-use Rattle.buffer.proofs.reach.prune_by.Tie as tie
+use Rattle.reach.proofs.prune_by.Statement.{statement}
+use Rattle.reach.proofs.prune_by.Tie as tie
 
 -- how many rows there are; the chosen row is one of them
 many-left : (c : tie.Start) → let a = c .args in length (rowsOf (a .wl) (a .nl) (now (a .lv)) (now (a .lm))) ≡ a .nl

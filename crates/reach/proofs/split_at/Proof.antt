@@ -3,10 +3,10 @@ use native.Mathlib.Omega.{arith}
 use denote.Ref.{now}
 use Rattle.frames.proofs.WordLaws.{rows-length}
 use Rattle.frames.proofs.RowLaws.{row-cell}
 use Rattle.buffer.proofs.ReachLaws.{column-in, narrow-end, split-is}
 use borrow.Author.Needs.{needs}
-use Rattle.buffer.proofs.reach.split_at.Statement.{statement}
-use Rattle.buffer.proofs.reach.split_at.Tie as tie
+use Rattle.reach.proofs.split_at.Statement.{statement}
+use Rattle.reach.proofs.split_at.Tie as tie
 
 narrow-requires : tie.Need-narrow-requires
 narrow-requires c κs = search needs

@@ -6,10 +6,10 @@ use lib.ListN.{getD}
 use Rattle.frames.specs.Room.{cellAt}
 use Rattle.frames.proofs.Signed.{back}
 use Rattle.frames.proofs.RowLaws.{row-cell}
 use Rattle.buffer.proofs.ReachLaws.{narrow-column}
 use borrow.Author.Needs.{needs}
-use Rattle.buffer.proofs.reach.narrow_by.Statement.{statement}
-use Rattle.buffer.proofs.reach.narrow_by.Tie as tie
+use Rattle.reach.proofs.narrow_by.Statement.{statement}
+use Rattle.reach.proofs.narrow_by.Tie as tie
 
 array-read-down : tie.Need-array-read-down
 array-read-down c = search needs

@@ -1,17 +1,17 @@
 // How far the held rows serve a left row: narrowing by its by-values, need more, the split of a prune. A left row is told by the place of its first word.
-use crate::Seek;
-use crate::Stretch;
-use crate::search::find;
+use buffer::Seek;
+use buffer::Stretch;
 use frames::Options;
 use frames::Strategy;
 use frames::strategy_of;
+use seek::find;
 ghost use mathlib.Core.Path.{_≡_};
 ghost use Prim.Native.Nat.{ℕ, _-_, _≤_, _<_, max};
 ghost use Rattle.frames.specs.Cells.{rowFrom, rowsOf};
 ghost use Rattle.frames.specs.Options.{strategyOf};
 ghost use Rattle.frames.specs.Room.{cellAt, CellIn, RowAt, RowsIn};
 ghost use Rattle.buffer.specs.Reach.{narrowBy, narrowed, findKey, seekOf, keyNeedsMore, needMore, stepBack, splitAt, pruneBy};
 ghost use Rattle.buffer.specs.Room.{rangeOf, ColumnIn, PlaceIn};
 
 // The stretch narrowed by the left row's by-value in column j: from the first that is at least it to the first above it.
 fn narrow_by(
@@ -68,7 +68,7 @@ fn narrow_by(
 }
 
 // The held rows whose by-values are those of the left row at p, as a stretch of all n: narrowed by each by-column in order.
-pub(crate) fn narrow(
+fn narrow(
     lv: &[i64],
     lm: &[i64],
     p: usize,

@@ -9,11 +9,11 @@ use mir.Val.{toZ, ofZ}
 use Rattle.frames.specs.Cells.{Cell, cellOf, rowsOf}
 use Rattle.frames.specs.Options.{Rule}
 use Rattle.frames.proofs.RowLaws.{row-room}
 use Rattle.buffer.specs.Search.{find}
 use Rattle.area.proofs.AreaLaws.{rows-words}
 use Rattle.buffer.proofs.FindLaws.{held-cell, Met, find-true, find-false, find-end}
-use Rattle.buffer.proofs.search.find.Statement.{statement}
-use Rattle.buffer.proofs.search.find.Tie as tie
+use Rattle.seek.proofs.find.Statement.{statement}
+use Rattle.seek.proofs.find.Tie as tie
 
 abbrev Inv-loop : tie.InvT-loop
 Inv-loop seek descending nulls-last j value mark values marks w lower upper low₀ high₀ low high =

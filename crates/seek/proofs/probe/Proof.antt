@@ -5,8 +5,8 @@ use lib.IntN.{pos}
 use lib.ListN.{getD}
 use mir.Facts.{toZ-ofZ}
 use Rattle.frames.proofs.Signed.{back}
-use Rattle.buffer.proofs.search.probe.Statement.{statement}
-use Rattle.buffer.proofs.search.probe.Tie as tie
+use Rattle.seek.proofs.probe.Statement.{statement}
+use Rattle.seek.proofs.probe.Tie as tie
 
 mul-cmp-cell : tie.Need-mul-cmp-cell
 mul-cmp-cell c = search needs

@@ -7,10 +7,10 @@ use lib.ListN.{length, getD}
 use Rattle.frames.specs.Cells.{rowsOf, rowFrom}
 use Rattle.frames.proofs.WordLaws.{rows-length}
 use Rattle.frames.proofs.RowLaws.{row-room, row-cell, rows-from}
 use Rattle.buffer.proofs.ReachLaws.{row-at, narrow-end, more-no-left, more-no-held, more-start, more-end, more-key}
 use borrow.Author.Needs.{needs}
-use Rattle.buffer.proofs.reach.need_more.Statement.{statement}
-use Rattle.buffer.proofs.reach.need_more.Tie as tie
+use Rattle.reach.proofs.need_more.Statement.{statement}
+use Rattle.reach.proofs.need_more.Tie as tie
 
 -- how many rows there are, and the last left one
 many-left : (c : tie.Start) → let a = c .args in length (rowsOf (a .wl) (a .nl) (now (a .lv)) (now (a .lm))) ≡ a .nl

@@ -4,11 +4,11 @@ use native.Mathlib.Omega.{arith}
 use denote.Ref.{now}
 use Rattle.frames.specs.Cells.{rowFrom, rowsOf}
 use Rattle.frames.proofs.WordLaws.{rows-length}
 use Rattle.buffer.specs.Reach.{narrow}
 use Rattle.buffer.specs.Room.{rangeOf}
 use Rattle.buffer.proofs.ReachLaws.{column-in, narrow-none, narrow-more, narrow-end}
-use Rattle.buffer.proofs.reach.narrow.Statement.{statement}
-use Rattle.buffer.proofs.reach.narrow.Tie as tie
+use Rattle.reach.proofs.narrow.Statement.{statement}
+use Rattle.reach.proofs.narrow.Tie as tie
 
 abbrev Inv-loop : tie.InvT-loop
 Inv-loop lv lm p rv rm n w o by r₀ j₀ r j =

@@ -3,8 +3,8 @@ use lib.IntN.{pos}
 use lib.ListN.{getD}
 use Rattle.frames.proofs.Signed.{back}
 use borrow.Author.Needs.{needs}
-use Rattle.buffer.proofs.reach.find_key.Statement.{statement}
-use Rattle.buffer.proofs.reach.find_key.Tie as tie
+use Rattle.reach.proofs.find_key.Statement.{statement}
+use Rattle.reach.proofs.find_key.Tie as tie
 
 mul-find : tie.Need-mul-find
 mul-find c = search needs

@@ -1,5 +1,5 @@
 // Binary search over the rows of a stretch, by the cells of one column.
-use crate::Seek;
+use buffer::Seek;
 use frames::Order;
 use order::cmp_cell;
 ghost use mathlib.Core.Path.{_≡_};
@@ -49,7 +49,7 @@ fn probe(
 }
 
 // The first row of lower..upper whose cell in column j is one that is looked for, by the column's rule; the end of the range where there is none.
-pub(crate) fn find(
+pub fn find(
     seek: Seek,
     descending: bool,
     nulls_last: bool,
