@@ -8,11 +8,11 @@ use borrow.Author.Tests.{ltb-true}
 use lib.ListN.{length, getD}
 use Rattle.frames.specs.declared.Check.{Check}
 use Rattle.frames.specs.declared.Check.the-variants.{Off, On}
-use Rattle.node.specs.State.{stateCode, portCode}
-use Rattle.node.specs.declared.NodeState.{NodeState}
-use Rattle.node.specs.declared.NodeState.the-variants.{Running, Flush, Done}
-use Rattle.node.specs.declared.PortState.{PortState}
-use Rattle.node.specs.declared.PortState.the-variants.{Blocked, Ready, Done as PortDone}
+use Rattle.answers.specs.Answers.{stateCode, portCode}
+use Rattle.answers.specs.declared.NodeState.{NodeState}
+use Rattle.answers.specs.declared.NodeState.the-variants.{Running, Flush, Done}
+use Rattle.answers.specs.declared.PortState.{PortState}
+use Rattle.answers.specs.declared.PortState.the-variants.{Blocked, Ready, Done as PortDone}
 use Rattle.codes.specs.Codes.{isFlag, flagOf, flagCode, areFlags, flagsOf, flagCodes, checkOf, checkCode, isCode, stateOf, portOf}
 
 -- Of two tests that both hold each does.

@@ -5,15 +5,15 @@ use Prim.Native.Nat.{ℕ}
 use lib.Dec.{ltb, eqb}
 use Rattle.frames.specs.declared.Check.{Check}
 use Rattle.frames.specs.declared.Check.the-variants.{Off, On}
-use Rattle.node.specs.State.{number}
-use Rattle.node.specs.declared.NodeState.{NodeState}
-use Rattle.node.specs.declared.NodeState.the-variants.{Running, Flush, Done}
-use Rattle.node.specs.declared.PortState.{PortState}
-use Rattle.node.specs.declared.PortState.the-variants.{Blocked, Ready, Done as PortDone}
-use Rattle.runs.specs.declared.Stop.{Stop}
-use Rattle.runs.specs.declared.Stop.the-variants.{Used, WantsRight, Idle, Refused as StopRefused}
-use Rattle.node.specs.declared.Took.{Took}
-use Rattle.node.specs.declared.Took.the-variants.{Accepted, Refused}
+use Rattle.answers.specs.Answers.{number}
+use Rattle.answers.specs.declared.NodeState.{NodeState}
+use Rattle.answers.specs.declared.NodeState.the-variants.{Running, Flush, Done}
+use Rattle.answers.specs.declared.PortState.{PortState}
+use Rattle.answers.specs.declared.PortState.the-variants.{Blocked, Ready, Done as PortDone}
+use Rattle.answers.specs.declared.Stop.{Stop}
+use Rattle.answers.specs.declared.Stop.the-variants.{Used, WantsRight, Idle, Refused as StopRefused}
+use Rattle.answers.specs.declared.Took.{Took}
+use Rattle.answers.specs.declared.Took.the-variants.{Accepted, Refused}
 
 -- A flag is 0 or 1.
 abbrev pub isFlag : ℕ → Bool

@@ -10,7 +10,7 @@ use node::Took;
 ghost use mathlib.Core.Path.{_≡_};
 ghost use Prim.Native.Nat.{_+_, _*_, _≤_};
 ghost use lib.ListN.{length};
-ghost use Rattle.node.specs.State.{number};
+ghost use Rattle.answers.specs.Answers.{number};
 
 // The options of a case: ascending, nulls first.
 fn options(by: usize, strategy: u8, allow_eq: bool, tolerance: i64, check: Check) -> Options {

@@ -6,32 +6,34 @@ use mathlib.Core.Option.{none, some}
 use Prim.Native.Nat.{ℕ}
 use Rattle.frames.specs.Cells.{Words}
 use Rattle.node.specs.State.{fresh}
-use Rattle.node.specs.Calls.{After, openAnswer, leftCall, rightCall, endCall, portsCall, turnCall}
+use Rattle.node.specs.Calls.{After, leftCall, rightCall, endCall, portsCall, turnCall}
+use Rattle.feeds.specs.Judged.{openAnswer}
 use Rattle.runs.specs.Run.{runCall}
 use Rattle.node.specs.Leaves.{LeftLeaves, RightLeaves, EndLeaves, PortsLeaves, TurnLeaves}
 use Rattle.runs.specs.RunLeaves.{RunLeaves}
 use Rattle.node.specs.declared.Join.{Join}
-use Rattle.node.specs.declared.PortState.{PortState}
+use Rattle.answers.specs.declared.PortState.{PortState}
 use Rattle.node.specs.declared.TookJoin.{TookJoin}
 use Rattle.node.specs.declared.PortedJoin.{PortedJoin}
 use Rattle.node.specs.declared.TurnedJoin.{TurnedJoin}
 use Rattle.runs.specs.declared.RanJoin.{RanJoin}
-use Rattle.node.specs.declared.Refusal.the-variants.{BadOptions, BadJoin}
-use Rattle.node.specs.declared.Took.{Took}
-use Rattle.node.specs.declared.Took.the-variants.{Refused}
-use Rattle.node.specs.declared.Ported.the-variants.{Refused as PortsRefused}
-use Rattle.node.specs.declared.Answer.{Answer}
-use Rattle.node.specs.declared.Answer.the-variants.{Refused as TurnRefused}
+use Rattle.answers.specs.declared.Refusal.the-variants.{BadOptions, BadJoin}
+use Rattle.answers.specs.declared.Took.{Took}
+use Rattle.answers.specs.declared.Took.the-variants.{Refused}
+use Rattle.answers.specs.declared.Ported.the-variants.{Refused as PortsRefused}
+use Rattle.answers.specs.declared.Answer.{Answer}
+use Rattle.answers.specs.declared.Answer.the-variants.{Refused as TurnRefused}
 use Rattle.codes.specs.Codes.{isCode, portOf}
-use Rattle.host.specs.Convert.{isOptions, optionsOf, decodeOptions, isJoin, joinOf, encode, decode}
-use Rattle.host.specs.Calls.{HostAfter, afterHost, encodeAfter, byJoin, tookHost, portedHost, turnedHost, freshHost, openHost, leftHost, rightHost, endHost, portsHost, turnHost, Made, ranHost, ranAfter, refusedRun, runHost}
+use Rattle.convert.specs.Convert.{isOptions, optionsOf, decodeOptions, isJoin, joinOf, encode, decode}
+use Rattle.told.specs.Told.{tookHost, portedHost, turnedHost, freshHost, Made, ranHost, refusedRun}
+use Rattle.host.specs.Calls.{HostAfter, afterHost, encodeAfter, byJoin, openHost, leftHost, rightHost, endHost, portsHost, turnHost, ranAfter, runHost}
 use Rattle.host.specs.Leaves.{HostLeftLeaves, HostRightLeaves, HostEndLeaves, HostPortsLeaves, HostTurnLeaves, HostRunLeaves}
-use Rattle.host.specs.declared.HostOptions.{HostOptions}
-use Rattle.host.specs.declared.HostJoin.{HostJoin}
-use Rattle.host.specs.declared.HostTook.{HostTook}
-use Rattle.host.specs.declared.HostPorted.{HostPorted}
-use Rattle.host.specs.declared.HostTurned.{HostTurned}
-use Rattle.host.specs.declared.HostRan.{HostRan}
+use Rattle.convert.specs.declared.HostOptions.{HostOptions}
+use Rattle.convert.specs.declared.HostJoin.{HostJoin}
+use Rattle.told.specs.declared.HostTook.{HostTook}
+use Rattle.told.specs.declared.HostPorted.{HostPorted}
+use Rattle.told.specs.declared.HostTurned.{HostTurned}
+use Rattle.told.specs.declared.HostRan.{HostRan}
 
 -- ---- what is read
 options-none : (h : HostOptions) → isOptions h ≡ false → decodeOptions h ≡ none

@@ -1,3 +1,2 @@
-pub mod ConvertLaws
 pub mod CallLaws
 pub mod PromiseLaws

@@ -9,28 +9,31 @@ use borrow.Author.Tests.{not-true}
 use Rattle.frames.specs.Cells.{Words}
 use Rattle.frames.specs.Options.{badOptions}
 use Rattle.frames.specs.declared.Options.{Options}
-use Rattle.node.specs.State.{portCode, fresh, badJoin, stateAt, endedRight}
-use Rattle.node.specs.Calls.{After, after, openAnswer, leftAnswer, leftCall, queued, rightAnswer, rightCall, pushedRight, endAnswer, endCall, portsAnswer, portsState, portsCall, turnAnswer, turnCall, turned, dequeued, dropped, spoiled}
+use Rattle.node.specs.State.{fresh, badJoin, stateAt, endedRight}
+use Rattle.answers.specs.Answers.{portCode}
+use Rattle.node.specs.Calls.{After, after, leftAnswer, leftCall, queued, rightAnswer, rightCall, pushedRight, endAnswer, endCall, portsAnswer, portsState, portsCall, turnAnswer, turnCall, turned, dequeued, dropped, spoiled}
+use Rattle.feeds.specs.Judged.{openAnswer}
 use Rattle.node.specs.declared.Join.{Join}
-use Rattle.node.specs.declared.PortState.{PortState}
-use Rattle.node.specs.declared.Refusal.{Refusal}
-use Rattle.node.specs.declared.Refusal.the-variants.{BadOptions, BadJoin, Failed, Closed, BadFrame, NoRoom, UsedUp, LeftOrder, RightOrder}
-use Rattle.node.specs.declared.Took.{Took}
-use Rattle.node.specs.declared.Took.the-variants.{Accepted, Refused}
-use Rattle.node.specs.declared.Ported.{Ported}
-use Rattle.node.specs.declared.Ported.the-variants.{Ports, Refused as PortsRefused}
-use Rattle.node.specs.declared.Answer.{Answer}
-use Rattle.node.specs.declared.Answer.the-variants.{Wrote, WantsRight, Idle, Refused as TurnRefused}
+use Rattle.answers.specs.declared.PortState.{PortState}
+use Rattle.answers.specs.declared.Refusal.{Refusal}
+use Rattle.answers.specs.declared.Refusal.the-variants.{BadOptions, BadJoin, Failed, Closed, BadFrame, NoRoom, UsedUp, LeftOrder, RightOrder}
+use Rattle.answers.specs.declared.Took.{Took}
+use Rattle.answers.specs.declared.Took.the-variants.{Accepted, Refused}
+use Rattle.answers.specs.declared.Ported.{Ported}
+use Rattle.answers.specs.declared.Ported.the-variants.{Ports, Refused as PortsRefused}
+use Rattle.answers.specs.declared.Answer.{Answer}
+use Rattle.answers.specs.declared.Answer.the-variants.{Wrote, WantsRight, Idle, Refused as TurnRefused}
 use Rattle.node.proofs.Good.{opened-bad}
 use Rattle.codes.specs.Codes.{isCode, portOf, tookCode}
-use Rattle.host.specs.Convert.{isOptions, optionsOf, decodeOptions, isJoin, joinOf, decode}
-use Rattle.host.specs.Calls.{HostAfter, afterHost, encodeAfter, byJoin, freshHost, openHost, leftHost, rightHost, endHost, portsHost, turnHost}
+use Rattle.convert.specs.Convert.{isOptions, optionsOf, decodeOptions, isJoin, joinOf, decode}
+use Rattle.told.specs.Told.{freshHost}
+use Rattle.host.specs.Calls.{HostAfter, afterHost, encodeAfter, byJoin, openHost, leftHost, rightHost, endHost, portsHost, turnHost}
 use Rattle.host.specs.Promises.{spoils, stays, Shut, Same, Follows, Promises}
-use Rattle.host.specs.declared.HostOptions.{HostOptions}
-use Rattle.host.specs.declared.HostJoin.{HostJoin}
-use Rattle.host.specs.declared.HostTook.{HostTook}
+use Rattle.convert.specs.declared.HostOptions.{HostOptions}
+use Rattle.convert.specs.declared.HostJoin.{HostJoin}
+use Rattle.told.specs.declared.HostTook.{HostTook}
 use Rattle.codes.proofs.CodeLaws.{port-is, port-back}
-use Rattle.host.proofs.ConvertLaws.{join-numbers, join-same, options-parts, decoded-options, Is, decoded, there-and-back}
+use Rattle.convert.proofs.ConvertLaws.{join-numbers, join-same, options-parts, decoded-options, Is, decoded, there-and-back}
 use Rattle.host.proofs.CallLaws.{open-bad, open-through, by-none, by-some}
 
 -- ---- the node's calls that change nothing

@@ -4,74 +4,24 @@ use mathlib.Core.List.{[]}
 use mathlib.Core.Option.{none, some}
 use Prim.Native.Nat.{ℕ}
 use Rattle.frames.specs.Cells.{Words}
-use Rattle.frames.specs.Keyed.{noRow}
-use Rattle.node.specs.State.{number, stateCode, portCode, fresh}
-use Rattle.node.specs.Calls.{After, after, openAnswer, leftCall, rightCall, endCall, portsCall, turnCall}
+use Rattle.node.specs.State.{fresh}
+use Rattle.node.specs.Calls.{After, after, leftCall, rightCall, endCall, portsCall, turnCall}
+use Rattle.feeds.specs.Judged.{openAnswer}
 use Rattle.runs.specs.Run.{Ran, runCall}
 use Rattle.node.specs.declared.Join.{Join}
-use Rattle.node.specs.declared.NodeState.the-variants.{Running}
-use Rattle.node.specs.declared.Refusal.the-variants.{BadOptions, BadJoin}
-use Rattle.runs.specs.declared.Stop.{Stop}
-use Rattle.runs.specs.declared.Stop.the-variants.{Refused as StopRefused}
-use Rattle.node.specs.declared.Took.{Took}
-use Rattle.node.specs.declared.Took.the-variants.{Refused}
-use Rattle.node.specs.declared.Ported.{Ported}
-use Rattle.node.specs.declared.Ported.the-variants.{Ports, Refused as PortsRefused}
-use Rattle.node.specs.declared.Answer.{Answer}
-use Rattle.node.specs.declared.Answer.the-variants.{Wrote, WantsRight, Idle, Refused as TurnRefused}
-use Rattle.codes.specs.Codes.{isCode, portOf, tookCode, stopCode, stopRefusal}
-use Rattle.host.specs.Convert.{decodeOptions, decode, encode, encodeRow}
-use Rattle.host.specs.declared.HostOptions.{HostOptions}
-use Rattle.host.specs.declared.HostJoin.{HostJoin}
-use Rattle.host.specs.declared.HostTook.{HostTook}
-use Rattle.host.specs.declared.HostPorted.{HostPorted}
-use Rattle.host.specs.declared.HostTurned.{HostTurned}
-use Rattle.host.specs.declared.HostRan.{HostRan}
-
--- ---- answers in numbers
--- Of opening, a left or right frame, and the end of right: 0 accepted, or the refusal's number.
-abbrev pub tookHost : Took → HostJoin → HostTook
-tookHost t h = record { refusal = tookCode t; join = h }
-
--- Of a port call: what left, right and send are told, or the refusal's number and zeros.
-abbrev pub portedHost : Ported → HostJoin → HostPorted
-portedHost (Ports l r s) h = record { refusal = 0; left = portCode l; right = portCode r; send = portCode s; join = h }
-portedHost (PortsRefused n) h = record { refusal = number n; left = 0; right = 0; send = 0; join = h }
-
--- Of a turn: 0 wrote, with the old sequence; 1 wants right; 2 idle; 3 refused, with the refusal's number.
-abbrev pub turnedHost : Answer → HostJoin → HostTurned
-turnedHost (Wrote s) h = record { answer = 0; refusal = 0; sequence = s; join = h }
-turnedHost WantsRight h = record { answer = 1; refusal = 0; sequence = 0; join = h }
-turnedHost Idle h = record { answer = 2; refusal = 0; sequence = 0; join = h }
-turnedHost (TurnRefused n) h = record { answer = 3; refusal = number n; sequence = 0; join = h }
-
--- What a run made: its turns, the words that they wrote, and what ended it.
-pub record Made : Type 0 where
-  pub turns : ℕ
-  pub words : ℕ
-  pub stop : Stop
-
--- Of a run: its turns, its words, and what ended it, with the refusal's number.
-abbrev pub ranHost : Made → HostJoin → HostRan
-ranHost m h = record { turns = m .turns; words = m .words; stop = stopCode (m .stop); refusal = stopRefusal (m .stop); join = h }
-
--- ---- the calls
--- A fresh join with any options, in numbers.
-abbrev pub freshHost : HostOptions → HostJoin
-freshHost h = record {
-  options = h;
-  base = 0;
-  held = 0;
-  pruned = 0;
-  «queue_start» = 0;
-  «queue_words» = 0;
-  state = stateCode Running;
-  «right_ended» = 0;
-  failed = 0;
-  sequence = 0;
-  «last_left» = encodeRow noRow;
-  «last_right» = encodeRow noRow;
-}
+use Rattle.answers.specs.declared.Refusal.the-variants.{BadOptions, BadJoin}
+use Rattle.answers.specs.declared.Took.{Took}
+use Rattle.answers.specs.declared.Took.the-variants.{Refused}
+use Rattle.answers.specs.declared.Ported.{Ported}
+use Rattle.answers.specs.declared.Ported.the-variants.{Refused as PortsRefused}
+use Rattle.answers.specs.declared.Answer.{Answer}
+use Rattle.answers.specs.declared.Answer.the-variants.{Refused as TurnRefused}
+use Rattle.codes.specs.Codes.{isCode, portOf}
+use Rattle.convert.specs.Convert.{decodeOptions, decode, encode}
+use Rattle.convert.specs.declared.HostOptions.{HostOptions}
+use Rattle.convert.specs.declared.HostJoin.{HostJoin}
+use Rattle.told.specs.Told.{tookHost, freshHost, Made, refusedRun}
+use Rattle.told.specs.declared.HostTook.{HostTook}
 
 -- Opening: options that cannot be encoded are refused as 1, and so are those that meet 1; the join holds them, with everything else as in a fresh join.
 unfoldable pub openHost : HostOptions → HostTook
@@ -126,10 +76,6 @@ turnHost h left right out = byJoin h (afterHost (TurnRefused BadJoin) h left rig
 -- What the node's run leaves, as a call does.
 abbrev pub ranAfter : Ran → Words → Words → After Made
 ranAfter r left right = after (record { turns = r .turns; words = r .words; stop = r .stop }) (r .join) left right (r .out)
-
--- A run of no join makes no turn.
-abbrev pub refusedRun : Made
-refusedRun = record { turns = 0; words = 0; stop = StopRefused BadJoin }
 
 -- A run of at most k turns.
 unfoldable pub runHost : HostJoin → ℕ → Words → Words → Words → HostAfter Made

@@ -2,13 +2,14 @@
 use mathlib.Core.Path.{_≡_}
 use Prim.Native.Nat.{ℕ}
 use Rattle.frames.specs.Cells.{Words}
-use Rattle.host.specs.Calls.{tookHost, portedHost, turnedHost, openHost, leftHost, rightHost, endHost, portsHost, turnHost, ranHost, runHost}
-use Rattle.host.specs.declared.HostOptions.{HostOptions}
-use Rattle.host.specs.declared.HostJoin.{HostJoin}
-use Rattle.host.specs.declared.HostTook.{HostTook}
-use Rattle.host.specs.declared.HostPorted.{HostPorted}
-use Rattle.host.specs.declared.HostTurned.{HostTurned}
-use Rattle.host.specs.declared.HostRan.{HostRan}
+use Rattle.told.specs.Told.{tookHost, portedHost, turnedHost, ranHost}
+use Rattle.host.specs.Calls.{openHost, leftHost, rightHost, endHost, portsHost, turnHost, runHost}
+use Rattle.convert.specs.declared.HostOptions.{HostOptions}
+use Rattle.convert.specs.declared.HostJoin.{HostJoin}
+use Rattle.told.specs.declared.HostTook.{HostTook}
+use Rattle.told.specs.declared.HostPorted.{HostPorted}
+use Rattle.told.specs.declared.HostTurned.{HostTurned}
+use Rattle.told.specs.declared.HostRan.{HostRan}
 
 -- Opening.
 pub record HostOpenLeaves (h : HostOptions) (r : HostTook) : Type 0 where

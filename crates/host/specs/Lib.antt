@@ -1,4 +1,3 @@
-pub mod Convert
 pub mod Calls
 pub mod Leaves
 pub mod Promises

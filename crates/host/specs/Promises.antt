@@ -6,20 +6,21 @@ use mathlib.Core.Option.{some}
 use Prim.Native.Nat.{ℕ}
 use Rattle.frames.specs.Cells.{Words}
 use Rattle.frames.specs.declared.Options.{Options}
-use Rattle.node.specs.State.{portCode, fresh}
+use Rattle.node.specs.State.{fresh}
+use Rattle.answers.specs.Answers.{portCode}
 use Rattle.node.specs.Calls.{After, leftCall, rightCall, endCall, portsCall, turnCall}
 use Rattle.node.specs.declared.Join.{Join}
-use Rattle.node.specs.declared.PortState.{PortState}
-use Rattle.node.specs.declared.Refusal.{Refusal}
-use Rattle.node.specs.declared.Refusal.the-variants.{BadOptions, BadJoin, Failed, Closed, BadFrame, NoRoom, UsedUp, LeftOrder, RightOrder}
-use Rattle.node.specs.declared.Took.the-variants.{Refused}
-use Rattle.node.specs.declared.Ported.the-variants.{Refused as PortsRefused}
-use Rattle.node.specs.declared.Answer.{Answer}
-use Rattle.node.specs.declared.Answer.the-variants.{Wrote, WantsRight, Idle, Refused as TurnRefused}
-use Rattle.host.specs.Convert.{decodeOptions, decode}
+use Rattle.answers.specs.declared.PortState.{PortState}
+use Rattle.answers.specs.declared.Refusal.{Refusal}
+use Rattle.answers.specs.declared.Refusal.the-variants.{BadOptions, BadJoin, Failed, Closed, BadFrame, NoRoom, UsedUp, LeftOrder, RightOrder}
+use Rattle.answers.specs.declared.Took.the-variants.{Refused}
+use Rattle.answers.specs.declared.Ported.the-variants.{Refused as PortsRefused}
+use Rattle.answers.specs.declared.Answer.{Answer}
+use Rattle.answers.specs.declared.Answer.the-variants.{Wrote, WantsRight, Idle, Refused as TurnRefused}
+use Rattle.convert.specs.Convert.{decodeOptions, decode}
 use Rattle.host.specs.Calls.{HostAfter, afterHost, encodeAfter, openHost, leftHost, rightHost, endHost, portsHost, turnHost}
-use Rattle.host.specs.declared.HostOptions.{HostOptions}
-use Rattle.host.specs.declared.HostJoin.{HostJoin}
+use Rattle.convert.specs.declared.HostOptions.{HostOptions}
+use Rattle.convert.specs.declared.HostJoin.{HostJoin}
 
 -- Refusals 8 and 9 mark the join failed; the others change nothing.
 abbrev pub spoils : Refusal → Bool

@@ -1,16 +1,4 @@
 // The join for hosts in C: every call over structs of numbers, all of 64 bits, and words that the host lends.
-mod answers;
-mod convert;
-
-use answers::bad_ported;
-use answers::bad_ran;
-use answers::bad_took;
-use answers::bad_turned;
-use answers::fresh_host;
-use answers::ported_host;
-use answers::ran_host;
-use answers::took_host;
-use answers::turned_host;
 use codes::are_codes;
 use codes::port_of;
 use convert::is_join;
@@ -19,80 +7,23 @@ use convert::join_of;
 use convert::options_of;
 use node::Join;
 use runs::run;
+use told::bad_ported;
+use told::bad_ran;
+use told::bad_took;
+use told::bad_turned;
+use told::fresh_host;
+use told::ported_host;
+use told::ran_host;
+use told::took_host;
+use told::turned_host;
 ghost use Rattle.host.specs.Leaves.{HostOpenLeaves, HostLeftLeaves, HostRightLeaves, HostEndLeaves, HostPortsLeaves, HostTurnLeaves, HostRunLeaves};
-
-// The options in numbers. A flag is 0 or 1; check is 0 off, 1 on.
-#[repr(C)]
-pub struct HostOptions {
-    pub by: usize,
-    pub strategy: u64,
-    pub allow_eq: u64,
-    pub tolerance: i64,
-    pub check: u64,
-    pub descending: [u64; 4],
-    pub nulls_last: [u64; 4],
-}
-
-// A row that a side remembers, where some is 1.
-#[repr(C)]
-pub struct HostRow {
-    pub some: u64,
-    pub values: [i64; 5],
-    pub marks: [i64; 5],
-}
-
-// The join in numbers. State is 0 Running, 1 Flush, 2 Done.
-#[repr(C)]
-pub struct HostJoin {
-    pub options: HostOptions,
-    pub base: usize,
-    pub held: usize,
-    pub pruned: usize,
-    pub queue_start: usize,
-    pub queue_words: usize,
-    pub state: u64,
-    pub right_ended: u64,
-    pub failed: u64,
-    pub sequence: u64,
-    pub last_left: HostRow,
-    pub last_right: HostRow,
-}
-
-// The answer of opening, of a left or right frame, and of the end of right: refusal is 0 where the call was accepted.
-#[repr(C)]
-pub struct HostTook {
-    pub refusal: u64,
-    pub join: HostJoin,
-}
-
-// The answer of a port call: what left, right and send are told, 0 Blocked, 1 Ready, 2 Done.
-#[repr(C)]
-pub struct HostPorted {
-    pub refusal: u64,
-    pub left: u64,
-    pub right: u64,
-    pub send: u64,
-    pub join: HostJoin,
-}
-
-// The answer of a turn: 0 wrote, 1 wants right, 2 idle, 3 refused.
-#[repr(C)]
-pub struct HostTurned {
-    pub answer: u64,
-    pub refusal: u64,
-    pub sequence: u64,
-    pub join: HostJoin,
-}
-
-// What a run made: the turns that wrote and the words that they wrote back to back; stop is 0 its turns are used, 1 wants right, 2 idle, 3 refused.
-#[repr(C)]
-pub struct HostRan {
-    pub turns: usize,
-    pub words: usize,
-    pub stop: u64,
-    pub refusal: u64,
-    pub join: HostJoin,
-}
+pub use convert::HostJoin;
+pub use convert::HostOptions;
+pub use convert::HostRow;
+pub use told::HostPorted;
+pub use told::HostRan;
+pub use told::HostTook;
+pub use told::HostTurned;
 
 // Opens a join. The join of a refused opening holds the options that came, and every call but a run of no turns answers 2 to it.
 #[no_mangle]

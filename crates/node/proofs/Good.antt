@@ -1,7 +1,7 @@
 -- What is known of a join that is not bad, and of a frame that is accepted. Assumes nothing.
 use mathlib.Core.Path.{_≡_, refl}
 use mathlib.Core.Bool.{Bool, true, false, cond, not, _||_}
-use Prim.Native.Nat.{ℕ, _+_, _-_, _%_, _^_, _≤_, _<_}
+use Prim.Native.Nat.{ℕ, _+_, _-_, _%_, _≤_}
 use native.Mathlib.Omega.{arith}
 use borrow.Author.Tests.{ltb-false, eqb-false, not-false}
 use lib.Dec.{ltb}
@@ -14,13 +14,14 @@ use Rattle.frames.specs.Room.{HasCount}
 use Rattle.frames.specs.declared.Options.{Options}
 use Rattle.frames.proofs.FrontLaws.{frame-parts}
 use Rattle.area.specs.Area.{capacity}
-use Rattle.node.specs.State.{fresh, isRunning, isDone, widthOf, mostRows, lastSequence, badJoin, overRight, overLeft, overRows, oddSequence}
+use Rattle.node.specs.State.{fresh, widthOf, badJoin, overRight, overLeft, overRows, oddSequence}
+use Rattle.answers.specs.Answers.{isRunning, isDone, mostRows}
 use Rattle.node.specs.Calls.{leftAnswer, rightAnswer, endAnswer}
 use Rattle.node.specs.declared.Join.{Join}
-use Rattle.node.specs.declared.Refusal.{Refusal}
-use Rattle.node.specs.declared.Refusal.the-variants.{BadJoin, Failed, Closed, BadFrame, NoRoom, UsedUp}
-use Rattle.node.specs.declared.Took.{Took}
-use Rattle.node.specs.declared.Took.the-variants.{Accepted, Refused}
+use Rattle.answers.specs.declared.Refusal.{Refusal}
+use Rattle.answers.specs.declared.Refusal.the-variants.{BadJoin, Failed, Closed, BadFrame, NoRoom, UsedUp}
+use Rattle.answers.specs.declared.Took.{Took}
+use Rattle.answers.specs.declared.Took.the-variants.{Accepted, Refused}
 
 -- ---- tests
 -- Of an `||` that is false each side is.
@@ -70,10 +71,6 @@ good j left right h =
 pub opened-bad : (o : Options) (left right : Words) → badOptions o ≡ true → badJoin (fresh o) left right ≡ true
 unfolding badJoin
 opened-bad o left right e = rw e
-
--- After a turn that writes the sequence still fits.
-pub next-sequence : (s : ℕ) → s % 2 ≡ 0 → (s ≡ lastSequence → ⊥) → s < 2 ^ 64 → s + 2 < 2 ^ 64
-next-sequence s e n h = omega arith
 
 -- ---- a frame
 -- Its first word is there and is a number of rows, at most 4,096.

@@ -1,12 +1,12 @@
 -- What each call of the join leaves: the answer, the join handed back and the words of what it was lent to write in, as Calls gives them. Assumes nothing.
 use mathlib.Core.Path.{_≡_}
-use Prim.Native.Nat.{ℕ}
 use Rattle.frames.specs.Cells.{Words}
 use Rattle.frames.specs.declared.Options.{Options}
 use Rattle.node.specs.State.{fresh}
-use Rattle.node.specs.Calls.{openAnswer, leftCall, rightCall, endCall, portsCall, turnCall}
+use Rattle.feeds.specs.Judged.{openAnswer}
+use Rattle.node.specs.Calls.{leftCall, rightCall, endCall, portsCall, turnCall}
 use Rattle.node.specs.declared.Join.{Join}
-use Rattle.node.specs.declared.PortState.{PortState}
+use Rattle.answers.specs.declared.PortState.{PortState}
 use Rattle.node.specs.declared.TookJoin.{TookJoin}
 use Rattle.node.specs.declared.PortedJoin.{PortedJoin}
 use Rattle.node.specs.declared.TurnedJoin.{TurnedJoin}

@@ -1,24 +1,15 @@
-// Whether a join and its areas hold together, for any field values and any areas; and what its states say.
+// Whether a join and its areas hold together, for any field values and any areas; and whether a turn may look at its queue.
 use crate::Join;
-use crate::NodeState;
+use answers::Answer;
+use answers::above;
+use feeds::judge_ready;
 use frames::bad_options;
 ghost use mathlib.Core.Path.{_≡_};
-ghost use Prim.Native.Nat.{_+_};
-ghost use lib.Dec.{ltb};
-ghost use Rattle.node.specs.State.{badJoin, isRunning, isDone};
+ghost use Rattle.node.specs.State.{badJoin};
+ghost use Rattle.node.specs.Inner.{readyAnswer};
 
 // The greatest number of right rows.
-pub(crate) const MOST_ROWS: usize = 9223372036854775807;
-
-// Whether a + b is above the limit, with no sum that might wrap.
-pub(crate) fn above(a: usize, b: usize, limit: usize) -> bool
-    ensures { λ r. ⌜ r ≡ ltb limit (a + b) ⌝ }
-{
-    if limit < a {
-        return true;
-    }
-    limit - a < b
-}
+const MOST_ROWS: usize = 9223372036854775807;
 
 // Whether the join, with these areas, meets refusal 2.
 pub(crate) fn bad_join(j: Join, left: &[i64], right: &[i64]) -> bool
@@ -41,24 +32,11 @@ pub(crate) fn bad_join(j: Join, left: &[i64], right: &[i64]) -> bool
     j.sequence % 2 == 1
 }
 
-// Whether the node takes left frames.
-pub(crate) fn is_running(state: NodeState) -> bool
-    ensures { λ r. ⌜ r ≡ isRunning state ⌝ }
+// Whether a turn may look at the front of the queue: refused, Idle, or it goes on.
+pub(crate) fn ready(j: Join, left: &[i64], right: &[i64]) -> Answer
+    ensures { λ r. ⌜ r ≡ readyAnswer j (now (left .entry)) (now (right .entry)) ⌝ }
 {
-    match state {
-        NodeState::Running => true,
-        NodeState::Flush => false,
-        NodeState::Done => false,
-    }
-}
-
-// Whether the node is done.
-pub(crate) fn is_done(state: NodeState) -> bool
-    ensures { λ r. ⌜ r ≡ isDone state ⌝ }
-{
-    match state {
-        NodeState::Running => false,
-        NodeState::Flush => false,
-        NodeState::Done => true,
-    }
+    let bad = bad_join(j, left, right);
+    let state = j.state;
+    judge_ready(bad, j.failed, state, j.queue_words, j.sequence)
 }

@@ -19,19 +19,21 @@ use Rattle.matching.specs.Answer.{answerWords, answered}
 use Rattle.matching.specs.declared.Choice.{Choice}
 use Rattle.matching.proofs.AnswerLaws.{answered-is, answered-rest, answered-count, answer-length}
 use Rattle.matching.proofs.GroupLaws.{frame-length}
-use Rattle.node.specs.State.{widthOf, isDone, badJoin, heldOf, waiting}
-use Rattle.node.specs.Calls.{After, wrote, turnAnswer, turned, turnCall, firstPrune}
+use Rattle.node.specs.State.{widthOf, badJoin, heldOf, waiting}
+use Rattle.answers.specs.Answers.{isDone, wrote}
+use Rattle.node.specs.Calls.{After, turnAnswer, turned, turnCall}
+use Rattle.prunes.specs.Prunes.{firstPrune}
 use Rattle.runs.specs.Run.{Ran, ran, stopOf, turnWords, andThen, runCall}
 use Rattle.node.specs.Leaves.{TurnLeaves}
 use Rattle.runs.specs.RunLeaves.{RunLeaves}
-use Rattle.node.proofs.Tests.{past}
+use Rattle.answers.proofs.Tests.{past}
 use Rattle.node.specs.declared.Join.{Join}
-use Rattle.node.specs.declared.Refusal.{Refusal}
-use Rattle.node.specs.declared.Refusal.the-variants.{BadJoin, Failed, Closed, BadFrame, NoRoom}
-use Rattle.node.specs.declared.Answer.{Answer}
-use Rattle.node.specs.declared.Answer.the-variants.{Wrote, WantsRight, Idle, Refused}
-use Rattle.runs.specs.declared.Stop.{Stop}
-use Rattle.runs.specs.declared.Stop.the-variants.{Used}
+use Rattle.answers.specs.declared.Refusal.{Refusal}
+use Rattle.answers.specs.declared.Refusal.the-variants.{BadJoin, Failed, Closed, BadFrame, NoRoom}
+use Rattle.answers.specs.declared.Answer.{Answer}
+use Rattle.answers.specs.declared.Answer.the-variants.{Wrote, WantsRight, Idle, Refused}
+use Rattle.answers.specs.declared.Stop.{Stop}
+use Rattle.answers.specs.declared.Stop.the-variants.{Used}
 use Rattle.node.specs.declared.TurnedJoin.{TurnedJoin}
 
 -- ---- what a turn that writes leaves in its output

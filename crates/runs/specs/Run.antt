@@ -5,12 +5,13 @@ use Prim.Native.Nat.{ℕ, zero, suc, _+_, _*_}
 use lib.ListN.{take, drop}
 use Rattle.frames.specs.Cells.{Words}
 use Rattle.frames.specs.Frame.{rowCount}
-use Rattle.node.specs.Calls.{turnCall, wrote}
+use Rattle.node.specs.Calls.{turnCall}
+use Rattle.answers.specs.Answers.{wrote}
 use Rattle.node.specs.declared.Join.{Join}
-use Rattle.node.specs.declared.Answer.{Answer}
-use Rattle.node.specs.declared.Answer.the-variants.{Wrote, WantsRight, Idle, Refused}
-use Rattle.runs.specs.declared.Stop.{Stop}
-use Rattle.runs.specs.declared.Stop.the-variants.{Used, WantsRight as StopWants, Idle as StopIdle, Refused as StopRefused}
+use Rattle.answers.specs.declared.Answer.{Answer}
+use Rattle.answers.specs.declared.Answer.the-variants.{Wrote, WantsRight, Idle, Refused}
+use Rattle.answers.specs.declared.Stop.{Stop}
+use Rattle.answers.specs.declared.Stop.the-variants.{Used, WantsRight as StopWants, Idle as StopIdle, Refused as StopRefused}
 
 -- What a run leaves: how many turns it made, how many words they wrote, the answer that stopped it, the join and the output.
 pub record Ran : Type 0 where

@@ -1,21 +1,13 @@
 // A run of turns: what it made, and what ends it.
+use answers::Answer;
+use answers::goes_on;
 use frames::row_count;
-use node::Answer;
 use node::Join;
-use node::Refusal;
 ghost use mathlib.Core.Path.{_≡_};
 ghost use Rattle.frames.specs.Room.{HasCount};
-ghost use Rattle.node.specs.Calls.{wrote};
 ghost use Rattle.runs.specs.Run.{stopOf, turnWords};
 ghost use Rattle.runs.specs.RunLeaves.{RunLeaves};
-
-// What ends a run: its k turns are used, or the answer of a turn that did not write.
-pub enum Stop {
-    Used,
-    WantsRight,
-    Idle,
-    Refused(Refusal),
-}
+pub use answers::Stop;
 
 // What a run made: the turns that wrote, the words that they wrote back to back, what ended it, and the join.
 pub struct RanJoin {
@@ -34,18 +26,6 @@ fn stop_of(answer: Answer) -> Stop
         Answer::WantsRight => Stop::WantsRight,
         Answer::Idle => Stop::Idle,
         Answer::Refused(n) => Stop::Refused(n),
-    }
-}
-
-// Whether the turn wrote.
-fn goes_on(answer: Answer) -> bool
-    ensures { λ r. ⌜ r ≡ wrote answer ⌝ }
-{
-    match answer {
-        Answer::Wrote(_) => true,
-        Answer::WantsRight => false,
-        Answer::Idle => false,
-        Answer::Refused(_) => false,
     }
 }
 

@@ -5,10 +5,10 @@ use Rattle.host.proofs.rowkeeper_end_right.Statement.{statement}
 use Rattle.host.proofs.rowkeeper_end_right.Tie as tie
 use Rattle.host.proofs.rowkeeper_end_right.Reads as reads
 use Rattle.host.proofs.rowkeeper_end_right.Lts as lts
-use Rattle.host.proofs.answers.bad_took.Reads as bad-took-reads
-use Rattle.host.proofs.answers.took_host.Reads as took-host-reads
-use Rattle.host.proofs.convert.is_join.Reads as is-join-reads
-use Rattle.host.proofs.convert.join_of.Reads as join-of-reads
+use Rattle.told.proofs.bad_took.Reads as bad-took-reads
+use Rattle.told.proofs.took_host.Reads as took-host-reads
+use Rattle.convert.proofs.is_join.Reads as is-join-reads
+use Rattle.convert.proofs.join_of.Reads as join-of-reads
 use Rattle.node.proofs.Join.end_right.Reads as end-right-reads
 
 is-join-requires : tie.Need-is-join-requires

@@ -5,10 +5,10 @@ use Rattle.host.proofs.rowkeeper_open.Statement.{statement}
 use Rattle.host.proofs.rowkeeper_open.Tie as tie
 use Rattle.host.proofs.rowkeeper_open.Reads as reads
 use Rattle.host.proofs.rowkeeper_open.Lts as lts
-use Rattle.host.proofs.answers.fresh_host.Reads as fresh-host-reads
-use Rattle.host.proofs.answers.took_host.Reads as took-host-reads
-use Rattle.host.proofs.convert.is_options.Reads as is-options-reads
-use Rattle.host.proofs.convert.options_of.Reads as options-of-reads
+use Rattle.told.proofs.fresh_host.Reads as fresh-host-reads
+use Rattle.told.proofs.took_host.Reads as took-host-reads
+use Rattle.convert.proofs.is_options.Reads as is-options-reads
+use Rattle.convert.proofs.options_of.Reads as options-of-reads
 use Rattle.node.proofs.Join.open.Reads as open-reads
 
 is-options-requires : tie.Need-is-options-requires

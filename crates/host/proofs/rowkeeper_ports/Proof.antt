@@ -6,12 +6,12 @@ use Rattle.host.proofs.rowkeeper_ports.Statement.{statement}
 use Rattle.host.proofs.rowkeeper_ports.Tie as tie
 use Rattle.host.proofs.rowkeeper_ports.Reads as reads
 use Rattle.host.proofs.rowkeeper_ports.Lts as lts
-use Rattle.host.proofs.answers.bad_ported.Reads as bad-ported-reads
-use Rattle.host.proofs.answers.ported_host.Reads as ported-host-reads
+use Rattle.told.proofs.bad_ported.Reads as bad-ported-reads
+use Rattle.told.proofs.ported_host.Reads as ported-host-reads
 use Rattle.codes.proofs.are_codes.Reads as are-codes-reads
 use Rattle.codes.proofs.port_of.Reads as port-of-reads
-use Rattle.host.proofs.convert.is_join.Reads as is-join-reads
-use Rattle.host.proofs.convert.join_of.Reads as join-of-reads
+use Rattle.convert.proofs.is_join.Reads as is-join-reads
+use Rattle.convert.proofs.join_of.Reads as join-of-reads
 use Rattle.node.proofs.Join.ports.Reads as ports-reads
 
 are-codes-requires : tie.Need-are-codes-requires

@@ -5,10 +5,10 @@ use Rattle.host.proofs.rowkeeper_run.Statement.{statement}
 use Rattle.host.proofs.rowkeeper_run.Tie as tie
 use Rattle.host.proofs.rowkeeper_run.Reads as reads
 use Rattle.host.proofs.rowkeeper_run.Lts as lts
-use Rattle.host.proofs.answers.bad_ran.Reads as bad-ran-reads
-use Rattle.host.proofs.answers.ran_host.Reads as ran-host-reads
-use Rattle.host.proofs.convert.is_join.Reads as is-join-reads
-use Rattle.host.proofs.convert.join_of.Reads as join-of-reads
+use Rattle.told.proofs.bad_ran.Reads as bad-ran-reads
+use Rattle.told.proofs.ran_host.Reads as ran-host-reads
+use Rattle.convert.proofs.is_join.Reads as is-join-reads
+use Rattle.convert.proofs.join_of.Reads as join-of-reads
 use Rattle.runs.proofs.run.Reads as run-reads
 
 is-join-requires : tie.Need-is-join-requires

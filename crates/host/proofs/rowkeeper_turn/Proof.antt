@@ -5,10 +5,10 @@ use Rattle.host.proofs.rowkeeper_turn.Statement.{statement}
 use Rattle.host.proofs.rowkeeper_turn.Tie as tie
 use Rattle.host.proofs.rowkeeper_turn.Reads as reads
 use Rattle.host.proofs.rowkeeper_turn.Lts as lts
-use Rattle.host.proofs.answers.bad_turned.Reads as bad-turned-reads
-use Rattle.host.proofs.answers.turned_host.Reads as turned-host-reads
-use Rattle.host.proofs.convert.is_join.Reads as is-join-reads
-use Rattle.host.proofs.convert.join_of.Reads as join-of-reads
+use Rattle.told.proofs.bad_turned.Reads as bad-turned-reads
+use Rattle.told.proofs.turned_host.Reads as turned-host-reads
+use Rattle.convert.proofs.is_join.Reads as is-join-reads
+use Rattle.convert.proofs.join_of.Reads as join-of-reads
 use Rattle.node.proofs.Join.turn.Reads as turn-reads
 
 is-join-requires : tie.Need-is-join-requires

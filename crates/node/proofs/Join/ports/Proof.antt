@@ -1,6 +1,6 @@
 use mathlib.Core.Path.{sym, _∙_}
 use Rattle.node.specs.Calls.{portsAnswer}
-use Rattle.node.specs.declared.Refusal.the-variants.{BadJoin, Failed}
+use Rattle.answers.specs.declared.Refusal.the-variants.{BadJoin, Failed}
 use Rattle.node.proofs.CallLaws.{ports-refused, ports-told}
 use borrow.Author.Needs.{needs}
 use Rattle.node.proofs.Join.ports.Statement.{statement}
@@ -8,10 +8,10 @@ use Rattle.node.proofs.Join.ports.Tie as tie
 use Rattle.node.proofs.Join.ports.Reads as reads
 use Rattle.node.proofs.Join.ports.Lts as lts
 use Rattle.node.proofs.check.bad_join.Reads as bad-join-reads
-use Rattle.node.proofs.ports.at_state.Reads as at-state-reads
-use Rattle.node.proofs.ports.next_state.Reads as next-state-reads
-use Rattle.node.proofs.ports.told.Reads as told-reads
-use Rattle.node.proofs.ports.unported.Reads as unported-reads
+use Rattle.node.proofs.hand.at_state.Reads as at-state-reads
+use Rattle.ports.proofs.next_state.Reads as next-state-reads
+use Rattle.ports.proofs.told.Reads as told-reads
+use Rattle.node.proofs.hand.unported.Reads as unported-reads
 
 bad-join-requires : tie.Need-bad-join-requires
 bad-join-requires c κs = search needs

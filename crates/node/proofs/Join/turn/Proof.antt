@@ -14,13 +14,15 @@ use Rattle.node.proofs.Join.turn.Tie as tie
 use Rattle.node.proofs.Join.turn.Reads as reads
 use Rattle.node.proofs.Join.turn.Lts as lts
 use Rattle.frames.proofs.front_words.Reads as front-words-reads
-use Rattle.node.proofs.turn.goes_on.Reads as goes-on-reads
-use Rattle.node.proofs.turn.judge_ready.Reads as judge-ready-reads
-use Rattle.node.proofs.turn.turn_frame.Reads as turn-frame-reads
-use Rattle.node.proofs.turn.unturned.Reads as unturned-reads
+use Rattle.answers.proofs.goes_on.Reads as goes-on-reads
+use Rattle.node.proofs.check.ready.Reads as ready-reads
+use Rattle.turns.proofs.turn_frame.Reads as turn-frame-reads
+use Rattle.node.proofs.hand.part_of.Reads as part-of-reads
+use Rattle.node.proofs.hand.turned.Reads as turned-reads
+use Rattle.node.proofs.hand.unturned.Reads as unturned-reads
 
-judge-ready-requires : tie.Need-judge-ready-requires
-judge-ready-requires c κs = search needs
+ready-requires : tie.Need-ready-requires
+ready-requires c κs = search needs
 
 goes-on-requires : tie.Need-goes-on-requires
 goes-on-requires c κs = search needs
@@ -29,11 +31,11 @@ unturned-requires : tie.Need-unturned-requires
 unturned-requires c κs = search needs
 
 returns : tie.Need-returns
-returns c = let i = c .before in rw (c .unturned .ensures) (ready-stops _ _ _ _ _ (i .before .before .judge-ready .ensures) (sym (i .before .goes-on .ensures) ∙ not-true (i .before .goes-on .result) (i .if1 .taken)))
+returns c = let i = c .before in rw (c .unturned .ensures) (ready-stops _ _ _ _ _ (i .before .before .ready .ensures) (sym (i .before .goes-on .ensures) ∙ not-true (i .before .goes-on .result) (i .if1 .taken)))
 
 -- The join is good and a frame waits.
 ready : (c : tie.Else1) → let a = c .before .before .before .args in Ready (a .self) (now (a .left)) (now (a .right)) (now (a .out))
-ready c = ready-goes _ _ _ _ _ (c .before .before .judge-ready .ensures) (sym (c .before .goes-on .ensures) ∙ not-false (c .before .goes-on .result) (c .if1 .left))
+ready c = ready-goes _ _ _ _ _ (c .before .before .ready .ensures) (sym (c .before .goes-on .ensures) ∙ not-false (c .before .goes-on .result) (c .if1 .left))
 
 sound : (c : tie.Else1) → let a = c .before .before .before .args in Good (a .self) (now (a .left)) (now (a .right))
 sound c = kept-good _ _ _ _ (ready c)
@@ -91,8 +93,11 @@ within c =
 add-e : tie.Need-add-e
 add-e c = let i = c .before .before .before .before .before .before .before in let x = i .before .before .before in omega (arith, within c, sound i .left-room, x .good .1 .0 .0)
 
+part-of-requires : tie.Need-part-of-requires
+part-of-requires c κs = search needs
+
 mul-turn-frame : tie.Need-mul-turn-frame
-mul-turn-frame c = let i = c .before .before .before .before .before .before .before in let x = i .before .before .before in omega (arith, sound i .left-room, x .good .1 .0 .1)
+mul-turn-frame c = let i = c .before .before .before .before .before .before .before .before in let x = i .before .before .before in omega (arith, sound i .left-room, x .good .1 .0 .1)
 
 sub-turn-frame : tie.Need-sub-turn-frame
 sub-turn-frame c = search needs
@@ -101,35 +106,39 @@ part-turn-frame-start : tie.Need-part-turn-frame-start
 part-turn-frame-start c = search needs
 
 part-turn-frame-end : tie.Need-part-turn-frame-end
-part-turn-frame-end c = let i = c .before .before .before .before .before .before .before in omega (arith, within c, sound i .left-room)
+part-turn-frame-end c = let i = c .before .before .before .before .before .before .before .before in omega (arith, within (c .before), sound i .left-room)
 
 turn-frame-requires : tie.Need-turn-frame-requires
 turn-frame-requires c κs =
-    let t = c .before .before in
+    let t = c .before .before .before in
     let q = t .before .before .before in
     let i = q .before .before .before .before in
     let x = i .before .before .before in
     let z : x .args .self .«queue_start» + t .before .front .given .0 .0 - x .args .self .«queue_start» ≡ t .before .front .given .0 .0 = omega arith in
     let s = q .before .before .struct-known2 .given .1 .1 .1 .1 .1 .1 .1 .1 .1 .0 in
-    rw z (frame-in _ _ _ (now (x .args .out)) (ready i) _ (sym (told q) ∙ t .before .front .given .1) (omega (arith, s)) (x .good .1 .0 .0) (x .good .1 .1 .0 .0))
+    rw (c .before .before .part-of .ensures, z) (frame-in _ _ _ (now (x .args .out)) (ready i) _ (sym (told q) ∙ t .before .front .given .1) (omega (arith, s)) (x .good .1 .0 .0) (x .good .1 .1 .0 .0))
+
+turned-requires : tie.Need-turned-requires
+turned-requires c κs = search needs
 
 same-length : tie.Need-same-length
 same-length c = search needs
 
 returns-3 : tie.Need-returns-3
 returns-3 c =
-    let t = c .before .before .before .before in
+    let o = c .before .before .before .before .before in
+    let t = o .before in
     let q = t .before .before .before in
     let i = q .before .before .before .before in
     let x = i .before .before .before in
     let z : x .args .self .«queue_start» + t .before .front .given .0 .0 - x .args .self .«queue_start» ≡ t .before .front .given .0 .0 = omega arith in
-    frame-turns _ _ _ (now (x .args .out)) (ready i) _ (sym (told q) ∙ t .before .front .given .1) _ _ (rw z at (c .before .turn-frame .ensures))
+    rw (c .turned .ensures) (frame-turns _ _ _ (now (x .args .out)) (ready i) _ (sym (told q) ∙ t .before .front .given .1) _ _ (rw (o .part-of .ensures, z) at (c .before .before .turn-frame .ensures)))
 
 pub turn-spec : {M : Type 1} → statement M
 turn-spec =
     tie.close
     (tie.spec
-    judge-ready-requires
+    ready-requires
     goes-on-requires
     unturned-requires
     returns
@@ -145,10 +154,12 @@ turn-spec =
     unturned-requires-2
     returns-2
     add-e
+    part-of-requires
     mul-turn-frame
     sub-turn-frame
     part-turn-frame-start
     part-turn-frame-end
     turn-frame-requires
+    turned-requires
     same-length
     returns-3)

@@ -1,0 +1,24 @@
+// What left and right frames, the end of right and opening are answered, by the numbers of a join; and what a frame that is taken leaves. `bad` says whether the join meets refusal 2.
+mod feed;
+mod judge;
+
+use answers::Took;
+pub use feed::feed_left;
+pub use feed::feed_right;
+pub use judge::judge_end;
+pub use judge::judge_open;
+pub use judge::judge_ready;
+
+// After a left frame: the answer, where the queue starts and how many words wait.
+pub struct FedLeft {
+    pub answer: Took,
+    pub start: usize,
+    pub words: usize,
+}
+
+// After a right frame: the answer, where the held rows start and how many are held.
+pub struct FedRight {
+    pub answer: Took,
+    pub base: usize,
+    pub held: usize,
+}
