@@ -1,5 +1,5 @@
 // The right area: where the held rows stand, and the words that a push writes behind them.
-use frames::row_count;
+use framerule::row_count;
 ghost use mathlib.Core.Path.{_≡_};
 ghost use Prim.Native.Nat.{_+_, _*_};
 ghost use lib.ListN.{length, drop};

@@ -7,7 +7,7 @@ use answers::NodeState;
 use answers::Took;
 use area::append;
 use area::push;
-use frames::row_count;
+use framerule::row_count;
 ghost use mathlib.Core.Path.{_≡_};
 ghost use mathlib.Core.Bool.{false};
 ghost use Prim.Native.Nat.{suc};

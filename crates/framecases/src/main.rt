@@ -5,11 +5,11 @@ use view::Found;
 // Says whether the words are a frame of c columns, and of how many rows.
 fn frame(name: &[u8], words: &[i64], c: usize) {
     io::write_all(1, name);
-    if !frames::is_frame(words, c) {
+    if !framerule::is_frame(words, c) {
         io::write_all(1, b": no frame\n");
         return;
     }
-    let n = frames::row_count(words);
+    let n = framerule::row_count(words);
     io::write_all(1, b": frame, rows ");
     io::print_decimal(1, n as u64);
     io::write_all(1, b"\n");
@@ -18,7 +18,7 @@ fn frame(name: &[u8], words: &[i64], c: usize) {
 // Says how long the frame of c columns is at the front of the words.
 fn front(name: &[u8], words: &[i64], c: usize) {
     io::write_all(1, name);
-    let Front::Words(k) = frames::front_words(words, c) else {
+    let Front::Words(k) = framerule::front_words(words, c) else {
         io::write_all(1, b": no front\n");
         return;
     };

@@ -3,7 +3,7 @@ use crate::Join;
 use answers::Answer;
 use answers::above;
 use feeds::judge_ready;
-use frames::bad_options;
+use options::bad_options;
 ghost use mathlib.Core.Path.{_≡_};
 ghost use Rattle.node.specs.State.{badJoin};
 ghost use Rattle.node.specs.Inner.{readyAnswer};

@@ -1,7 +1,7 @@
 // What a turn asks of rows: whether they are in order, how many its prunes drop, which row is remembered. No join is seen here.
 use frames::Options;
 use frames::Row;
-use frames::is_on;
+use options::is_on;
 use order::is_sorted;
 use reach::prune_by;
 use splits::bad_split;

@@ -3,7 +3,7 @@ use buffer::Seek;
 use buffer::Stretch;
 use frames::Options;
 use frames::Strategy;
-use frames::strategy_of;
+use options::strategy_of;
 use seek::find;
 ghost use mathlib.Core.Path.{_≡_};
 ghost use Prim.Native.Nat.{ℕ, _-_, _≤_, _<_, max};

@@ -1,7 +1,7 @@
 // A run of turns: what it made, and what ends it.
 use answers::Answer;
 use answers::goes_on;
-use frames::row_count;
+use framerule::row_count;
 use node::Join;
 ghost use mathlib.Core.Path.{_≡_};
 ghost use Rattle.frames.specs.Room.{HasCount};

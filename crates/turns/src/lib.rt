@@ -3,7 +3,7 @@ use answers::Answer;
 use answers::goes_on;
 use area::held_marks;
 use area::held_values;
-use frames::row_count;
+use framerule::row_count;
 use parts::Part;
 use parts::fail;
 use parts::judge_order;

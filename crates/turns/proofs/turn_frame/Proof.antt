@@ -13,7 +13,7 @@ use Rattle.turns.proofs.turn_frame.Reads as reads
 use Rattle.turns.proofs.turn_frame.Lts as lts
 use Rattle.area.proofs.held_marks.Reads as held-marks-reads
 use Rattle.area.proofs.held_values.Reads as held-values-reads
-use Rattle.frames.proofs.row_count.Reads as row-count-reads
+use Rattle.framerule.proofs.row_count.Reads as row-count-reads
 use Rattle.turns.proofs.turn_rows.Reads as turn-rows-reads
 
 add-c : tie.Need-add-c

@@ -11,7 +11,7 @@ use Rattle.feeds.proofs.feed.feed_right.Tie as tie
 use Rattle.feeds.proofs.feed.feed_right.Reads as reads
 use Rattle.feeds.proofs.feed.feed_right.Lts as lts
 use Rattle.area.proofs.push.Reads as push-reads
-use Rattle.frames.proofs.row_count.Reads as row-count-reads
+use Rattle.framerule.proofs.row_count.Reads as row-count-reads
 use Rattle.feeds.proofs.judge.judge_right.Reads as judge-right-reads
 
 judge-right-requires : tie.Need-judge-right-requires

@@ -10,7 +10,7 @@ use Rattle.feeds.proofs.judge.judge_left.Statement.{statement}
 use Rattle.feeds.proofs.judge.judge_left.Tie as tie
 use Rattle.feeds.proofs.judge.judge_left.Reads as reads
 use Rattle.feeds.proofs.judge.judge_left.Lts as lts
-use Rattle.frames.proofs.is_frame.Reads as is-frame-reads
+use Rattle.framerule.proofs.is_frame.Reads as is-frame-reads
 use Rattle.answers.proofs.above.Reads as above-reads
 use Rattle.answers.proofs.is_running.Reads as is-running-reads
 

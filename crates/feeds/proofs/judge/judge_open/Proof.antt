@@ -4,7 +4,7 @@ use Rattle.feeds.proofs.judge.judge_open.Statement.{statement}
 use Rattle.feeds.proofs.judge.judge_open.Tie as tie
 use Rattle.feeds.proofs.judge.judge_open.Reads as reads
 use Rattle.feeds.proofs.judge.judge_open.Lts as lts
-use Rattle.frames.proofs.bad_options.Reads as bad-options-reads
+use Rattle.options.proofs.bad_options.Reads as bad-options-reads
 
 bad-options-requires : tie.Need-bad-options-requires
 bad-options-requires c κs = search needs

@@ -16,8 +16,8 @@ use Rattle.feeds.proofs.judge.judge_right.Statement.{statement}
 use Rattle.feeds.proofs.judge.judge_right.Tie as tie
 use Rattle.feeds.proofs.judge.judge_right.Reads as reads
 use Rattle.feeds.proofs.judge.judge_right.Lts as lts
-use Rattle.frames.proofs.is_frame.Reads as is-frame-reads
-use Rattle.frames.proofs.row_count.Reads as row-count-reads
+use Rattle.framerule.proofs.is_frame.Reads as is-frame-reads
+use Rattle.framerule.proofs.row_count.Reads as row-count-reads
 use Rattle.answers.proofs.above.Reads as above-reads
 use Rattle.feeds.proofs.judge.judge_end.Reads as judge-end-reads
 

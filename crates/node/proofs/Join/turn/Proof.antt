@@ -13,7 +13,7 @@ use Rattle.node.proofs.Join.turn.Statement.{statement}
 use Rattle.node.proofs.Join.turn.Tie as tie
 use Rattle.node.proofs.Join.turn.Reads as reads
 use Rattle.node.proofs.Join.turn.Lts as lts
-use Rattle.frames.proofs.front_words.Reads as front-words-reads
+use Rattle.framerule.proofs.front_words.Reads as front-words-reads
 use Rattle.answers.proofs.goes_on.Reads as goes-on-reads
 use Rattle.node.proofs.check.ready.Reads as ready-reads
 use Rattle.turns.proofs.turn_frame.Reads as turn-frame-reads

@@ -12,7 +12,7 @@ use Rattle.node.proofs.check.bad_join.Statement.{statement}
 use Rattle.node.proofs.check.bad_join.Tie as tie
 use Rattle.node.proofs.check.bad_join.Reads as reads
 use Rattle.node.proofs.check.bad_join.Lts as lts
-use Rattle.frames.proofs.bad_options.Reads as bad-options-reads
+use Rattle.options.proofs.bad_options.Reads as bad-options-reads
 use Rattle.answers.proofs.above.Reads as above-reads
 
 bad-options-requires : tie.Need-bad-options-requires
