@@ -26,8 +26,8 @@ use Rattle.answers.specs.declared.Answer.the-variants.{Refused as TurnRefused}
 use Rattle.codes.specs.Codes.{isCode, portOf}
 use Rattle.convert.specs.Convert.{isOptions, optionsOf, decodeOptions, isJoin, joinOf, encode, decode}
 use Rattle.told.specs.Told.{tookHost, portedHost, turnedHost, freshHost, Made, ranHost, refusedRun}
-use Rattle.host.specs.Calls.{HostAfter, afterHost, encodeAfter, byJoin, openHost, leftHost, rightHost, endHost, portsHost, turnHost, ranAfter, runHost}
-use Rattle.host.specs.Leaves.{HostLeftLeaves, HostRightLeaves, HostEndLeaves, HostPortsLeaves, HostTurnLeaves, HostRunLeaves}
+use Rattle.hostcalls.specs.Calls.{HostAfter, afterHost, encodeAfter, byJoin, openHost, leftHost, rightHost, endHost, portsHost, turnHost, ranAfter, runHost}
+use Rattle.hostcalls.specs.Leaves.{HostLeftLeaves, HostRightLeaves, HostEndLeaves, HostPortsLeaves, HostTurnLeaves, HostRunLeaves}
 use Rattle.convert.specs.declared.HostOptions.{HostOptions}
 use Rattle.convert.specs.declared.HostJoin.{HostJoin}
 use Rattle.told.specs.declared.HostTook.{HostTook}

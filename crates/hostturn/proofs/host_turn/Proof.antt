@@ -1,10 +1,10 @@
 use mathlib.Core.Path.{sym, _∙_}
-use Rattle.host.proofs.CallLaws.{turn-bad, turn-through}
+use Rattle.hostcalls.proofs.CallLaws.{turn-bad, turn-through}
 use borrow.Author.Needs.{needs}
-use Rattle.host.proofs.rowkeeper_turn.Statement.{statement}
-use Rattle.host.proofs.rowkeeper_turn.Tie as tie
-use Rattle.host.proofs.rowkeeper_turn.Reads as reads
-use Rattle.host.proofs.rowkeeper_turn.Lts as lts
+use Rattle.hostturn.proofs.host_turn.Statement.{statement}
+use Rattle.hostturn.proofs.host_turn.Tie as tie
+use Rattle.hostturn.proofs.host_turn.Reads as reads
+use Rattle.hostturn.proofs.host_turn.Lts as lts
 use Rattle.told.proofs.bad_turned.Reads as bad-turned-reads
 use Rattle.told.proofs.turned_host.Reads as turned-host-reads
 use Rattle.convert.proofs.is_join.Reads as is-join-reads
@@ -37,8 +37,8 @@ bad-turned-requires c κs = search needs
 returns-2 : tie.Need-returns-2
 returns-2 c = turn-bad _ _ _ _ _ (sym (c .before .before .is-join .ensures) ∙ c .before .if1 .left) (c .bad-turned .ensures)
 
-pub rowkeeper-turn-spec : {M : Type 1} → statement M
-rowkeeper-turn-spec =
+pub host-turn-spec : {M : Type 1} → statement M
+host-turn-spec =
     tie.close
     (tie.spec
     is-join-requires

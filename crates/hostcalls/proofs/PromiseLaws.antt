@@ -27,14 +27,14 @@ use Rattle.node.proofs.Good.{opened-bad}
 use Rattle.codes.specs.Codes.{isCode, portOf, tookCode}
 use Rattle.convert.specs.Convert.{isOptions, optionsOf, decodeOptions, isJoin, joinOf, decode}
 use Rattle.told.specs.Told.{freshHost}
-use Rattle.host.specs.Calls.{HostAfter, afterHost, encodeAfter, byJoin, openHost, leftHost, rightHost, endHost, portsHost, turnHost}
-use Rattle.host.specs.Promises.{spoils, stays, Shut, Same, Follows, Promises}
+use Rattle.hostcalls.specs.Calls.{HostAfter, afterHost, encodeAfter, byJoin, openHost, leftHost, rightHost, endHost, portsHost, turnHost}
+use Rattle.hostcalls.specs.Promises.{spoils, stays, Shut, Same, Follows, Promises}
 use Rattle.convert.specs.declared.HostOptions.{HostOptions}
 use Rattle.convert.specs.declared.HostJoin.{HostJoin}
 use Rattle.told.specs.declared.HostTook.{HostTook}
 use Rattle.codes.proofs.CodeLaws.{port-is, port-back}
 use Rattle.convert.proofs.ConvertLaws.{join-numbers, join-same, options-parts, decoded-options, Is, decoded, there-and-back}
-use Rattle.host.proofs.CallLaws.{open-bad, open-through, by-none, by-some}
+use Rattle.hostcalls.proofs.CallLaws.{open-bad, open-through, by-none, by-some}
 
 -- ---- the node's calls that change nothing
 -- A call by its answer: what it does where it is accepted, or nothing.

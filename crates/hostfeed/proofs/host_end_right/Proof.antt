@@ -1,10 +1,10 @@
 use mathlib.Core.Path.{sym, _∙_}
-use Rattle.host.proofs.CallLaws.{end-bad, end-through}
+use Rattle.hostcalls.proofs.CallLaws.{end-bad, end-through}
 use borrow.Author.Needs.{needs}
-use Rattle.host.proofs.rowkeeper_end_right.Statement.{statement}
-use Rattle.host.proofs.rowkeeper_end_right.Tie as tie
-use Rattle.host.proofs.rowkeeper_end_right.Reads as reads
-use Rattle.host.proofs.rowkeeper_end_right.Lts as lts
+use Rattle.hostfeed.proofs.host_end_right.Statement.{statement}
+use Rattle.hostfeed.proofs.host_end_right.Tie as tie
+use Rattle.hostfeed.proofs.host_end_right.Reads as reads
+use Rattle.hostfeed.proofs.host_end_right.Lts as lts
 use Rattle.told.proofs.bad_took.Reads as bad-took-reads
 use Rattle.told.proofs.took_host.Reads as took-host-reads
 use Rattle.convert.proofs.is_join.Reads as is-join-reads
@@ -34,8 +34,8 @@ bad-took-requires c κs = search needs
 returns-2 : tie.Need-returns-2
 returns-2 c = end-bad _ _ _ _ (sym (c .before .before .is-join .ensures) ∙ c .before .if1 .left) (c .bad-took .ensures)
 
-pub rowkeeper-end-right-spec : {M : Type 1} → statement M
-rowkeeper-end-right-spec =
+pub host-end-right-spec : {M : Type 1} → statement M
+host-end-right-spec =
     tie.close
     (tie.spec
     is-join-requires

@@ -1,10 +1,10 @@
 use mathlib.Core.Path.{sym, _∙_}
-use Rattle.host.proofs.CallLaws.{run-bad, run-through}
+use Rattle.hostcalls.proofs.CallLaws.{run-bad, run-through}
 use borrow.Author.Needs.{needs}
-use Rattle.host.proofs.rowkeeper_run.Statement.{statement}
-use Rattle.host.proofs.rowkeeper_run.Tie as tie
-use Rattle.host.proofs.rowkeeper_run.Reads as reads
-use Rattle.host.proofs.rowkeeper_run.Lts as lts
+use Rattle.hostturn.proofs.host_run.Statement.{statement}
+use Rattle.hostturn.proofs.host_run.Tie as tie
+use Rattle.hostturn.proofs.host_run.Reads as reads
+use Rattle.hostturn.proofs.host_run.Lts as lts
 use Rattle.told.proofs.bad_ran.Reads as bad-ran-reads
 use Rattle.told.proofs.ran_host.Reads as ran-host-reads
 use Rattle.convert.proofs.is_join.Reads as is-join-reads
@@ -37,8 +37,8 @@ bad-ran-requires c κs = search needs
 returns-2 : tie.Need-returns-2
 returns-2 c = run-bad _ _ _ _ _ _ (sym (c .before .before .is-join .ensures) ∙ c .before .if1 .left) (c .bad-ran .ensures)
 
-pub rowkeeper-run-spec : {M : Type 1} → statement M
-rowkeeper-run-spec =
+pub host-run-spec : {M : Type 1} → statement M
+host-run-spec =
     tie.close
     (tie.spec
     is-join-requires

@@ -1,10 +1,10 @@
 use mathlib.Core.Path.{sym, _∙_}
-use Rattle.host.proofs.CallLaws.{open-bad, open-through}
+use Rattle.hostcalls.proofs.CallLaws.{open-bad, open-through}
 use borrow.Author.Needs.{needs}
-use Rattle.host.proofs.rowkeeper_open.Statement.{statement}
-use Rattle.host.proofs.rowkeeper_open.Tie as tie
-use Rattle.host.proofs.rowkeeper_open.Reads as reads
-use Rattle.host.proofs.rowkeeper_open.Lts as lts
+use Rattle.hostfeed.proofs.host_open.Statement.{statement}
+use Rattle.hostfeed.proofs.host_open.Tie as tie
+use Rattle.hostfeed.proofs.host_open.Reads as reads
+use Rattle.hostfeed.proofs.host_open.Lts as lts
 use Rattle.told.proofs.fresh_host.Reads as fresh-host-reads
 use Rattle.told.proofs.took_host.Reads as took-host-reads
 use Rattle.convert.proofs.is_options.Reads as is-options-reads
@@ -35,8 +35,8 @@ fresh-host-requires c κs = search needs
 returns-2 : tie.Need-returns-2
 returns-2 c = record { result = rw (c .fresh-host .ensures) (sym (open-bad _ (sym (c .before .before .is-options .ensures) ∙ c .before .if1 .left))) }
 
-pub rowkeeper-open-spec : {M : Type 1} → statement M
-rowkeeper-open-spec =
+pub host-open-spec : {M : Type 1} → statement M
+host-open-spec =
     tie.close
     (tie.spec
     is-options-requires

@@ -18,7 +18,7 @@ use Rattle.answers.specs.declared.Ported.the-variants.{Refused as PortsRefused}
 use Rattle.answers.specs.declared.Answer.{Answer}
 use Rattle.answers.specs.declared.Answer.the-variants.{Wrote, WantsRight, Idle, Refused as TurnRefused}
 use Rattle.convert.specs.Convert.{decodeOptions, decode}
-use Rattle.host.specs.Calls.{HostAfter, afterHost, encodeAfter, openHost, leftHost, rightHost, endHost, portsHost, turnHost}
+use Rattle.hostcalls.specs.Calls.{HostAfter, afterHost, encodeAfter, openHost, leftHost, rightHost, endHost, portsHost, turnHost}
 use Rattle.convert.specs.declared.HostOptions.{HostOptions}
 use Rattle.convert.specs.declared.HostJoin.{HostJoin}
 

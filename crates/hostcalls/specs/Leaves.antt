@@ -3,7 +3,7 @@ use mathlib.Core.Path.{_≡_}
 use Prim.Native.Nat.{ℕ}
 use Rattle.frames.specs.Cells.{Words}
 use Rattle.told.specs.Told.{tookHost, portedHost, turnedHost, ranHost}
-use Rattle.host.specs.Calls.{openHost, leftHost, rightHost, endHost, portsHost, turnHost, runHost}
+use Rattle.hostcalls.specs.Calls.{openHost, leftHost, rightHost, endHost, portsHost, turnHost, runHost}
 use Rattle.convert.specs.declared.HostOptions.{HostOptions}
 use Rattle.convert.specs.declared.HostJoin.{HostJoin}
 use Rattle.told.specs.declared.HostTook.{HostTook}

@@ -1,11 +1,11 @@
 use mathlib.Core.Path.{sym, _∙_}
 use borrow.Author.Tests.{not-true, not-false}
-use Rattle.host.proofs.CallLaws.{ports-unsaid, ports-bad, ports-through}
+use Rattle.hostcalls.proofs.CallLaws.{ports-unsaid, ports-bad, ports-through}
 use borrow.Author.Needs.{needs}
-use Rattle.host.proofs.rowkeeper_ports.Statement.{statement}
-use Rattle.host.proofs.rowkeeper_ports.Tie as tie
-use Rattle.host.proofs.rowkeeper_ports.Reads as reads
-use Rattle.host.proofs.rowkeeper_ports.Lts as lts
+use Rattle.hostturn.proofs.host_ports.Statement.{statement}
+use Rattle.hostturn.proofs.host_ports.Tie as tie
+use Rattle.hostturn.proofs.host_ports.Reads as reads
+use Rattle.hostturn.proofs.host_ports.Lts as lts
 use Rattle.told.proofs.bad_ported.Reads as bad-ported-reads
 use Rattle.told.proofs.ported_host.Reads as ported-host-reads
 use Rattle.codes.proofs.are_codes.Reads as are-codes-reads
@@ -58,8 +58,8 @@ returns-3 c =
     let t = c .before .before .before in
     ports-bad _ _ _ _ _ _ _ (sym (t .before .are-codes .ensures) ∙ not-false _ (t .if1 .left)) (sym (c .before .before .is-join .ensures) ∙ c .before .if2 .left) (c .bad-ported2 .ensures)
 
-pub rowkeeper-ports-spec : {M : Type 1} → statement M
-rowkeeper-ports-spec =
+pub host-ports-spec : {M : Type 1} → statement M
+host-ports-spec =
     tie.close
     (tie.spec
     are-codes-requires

@@ -1,15 +1,15 @@
 use mathlib.Core.Path.{sym, _∙_}
-use Rattle.host.proofs.CallLaws.{left-bad, left-through}
+use Rattle.hostcalls.proofs.CallLaws.{right-bad, right-through}
 use borrow.Author.Needs.{needs}
-use Rattle.host.proofs.rowkeeper_left.Statement.{statement}
-use Rattle.host.proofs.rowkeeper_left.Tie as tie
-use Rattle.host.proofs.rowkeeper_left.Reads as reads
-use Rattle.host.proofs.rowkeeper_left.Lts as lts
+use Rattle.hostfeed.proofs.host_right.Statement.{statement}
+use Rattle.hostfeed.proofs.host_right.Tie as tie
+use Rattle.hostfeed.proofs.host_right.Reads as reads
+use Rattle.hostfeed.proofs.host_right.Lts as lts
 use Rattle.told.proofs.bad_took.Reads as bad-took-reads
 use Rattle.told.proofs.took_host.Reads as took-host-reads
 use Rattle.convert.proofs.is_join.Reads as is-join-reads
 use Rattle.convert.proofs.join_of.Reads as join-of-reads
-use Rattle.node.proofs.Join.left.Reads as left-reads
+use Rattle.node.proofs.Join.right.Reads as right-reads
 
 is-join-requires : tie.Need-is-join-requires
 is-join-requires c κs = search needs
@@ -17,8 +17,8 @@ is-join-requires c κs = search needs
 join-of-requires : tie.Need-join-of-requires
 join-of-requires c κs = sym (c .before .is-join .ensures) ∙ c .if1 .taken
 
-left-requires : tie.Need-left-requires
-left-requires c κs = search needs
+right-requires : tie.Need-right-requires
+right-requires c κs = search needs
 
 took-host-requires : tie.Need-took-host-requires
 took-host-requires c κs = search needs
@@ -29,21 +29,21 @@ same-length c = search needs
 returns : tie.Need-returns
 returns c =
     let j = c .before .before .before .before in
-    left-through _ _ _ _ _ _ _ _ (sym (j .before .before .is-join .ensures) ∙ j .before .if1 .taken) (j .join-of .ensures) (c .before .before .left .ensures) (c .took-host .ensures)
+    right-through _ _ _ _ _ _ _ _ (sym (j .before .before .is-join .ensures) ∙ j .before .if1 .taken) (j .join-of .ensures) (c .before .before .right .ensures) (c .took-host .ensures)
 
 bad-took-requires : tie.Need-bad-took-requires
 bad-took-requires c κs = search needs
 
 returns-2 : tie.Need-returns-2
-returns-2 c = left-bad _ _ _ _ _ (sym (c .before .before .is-join .ensures) ∙ c .before .if1 .left) (c .bad-took .ensures)
+returns-2 c = right-bad _ _ _ _ _ (sym (c .before .before .is-join .ensures) ∙ c .before .if1 .left) (c .bad-took .ensures)
 
-pub rowkeeper-left-spec : {M : Type 1} → statement M
-rowkeeper-left-spec =
+pub host-right-spec : {M : Type 1} → statement M
+host-right-spec =
     tie.close
     (tie.spec
     is-join-requires
     join-of-requires
-    left-requires
+    right-requires
     took-host-requires
     same-length
     returns
