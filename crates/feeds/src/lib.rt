@@ -1,13 +1,5 @@
-// What left and right frames, the end of right and opening are answered, by the numbers of a join; and what a frame that is taken leaves. `bad` says whether the join meets refusal 2.
-mod feed;
-mod judge;
-
+// What left and right frames, the end of right and opening are answered, by the numbers of a join, and what a frame that is taken leaves: definitions and laws. `bad` says whether the join meets refusal 2.
 use answers::Took;
-pub use feed::feed_left;
-pub use feed::feed_right;
-pub use judge::judge_end;
-pub use judge::judge_open;
-pub use judge::judge_ready;
 
 // After a left frame: the answer, where the queue starts and how many words wait.
 pub struct FedLeft {

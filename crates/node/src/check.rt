@@ -2,7 +2,7 @@
 use crate::Join;
 use answers::Answer;
 use answers::above;
-use feeds::judge_ready;
+use judges::judge_ready;
 use options::bad_options;
 ghost use mathlib.Core.Path.{_≡_};
 ghost use Rattle.node.specs.State.{badJoin};

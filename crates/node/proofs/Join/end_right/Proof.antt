@@ -7,7 +7,7 @@ use Rattle.node.proofs.Join.end_right.Statement.{statement}
 use Rattle.node.proofs.Join.end_right.Tie as tie
 use Rattle.node.proofs.Join.end_right.Reads as reads
 use Rattle.node.proofs.Join.end_right.Lts as lts
-use Rattle.feeds.proofs.judge_end.Reads as judge-end-reads
+use Rattle.judges.proofs.judge_end.Reads as judge-end-reads
 use Rattle.node.proofs.check.bad_join.Reads as bad-join-reads
 use Rattle.node.proofs.hand.kept.Reads as kept-reads
 

@@ -6,7 +6,7 @@ use Rattle.node.proofs.Join.left.Statement.{statement}
 use Rattle.node.proofs.Join.left.Tie as tie
 use Rattle.node.proofs.Join.left.Reads as reads
 use Rattle.node.proofs.Join.left.Lts as lts
-use Rattle.feeds.proofs.feed_left.Reads as feed-left-reads
+use Rattle.intake.proofs.feed_left.Reads as feed-left-reads
 use Rattle.node.proofs.check.bad_join.Reads as bad-join-reads
 
 bad-join-requires : tie.Need-bad-join-requires

@@ -6,7 +6,7 @@ use Rattle.node.proofs.Join.right.Statement.{statement}
 use Rattle.node.proofs.Join.right.Tie as tie
 use Rattle.node.proofs.Join.right.Reads as reads
 use Rattle.node.proofs.Join.right.Lts as lts
-use Rattle.feeds.proofs.feed_right.Reads as feed-right-reads
+use Rattle.intake.proofs.feed_right.Reads as feed-right-reads
 use Rattle.node.proofs.check.bad_join.Reads as bad-join-reads
 
 bad-join-requires : tie.Need-bad-join-requires

@@ -3,7 +3,7 @@ use Rattle.node.proofs.check.ready.Statement.{statement}
 use Rattle.node.proofs.check.ready.Tie as tie
 use Rattle.node.proofs.check.ready.Reads as reads
 use Rattle.node.proofs.check.ready.Lts as lts
-use Rattle.feeds.proofs.judge_ready.Reads as judge-ready-reads
+use Rattle.judges.proofs.judge_ready.Reads as judge-ready-reads
 use Rattle.node.proofs.check.bad_join.Reads as bad-join-reads
 
 bad-join-requires : tie.Need-bad-join-requires

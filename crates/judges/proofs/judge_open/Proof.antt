@@ -1,9 +1,9 @@
 use Rattle.feeds.specs.Judged.{openAnswer}
 use borrow.Author.Needs.{needs}
-use Rattle.feeds.proofs.judge.judge_open.Statement.{statement}
-use Rattle.feeds.proofs.judge.judge_open.Tie as tie
-use Rattle.feeds.proofs.judge.judge_open.Reads as reads
-use Rattle.feeds.proofs.judge.judge_open.Lts as lts
+use Rattle.judges.proofs.judge_open.Statement.{statement}
+use Rattle.judges.proofs.judge_open.Tie as tie
+use Rattle.judges.proofs.judge_open.Reads as reads
+use Rattle.judges.proofs.judge_open.Lts as lts
 use Rattle.options.proofs.bad_options.Reads as bad-options-reads
 
 bad-options-requires : tie.Need-bad-options-requires

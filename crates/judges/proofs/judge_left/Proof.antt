@@ -4,12 +4,12 @@ use native.Mathlib.Omega.{arith}
 use Prim.Native.Nat.{suc}
 use denote.Ref.{now}
 use Rattle.frames.specs.Frame.{isFrame}
 use Rattle.feeds.specs.Judged.{leftJudged}
 use borrow.Author.Needs.{needs}
-use Rattle.feeds.proofs.judge.judge_left.Statement.{statement}
-use Rattle.feeds.proofs.judge.judge_left.Tie as tie
-use Rattle.feeds.proofs.judge.judge_left.Reads as reads
-use Rattle.feeds.proofs.judge.judge_left.Lts as lts
+use Rattle.judges.proofs.judge_left.Statement.{statement}
+use Rattle.judges.proofs.judge_left.Tie as tie
+use Rattle.judges.proofs.judge_left.Reads as reads
+use Rattle.judges.proofs.judge_left.Lts as lts
 use Rattle.framerule.proofs.is_frame.Reads as is-frame-reads
 use Rattle.answers.proofs.above.Reads as above-reads
 use Rattle.answers.proofs.is_running.Reads as is-running-reads

@@ -1,17 +1,17 @@
 // Frames that are taken: a left frame waits behind those that wait, the rows of a right frame are held behind those that are.
-use crate::FedLeft;
-use crate::FedRight;
-use crate::judge::judge_left;
-use crate::judge::judge_right;
 use answers::NodeState;
 use answers::Took;
 use area::append;
 use area::push;
+use feeds::FedLeft;
+use feeds::FedRight;
 use framerule::row_count;
+use judges::judge_left;
+use judges::judge_right;
 ghost use mathlib.Core.Path.{_≡_};
 ghost use mathlib.Core.Bool.{false};
 ghost use Prim.Native.Nat.{suc};
 ghost use Rattle.feeds.specs.Judged.{LeftHolds, LeftFed, RightHolds, RightFed};
 
 // A left frame: where it would pass the end, those that wait move to the front first.
 pub fn feed_left(

@@ -2,15 +2,15 @@ use mathlib.Core.Path.{sym, _∙_}
 use native.Mathlib.Omega.{arith}
 use Prim.Native.Nat.{suc}
 use denote.Ref.{now}
 use Rattle.feeds.specs.Judged.{LeftHolds}
 use Rattle.feeds.proofs.FeedLaws.{LeftTaken, left-taken, left-refused, left-accepted}
 use borrow.Author.Needs.{needs}
-use Rattle.feeds.proofs.feed.feed_left.Statement.{statement}
-use Rattle.feeds.proofs.feed.feed_left.Tie as tie
-use Rattle.feeds.proofs.feed.feed_left.Reads as reads
-use Rattle.feeds.proofs.feed.feed_left.Lts as lts
+use Rattle.intake.proofs.feed_left.Statement.{statement}
+use Rattle.intake.proofs.feed_left.Tie as tie
+use Rattle.intake.proofs.feed_left.Reads as reads
+use Rattle.intake.proofs.feed_left.Lts as lts
 use Rattle.area.proofs.append.Reads as append-reads
-use Rattle.feeds.proofs.judge.judge_left.Reads as judge-left-reads
+use Rattle.judges.proofs.judge_left.Reads as judge-left-reads
 
 judge-left-requires : tie.Need-judge-left-requires
 judge-left-requires c κs = λ e. c .before .pre e .few

@@ -1,4 +1,4 @@
-// The refusals in checking order. Nothing is altered here.
+// The refusals of opening, of frames, of the end of right and of the start of a turn, in checking order. Nothing is altered here.
 use answers::Answer;
 use answers::NodeState;
 use answers::Refusal;
@@ -30,7 +30,7 @@ pub fn judge_open(o: Options) -> Took
 }
 
 // A left frame, with so many words waiting.
-pub(crate) fn judge_left(
+pub fn judge_left(
     bad: bool,
     failed: bool,
     state: NodeState,
@@ -81,7 +81,7 @@ pub fn judge_end(bad: bool, failed: bool, ended: bool, state: NodeState) -> Took
 }
 
 // A right frame: it is refused where the end of right is, and then for its words, for room and for its rows' numbers.
-pub(crate) fn judge_right(
+pub fn judge_right(
     bad: bool,
     failed: bool,
     ended: bool,

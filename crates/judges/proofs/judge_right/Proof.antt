@@ -9,17 +9,17 @@ use Rattle.frames.specs.Frame.{isFrame, rowCount}
 use Rattle.area.specs.Area.{capacity}
 use Rattle.answers.specs.Answers.{mostRows}
 use Rattle.answers.specs.declared.Took.the-variants.{Accepted}
 use Rattle.feeds.specs.Judged.{endJudged, rightJudged}
 use Rattle.feeds.proofs.FeedLaws.{rightRest, end-taken, right-shut, right-open, has-count}
 use borrow.Author.Needs.{needs}
-use Rattle.feeds.proofs.judge.judge_right.Statement.{statement}
-use Rattle.feeds.proofs.judge.judge_right.Tie as tie
-use Rattle.feeds.proofs.judge.judge_right.Reads as reads
-use Rattle.feeds.proofs.judge.judge_right.Lts as lts
+use Rattle.judges.proofs.judge_right.Statement.{statement}
+use Rattle.judges.proofs.judge_right.Tie as tie
+use Rattle.judges.proofs.judge_right.Reads as reads
+use Rattle.judges.proofs.judge_right.Lts as lts
 use Rattle.framerule.proofs.is_frame.Reads as is-frame-reads
 use Rattle.framerule.proofs.row_count.Reads as row-count-reads
 use Rattle.answers.proofs.above.Reads as above-reads
-use Rattle.feeds.proofs.judge.judge_end.Reads as judge-end-reads
+use Rattle.judges.proofs.judge_end.Reads as judge-end-reads
 
 judge-end-requires : tie.Need-judge-end-requires
 judge-end-requires c κs = search needs

@@ -3,16 +3,16 @@ use native.Mathlib.Numerals.{add-one}
 use native.Mathlib.Omega.{arith}
 use Prim.Native.Nat.{suc}
 use denote.Ref.{now}
 use Rattle.feeds.specs.Judged.{RightHolds}
 use Rattle.feeds.proofs.FeedLaws.{RightTaken, right-taken, right-refused, right-accepted, has-count}
 use borrow.Author.Needs.{needs}
-use Rattle.feeds.proofs.feed.feed_right.Statement.{statement}
-use Rattle.feeds.proofs.feed.feed_right.Tie as tie
-use Rattle.feeds.proofs.feed.feed_right.Reads as reads
-use Rattle.feeds.proofs.feed.feed_right.Lts as lts
+use Rattle.intake.proofs.feed_right.Statement.{statement}
+use Rattle.intake.proofs.feed_right.Tie as tie
+use Rattle.intake.proofs.feed_right.Reads as reads
+use Rattle.intake.proofs.feed_right.Lts as lts
 use Rattle.area.proofs.push.Reads as push-reads
 use Rattle.framerule.proofs.row_count.Reads as row-count-reads
-use Rattle.feeds.proofs.judge.judge_right.Reads as judge-right-reads
+use Rattle.judges.proofs.judge_right.Reads as judge-right-reads
 
 judge-right-requires : tie.Need-judge-right-requires
 judge-right-requires c κs = λ e. let h = c .before .pre e in (h .few, h .rows)

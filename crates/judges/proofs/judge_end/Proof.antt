@@ -1,9 +1,9 @@
 use Rattle.feeds.specs.Judged.{endJudged}
 use borrow.Author.Needs.{needs}
-use Rattle.feeds.proofs.judge.judge_end.Statement.{statement}
-use Rattle.feeds.proofs.judge.judge_end.Tie as tie
-use Rattle.feeds.proofs.judge.judge_end.Reads as reads
-use Rattle.feeds.proofs.judge.judge_end.Lts as lts
+use Rattle.judges.proofs.judge_end.Statement.{statement}
+use Rattle.judges.proofs.judge_end.Tie as tie
+use Rattle.judges.proofs.judge_end.Reads as reads
+use Rattle.judges.proofs.judge_end.Lts as lts
 use Rattle.answers.proofs.is_done.Reads as is-done-reads
 
 returns : tie.Need-returns
