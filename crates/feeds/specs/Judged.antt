@@ -1,12 +1,12 @@
 -- What opening, a left or right frame, the end of right and the start of a turn are answered, by the numbers of a join; and what a frame that is taken leaves. Assumes nothing.
 use mathlib.Core.Path.{_≡_}
-use mathlib.Core.Bool.{Bool, cond, not, _||_}
-use Prim.Native.Nat.{ℕ, suc, _+_, _≤_}
+use mathlib.Core.Bool.{Bool, true, cond, not, _||_}
+use Prim.Native.Nat.{ℕ, suc, _+_, _%_, _≤_}
 use lib.Dec.{ltb, eqb}
 use lib.ListN.{length}
 use Rattle.frames.specs.Cells.{Words}
 use Rattle.frames.specs.Frame.{rowCount, isFrame}
-use Rattle.frames.specs.Options.{badOptions}
+use Rattle.frames.specs.Options.{badOptions, columns}
 use Rattle.frames.specs.declared.Options.{Options}
 use Rattle.area.specs.Area.{capacity, newBase, pushed, moved, written}
 use Rattle.answers.specs.Answers.{isRunning, isDone, mostRows}
@@ -18,6 +18,12 @@ use Rattle.answers.specs.declared.Answer.{Answer}
 use Rattle.answers.specs.declared.Answer.the-variants.{Wrote, Idle, Refused as TurnRefused}
 use Rattle.feeds.specs.declared.FedLeft.{FedLeft}
 use Rattle.feeds.specs.declared.FedRight.{FedRight}
+use Rattle.feeds.specs.declared.FedEnd.{FedEnd}
+
+-- Refusal 2: options that meet 1, base + held above R, queue start + queue words above the left area, pruned + held above 2^63 − 1, an odd sequence.
+unfoldable pub badNumbers : Options → ℕ → ℕ → ℕ → ℕ → ℕ → ℕ → Words → Words → Bool
+badNumbers o base held pruned start words sequence left right =
+    badOptions o || ltb (capacity (columns o) right) (base + held) || ltb (length left) (start + words) || ltb mostRows (pruned + held) || eqb (sequence % 2) 1
 
 -- Opening: refusal 1, or a fresh join.
 unfoldable pub openAnswer : Options → Took
@@ -77,6 +83,11 @@ pub record LeftFed (bad failed : Bool) (state : NodeState) (c start words : ℕ)
   pub start-is : r .start ≡ taken (leftJudged bad failed state c words left f) (newBase start words (length f) (length left)) start
   pub words-are : r .words ≡ taken (leftJudged bad failed state c words left f) (words + length f) words
   pub area : left′ ≡ taken (leftJudged bad failed state c words left f) (let to = newBase start words (length f) (length left) in written f (to + words) (moved start to words left)) left
+
+-- The end of right: the answer, and whether right has ended.
+pub record EndFed (bad failed ended : Bool) (state : NodeState) (r : FedEnd) : Type 0 where
+  pub answer : r .answer ≡ endJudged bad failed ended state
+  pub ended-is : r .ended ≡ taken (endJudged bad failed ended state) true ended
 
 -- The same on the right: the held rows are there, and are few enough.
 pub record RightHolds (by base held pruned : ℕ) (right : Words) : Type 0 where

@@ -8,6 +8,12 @@ pub struct FedLeft {
     pub words: usize,
 }
 
+// After the end of right: the answer, and whether right has ended.
+pub struct FedEnd {
+    pub answer: Took,
+    pub ended: bool,
+}
+
 // After a right frame: the answer, where the held rows start and how many are held.
 pub struct FedRight {
     pub answer: Took,

@@ -3,15 +3,17 @@ use answers::NodeState;
 use answers::Took;
 use area::append;
 use area::push;
+use feeds::FedEnd;
 use feeds::FedLeft;
 use feeds::FedRight;
 use framerule::row_count;
+use judges::judge_end;
 use judges::judge_left;
 use judges::judge_right;
 ghost use mathlib.Core.Path.{_≡_};
 ghost use mathlib.Core.Bool.{false};
 ghost use Prim.Native.Nat.{suc};
-ghost use Rattle.feeds.specs.Judged.{LeftHolds, LeftFed, RightHolds, RightFed};
+ghost use Rattle.feeds.specs.Judged.{EndFed, LeftHolds, LeftFed, RightHolds, RightFed};
 
 // A left frame: where it would pass the end, those that wait move to the front first.
 pub fn feed_left(
@@ -75,5 +77,22 @@ pub fn feed_right(
         answer: answer,
         base: to,
         held: rows,
+    }
+}
+
+// The end of right: right has ended where it is accepted.
+pub fn feed_end(bad: bool, failed: bool, ended: bool, state: NodeState) -> FedEnd
+    ensures { λ r. ⌜ EndFed bad failed ended state r ⌝ }
+{
+    let answer = judge_end(bad, failed, ended, state);
+    if let Took::Refused(_) = answer {
+        return FedEnd {
+            answer: answer,
+            ended: ended,
+        };
+    }
+    FedEnd {
+        answer: answer,
+        ended: true,
     }
 }

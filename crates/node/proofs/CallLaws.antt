@@ -1,13 +1,14 @@
 -- The calls by their answers: what a refused call leaves and what an accepted one does, over plain values. Assumes nothing.
 use mathlib.Core.Path.{_≡_, refl, sym, _∙_}
-use mathlib.Core.Bool.{Bool, false}
-use native.Mathlib.Omega.{arith}
+use mathlib.Core.Bool.{Bool, true, false}
 use Rattle.frames.specs.Cells.{Words}
-use Rattle.node.specs.State.{queueAt, heldAt, stateAt, endedRight, widthOf, badJoin}
+use Rattle.node.specs.State.{joinOf, queueAt, heldAt, stateAt, widthOf, badJoin}
 use Rattle.node.specs.Calls.{leftAnswer, leftCall, queued, rightAnswer, rightCall, pushedRight, endAnswer, endCall, portsState, portsAnswer, portsCall}
-use Rattle.ports.specs.Ports.{portsIn}
 use Rattle.node.specs.Leaves.{LeftLeaves, RightLeaves, EndLeaves, PortsLeaves}
-use Rattle.feeds.specs.Judged.{leftJudged, endJudged, rightJudged, LeftFed, RightFed}
+use Rattle.feeds.specs.Judged.{leftJudged, endJudged, rightJudged, EndFed, LeftFed, RightFed}
+use Rattle.feeds.specs.declared.FedEnd.{FedEnd}
+use Rattle.ports.specs.Ports.{portsIn, portsJudged, movedState, Moves}
+use Rattle.ports.specs.declared.PortsMoved.{PortsMoved}
 use Rattle.feeds.specs.declared.FedLeft.{FedLeft}
 use Rattle.feeds.specs.declared.FedRight.{FedRight}
 use Rattle.node.specs.declared.Join.{Join}
@@ -15,26 +16,34 @@ use Rattle.answers.specs.declared.NodeState.{NodeState}
 use Rattle.answers.specs.declared.NodeState.the-variants.{Running, Flush, Done}
 use Rattle.answers.specs.declared.PortState.{PortState}
 use Rattle.answers.specs.declared.Refusal.{Refusal}
+use Rattle.answers.specs.declared.Refusal.the-variants.{BadJoin, Failed}
 use Rattle.answers.specs.declared.Took.{Took}
 use Rattle.answers.specs.declared.Took.the-variants.{Accepted, Refused}
 use Rattle.answers.specs.declared.Ported.{Ported}
 use Rattle.answers.specs.declared.Ported.the-variants.{Refused as PortsRefused}
 
+-- The join whose right has ended, or not.
+abbrev pub endedAt : Join → Bool → Join
+endedAt j e =
+    joinOf (j .options) (j .base) (j .held) (j .pruned) (j .«queue_start») (j .«queue_words») (j .state) e (j .failed) (j .sequence) (j .«last_left») (j .«last_right»)
+
 module _ (j : Join) (left right : Words) where
   -- ---- the end of right
-  module _ (t : Took) (judged : t ≡ endAnswer j left right) where
-    pub end-refused : (n : Refusal) → t ≡ Refused n → EndLeaves j left right (record { answer = t; join = j })
-    unfolding endCall
-    end-refused n is = let e = sym judged ∙ is in record { answer = rw (e, endCall) is; join = rw (e, endCall) }
+  module _ (b : Bool) (is : b ≡ badJoin j left right) (r : FedEnd) (fed : EndFed b (j .failed) (j .«right_ended») (j .state) r) where
+    end-known : EndFed (badJoin j left right) (j .failed) (j .«right_ended») (j .state) r
+    end-known = rw is at fed
 
-    pub end-accepted : t ≡ Accepted → EndLeaves j left right (record { answer = t; join = endedRight j })
-    unfolding endCall
-    end-accepted is = let e = sym judged ∙ is in record { answer = rw (e, endCall) is; join = rw (e, endCall) }
+    end-same : endJudged (badJoin j left right) (j .failed) (j .«right_ended») (j .state) ≡ endAnswer j left right
+    unfolding endJudged endAnswer
+    end-same = refl
 
-  -- The end of right, judged by the join's numbers.
-  pub end-judged : (b : Bool) (t : Took) → b ≡ badJoin j left right → t ≡ endJudged b (j .failed) (j .«right_ended») (j .state) → t ≡ endAnswer j left right
-  unfolding endJudged endAnswer
-  end-judged b t is h = rw is at h
+    pub end-leaves : EndLeaves j left right (record { answer = r .answer; join = endedAt j (r .ended) })
+    unfolding endCall
+    end-leaves = go (endAnswer j left right) refl
+      where
+        go : (t : Took) → endAnswer j left right ≡ t → EndLeaves j left right (record { answer = r .answer; join = endedAt j (r .ended) })
+        go Accepted e = let s = end-same ∙ e in record { answer = rw (e, endCall) (rw s at (end-known .answer)); join = rw (e, endCall, rw s at (end-known .ended-is)) }
+        go (Refused n) e = let s = end-same ∙ e in record { answer = rw (e, endCall) (rw s at (end-known .answer)); join = rw (e, endCall, rw s at (end-known .ended-is)) }
 
   -- ---- a left frame
   module _ (f : Words) (b : Bool) (is : b ≡ badJoin j left right) (r : FedLeft) (left′ : Words)
@@ -90,11 +99,27 @@ module _ (j : Join) (left right : Words) where
     told-call Flush a at is e = record { answer = rw (e, portsCall) is; join = rw (e, portsCall, ← at) }
     told-call Done a at is e = record { answer = rw (e, portsCall) is; join = rw (e, portsCall, ← at) }
 
-    pub ports-refused : (n : Refusal) → portsAnswer j left right l r s ≡ PortsRefused n → PortsLeaves j left right l r s (record { answer = PortsRefused n; join = j })
+    ports-refused : (n : Refusal) → portsAnswer j left right l r s ≡ PortsRefused n → PortsLeaves j left right l r s (record { answer = PortsRefused n; join = j })
     unfolding portsCall
     ports-refused n e = record { answer = rw (e, portsCall); join = rw (e, portsCall) }
 
-    pub ports-told : badJoin j left right ≡ false → j .failed ≡ false → (u : NodeState) (a : Ported) → u ≡ portsState j l s → a ≡ portsIn u l r s
-        → PortsLeaves j left right l r s (record { answer = a; join = stateAt j u })
-    unfolding portsAnswer
-    ports-told p q u a at is = told-call u a at is (rw (p, q, at))
+    module _ (b : Bool) (is : b ≡ badJoin j left right) (x : PortsMoved) (h : Moves b (j .failed) (j .state) l r s (j .«queue_words») x) where
+      known : Moves (badJoin j left right) (j .failed) (j .state) l r s (j .«queue_words») x
+      known = rw is at h
+
+      pub ports-leaves : PortsLeaves j left right l r s (record { answer = x .answer; join = stateAt j (x .state) })
+      unfolding portsAnswer portsJudged movedState
+      ports-leaves = go (badJoin j left right) (j .failed) refl refl
+        where
+          go : (p q : Bool) → badJoin j left right ≡ p → j .failed ≡ q → PortsLeaves j left right l r s (record { answer = x .answer; join = stateAt j (x .state) })
+          go true q e f =
+              let z = ports-refused BadJoin (rw e) in
+              let st : x .state ≡ j .state = rw e at (known .state-is) in
+              record { answer = rw e at (known .answer) ∙ z .answer; join = rw st (z .join) }
+          go false true e f =
+              let z = ports-refused Failed (rw (e, f)) in
+              let st : x .state ≡ j .state = rw (e, f) at (known .state-is) in
+              record { answer = rw (e, f) at (known .answer) ∙ z .answer; join = rw st (z .join) }
+          go false false e f =
+              let st : x .state ≡ portsState j l s = rw (e, f) at (known .state-is) in
+              told-call (x .state) (x .answer) st (rw (e, f, ← st) at (known .answer)) (rw (e, f, st))

@@ -14,6 +14,7 @@ use Rattle.frames.specs.Room.{HasCount}
 use Rattle.frames.specs.declared.Options.{Options}
 use Rattle.frames.proofs.FrontLaws.{frame-parts}
 use Rattle.area.specs.Area.{capacity}
+use Rattle.feeds.proofs.FeedLaws.{or-both, few-columns}
 use Rattle.node.specs.State.{fresh, widthOf, badJoin, overRight, overLeft, overRows, oddSequence}
 use Rattle.answers.specs.Answers.{isRunning, isDone, mostRows}
 use Rattle.node.specs.Calls.{leftAnswer, rightAnswer, endAnswer}
@@ -24,24 +25,12 @@ use Rattle.answers.specs.declared.Took.{Took}
 use Rattle.answers.specs.declared.Took.the-variants.{Accepted, Refused}
 
 -- ---- tests
--- Of an `||` that is false each side is.
-or-both : (a b : Bool) → (a || b) ≡ false → (a ≡ false) × (b ≡ false)
-or-both true b e = let z : _≡_ {A = ℕ} 0 1 = cc in absurd (omega arith)
-or-both false b e = (refl, e)
-
 -- A chain of refusals that came to Accepted did not stop at its first.
 passed : (b : Bool) (n : Refusal) (t : Took) → cond b (Refused n) t ≡ Accepted → (b ≡ false) × (t ≡ Accepted)
 passed true n t e = let z : _≡_ {A = ℕ} 0 1 = cc in absurd (omega arith)
 passed false n t e = (refl, e)
 
 -- ---- a join that is not bad
-pub few-columns : (o : Options) → badOptions o ≡ false → o .by ≤ 4
-unfolding badOptions
-few-columns o e =
-    let p = or-both (ltb 4 (o .by) || ltb 2 (o .strategy) || ltZ (o .tolerance) _) _ e in
-    let q = or-both (ltb 4 (o .by) || ltb 2 (o .strategy)) _ (p .0) in
-    ltb-false 4 (o .by) (or-both (ltb 4 (o .by)) _ (q .0) .0)
-
 pub record Good (j : Join) (left right : Words) : Type 0 where
   pub options : badOptions (j .options) ≡ false
   pub few : j .options .by ≤ 4

@@ -9,6 +9,7 @@ use lib.Seq.{take-take}
 use Rattle.frames.specs.Cells.{Rows, Words}
 use Rattle.frames.specs.Frame.{isFrame, frameRows, front}
 use Rattle.frames.specs.Front.{frontOf}
+use Rattle.frames.specs.declared.Front.{Front}
 use Rattle.frames.specs.declared.Front.the-variants.{Words as Long, Nothing}
 use Rattle.frames.proofs.FrontLaws.{Fronted, front-told}
 use Rattle.area.specs.Area.{capacity, heldRows}
@@ -35,7 +36,9 @@ use Rattle.answers.specs.declared.Answer.the-variants.{Wrote, WantsRight, Idle,
 use Rattle.feeds.specs.Judged.{readyJudged}
 use Rattle.parts.specs.Part.{roomAnswer, orderAnswer, leftPart}
 use Rattle.parts.specs.declared.Part.{Part}
-use Rattle.turns.specs.Turns.{rowsAnswer, rowsTurn, spoiledPart, RowsTurned, FrameIn}
+use Rattle.turns.specs.Turns.{left as unmoved, rowsAnswer, rowsTurn, spoiledPart, RowsTurned}
+use Rattle.queue.specs.Queue.{waitingIn, frontTurn, queueTurn, QueueTurned}
+use Rattle.queue.proofs.QueueLaws.{front-here, front-frame}
 use Rattle.turns.specs.declared.TurnedPart.{TurnedPart}
 
 -- The answers by rows are one chain.
@@ -103,7 +106,7 @@ part-spoiled j RightOrder = refl
 module _ (j : Join) (left right out : Words) where
   -- ---- ready
   -- What a turn that goes on knows of its join.
-  pub record Ready : Type 0 where
+  record Ready : Type 0 where
     pub unbroken : badJoin j left right ≡ false
     pub unfailed : j .failed ≡ false
     pub undone : isDone (j .state) ≡ false
@@ -132,7 +135,7 @@ module _ (j : Join) (left right out : Words) where
       let p = past (eqb (j .«queue_words») 0) Idle (Wrote (j .sequence)) (Wrote (j .sequence)) (idle-apart _) (p4 .1) in
       record { unbroken = p2 .0; unfailed = p3 .0; undone = p4 .0; some = p .0 }
 
-  pub ready-goes : (t : Answer) → t ≡ readyAnswer j left right → wrote t ≡ true → Ready
+  ready-goes : (t : Answer) → t ≡ readyAnswer j left right → wrote t ≡ true → Ready
   ready-goes t e g =
       is-ready (ready-all (λ a. wrote a ≡ true → a ≡ Wrote (j .sequence)) (λ x. cc) (λ x. cc) (λ x. cc) (λ x. cc) (λ x. refl) (sym (ap wrote e) ∙ g))
 
@@ -148,14 +151,14 @@ module _ (j : Join) (left right out : Words) where
   unfolding turnAnswer readyJudged
   unready g = stays-at (badJoin j left right) (j .failed) (isDone (j .state)) (eqb (j .«queue_words») 0) (j .sequence) _ g
 
-  pub ready-stops : (t : Answer) → t ≡ readyAnswer j left right → wrote t ≡ false → TurnLeaves j left right out (record { answer = t; join = j }) out
+  ready-stops : (t : Answer) → t ≡ readyAnswer j left right → wrote t ≡ false → TurnLeaves j left right out (record { answer = t; join = j }) out
   ready-stops t e g =
       let same : stopped j t ≡ j = rw e (ready-all (λ a. stopped j a ≡ j) refl refl refl refl refl) in
       rw same at (stops t (unready (sym (ap wrote e) ∙ g) ∙ sym e) g)
 
   -- ---- the front
   module _ (r : Ready) where
-    pub kept-good : Good j left right
+    kept-good : Good j left right
     kept-good = good j left right (r .unbroken)
 
     module _ (f : Words) (fronted : front (widthOf j) (waiting j left) ≡ f) where
@@ -192,44 +195,40 @@ module _ (j : Join) (left right out : Words) where
           let t = answer-rows frame ∙ e in
           record { answer = rw (t, turnCall) (rw (e, rowsTurn) at (h .answer)); join = rw (t, turnCall) (ap (joinWith j) (rw (e, rowsTurn) at (h .part)) ∙ part-spoiled j n); words = rw (t, turnCall) (rw (e, rowsTurn) at (h .words)) }
 
-    pub front-stops : frontOf (widthOf j) (waiting j left) ≡ Nothing → TurnLeaves j left right out (record { answer = Refused BadFrame; join = j }) out
+    front-stops : frontOf (widthOf j) (waiting j left) ≡ Nothing → TurnLeaves j left right out (record { answer = Refused BadFrame; join = j }) out
     front-stops e = stops (Refused BadFrame) (front-answer (front (widthOf j) (waiting j left)) refl (front-broken (widthOf j) (waiting j left) e)) refl
 
-    module _ (k : ℕ) (told : frontOf (widthOf j) (waiting j left) ≡ Long k) where
-      is-front : Fronted (widthOf j) (waiting j left) k
-      is-front = front-told (widthOf j) (waiting j left) k told
+    frame-turns : (k : ℕ) → frontOf (widthOf j) (waiting j left) ≡ Long k → (x : TurnedPart) (out′ : Words)
+        → RowsTurned (partOf j) (frameRows (widthOf j) (take k (drop (j .«queue_start») left))) (heldRows (widthOf j) (j .base) (j .held) right) (length (take k (drop (j .«queue_start») left))) out x out′
+        → TurnLeaves j left right out (record { answer = x .answer; join = joinWith j (x .part) }) out′
+    unfolding heldOf waiting
+    frame-turns k told x out′ h =
+        turns (take k (drop (j .«queue_start») left)) (front-here (partOf j) left right k told) (front-frame (partOf j) left right k told) _ refl x out′ h
 
-      pub front-within : k ≤ j .«queue_words»
-      unfolding waiting
-      front-within = omega (arith, is-front .within, length-take (j .«queue_words») (drop (j .«queue_start») left))
+  -- What the function under the call leaves is what the call leaves.
+  module _ (b : Bool) (is : b ≡ badJoin j left right) (x : TurnedPart) (out′ : Words) (h : QueueTurned b (j .state) (partOf j) left right out x out′) where
+    known : QueueTurned (badJoin j left right) (j .state) (partOf j) left right out x out′
+    known = rw is at h
 
-      -- The front is the first words of the queue.
-      front-here : front (widthOf j) (waiting j left) ≡ take k (drop (j .«queue_start») left)
-      unfolding waiting
-      front-here = is-front .here ∙ take-take k (j .«queue_words») (drop (j .«queue_start») left) front-within
+    abbrev Goal : Type 0
+    Goal = TurnLeaves j left right out (record { answer = x .answer; join = joinWith j (x .part) }) out′
 
-      frame : isFrame (widthOf j) (take k (drop (j .«queue_start») left)) ≡ true
-      frame = rw front-here at (is-front .is)
+    -- A turn that changes nothing.
+    unchanged : (a : Answer) → queueTurn (badJoin j left right) (j .state) (partOf j) left right out ≡ unmoved a (partOf j) out → TurnLeaves j left right out (record { answer = a; join = j }) out → Goal
+    unchanged a e z = record { answer = rw e at (known .answer) ∙ z .answer; join = ap (joinWith j) (rw e at (known .part)) ∙ z .join; words = rw e at (known .words) ∙ z .words }
 
-      pub frame-in : j .sequence < 2 ^ 64 → length left < 2 ^ 64 → length right < 2 ^ 64 → FrameIn (partOf j) (take k (drop (j .«queue_start») left)) right
-      frame-in s l m =
-          let g = kept-good in
-          record {
-            few = g .few;
-            frame = frame;
-            held = g .right-room;
-            counts = record {
-              base = omega (arith, g .right-room, capacity-room (widthOf j) right, rows-words (capacity (widthOf j) right) (widthOf j) (omega arith));
-              rows = g .rows;
-              start = omega (arith, g .left-room);
-              words = rw (length-take k (drop (j .«queue_start») left)) (omega (arith, front-within));
-              even = g .even;
-              sequence = s;
-            };
-          }
+    fronted : Ready → (s : ℕ) → readyAnswer j left right ≡ Wrote s → (f : Front) → frontOf (widthOf j) (waiting j left) ≡ f → Goal
+    unfolding queueTurn frontTurn waiting
+    fronted r s e Nothing n = unchanged (Refused BadFrame) (rw (e, queueTurn, n, frontTurn)) (front-stops r n)
+    fronted r s e (Long k) n =
+        frame-turns r k n x out′ (record { answer = rw (e, queueTurn, n, frontTurn) at (known .answer); part = rw (e, queueTurn, n, frontTurn) at (known .part); words = rw (e, queueTurn, n, frontTurn) at (known .words) })
 
-      pub frame-turns : (x : TurnedPart) (out′ : Words)
-          → RowsTurned (partOf j) (frameRows (widthOf j) (take k (drop (j .«queue_start») left))) (heldRows (widthOf j) (j .base) (j .held) right) (length (take k (drop (j .«queue_start») left))) out x out′
-          → TurnLeaves j left right out (record { answer = x .answer; join = joinWith j (x .part) }) out′
-      unfolding heldOf
-      frame-turns x out′ h = turns (take k (drop (j .«queue_start») left)) front-here frame _ refl x out′ h
+    pub queue-turns : Goal
+    unfolding queueTurn
+    queue-turns = go (readyAnswer j left right) refl
+      where
+        go : (a : Answer) → readyAnswer j left right ≡ a → Goal
+        go (Wrote s) e = fronted (ready-goes (readyAnswer j left right) refl (ap wrote e)) s e (frontOf (widthOf j) (waiting j left)) refl
+        go WantsRight e = unchanged WantsRight (rw (e, queueTurn)) (ready-stops WantsRight (sym e) refl)
+        go Idle e = unchanged Idle (rw (e, queueTurn)) (ready-stops Idle (sym e) refl)
+        go (Refused n) e = unchanged (Refused n) (rw (e, queueTurn)) (ready-stops (Refused n) (sym e) refl)

@@ -1,55 +1,18 @@
-// What a call hands back; and the part of a join that a turn works on.
+// The join in another state, and the part of it that a turn works on.
 use crate::Join;
-use crate::PortedJoin;
-use crate::TookJoin;
 use crate::TurnedJoin;
-use answers::Answer;
 use answers::NodeState;
-use answers::Ported;
-use answers::Refusal;
-use answers::Took;
 use parts::Part;
 use turns::TurnedPart;
 ghost use mathlib.Core.Path.{_≡_};
-ghost use Rattle.answers.specs.declared.Ported.the-variants.{Refused};
 ghost use Rattle.node.specs.State.{stateAt};
 ghost use Rattle.node.specs.Inner.{partOf, joinWith};
-
-// What a refused call hands back: the join as it came.
-pub(crate) fn kept(answer: Took, before: Join) -> TookJoin
-    ensures { λ r. ⌜ r ≡ record { answer = answer; join = before } ⌝ }
-{
-    TookJoin {
-        answer: answer,
-        join: before,
-    }
-}
-
-// What a refused port call hands back: the join as it came.
-pub(crate) fn unported(n: Refusal, j: Join) -> PortedJoin
-    ensures { λ r. ⌜ r ≡ record { answer = Refused n; join = j } ⌝ }
-{
-    PortedJoin {
-        answer: Ported::Refused(n),
-        join: j,
-    }
-}
 
 // The join in another state.
 pub(crate) fn at_state(j: Join, state: NodeState) -> Join
     ensures { λ r. ⌜ r ≡ stateAt j state ⌝ }
 {
     Join { state: state, ..j }
-}
-
-// What a turn that does not write hands back.
-pub(crate) fn unturned(answer: Answer, j: Join) -> TurnedJoin
-    ensures { λ r. ⌜ r ≡ record { answer = answer; join = j } ⌝ }
-{
-    TurnedJoin {
-        answer: answer,
-        join: j,
-    }
 }
 
 // The join without its state.

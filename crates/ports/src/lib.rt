@@ -2,11 +2,18 @@
 use answers::NodeState;
 use answers::PortState;
 use answers::Ported;
+use answers::Refusal;
 ghost use mathlib.Core.Path.{_≡_};
 ghost use mathlib.Core.Bool.{_||_};
 ghost use Rattle.answers.specs.declared.NodeState.the-variants.{Flush};
 ghost use Rattle.answers.specs.declared.PortState.the-variants.{Ready};
-ghost use Rattle.ports.specs.Ports.{portBlocked, toFlush, toDone, readyUnless, portsIn};
+ghost use Rattle.ports.specs.Ports.{portBlocked, toFlush, toDone, readyUnless, portsIn, Moves};
+
+// After a port call: what the ports are told, and the node's state.
+pub struct PortsMoved {
+    pub answer: Ported,
+    pub state: NodeState,
+}
 
 // A node in Flush with so many words waiting: Done where nothing waits.
 fn flushed(words: usize) -> NodeState
@@ -34,7 +41,7 @@ fn while_sending(state: NodeState, left: PortState, words: usize) -> NodeState
 }
 
 // The node's state after a port call that comes with left and send, with so many words waiting.
-pub fn next_state(state: NodeState, left: PortState, send: PortState, words: usize) -> NodeState
+fn next_state(state: NodeState, left: PortState, send: PortState, words: usize) -> NodeState
     ensures { λ r. ⌜ r ≡ toDone (toFlush state left send) words ⌝ }
 {
     match send {
@@ -67,7 +74,7 @@ fn ready_unless_any(a: PortState, b: PortState) -> PortState
 }
 
 // What left, right and send are told in a state, by what they came with.
-pub fn told(state: NodeState, left: PortState, right: PortState, send: PortState) -> Ported
+fn told(state: NodeState, left: PortState, right: PortState, send: PortState) -> Ported
     ensures { λ r. ⌜ r ≡ portsIn state left right send ⌝ }
 {
     match state {
@@ -78,5 +85,36 @@ pub fn told(state: NodeState, left: PortState, right: PortState, send: PortState
         ),
         NodeState::Flush => Ported::Ports(PortState::Done, ready_unless(send), ready_unless(right)),
         NodeState::Done => Ported::Ports(PortState::Done, PortState::Done, PortState::Done),
+    }
+}
+
+// A port call, with so many words waiting: refused, it leaves the node where it is.
+pub fn move_ports(
+    bad: bool,
+    failed: bool,
+    state: NodeState,
+    left: PortState,
+    right: PortState,
+    send: PortState,
+    words: usize,
+) -> PortsMoved
+    ensures { λ r. ⌜ Moves bad failed state left right send words r ⌝ }
+{
+    if bad {
+        return PortsMoved {
+            answer: Ported::Refused(Refusal::BadJoin),
+            state: state,
+        };
+    }
+    if failed {
+        return PortsMoved {
+            answer: Ported::Refused(Refusal::Failed),
+            state: state,
+        };
+    }
+    let next = next_state(state, left, send, words);
+    PortsMoved {
+        answer: told(next, left, right, send),
+        state: next,
     }
 }
