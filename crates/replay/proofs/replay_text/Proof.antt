@@ -1,0 +1,30 @@
+-- `replay::replay_text` is safe and ends. Assumes nothing.
+use mathlib.Core.Path.{_≡_}
+use Prim.Native.Nat.{_≤_, _-_}
+use lib.ListN.{length}
+use borrow.Author.Needs.{needs}
+use Rattle.replay.proofs.replay_text.Statement.{statement}
+use Rattle.replay.proofs.replay_text.Tie as tie
+
+abbrev Inv-loop : tie.InvT-loop
+Inv-loop text line₀ left₀ right₀ s₀ i₀ line left right s i = (i ≤ length text) × (length line ≡ length line₀) × (length left ≡ length left₀) × (length right ≡ length right₀)
+
+abbrev μ-loop : tie.MeasureT-loop
+μ-loop text line₀ left₀ right₀ s₀ i₀ line left right s i = length text - i
+
+pub replay-text-spec : {M : Type 1} → statement M
+replay-text-spec =
+    tie.close
+    (tie.spec
+    Inv-loop
+    μ-loop
+    (λ c. search needs)
+    (λ c. search needs)
+    (λ c κs. search needs)
+    (λ c. search needs)
+    (λ c. search needs)
+    (λ c. search needs)
+    (λ c. search needs)
+    (λ c. search needs)
+    (λ c. search needs)
+    (λ c. search needs))
