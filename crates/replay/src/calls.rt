@@ -1,5 +1,6 @@
 // The calls, each made from its numbers.
 use crate::words::behind;
+use crate::words::between;
 use crate::words::number_at;
 use crate::words::within;
 use crate::words::word_or;
@@ -182,21 +183,22 @@ fn ask(
     }
 }
 
-// Makes a call over the words that it is lent.
+// Makes the call that the first k words of a line tell, over the words that it is lent.
 pub(crate) fn make_call(
     j: HostJoin,
     left: &mut [i64],
     right: &mut [i64],
     out: &mut [i64],
-    call: &[i64],
+    line: &[i64],
+    k: usize,
 ) -> Said {
-    let kind = number_at(call, 0);
-    let l = within(number_at(call, 1), left);
-    let r = within(number_at(call, 2), right);
-    let o = within(number_at(call, 3), out);
-    let given = behind(call, 4);
+    let kind = number_at(line, 0);
+    let given = between(line, 4, k);
+    let l = within(number_at(line, 1), left);
+    let r = within(number_at(line, 2), right);
     if kind < 6 {
         return feed(j, kind, &mut left[..l], &mut right[..r], given);
     }
+    let o = within(number_at(line, 3), out);
     ask(j, kind, &left[..l], &right[..r], &mut out[..o], given)
 }

@@ -27,11 +27,9 @@ use summary::Tally;
 use summary::nothing;
 use summary::tallied;
 use summary::tell_part;
-use words::behind;
 use words::number_at;
 use words::same_numbers;
 use words::same_words;
-use words::within;
 ghost use mathlib.Core.Path.{_≡_};
 ghost use lib.ListN.{length};
 
@@ -53,6 +51,14 @@ fn start() -> Replay {
     }
 }
 
+// Whether an answer is the recorded one of a line.
+fn same(numbers: &[u64], out: &[i64], line: &[i64], r: Reader) -> bool {
+    if same_numbers(numbers, line, r.call, r.numbers) {
+        return same_words(out, line, r.numbers, r.words);
+    }
+    false
+}
+
 // Ends a part: tells it, and counts anew.
 fn end_part(mut s: Replay, part: u64) -> Replay {
     let counts = s.tally;
@@ -61,43 +67,22 @@ fn end_part(mut s: Replay, part: u64) -> Replay {
     s
 }
 
-// Makes a call and compares its answer with the recorded one.
-fn replay_call(
-    mut s: Replay,
-    left: &mut [i64],
-    right: &mut [i64],
-    call: &[i64],
-    numbers: &[i64],
-    words: &[i64],
-) -> Replay {
-    let mut out = [-9i64; 128];
-    let join = s.join;
-    let counts = s.tally;
-    let said = make_call(join, left, right, &mut out, call);
-    let next = said.join;
-    let told = said.numbers;
-    s.join = next;
-    if same_numbers(&told, numbers) {
-        s.tally = tallied(counts, number_at(call, 0), same_words(&out, words));
-        return s;
-    }
-    s.tally = tallied(counts, number_at(call, 0), false);
-    s
-}
-
-// A line that is read whole: a part ends, or a call is replayed.
+// A line that is read whole: a part ends, or its call is made and the answer compared with the recorded one.
 fn replay_line(mut s: Replay, line: &[i64], left: &mut [i64], right: &mut [i64]) -> Replay {
     let r = s.reader;
     s.reader = unread();
-    let all = within(r.words as u64, line);
-    let n = within(r.numbers as u64, line);
-    let k = within(r.call as u64, line);
-    let call = &line[..k];
-    if number_at(call, 0) == 0 {
-        return end_part(s, number_at(call, 1));
+    if number_at(line, 0) == 0 {
+        return end_part(s, number_at(line, 1));
     }
-    let words = behind(&line[..all], n);
-    replay_call(s, left, right, call, behind(&line[..n], k), words)
+    let mut out = [-9i64; 128];
+    let join = s.join;
+    let counts = s.tally;
+    let said = make_call(join, left, right, &mut out, line, r.call);
+    let next = said.join;
+    let numbers = said.numbers;
+    s.join = next;
+    s.tally = tallied(counts, number_at(line, 0), same(&numbers, &out, line, r));
+    s
 }
 
 // One more byte of the input.
@@ -117,32 +102,21 @@ fn replay_byte(
     s
 }
 
-// Replays a part of the input.
-fn replay_text(
-    r: Replay,
-    text: &[u8],
-    line: &mut [i64],
-    left: &mut [i64],
-    right: &mut [i64],
-) -> Replay {
-    let mut s = r;
+// Replays the input, byte by byte.
+fn replay_all(text: &[u8], line: &mut [i64], left: &mut [i64], right: &mut [i64]) {
+    let mut s = start();
     let mut i = 0;
     while i < text.len() {
         s = replay_byte(s, text[i], line, left, right);
         i += 1;
     }
-    s
 }
 
-// Reads and replays part after part of the input, 64 at most; behind its end they are empty.
-fn replay_all(buf: &mut [u8], line: &mut [i64], left: &mut [i64], right: &mut [i64]) {
-    let mut s = start();
-    let mut k = 0usize;
-    while k < 64 {
-        let n = io::read_full(0, buf);
-        s = replay_text(s, &buf[..n], line, left, right);
-        k += 1;
-    }
+// Room for the whole input.
+fn room() -> [u8; 1048576]
+    ensures { λ r. ⌜ 1048576 ≡ length r ⌝ }
+{
+    [0; 1048576]
 }
 
 // Zeros for a line of numbers and for an area: frames of 4,097 rows fit.
@@ -152,11 +126,12 @@ fn zeros() -> [i64; 8448]
     [0; 8448]
 }
 
-// Lends the memory of the replay: a part of the input, a line of numbers and the two areas.
+// Reads the input, and lends the memory of the replay: a line of numbers and the two areas.
 fn main() {
-    let mut buf = io::large_buffer();
+    let mut text = room();
     let mut line = zeros();
     let mut left = zeros();
     let mut right = zeros();
-    replay_all(&mut buf, &mut line, &mut left, &mut right);
+    let n = io::read_full(0, &mut text);
+    replay_all(&text[..n], &mut line, &mut left, &mut right);
 }

@@ -50,24 +50,6 @@ pub(crate) fn tallied(t: Tally, kind: u64, same: bool) -> Tally {
     with_difference(counted)
 }
 
-// Writes what a part of the input is.
-fn title(part: u64) {
-    match part {
-        1 => {
-            io::write_all(1, b"answers of the Rust: ");
-        }
-        2 => {
-            io::write_all(1, b"cases of the counter: ");
-        }
-        3 => {
-            io::write_all(1, b"runs: ");
-        }
-        _ => {
-            io::write_all(1, b"frames and cells: ");
-        }
-    }
-}
-
 // Writes a count and what it counts.
 fn tell(n: u64, what: &[u8]) {
     io::print_decimal(1, n);
@@ -76,13 +58,9 @@ fn tell(n: u64, what: &[u8]) {
 
 // Writes the line of a part.
 pub(crate) fn tell_part(t: Tally, part: u64) {
-    title(part);
+    tell(part, b": ");
     tell(t.scripts, b" scripts, ");
     tell(t.calls, b" calls, ");
-    tell(t.differ, b" answers differ");
-    if t.differ > 0 {
-        io::write_all(1, b", the first to call ");
-        io::print_decimal(1, t.first);
-    }
-    io::write_all(1, b"\n");
+    tell(t.differ, b" answers differ, the first at call ");
+    tell(t.first, b"\n");
 }

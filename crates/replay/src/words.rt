@@ -42,26 +42,48 @@ pub(crate) fn behind(words: &[i64], k: usize) -> &[i64] {
     &words[k..]
 }
 
-// Whether the numbers of an answer are the recorded ones.
-pub(crate) fn same_numbers(said: &[u64], recorded: &[i64]) -> bool {
-    let mut i = 0;
-    while i < said.len() {
-        if said[i] != number_at(recorded, i) {
-            return false;
-        }
-        i += 1;
+// The words from place k up to place n.
+pub(crate) fn between(words: &[i64], k: usize, n: usize) -> &[i64] {
+    if n < k {
+        return words;
     }
-    recorded.len() <= said.len()
+    if words.len() < n {
+        return words;
+    }
+    &words[k..n]
 }
 
-// Whether an output has the recorded words, and behind them what it had before.
-pub(crate) fn same_words(out: &[i64], recorded: &[i64]) -> bool {
+// The recorded number or word at place i of those from k up to n, or another one where they are not so many.
+fn recorded(line: &[i64], i: usize, k: usize, n: usize, other: i64) -> i64 {
+    if n < k {
+        return other;
+    }
+    if i < n - k {
+        return word_or(line, k + i, other);
+    }
+    other
+}
+
+// Whether the numbers of an answer are those from place k up to n of a line.
+pub(crate) fn same_numbers(said: &[u64], line: &[i64], k: usize, n: usize) -> bool {
     let mut i = 0;
-    while i < out.len() {
-        if out[i] != word_or(recorded, i, -9) {
+    while i < said.len() {
+        if said[i] != order::distance(recorded(line, i, k, n, 0), 0) {
             return false;
         }
         i += 1;
     }
-    recorded.len() <= out.len()
+    true
+}
+
+// Whether an output has the words from place k up to n of a line, and behind them what it had before.
+pub(crate) fn same_words(out: &[i64], line: &[i64], k: usize, n: usize) -> bool {
+    let mut i = 0;
+    while i < out.len() {
+        if out[i] != recorded(line, i, k, n, -9) {
+            return false;
+        }
+        i += 1;
+    }
+    true
 }

@@ -7,10 +7,10 @@ use Rattle.replay.proofs.replay_all.Statement.{statement}
 use Rattle.replay.proofs.replay_all.Tie as tie
 
 abbrev Inv-loop : tie.InvT-loop
-Inv-loop buf₀ line₀ left₀ right₀ s₀ k₀ buf line left right s k = (k ≤ 64) × (length buf ≡ length buf₀) × (length line ≡ length line₀) × (length left ≡ length left₀) × (length right ≡ length right₀)
+Inv-loop text line₀ left₀ right₀ s₀ i₀ line left right s i = (i ≤ length text) × (length line ≡ length line₀) × (length left ≡ length left₀) × (length right ≡ length right₀)
 
 abbrev μ-loop : tie.MeasureT-loop
-μ-loop buf₀ line₀ left₀ right₀ s₀ k₀ buf line left right s k = 64 - k
+μ-loop text line₀ left₀ right₀ s₀ i₀ line left right s i = length text - i
 
 pub replay-all-spec : {M : Type 1} → statement M
 replay-all-spec =
@@ -20,11 +20,8 @@ replay-all-spec =
     μ-loop
     (λ c κs. search needs)
     (λ c. search needs)
-    (λ c κs. search needs)
-    (λ c. search needs)
     (λ c. search needs)
     (λ c κs. search needs)
-    (λ c. search needs)
     (λ c. search needs)
     (λ c. search needs)
     (λ c. search needs)

@@ -6,10 +6,10 @@ use Rattle.replay.proofs.words.same_numbers.Statement.{statement}
 use Rattle.replay.proofs.words.same_numbers.Tie as tie
 
 abbrev Inv-loop : tie.InvT-loop
-Inv-loop said recorded i₀ i = i ≤ length said
+Inv-loop said line k n i₀ i = i ≤ length said
 
 abbrev μ-loop : tie.MeasureT-loop
-μ-loop said recorded i₀ i = length said - i
+μ-loop said line k n i₀ i = length said - i
 
 pub same-numbers-spec : {M : Type 1} → statement M
 same-numbers-spec =
@@ -20,6 +20,7 @@ same-numbers-spec =
     (λ c. search needs)
     (λ c. search needs)
     (λ c. search needs)
+    (λ c κs. search needs)
     (λ c κs. search needs)
     (λ c. search needs)
     (λ c. search needs)

@@ -6,10 +6,10 @@ use Rattle.replay.proofs.words.same_words.Statement.{statement}
 use Rattle.replay.proofs.words.same_words.Tie as tie
 
 abbrev Inv-loop : tie.InvT-loop
-Inv-loop out recorded i₀ i = i ≤ length out
+Inv-loop out line k n i₀ i = i ≤ length out
 
 abbrev μ-loop : tie.MeasureT-loop
-μ-loop out recorded i₀ i = length out - i
+μ-loop out line k n i₀ i = length out - i
 
 pub same-words-spec : {M : Type 1} → statement M
 same-words-spec =
