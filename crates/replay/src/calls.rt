@@ -27,7 +27,7 @@ fn flags_at(given: &[i64], k: usize) -> [u64; 4] {
 }
 
 // The options of an opening.
-fn options_of(given: &[i64]) -> HostOptions {
+pub(crate) fn options_of(given: &[i64]) -> HostOptions {
     HostOptions {
         by: number_at(given, 0) as usize,
         strategy: number_at(given, 1),
@@ -46,11 +46,6 @@ fn took(t: HostTook) -> Said {
         join: join,
         numbers: [t.refusal, 0, 0, 0, 0, 0, 0, 0, 0, 0, 0],
     }
-}
-
-// Opens a join.
-pub(crate) fn open(given: &[i64]) -> Said {
-    took(host::rowkeeper_open(options_of(given)))
 }
 
 // A port call: the refusal's number, what each port is told, and the node's state.
@@ -122,19 +117,19 @@ fn state(j: HostJoin) -> Said {
     }
 }
 
-// The host alters a word of the left area: 0, or ones where it has no such word.
-fn put_left(j: HostJoin, left: &mut [i64], given: &[i64]) -> Said {
+// The host alters a word of the left area: 0, or 1 where it has no such word.
+fn put_left(j: HostJoin, left: &mut [i64], given: &[i64]) -> HostTook {
     let i = number_at(given, 0) as usize;
     if i < left.len() {
         left[i] = word_or(given, 1, 0);
-        return Said {
+        return HostTook {
+            refusal: 0,
             join: j,
-            numbers: [0; 11],
         };
     }
-    Said {
+    HostTook {
+        refusal: 1,
         join: j,
-        numbers: [1; 11],
     }
 }
 
@@ -152,12 +147,12 @@ fn cell(given: &[i64]) -> [u64; 11] {
 }
 
 // An opening, a frame, the end of right, or a word that the host alters.
-fn feed(j: HostJoin, kind: u64, left: &mut [i64], right: &mut [i64], given: &[i64]) -> Said {
+fn feed(j: HostJoin, kind: u64, left: &mut [i64], right: &mut [i64], given: &[i64]) -> HostTook {
     match kind {
-        1 => open(given),
-        2 => took(host::rowkeeper_left(j, left, right, given)),
-        3 => took(host::rowkeeper_right(j, left, right, given)),
-        4 => took(host::rowkeeper_end_right(j, left, right)),
+        1 => host::rowkeeper_open(options_of(given)),
+        2 => host::rowkeeper_left(j, left, right, given),
+        3 => host::rowkeeper_right(j, left, right, given),
+        4 => host::rowkeeper_end_right(j, left, right),
         _ => put_left(j, left, given),
     }
 }
@@ -197,7 +192,7 @@ pub(crate) fn make_call(
     let l = within(number_at(line, 1), left);
     let r = within(number_at(line, 2), right);
     if kind < 6 {
-        return feed(j, kind, &mut left[..l], &mut right[..r], given);
+        return took(feed(j, kind, &mut left[..l], &mut right[..r], given));
     }
     let o = within(number_at(line, 3), out);
     ask(j, kind, &left[..l], &right[..r], &mut out[..o], given)

@@ -17,7 +17,7 @@ mod summary;
 mod words;
 
 use calls::make_call;
-use calls::open;
+use calls::options_of;
 use host::HostJoin;
 use reader::Reader;
 use reader::ended;
@@ -42,7 +42,7 @@ struct Replay {
 
 // Nothing read, and a join that no opening gave: every call is refused.
 fn start() -> Replay {
-    let refused = open(&[5i64]);
+    let refused = host::rowkeeper_open(options_of(&[5i64]));
     let join = refused.join;
     Replay {
         reader: unread(),
