@@ -100,7 +100,7 @@ withColumn f rule j r s = next (f r s) (cmpCell rule (cell j r) (cell j s))
 
 module _ {f : List Cell → List Cell → Order} (F : IsOrder f) where
   -- A later row meets what an earlier one meets.
-  meets-later : (k : Seek) (r s t : List Cell) → AtMost f r s → meets k (f r t) ≡ true → meets k (f s t) ≡ true
+  pub meets-later : (k : Seek) (r s t : List Cell) → AtMost f r s → meets k (f r t) ≡ true → meets k (f s t) ≡ true
   meets-later AtLeast r s t h e = not-less-at-least (f s t) (λ l. at-least-not-less (f r t) e (then-less F r s t h l))
   meets-later Above r s t h e = ap isGreater (less-greater F t s (less-then F t r s (greater-less F r t (above-is-greater (f r t) e)) h))
 

@@ -1,12 +1,9 @@
 pub mod Samples
 pub mod Promise
-pub mod PushLaws
 pub mod SearchLaws
 pub mod Bounds
 pub mod SplitLaw
 pub mod EnoughLaw
 pub mod CheckLaw
-pub mod AreaLaws
 pub mod FindLaws
 pub mod ReachLaws
-pub mod BeforeLaws

@@ -1,5 +1,3 @@
-pub mod Area
 pub mod Search
 pub mod Reach
-pub mod Split
 pub mod Room

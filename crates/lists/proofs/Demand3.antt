@@ -21,10 +21,12 @@ use Rattle.matching.specs.declared.Choice.{Choice}
 use Rattle.matching.specs.declared.Choice.the-variants.{Row, Nothing}
 use Rattle.matching.proofs.PickedLaw.{picked-none, picked-row}
 use Rattle.node.specs.declared.Join.{Join}
-use Rattle.node.specs.declared.Answer.{Answer}
-use Rattle.node.specs.declared.Answer.the-variants.{Wrote, WantsRight, Idle, Refused as TurnRefused}
-use Rattle.node.specs.State.{lastSequence, isDone, waiting, widthOf}
-use Rattle.node.specs.Calls.{turnAnswer, turnCall, turned, badLeft, badRight}
+use Rattle.answers.specs.declared.Answer.{Answer}
+use Rattle.answers.specs.declared.Answer.the-variants.{Wrote, WantsRight, Idle, Refused as TurnRefused}
+use Rattle.node.specs.State.{waiting, widthOf}
+use Rattle.answers.specs.Answers.{lastSequence, isDone}
+use Rattle.node.specs.Calls.{turnAnswer, turnCall, turned}
+use Rattle.prunes.specs.Prunes.{badLeft, badRight}
 use Rattle.lists.specs.Lists.{Call, turn, Event, onTurn, World, start, step, events, final, leftFrames, rightFrames, rowsIn, outputIn, outputs, Entry, matchesIn, rightEnded, nodeDone, doneBy, refusedWith, backToBack, framesIn, queueRows}
 use Rattle.lists.specs.Demand.{asWritten, Correct, isNone, isRow, Each, ends, pairs, Demand3, Demand}
 use Rattle.lists.proofs.ListLaws.{rows-in-append, matches-append, drop-next, left-append, right-append, outputs-append, ended-append, done-snoc}

@@ -14,23 +14,25 @@ use Rattle.frames.specs.Frame.{rowCount, isFrame, frameRows, front}
 use Rattle.frames.specs.Options.{columns, badOptions}
 use Rattle.frames.specs.declared.Options.{Options}
 use Rattle.frames.proofs.FrameLaws.{frame-length}
-use Rattle.buffer.specs.Area.{capacity}
+use Rattle.area.specs.Area.{capacity}
 use Rattle.node.proofs.Good.{left-taken, right-taken}
 use Rattle.node.specs.declared.Join.{Join}
-use Rattle.node.specs.declared.NodeState.{NodeState}
-use Rattle.node.specs.declared.NodeState.the-variants.{Running, Flush, Done}
-use Rattle.node.specs.declared.PortState.{PortState}
-use Rattle.node.specs.declared.PortState.the-variants.{Blocked, Ready, Done as PortDone}
-use Rattle.node.specs.declared.Refusal.{Refusal}
-use Rattle.node.specs.declared.Refusal.the-variants.{BadOptions, BadJoin, Failed, Closed, BadFrame, NoRoom, UsedUp, LeftOrder, RightOrder}
-use Rattle.node.specs.declared.Answer.{Answer}
-use Rattle.node.specs.declared.Answer.the-variants.{Wrote, WantsRight, Idle, Refused as TurnRefused}
-use Rattle.node.specs.declared.Took.{Took}
-use Rattle.node.specs.declared.Took.the-variants.{Accepted, Refused}
-use Rattle.node.specs.declared.Ported.{Ported}
-use Rattle.node.specs.declared.Ported.the-variants.{Ports, Refused as PortsRefused}
-use Rattle.node.specs.State.{number, fresh, endedRight, stateAt, isRunning, isDone, widthOf, mostRows, badJoin, overRight, overLeft, overRows, oddSequence, heldOf, waiting}
-use Rattle.node.specs.Calls.{After, leftAnswer, leftCall, queued, rightAnswer, rightCall, pushedRight, endAnswer, endCall, portsAnswer, portsCall, portsState, portsIn, toFlush, toDone, portDone}
+use Rattle.answers.specs.declared.NodeState.{NodeState}
+use Rattle.answers.specs.declared.NodeState.the-variants.{Running, Flush, Done}
+use Rattle.answers.specs.declared.PortState.{PortState}
+use Rattle.answers.specs.declared.PortState.the-variants.{Blocked, Ready, Done as PortDone}
+use Rattle.answers.specs.declared.Refusal.{Refusal}
+use Rattle.answers.specs.declared.Refusal.the-variants.{BadOptions, BadJoin, Failed, Closed, BadFrame, NoRoom, UsedUp, LeftOrder, RightOrder}
+use Rattle.answers.specs.declared.Answer.{Answer}
+use Rattle.answers.specs.declared.Answer.the-variants.{Wrote, WantsRight, Idle, Refused as TurnRefused}
+use Rattle.answers.specs.declared.Took.{Took}
+use Rattle.answers.specs.declared.Took.the-variants.{Accepted, Refused}
+use Rattle.answers.specs.declared.Ported.{Ported}
+use Rattle.answers.specs.declared.Ported.the-variants.{Ports, Refused as PortsRefused}
+use Rattle.node.specs.State.{fresh, endedRight, stateAt, widthOf, badJoin, overRight, overLeft, overRows, oddSequence, heldOf, waiting}
+use Rattle.answers.specs.Answers.{number, isRunning, isDone, mostRows}
+use Rattle.node.specs.Calls.{After, leftAnswer, leftCall, queued, rightAnswer, rightCall, pushedRight, endAnswer, endCall, portsAnswer, portsCall, portsState}
+use Rattle.ports.specs.Ports.{portsIn, toFlush, toDone, portDone}
 use Rattle.lists.specs.Lists.{Call, left, right, end, ports, turn, Event, onLeft, onRight, onEnd, onPorts, onTurn, World, start, step, leftIn, rightIn, leftFrames, rightFrames, rowsIn, outputIn, outputs, endsRight, rightEnded, leftDone, leftEnded, framesWaiting, backToBack, doneBy, nodeDone, refusalIn, tookRefusal, portsRefusal, refusedWith, turnIn, turnsIn}
 use Rattle.lists.proofs.ListLaws.{left-append, right-append, outputs-append, turns-append, ended-append, left-ended-append, refused-append, done-snoc}
 use Rattle.lists.proofs.Stock.{Frames, frames-drop, Stock, stock-same, stock-left, stock-right, waiting-length}

@@ -1,5 +1,7 @@
 pub mod Script
 pub mod Counter
+pub mod EnoughLaw
+pub mod PruneLaw
 pub mod ListLaws
 pub mod Stock
 pub mod Invariant

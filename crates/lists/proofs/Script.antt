@@ -11,22 +11,25 @@ use Rattle.frames.specs.Options.{badOptions}
 use Rattle.frames.specs.Order.{cmpFirst, cmpRow, sorted, nullIn}
 use Rattle.frames.specs.Keyed.{firstFrom, lastBelow, recall, remember, rememberLast}
 use Rattle.frames.specs.declared.Options.{Options}
-use Rattle.buffer.specs.Area.{heldRows, movedRows, pushed}
+use Rattle.area.specs.Area.{heldRows, movedRows, pushed}
 use Rattle.buffer.specs.Search.{searchFor, search, find}
 use Rattle.buffer.specs.Reach.{narrowBy, narrow, keyNeedsMore, rowNeedsMore, needMore, splitAt, pruneBy, rowBefore, badSplit}
 use Rattle.matching.specs.Match.{fits, takesOver, choose, tolerate, matchIn}
 use Rattle.matching.specs.Groups.{joinRun, runs, passes, pass, used, byRuns, matchFrame}
 use Rattle.matching.specs.Answer.{answerWords, answered}
-use Rattle.node.specs.State.{number, stateCode, portCode, badJoin, heldOf, waiting, widthOf}
-use Rattle.node.specs.Calls.{openAnswer, leftAnswer, queued, leftCall, rightAnswer, pushedRight, rightCall, endAnswer, endCall, portsAnswer, portsCall, badLeft, badRight, turnAnswer, firstPrune, remembered, dropped, dequeued, turned, turnCall}
+use Rattle.node.specs.State.{badJoin, heldOf, waiting, widthOf}
+use Rattle.answers.specs.Answers.{number, stateCode, portCode}
+use Rattle.node.specs.Calls.{leftAnswer, queued, leftCall, rightAnswer, pushedRight, rightCall, endAnswer, endCall, portsAnswer, portsCall, turnAnswer, dropped, dequeued, turned, turnCall}
+use Rattle.feeds.specs.Judged.{openAnswer}
+use Rattle.prunes.specs.Prunes.{badLeft, badRight, firstPrune, remembered}
 use Rattle.lists.specs.Lists.{Call, Event, onLeft, onRight, onEnd, onPorts, onTurn, World, start, step}
 use Rattle.node.specs.declared.Join.{Join}
-use Rattle.node.specs.declared.Answer.{Answer}
-use Rattle.node.specs.declared.Answer.the-variants.{Wrote, WantsRight, Idle, Refused as TurnRefused}
-use Rattle.node.specs.declared.Took.{Took}
-use Rattle.node.specs.declared.Took.the-variants.{Accepted, Refused}
-use Rattle.node.specs.declared.Ported.{Ported}
-use Rattle.node.specs.declared.Ported.the-variants.{Ports, Refused as PortsRefused}
+use Rattle.answers.specs.declared.Answer.{Answer}
+use Rattle.answers.specs.declared.Answer.the-variants.{Wrote, WantsRight, Idle, Refused as TurnRefused}
+use Rattle.answers.specs.declared.Took.{Took}
+use Rattle.answers.specs.declared.Took.the-variants.{Accepted, Refused}
+use Rattle.answers.specs.declared.Ported.{Ported}
+use Rattle.answers.specs.declared.Ported.the-variants.{Ports, Refused as PortsRefused}
 
 -- An answer: ok; refused N; wrote SEQ and the 2 + 2n words written; wants; idle; ports L R S STATE; no join;
 -- areas: the words of both; state: base, held, pruned, queue start, queue words, state, ended, failed, sequence, and the cells of the left and right remembered row.

@@ -30,17 +30,17 @@ use Rattle.matching.specs.declared.Choice.{Choice}
 use Rattle.matching.specs.Match.{matchTable}
 use Rattle.matching.specs.Answer.{answered}
 use Rattle.matching.specs.Groups.{matchFrame}
-use Rattle.matching.proofs.PruneLaw.{prune-keeps}
-use Rattle.matching.proofs.EnoughLaw.{enough-keeps}
+use Rattle.lists.proofs.PruneLaw.{prune-keeps}
+use Rattle.lists.proofs.EnoughLaw.{enough-keeps}
 use Rattle.matching.proofs.GroupLaws.{frame-match}
 use Rattle.node.specs.declared.Join.{Join}
-use Rattle.node.specs.Calls.{badLeft, badRight, firstPrune, remembered, dropped, dequeued}
+use Rattle.node.specs.Calls.{dropped, dequeued}
+use Rattle.prunes.specs.Prunes.{badLeft, badRight, firstPrune, remembered, keptRows, lastPrune}
 use Rattle.lists.specs.Lists.{rowsIn, Entry, writtenIn, matchesIn}
 use Rattle.lists.specs.Demand.{asWritten}
 use Rattle.lists.proofs.ListLaws.{rows-in-append, matches-append, take-next, take-more}
 use Rattle.lists.proofs.Stock.{Frames, written-back}
-use Rattle.node.specs.Inner.{keptRows, lastPrune}
-use Rattle.node.proofs.TurnLaws.{first-within, prune-within}
+use Rattle.prunes.proofs.PruneLaws.{first-within, prune-within}
 use Rattle.lists.proofs.Turn.{leftBy, matchedBy}
 
 -- ---- small laws of lists

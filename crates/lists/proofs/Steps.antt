@@ -18,19 +18,21 @@ use Rattle.frames.proofs.SortedLaws.{sorted-cut}
 use Rattle.buffer.specs.Reach.{needMore}
 use Rattle.matching.specs.Answer.{answered}
 use Rattle.node.specs.declared.Join.{Join}
-use Rattle.node.specs.declared.PortState.{PortState}
-use Rattle.node.specs.declared.Refusal.{Refusal}
-use Rattle.node.specs.declared.Refusal.the-variants.{BadOptions, BadJoin, Failed, Closed, BadFrame, NoRoom, UsedUp, LeftOrder, RightOrder}
-use Rattle.node.specs.declared.Answer.{Answer}
-use Rattle.node.specs.declared.Answer.the-variants.{Wrote, WantsRight, Idle, Refused as TurnRefused}
-use Rattle.node.specs.declared.Took.{Took}
-use Rattle.node.specs.declared.Took.the-variants.{Accepted, Refused}
-use Rattle.node.specs.declared.Ported.{Ported}
-use Rattle.node.specs.declared.Ported.the-variants.{Ports, Refused as PortsRefused}
-use Rattle.node.specs.State.{number, fresh, waiting, heldValues, heldMarks, endedRight, stateAt, markedFailed, isDone, lastSequence}
-use Rattle.node.specs.Calls.{leftAnswer, leftCall, queued, rightAnswer, rightCall, pushedRight, endAnswer, endCall, portsAnswer, portsCall, portsState, turnAnswer, turnCall, turned, badLeft, badRight, spoiled}
+use Rattle.answers.specs.declared.PortState.{PortState}
+use Rattle.answers.specs.declared.Refusal.{Refusal}
+use Rattle.answers.specs.declared.Refusal.the-variants.{BadOptions, BadJoin, Failed, Closed, BadFrame, NoRoom, UsedUp, LeftOrder, RightOrder}
+use Rattle.answers.specs.declared.Answer.{Answer}
+use Rattle.answers.specs.declared.Answer.the-variants.{Wrote, WantsRight, Idle, Refused as TurnRefused}
+use Rattle.answers.specs.declared.Took.{Took}
+use Rattle.answers.specs.declared.Took.the-variants.{Accepted, Refused}
+use Rattle.answers.specs.declared.Ported.{Ported}
+use Rattle.answers.specs.declared.Ported.the-variants.{Ports, Refused as PortsRefused}
+use Rattle.node.specs.State.{fresh, waiting, heldValues, heldMarks, endedRight, stateAt, markedFailed}
+use Rattle.answers.specs.Answers.{number, isDone, lastSequence}
+use Rattle.node.specs.Calls.{leftAnswer, leftCall, queued, rightAnswer, rightCall, pushedRight, endAnswer, endCall, portsAnswer, portsCall, portsState, turnAnswer, turnCall, turned, spoiled}
+use Rattle.prunes.specs.Prunes.{badLeft, badRight}
 use Rattle.lists.specs.Lists.{Call, left, right, end, ports, turn, Event, onLeft, onRight, onEnd, onPorts, onTurn, World, start, step, events, final, leftIn, rightIn, leftFrames, rightFrames, rowsIn, outputIn, outputs, endsRight, rightEnded, turnRefusal, matchesIn, backToBack, leftEnded, doneAfter, refusedWith, turnsIn}
-use Rattle.node.proofs.Tests.{past}
+use Rattle.answers.proofs.Tests.{past}
 use Rattle.lists.proofs.ListLaws.{left-append, right-append, outputs-append, ended-append, rows-in-append}
 use Rattle.lists.proofs.Stock.{Stock, next-frame}
 use Rattle.lists.proofs.Invariant.{Inv, left-passed, right-passed, inv-left, inv-right, inv-end, inv-ports}

@@ -15,13 +15,14 @@ use Rattle.frames.specs.declared.Options.{Options}
 use Rattle.frames.specs.declared.Row.{Row}
 use Rattle.frames.proofs.WordLaws.{map-append, drop-take, rows-read, rows-append, rows-drop, rows-length}
 use Rattle.frames.proofs.FrameLaws.{frame-length, values-length, marks-length, frame-rows, count-append}
-use Rattle.buffer.specs.Area.{capacity, heldRows, newBase, pushed, moved, written}
-use Rattle.buffer.proofs.PushLaws.{newBase-room, append-length, append-part, pushed-length, pushed-values, pushed-marks}
+use Rattle.area.specs.Area.{capacity, heldRows, newBase, pushed, moved, written}
+use Rattle.area.proofs.PushLaws.{newBase-room, append-length, append-part, pushed-length, pushed-values, pushed-marks}
 use Rattle.matching.specs.declared.Choice.{Choice}
 use Rattle.matching.specs.Answer.{answered, numberWord, choiceMark}
 use Rattle.matching.proofs.AnswerLaws.{answered-count, answered-numbers, answered-marks}
 use Rattle.node.specs.declared.Join.{Join}
-use Rattle.node.specs.State.{queueAt, heldAt, nextTurn, mostRows, widthOf, heldOf, heldValues, heldMarks, waiting}
+use Rattle.node.specs.State.{queueAt, heldAt, nextTurn, widthOf, heldOf, heldValues, heldMarks, waiting}
+use Rattle.answers.specs.Answers.{mostRows}
 use Rattle.node.specs.Calls.{dropped, dequeued, queued, pushedRight}
 use Rattle.lists.specs.Lists.{World, rowsIn, Entry, pairUp, writtenIn, matchesIn, backToBack}
 use Rattle.lists.specs.Demand.{asWritten}

@@ -8,16 +8,18 @@ use lib.ListN.{length, take, drop}
 use Rattle.frames.specs.Cells.{Rows, Words}
 use Rattle.frames.specs.Frame.{rowCount, frameRows, frameWords, front}
 use Rattle.frames.specs.declared.Options.{Options}
-use Rattle.node.specs.State.{number, fresh, waiting, widthOf}
-use Rattle.node.specs.Calls.{After, leftCall, rightCall, endCall, portsCall, turnCall, portDone}
+use Rattle.node.specs.State.{fresh, waiting, widthOf}
+use Rattle.answers.specs.Answers.{number}
+use Rattle.node.specs.Calls.{After, leftCall, rightCall, endCall, portsCall, turnCall}
+use Rattle.ports.specs.Ports.{portDone}
 use Rattle.node.specs.declared.Join.{Join}
-use Rattle.node.specs.declared.PortState.{PortState}
-use Rattle.node.specs.declared.Answer.{Answer}
-use Rattle.node.specs.declared.Answer.the-variants.{Wrote, WantsRight, Idle, Refused as TurnRefused}
-use Rattle.node.specs.declared.Took.{Took}
-use Rattle.node.specs.declared.Took.the-variants.{Accepted, Refused}
-use Rattle.node.specs.declared.Ported.{Ported}
-use Rattle.node.specs.declared.Ported.the-variants.{Ports, Refused as PortsRefused}
+use Rattle.answers.specs.declared.PortState.{PortState}
+use Rattle.answers.specs.declared.Answer.{Answer}
+use Rattle.answers.specs.declared.Answer.the-variants.{Wrote, WantsRight, Idle, Refused as TurnRefused}
+use Rattle.answers.specs.declared.Took.{Took}
+use Rattle.answers.specs.declared.Took.the-variants.{Accepted, Refused}
+use Rattle.answers.specs.declared.Ported.{Ported}
+use Rattle.answers.specs.declared.Ported.the-variants.{Ports, Refused as PortsRefused}
 
 -- A call: a left or right frame of any words, the end of right, ports (left, right, send), a turn with any words as its output.
 pub data Call : Type 0 where

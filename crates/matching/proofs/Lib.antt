@@ -4,8 +4,6 @@ pub mod AnswerLaws
 pub mod Runs
 pub mod GroupLaws
 pub mod MayLaws
-pub mod PruneLaw
-pub mod EnoughLaw
 pub mod PickedLaw
 pub mod WalkLaws
 pub mod ScanLaws

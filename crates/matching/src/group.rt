@@ -2,8 +2,8 @@
 use crate::Right;
 use frames::Options;
 use frames::Order;
+use keyed::null_group;
 use order::cmp_group;
-use order::null_group;
 ghost use mathlib.Core.Path.{_≡_};
 ghost use Prim.Native.Nat.{ℕ, _+_, _<_};
 ghost use Rattle.frames.specs.Cells.{rowFrom};

@@ -1,90 +1,93 @@
 -- The calls by their answers: what a refused call leaves and what an accepted one does, over plain values. Assumes nothing.
-use mathlib.Core.Path.{_≡_, sym, _∙_}
-use mathlib.Core.Bool.{Bool, true, false, cond, not, _||_}
-use Prim.Native.Nat.{ℕ, _+_}
-use native.Mathlib.Omega.{arith}
-use lib.Dec.{ltb}
-use lib.ListN.{length}
+use mathlib.Core.Path.{_≡_, refl, sym, _∙_}
+use mathlib.Core.Bool.{Bool, true, false}
 use Rattle.frames.specs.Cells.{Words}
-use Rattle.frames.specs.Frame.{rowCount, isFrame}
-use Rattle.buffer.specs.Area.{capacity, newBase, pushed, moved, written}
-use Rattle.node.specs.State.{queueAt, heldAt, stateAt, endedRight, isDone, widthOf, mostRows, badJoin}
-use Rattle.node.specs.Calls.{leftAnswer, leftCall, queued, rightAnswer, rightCall, pushedRight, endAnswer, endCall, portsIn, portsState, portsAnswer, portsCall}
+use Rattle.node.specs.State.{joinOf, queueAt, heldAt, stateAt, widthOf, badJoin}
+use Rattle.node.specs.Calls.{leftAnswer, leftCall, queued, rightAnswer, rightCall, pushedRight, endAnswer, endCall, portsState, portsAnswer, portsCall}
 use Rattle.node.specs.Leaves.{LeftLeaves, RightLeaves, EndLeaves, PortsLeaves}
-use Rattle.node.proofs.Good.{end-taken}
+use Rattle.feeds.specs.Judged.{leftJudged, endJudged, rightJudged, EndFed, LeftFed, RightFed}
+use Rattle.feeds.specs.declared.FedEnd.{FedEnd}
+use Rattle.ports.specs.Ports.{portsIn, portsJudged, movedState, Moves}
+use Rattle.ports.specs.declared.PortsMoved.{PortsMoved}
+use Rattle.feeds.specs.declared.FedLeft.{FedLeft}
+use Rattle.feeds.specs.declared.FedRight.{FedRight}
 use Rattle.node.specs.declared.Join.{Join}
-use Rattle.node.specs.declared.NodeState.{NodeState}
-use Rattle.node.specs.declared.NodeState.the-variants.{Running, Flush, Done}
-use Rattle.node.specs.declared.PortState.{PortState}
-use Rattle.node.specs.declared.Refusal.{Refusal}
-use Rattle.node.specs.declared.Refusal.the-variants.{BadJoin, Failed, Closed, BadFrame, NoRoom, UsedUp}
-use Rattle.node.specs.declared.Took.{Took}
-use Rattle.node.specs.declared.Took.the-variants.{Accepted, Refused}
-use Rattle.node.specs.declared.Ported.{Ported}
-use Rattle.node.specs.declared.Ported.the-variants.{Refused as PortsRefused}
+use Rattle.answers.specs.declared.NodeState.{NodeState}
+use Rattle.answers.specs.declared.NodeState.the-variants.{Running, Flush, Done}
+use Rattle.answers.specs.declared.PortState.{PortState}
+use Rattle.answers.specs.declared.Refusal.{Refusal}
+use Rattle.answers.specs.declared.Refusal.the-variants.{BadJoin, Failed}
+use Rattle.answers.specs.declared.Took.{Took}
+use Rattle.answers.specs.declared.Took.the-variants.{Accepted, Refused}
+use Rattle.answers.specs.declared.Ported.{Ported}
+use Rattle.answers.specs.declared.Ported.the-variants.{Refused as PortsRefused}
 
--- What a right frame meets once the end of right would be accepted: its words, its room, its rows' numbers.
-abbrev pub judgedRight : Join → Words → Words → Took
-judgedRight j right f =
-    cond (not (isFrame (widthOf j) f)) (Refused BadFrame)
-    (cond (ltb (capacity (widthOf j) right) (j .held + rowCount f)) (Refused NoRoom)
-    (cond (ltb mostRows (j .pruned + j .held + rowCount f)) (Refused UsedUp)
-    Accepted))
+-- The join whose right has ended, or not.
+abbrev pub endedAt : Join → Bool → Join
+endedAt j e =
+    joinOf (j .options) (j .base) (j .held) (j .pruned) (j .«queue_start») (j .«queue_words») (j .state) e (j .failed) (j .sequence) (j .«last_left») (j .«last_right»)
 
 module _ (j : Join) (left right : Words) where
   -- ---- the end of right
-  module _ (t : Took) (judged : t ≡ endAnswer j left right) where
-    pub end-refused : (n : Refusal) → t ≡ Refused n → EndLeaves j left right (record { answer = t; join = j })
-    unfolding endCall
-    end-refused n is = let e = sym judged ∙ is in record { answer = rw (e, endCall) is; join = rw (e, endCall) }
+  module _ (b : Bool) (is : b ≡ badJoin j left right) (r : FedEnd) (fed : EndFed b (j .failed) (j .«right_ended») (j .state) r) where
+    end-known : EndFed (badJoin j left right) (j .failed) (j .«right_ended») (j .state) r
+    end-known = rw is at fed
 
-    pub end-accepted : t ≡ Accepted → EndLeaves j left right (record { answer = t; join = endedRight j })
+    end-same : endJudged (badJoin j left right) (j .failed) (j .«right_ended») (j .state) ≡ endAnswer j left right
+    unfolding endJudged endAnswer
+    end-same = refl
+
+    pub end-leaves : EndLeaves j left right (record { answer = r .answer; join = endedAt j (r .ended) })
     unfolding endCall
-    end-accepted is = let e = sym judged ∙ is in record { answer = rw (e, endCall) is; join = rw (e, endCall) }
+    end-leaves = go (endAnswer j left right) refl
+      where
+        go : (t : Took) → endAnswer j left right ≡ t → EndLeaves j left right (record { answer = r .answer; join = endedAt j (r .ended) })
+        go Accepted e = let s = end-same ∙ e in record { answer = rw (e, endCall) (rw s at (end-known .answer)); join = rw (e, endCall, rw s at (end-known .ended-is)) }
+        go (Refused n) e = let s = end-same ∙ e in record { answer = rw (e, endCall) (rw s at (end-known .answer)); join = rw (e, endCall, rw s at (end-known .ended-is)) }
 
   -- ---- a left frame
-  module _ (f : Words) (t : Took) (judged : t ≡ leftAnswer j left right f) where
-    pub left-refused : (n : Refusal) → t ≡ Refused n → LeftLeaves j left right f (record { answer = t; join = j }) left
-    unfolding leftCall
-    left-refused n is = let e = sym judged ∙ is in record { answer = rw (e, leftCall) is; join = rw (e, leftCall); words = rw (e, leftCall) }
+  module _ (f : Words) (b : Bool) (is : b ≡ badJoin j left right) (r : FedLeft) (left′ : Words)
+      (fed : LeftFed b (j .failed) (j .state) (widthOf j) (j .«queue_start») (j .«queue_words») left f r left′) where
+    left-known : LeftFed (badJoin j left right) (j .failed) (j .state) (widthOf j) (j .«queue_start») (j .«queue_words») left f r left′
+    left-known = rw is at fed
 
-    pub left-accepted : t ≡ Accepted → (start : ℕ) (words : Words) → start ≡ newBase (j .«queue_start») (j .«queue_words») (length f) (length left)
-        → words ≡ written f (start + j .«queue_words») (moved (j .«queue_start») start (j .«queue_words») left)
-        → LeftLeaves j left right f (record { answer = t; join = queueAt j start (j .«queue_words» + length f) }) words
+    left-same : leftJudged (badJoin j left right) (j .failed) (j .state) (widthOf j) (j .«queue_words») left f ≡ leftAnswer j left right f
+    unfolding leftJudged leftAnswer
+    left-same = refl
+
+    pub left-leaves : LeftLeaves j left right f (record { answer = r .answer; join = queueAt j (r .start) (r .words) }) left′
     unfolding leftCall queued
-    left-accepted is start words at put =
-        let e = sym judged ∙ is in
-        record { answer = rw (e, leftCall) is; join = rw (e, leftCall, at); words = rw (e, leftCall, ← at) put }
+    left-leaves = go (leftAnswer j left right f) refl
+      where
+        go : (t : Took) → leftAnswer j left right f ≡ t → LeftLeaves j left right f (record { answer = r .answer; join = queueAt j (r .start) (r .words) }) left′
+        go Accepted e =
+            let s = left-same ∙ e in
+            record { answer = rw (e, leftCall) (rw s at (left-known .answer)); join = rw (e, leftCall, rw s at (left-known .start-is), rw s at (left-known .words-are)); words = rw (e, leftCall) (rw s at (left-known .area)) }
+        go (Refused n) e =
+            let s = left-same ∙ e in
+            record { answer = rw (e, leftCall) (rw s at (left-known .answer)); join = rw (e, leftCall, rw s at (left-known .start-is), rw s at (left-known .words-are)); words = rw (e, leftCall) (rw s at (left-known .area)) }
 
   -- ---- a right frame
-  module _ (f : Words) (t : Took) (judged : t ≡ rightAnswer j left right f) where
-    pub right-refused : (n : Refusal) → t ≡ Refused n → RightLeaves j left right f (record { answer = t; join = j }) right
-    unfolding rightCall
-    right-refused n is = let e = sym judged ∙ is in record { answer = rw (e, rightCall) is; join = rw (e, rightCall); words = rw (e, rightCall) }
+  module _ (f : Words) (b : Bool) (is : b ≡ badJoin j left right) (r : FedRight) (right′ : Words)
+      (fed : RightFed b (j .failed) (j .«right_ended») (j .state) (widthOf j) (j .base) (j .held) (j .pruned) right f r right′) where
+    right-known : RightFed (badJoin j left right) (j .failed) (j .«right_ended») (j .state) (widthOf j) (j .base) (j .held) (j .pruned) right f r right′
+    right-known = rw is at fed
 
-    pub right-accepted : t ≡ Accepted → (n base : ℕ) (words : Words) → n ≡ rowCount f → base ≡ newBase (j .base) (j .held) (rowCount f) (capacity (widthOf j) right)
-        → words ≡ pushed (widthOf j) (j .base) (j .held) f right
-        → RightLeaves j left right f (record { answer = t; join = heldAt j base (j .held + n) (j .pruned) }) words
+    right-same : rightJudged (badJoin j left right) (j .failed) (j .«right_ended») (j .state) (widthOf j) (j .held) (j .pruned) right f ≡ rightAnswer j left right f
+    unfolding rightJudged rightAnswer
+    right-same = refl
+
+    pub right-leaves : RightLeaves j left right f (record { answer = r .answer; join = heldAt j (r .base) (r .held) (j .pruned) }) right′
     unfolding rightCall pushedRight
-    right-accepted is n base words count at put =
-        let e = sym judged ∙ is in
-        record { answer = rw (e, rightCall) is; join = rw (e, rightCall, at, count); words = rw (e, rightCall) put }
-
-  -- A right frame is judged as the end of right is, and then by itself.
-  pub right-shut : (f : Words) (n : Refusal) → endAnswer j left right ≡ Refused n → rightAnswer j left right f ≡ Refused n
-  unfolding endAnswer rightAnswer
-  right-shut f n e = stops (badJoin j left right) (j .failed) (j .«right_ended» || isDone (j .state)) (judgedRight j right f) n e
-    where
-      stops : (a b c : Bool) (t : Took) (n : Refusal) → cond a (Refused BadJoin) (cond b (Refused Failed) (cond c (Refused Closed) Accepted)) ≡ Refused n
-          → cond a (Refused BadJoin) (cond b (Refused Failed) (cond c (Refused Closed) t)) ≡ Refused n
-      stops true b c t n e = e
-      stops false true c t n e = e
-      stops false false true t n e = e
-      stops false false false t n e = let z : _≡_ {A = ℕ} 0 1 = cc in absurd (omega arith)
-
-  pub right-open : (f : Words) → endAnswer j left right ≡ Accepted → rightAnswer j left right f ≡ judgedRight j right f
-  unfolding rightAnswer
-  right-open f e = let t = end-taken j left right e in rw (t .unbroken, t .unfailed, t .unended)
+    right-leaves = go (rightAnswer j left right f) refl
+      where
+        go : (t : Took) → rightAnswer j left right f ≡ t → RightLeaves j left right f (record { answer = r .answer; join = heldAt j (r .base) (r .held) (j .pruned) }) right′
+        go Accepted e =
+            let s = right-same ∙ e in
+            record { answer = rw (e, rightCall) (rw s at (right-known .answer)); join = rw (e, rightCall, rw s at (right-known .base-is), rw s at (right-known .held-is)); words = rw (e, rightCall) (rw s at (right-known .area)) }
+        go (Refused n) e =
+            let s = right-same ∙ e in
+            record { answer = rw (e, rightCall) (rw s at (right-known .answer)); join = rw (e, rightCall, rw s at (right-known .base-is), rw s at (right-known .held-is)); words = rw (e, rightCall) (rw s at (right-known .area)) }
 
   -- ---- ports
   module _ (l r s : PortState) where
@@ -96,11 +99,27 @@ module _ (j : Join) (left right : Words) where
     told-call Flush a at is e = record { answer = rw (e, portsCall) is; join = rw (e, portsCall, ← at) }
     told-call Done a at is e = record { answer = rw (e, portsCall) is; join = rw (e, portsCall, ← at) }
 
-    pub ports-refused : (n : Refusal) → portsAnswer j left right l r s ≡ PortsRefused n → PortsLeaves j left right l r s (record { answer = PortsRefused n; join = j })
+    ports-refused : (n : Refusal) → portsAnswer j left right l r s ≡ PortsRefused n → PortsLeaves j left right l r s (record { answer = PortsRefused n; join = j })
     unfolding portsCall
     ports-refused n e = record { answer = rw (e, portsCall); join = rw (e, portsCall) }
 
-    pub ports-told : badJoin j left right ≡ false → j .failed ≡ false → (u : NodeState) (a : Ported) → u ≡ portsState j l s → a ≡ portsIn u l r s
-        → PortsLeaves j left right l r s (record { answer = a; join = stateAt j u })
-    unfolding portsAnswer
-    ports-told p q u a at is = told-call u a at is (rw (p, q, at))
+    module _ (b : Bool) (is : b ≡ badJoin j left right) (x : PortsMoved) (h : Moves b (j .failed) (j .state) l r s (j .«queue_words») x) where
+      known : Moves (badJoin j left right) (j .failed) (j .state) l r s (j .«queue_words») x
+      known = rw is at h
+
+      pub ports-leaves : PortsLeaves j left right l r s (record { answer = x .answer; join = stateAt j (x .state) })
+      unfolding portsAnswer portsJudged movedState
+      ports-leaves = go (badJoin j left right) (j .failed) refl refl
+        where
+          go : (p q : Bool) → badJoin j left right ≡ p → j .failed ≡ q → PortsLeaves j left right l r s (record { answer = x .answer; join = stateAt j (x .state) })
+          go true q e f =
+              let z = ports-refused BadJoin (rw e) in
+              let st : x .state ≡ j .state = rw e at (known .state-is) in
+              record { answer = rw e at (known .answer) ∙ z .answer; join = rw st (z .join) }
+          go false true e f =
+              let z = ports-refused Failed (rw (e, f)) in
+              let st : x .state ≡ j .state = rw (e, f) at (known .state-is) in
+              record { answer = rw (e, f) at (known .answer) ∙ z .answer; join = rw st (z .join) }
+          go false false e f =
+              let st : x .state ≡ portsState j l s = rw (e, f) at (known .state-is) in
+              told-call (x .state) (x .answer) st (rw (e, f, ← st) at (known .answer)) (rw (e, f, st))

@@ -1,7 +1,7 @@
 -- What is known of a join that is not bad, and of a frame that is accepted. Assumes nothing.
 use mathlib.Core.Path.{_≡_, refl}
 use mathlib.Core.Bool.{Bool, true, false, cond, not, _||_}
-use Prim.Native.Nat.{ℕ, _+_, _-_, _%_, _^_, _≤_, _<_}
+use Prim.Native.Nat.{ℕ, _+_, _-_, _%_, _≤_}
 use native.Mathlib.Omega.{arith}
 use borrow.Author.Tests.{ltb-false, eqb-false, not-false}
 use lib.Dec.{ltb}
@@ -13,34 +13,24 @@ use Rattle.frames.specs.Options.{badOptions}
 use Rattle.frames.specs.Room.{HasCount}
 use Rattle.frames.specs.declared.Options.{Options}
 use Rattle.frames.proofs.FrontLaws.{frame-parts}
-use Rattle.buffer.specs.Area.{capacity}
-use Rattle.node.specs.State.{fresh, isRunning, isDone, widthOf, mostRows, lastSequence, badJoin, overRight, overLeft, overRows, oddSequence}
+use Rattle.area.specs.Area.{capacity}
+use Rattle.feeds.proofs.FeedLaws.{or-both, few-columns}
+use Rattle.node.specs.State.{fresh, widthOf, badJoin, overRight, overLeft, overRows, oddSequence}
+use Rattle.answers.specs.Answers.{isRunning, isDone, mostRows}
 use Rattle.node.specs.Calls.{leftAnswer, rightAnswer, endAnswer}
 use Rattle.node.specs.declared.Join.{Join}
-use Rattle.node.specs.declared.Refusal.{Refusal}
-use Rattle.node.specs.declared.Refusal.the-variants.{BadJoin, Failed, Closed, BadFrame, NoRoom, UsedUp}
-use Rattle.node.specs.declared.Took.{Took}
-use Rattle.node.specs.declared.Took.the-variants.{Accepted, Refused}
+use Rattle.answers.specs.declared.Refusal.{Refusal}
+use Rattle.answers.specs.declared.Refusal.the-variants.{BadJoin, Failed, Closed, BadFrame, NoRoom, UsedUp}
+use Rattle.answers.specs.declared.Took.{Took}
+use Rattle.answers.specs.declared.Took.the-variants.{Accepted, Refused}
 
 -- ---- tests
--- Of an `||` that is false each side is.
-or-both : (a b : Bool) → (a || b) ≡ false → (a ≡ false) × (b ≡ false)
-or-both true b e = let z : _≡_ {A = ℕ} 0 1 = cc in absurd (omega arith)
-or-both false b e = (refl, e)
-
 -- A chain of refusals that came to Accepted did not stop at its first.
 passed : (b : Bool) (n : Refusal) (t : Took) → cond b (Refused n) t ≡ Accepted → (b ≡ false) × (t ≡ Accepted)
 passed true n t e = let z : _≡_ {A = ℕ} 0 1 = cc in absurd (omega arith)
 passed false n t e = (refl, e)
 
 -- ---- a join that is not bad
-pub few-columns : (o : Options) → badOptions o ≡ false → o .by ≤ 4
-unfolding badOptions
-few-columns o e =
-    let p = or-both (ltb 4 (o .by) || ltb 2 (o .strategy) || ltZ (o .tolerance) _) _ e in
-    let q = or-both (ltb 4 (o .by) || ltb 2 (o .strategy)) _ (p .0) in
-    ltb-false 4 (o .by) (or-both (ltb 4 (o .by)) _ (q .0) .0)
-
 pub record Good (j : Join) (left right : Words) : Type 0 where
   pub options : badOptions (j .options) ≡ false
   pub few : j .options .by ≤ 4
@@ -70,10 +60,6 @@ good j left right h =
 pub opened-bad : (o : Options) (left right : Words) → badOptions o ≡ true → badJoin (fresh o) left right ≡ true
 unfolding badJoin
 opened-bad o left right e = rw e
-
--- After a turn that writes the sequence still fits.
-pub next-sequence : (s : ℕ) → s % 2 ≡ 0 → (s ≡ lastSequence → ⊥) → s < 2 ^ 64 → s + 2 < 2 ^ 64
-next-sequence s e n h = omega arith
 
 -- ---- a frame
 -- Its first word is there and is a number of rows, at most 4,096.

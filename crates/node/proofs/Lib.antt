@@ -1,7 +1,4 @@
 pub mod Good
 pub mod CallLaws
-pub mod Tests
-pub mod PortRule
-pub mod TurnLaws
+pub mod PortsMeet
 pub mod TurnCall
-pub mod RunLaws

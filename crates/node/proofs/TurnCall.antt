@@ -1,36 +1,45 @@
 -- A turn from its first test to its last word: what is known of the front of the queue, and what the call leaves. Assumes nothing.
 use mathlib.Core.Path.{_≡_, refl, sym, ap, _∙_}
-use mathlib.Core.Bool.{Bool, true, false, cond, not, _&&_, _||_}
+use mathlib.Core.Bool.{Bool, true, false, cond, not, _&&_}
 use Prim.Native.Nat.{ℕ, _+_, _-_, _*_, _^_, _≤_, _<_}
 use native.Mathlib.Omega.{arith}
 use lib.Dec.{ltb, eqb}
-use lib.ListN.{length, take, drop, length-take, length-drop}
+use lib.ListN.{length, take, drop, length-take}
 use lib.Seq.{take-take}
 use Rattle.frames.specs.Cells.{Rows, Words}
 use Rattle.frames.specs.Frame.{isFrame, frameRows, front}
 use Rattle.frames.specs.Front.{frontOf}
+use Rattle.frames.specs.declared.Front.{Front}
 use Rattle.frames.specs.declared.Front.the-variants.{Words as Long, Nothing}
 use Rattle.frames.proofs.FrontLaws.{Fronted, front-told}
-use Rattle.buffer.specs.Area.{capacity}
+use Rattle.area.specs.Area.{capacity, heldRows}
 use Rattle.buffer.specs.Reach.{needMore}
-use Rattle.buffer.proofs.PushLaws.{capacity-room}
-use Rattle.buffer.proofs.AreaLaws.{rows-words}
+use Rattle.area.proofs.PushLaws.{capacity-room}
+use Rattle.area.proofs.AreaLaws.{rows-words}
 use Rattle.matching.specs.Groups.{matchFrame}
 use Rattle.matching.specs.Answer.{answered}
 use Rattle.matching.proofs.ChoiceLaws.{cond-ind}
-use Rattle.node.specs.State.{widthOf, isDone, lastSequence, badJoin, heldOf, waiting}
-use Rattle.node.specs.Calls.{wrote, after, firstPrune, badLeft, badRight, turnAnswer, turned, turnCall}
-use Rattle.node.specs.Inner.{readyAnswer, roomAnswer, badRightAt, orderAnswer, keptRows, lastPrune, rowsAnswer, leftJoin, rowsTurn, RowsTurned, FrameIn}
+use Rattle.node.specs.State.{widthOf, badJoin, heldOf, waiting}
+use Rattle.answers.specs.Answers.{isDone, lastSequence, wrote}
+use Rattle.node.specs.Calls.{after, turnAnswer, dropped, dequeued, turned, spoiled, turnCall}
+use Rattle.prunes.specs.Prunes.{firstPrune, badLeft, badRight, keptRows, lastPrune}
+use Rattle.node.specs.Inner.{readyAnswer, partOf, joinWith}
 use Rattle.node.specs.Leaves.{TurnLeaves}
 use Rattle.node.proofs.Good.{Good, good}
-use Rattle.node.proofs.Tests.{past}
-use Rattle.node.proofs.TurnLaws.{stopped, split-known}
+use Rattle.answers.proofs.Tests.{past}
+use Rattle.prunes.proofs.PruneLaws.{split-known}
 use Rattle.node.specs.declared.Join.{Join}
-use Rattle.node.specs.declared.Refusal.{Refusal}
-use Rattle.node.specs.declared.Refusal.the-variants.{BadJoin, Failed, Closed, BadFrame, NoRoom, UsedUp, LeftOrder, RightOrder}
-use Rattle.node.specs.declared.Answer.{Answer}
-use Rattle.node.specs.declared.Answer.the-variants.{Wrote, WantsRight, Idle, Refused}
-use Rattle.node.specs.declared.TurnedJoin.{TurnedJoin}
+use Rattle.answers.specs.declared.Refusal.{Refusal}
+use Rattle.answers.specs.declared.Refusal.the-variants.{BadOptions, BadJoin, Failed, Closed, BadFrame, NoRoom, UsedUp, LeftOrder, RightOrder}
+use Rattle.answers.specs.declared.Answer.{Answer}
+use Rattle.answers.specs.declared.Answer.the-variants.{Wrote, WantsRight, Idle, Refused}
+use Rattle.feeds.specs.Judged.{readyJudged}
+use Rattle.parts.specs.Part.{roomAnswer, orderAnswer, leftPart}
+use Rattle.parts.specs.declared.Part.{Part}
+use Rattle.turns.specs.Turns.{left as unmoved, rowsAnswer, rowsTurn, spoiledPart, RowsTurned}
+use Rattle.queue.specs.Queue.{waitingIn, frontTurn, queueTurn, QueueTurned}
+use Rattle.queue.proofs.QueueLaws.{front-here, front-frame}
+use Rattle.turns.specs.declared.TurnedPart.{TurnedPart}
 
 -- The answers by rows are one chain.
 through : (a b c : Bool) (s : ℕ) (x : Answer) →
@@ -41,7 +50,7 @@ through false true c s x = refl
 through false false true s x = refl
 through false false false s x = refl
 
-chain : (j : Join) (rows held : Rows) (room : ℕ) → rowsAnswer j rows held room ≡
+chain : (j : Part) (rows held : Rows) (room : ℕ) → rowsAnswer j rows held room ≡
     cond (not (j .«right_ended») && needMore (j .options) rows held) WantsRight
     (cond (ltb room (2 + 2 * length rows)) (Refused NoRoom)
     (cond (eqb (j .sequence) lastSequence) (Refused UsedUp)
@@ -75,17 +84,36 @@ front-broken : (c : ℕ) (ws : Words) → frontOf c ws ≡ Nothing → isFrame c
 unfolding frontOf
 front-broken c ws e = none-of (isFrame c (front c ws)) (length (front c ws)) e
 
+-- The join of a turn that does not write.
+abbrev stopped : Join → Answer → Join
+stopped j (Wrote s) = j
+stopped j WantsRight = j
+stopped j Idle = j
+stopped j (Refused n) = spoiled n j
+
+-- The part of a join that a refusal spoils is the join that it spoils.
+part-spoiled : (j : Join) (n : Refusal) → joinWith j (spoiledPart n (partOf j)) ≡ spoiled n j
+part-spoiled j BadOptions = refl
+part-spoiled j BadJoin = refl
+part-spoiled j Failed = refl
+part-spoiled j Closed = refl
+part-spoiled j BadFrame = refl
+part-spoiled j NoRoom = refl
+part-spoiled j UsedUp = refl
+part-spoiled j LeftOrder = refl
+part-spoiled j RightOrder = refl
+
 module _ (j : Join) (left right out : Words) where
   -- ---- ready
   -- What a turn that goes on knows of its join.
-  pub record Ready : Type 0 where
+  record Ready : Type 0 where
     pub unbroken : badJoin j left right ≡ false
     pub unfailed : j .failed ≡ false
     pub undone : isDone (j .state) ≡ false
     pub some : eqb (j .«queue_words») 0 ≡ false
 
   ready-all : (P : Answer → Type 0) → P (Refused BadJoin) → P (Refused Failed) → P (Refused Closed) → P Idle → P (Wrote (j .sequence)) → P (readyAnswer j left right)
-  unfolding readyAnswer
+  unfolding readyJudged
   ready-all P p2 p3 p4 pi p =
       cond-ind P (badJoin j left right) (λ t. p2) (λ t.
       cond-ind P (j .failed) (λ t. p3) (λ t.
@@ -99,7 +127,7 @@ module _ (j : Join) (left right out : Words) where
   idle-apart s e = let z : _≡_ {A = ℕ} 0 1 = cc in omega arith
 
   is-ready : readyAnswer j left right ≡ Wrote (j .sequence) → Ready
-  unfolding readyAnswer
+  unfolding readyJudged
   is-ready e =
       let p2 = past (badJoin j left right) (Refused BadJoin) _ (Wrote (j .sequence)) (apart BadJoin _) e in
       let p3 = past (j .failed) (Refused Failed) _ (Wrote (j .sequence)) (apart Failed _) (p2 .1) in
@@ -107,7 +135,7 @@ module _ (j : Join) (left right out : Words) where
       let p = past (eqb (j .«queue_words») 0) Idle (Wrote (j .sequence)) (Wrote (j .sequence)) (idle-apart _) (p4 .1) in
       record { unbroken = p2 .0; unfailed = p3 .0; undone = p4 .0; some = p .0 }
 
-  pub ready-goes : (t : Answer) → t ≡ readyAnswer j left right → wrote t ≡ true → Ready
+  ready-goes : (t : Answer) → t ≡ readyAnswer j left right → wrote t ≡ true → Ready
   ready-goes t e g =
       is-ready (ready-all (λ a. wrote a ≡ true → a ≡ Wrote (j .sequence)) (λ x. cc) (λ x. cc) (λ x. cc) (λ x. cc) (λ x. refl) (sym (ap wrote e) ∙ g))
 
@@ -120,17 +148,17 @@ module _ (j : Join) (left right out : Words) where
   stops (Refused n) e g = record { answer = rw (e, turnCall); join = rw (e, turnCall); words = rw (e, turnCall) }
 
   unready : wrote (readyAnswer j left right) ≡ false → turnAnswer j left right out ≡ readyAnswer j left right
-  unfolding turnAnswer readyAnswer
+  unfolding turnAnswer readyJudged
   unready g = stays-at (badJoin j left right) (j .failed) (isDone (j .state)) (eqb (j .«queue_words») 0) (j .sequence) _ g
 
-  pub ready-stops : (t : Answer) → t ≡ readyAnswer j left right → wrote t ≡ false → TurnLeaves j left right out (record { answer = t; join = j }) out
+  ready-stops : (t : Answer) → t ≡ readyAnswer j left right → wrote t ≡ false → TurnLeaves j left right out (record { answer = t; join = j }) out
   ready-stops t e g =
       let same : stopped j t ≡ j = rw e (ready-all (λ a. stopped j a ≡ j) refl refl refl refl refl) in
       rw same at (stops t (unready (sym (ap wrote e) ∙ g) ∙ sym e) g)
 
   -- ---- the front
   module _ (r : Ready) where
-    pub kept-good : Good j left right
+    kept-good : Good j left right
     kept-good = good j left right (r .unbroken)
 
     module _ (f : Words) (fronted : front (widthOf j) (waiting j left) ≡ f) where
@@ -138,71 +166,69 @@ module _ (j : Join) (left right out : Words) where
       unfolding turnAnswer
       front-answer e = rw (r .unbroken, fronted, r .unfailed, r .undone, r .some, e)
 
-      answer-rows : isFrame (widthOf j) f ≡ true → turnAnswer j left right out ≡ rowsAnswer j (frameRows (widthOf j) f) (heldOf j right) (length out)
+      answer-rows : isFrame (widthOf j) f ≡ true → turnAnswer j left right out ≡ rowsAnswer (partOf j) (frameRows (widthOf j) f) (heldOf j right) (length out)
       unfolding turnAnswer
       answer-rows e =
           rw fronted
           (comes-to (badJoin j left right) (j .failed) (isDone (j .state)) (eqb (j .«queue_words») 0) (isFrame (widthOf j) f) _ (r .unbroken) (r .unfailed) (r .undone) (r .some) e
-          ∙ sym (chain j (frameRows (widthOf j) f) (heldOf j right) (length out)))
+          ∙ sym (chain (partOf j) (frameRows (widthOf j) f) (heldOf j right) (length out)))
 
       turned-rows : turned j left right out ≡ after (Wrote (j .sequence))
-          (leftJoin j (frameRows (widthOf j) f) (keptRows (j .options) (frameRows (widthOf j) f) (heldOf j right)) (firstPrune (j .options) (frameRows (widthOf j) f) (heldOf j right)) (lastPrune (j .options) (frameRows (widthOf j) f) (heldOf j right)) (length f))
+          (joinWith j (leftPart (partOf j) (frameRows (widthOf j) f) (keptRows (j .options) (frameRows (widthOf j) f) (heldOf j right)) (firstPrune (j .options) (frameRows (widthOf j) f) (heldOf j right)) (lastPrune (j .options) (frameRows (widthOf j) f) (heldOf j right)) (length f)))
           left right (answered (matchFrame (j .options) (j .pruned + firstPrune (j .options) (frameRows (widthOf j) f) (heldOf j right)) (keptRows (j .options) (frameRows (widthOf j) f) (heldOf j right)) (frameRows (widthOf j) f)) out)
-      unfolding turned leftJoin keptRows lastPrune
+      unfolding turned dropped dequeued leftPart keptRows lastPrune
       turned-rows = rw fronted
 
-      turns : isFrame (widthOf j) f ≡ true → (a : Answer) → rowsAnswer j (frameRows (widthOf j) f) (heldOf j right) (length out) ≡ a → (x : TurnedJoin) (out′ : Words)
-          → RowsTurned j (frameRows (widthOf j) f) (heldOf j right) (length f) out x out′ → TurnLeaves j left right out x out′
+      turns : isFrame (widthOf j) f ≡ true → (a : Answer) → rowsAnswer (partOf j) (frameRows (widthOf j) f) (heldOf j right) (length out) ≡ a → (x : TurnedPart) (out′ : Words)
+          → RowsTurned (partOf j) (frameRows (widthOf j) f) (heldOf j right) (length f) out x out′ → TurnLeaves j left right out (record { answer = x .answer; join = joinWith j (x .part) }) out′
       unfolding turnCall rowsTurn
       turns frame (Wrote q) e x out′ h =
           let t = answer-rows frame ∙ e in
-          record { answer = rw (t, turnCall, turned-rows) (rw (e, rowsTurn) at (h .answer)); join = rw (t, turnCall, turned-rows) (rw (e, rowsTurn) at (h .join)); words = rw (t, turnCall, turned-rows) (rw (e, rowsTurn) at (h .words)) }
+          record { answer = rw (t, turnCall, turned-rows) (rw (e, rowsTurn) at (h .answer)); join = rw (t, turnCall, turned-rows) (ap (joinWith j) (rw (e, rowsTurn) at (h .part))); words = rw (t, turnCall, turned-rows) (rw (e, rowsTurn) at (h .words)) }
       turns frame WantsRight e x out′ h =
           let t = answer-rows frame ∙ e in
-          record { answer = rw (t, turnCall) (rw (e, rowsTurn) at (h .answer)); join = rw (t, turnCall) (rw (e, rowsTurn) at (h .join)); words = rw (t, turnCall) (rw (e, rowsTurn) at (h .words)) }
+          record { answer = rw (t, turnCall) (rw (e, rowsTurn) at (h .answer)); join = rw (t, turnCall) (ap (joinWith j) (rw (e, rowsTurn) at (h .part))); words = rw (t, turnCall) (rw (e, rowsTurn) at (h .words)) }
       turns frame Idle e x out′ h =
           let t = answer-rows frame ∙ e in
-          record { answer = rw (t, turnCall) (rw (e, rowsTurn) at (h .answer)); join = rw (t, turnCall) (rw (e, rowsTurn) at (h .join)); words = rw (t, turnCall) (rw (e, rowsTurn) at (h .words)) }
+          record { answer = rw (t, turnCall) (rw (e, rowsTurn) at (h .answer)); join = rw (t, turnCall) (ap (joinWith j) (rw (e, rowsTurn) at (h .part))); words = rw (t, turnCall) (rw (e, rowsTurn) at (h .words)) }
       turns frame (Refused n) e x out′ h =
           let t = answer-rows frame ∙ e in
-          record { answer = rw (t, turnCall) (rw (e, rowsTurn) at (h .answer)); join = rw (t, turnCall) (rw (e, rowsTurn) at (h .join)); words = rw (t, turnCall) (rw (e, rowsTurn) at (h .words)) }
+          record { answer = rw (t, turnCall) (rw (e, rowsTurn) at (h .answer)); join = rw (t, turnCall) (ap (joinWith j) (rw (e, rowsTurn) at (h .part)) ∙ part-spoiled j n); words = rw (t, turnCall) (rw (e, rowsTurn) at (h .words)) }
 
-    pub front-stops : frontOf (widthOf j) (waiting j left) ≡ Nothing → TurnLeaves j left right out (record { answer = Refused BadFrame; join = j }) out
+    front-stops : frontOf (widthOf j) (waiting j left) ≡ Nothing → TurnLeaves j left right out (record { answer = Refused BadFrame; join = j }) out
     front-stops e = stops (Refused BadFrame) (front-answer (front (widthOf j) (waiting j left)) refl (front-broken (widthOf j) (waiting j left) e)) refl
 
-    module _ (k : ℕ) (told : frontOf (widthOf j) (waiting j left) ≡ Long k) where
-      is-front : Fronted (widthOf j) (waiting j left) k
-      is-front = front-told (widthOf j) (waiting j left) k told
+    frame-turns : (k : ℕ) → frontOf (widthOf j) (waiting j left) ≡ Long k → (x : TurnedPart) (out′ : Words)
+        → RowsTurned (partOf j) (frameRows (widthOf j) (take k (drop (j .«queue_start») left))) (heldRows (widthOf j) (j .base) (j .held) right) (length (take k (drop (j .«queue_start») left))) out x out′
+        → TurnLeaves j left right out (record { answer = x .answer; join = joinWith j (x .part) }) out′
+    unfolding heldOf waiting
+    frame-turns k told x out′ h =
+        turns (take k (drop (j .«queue_start») left)) (front-here (partOf j) left right k told) (front-frame (partOf j) left right k told) _ refl x out′ h
 
-      pub front-within : k ≤ j .«queue_words»
-      unfolding waiting
-      front-within = omega (arith, is-front .within, length-take (j .«queue_words») (drop (j .«queue_start») left))
+  -- What the function under the call leaves is what the call leaves.
+  module _ (b : Bool) (is : b ≡ badJoin j left right) (x : TurnedPart) (out′ : Words) (h : QueueTurned b (j .state) (partOf j) left right out x out′) where
+    known : QueueTurned (badJoin j left right) (j .state) (partOf j) left right out x out′
+    known = rw is at h
 
-      -- The front is the first words of the queue.
-      front-here : front (widthOf j) (waiting j left) ≡ take k (drop (j .«queue_start») left)
-      unfolding waiting
-      front-here = is-front .here ∙ take-take k (j .«queue_words») (drop (j .«queue_start») left) front-within
+    abbrev Goal : Type 0
+    Goal = TurnLeaves j left right out (record { answer = x .answer; join = joinWith j (x .part) }) out′
 
-      frame : isFrame (widthOf j) (take k (drop (j .«queue_start») left)) ≡ true
-      frame = rw front-here at (is-front .is)
+    -- A turn that changes nothing.
+    unchanged : (a : Answer) → queueTurn (badJoin j left right) (j .state) (partOf j) left right out ≡ unmoved a (partOf j) out → TurnLeaves j left right out (record { answer = a; join = j }) out → Goal
+    unchanged a e z = record { answer = rw e at (known .answer) ∙ z .answer; join = ap (joinWith j) (rw e at (known .part)) ∙ z .join; words = rw e at (known .words) ∙ z .words }
 
-      pub frame-in : j .sequence < 2 ^ 64 → length left < 2 ^ 64 → length right < 2 ^ 64 → FrameIn j (take k (drop (j .«queue_start») left)) right
-      frame-in s l m =
-          let g = kept-good in
-          record {
-            few = g .few;
-            frame = frame;
-            held = g .right-room;
-            counts = record {
-              base = omega (arith, g .right-room, capacity-room (widthOf j) right, rows-words (capacity (widthOf j) right) (widthOf j) (omega arith));
-              rows = g .rows;
-              start = omega (arith, g .left-room);
-              words = rw (length-take k (drop (j .«queue_start») left)) (omega (arith, front-within));
-              even = g .even;
-              sequence = s;
-            };
-          }
+    fronted : Ready → (s : ℕ) → readyAnswer j left right ≡ Wrote s → (f : Front) → frontOf (widthOf j) (waiting j left) ≡ f → Goal
+    unfolding queueTurn frontTurn waiting
+    fronted r s e Nothing n = unchanged (Refused BadFrame) (rw (e, queueTurn, n, frontTurn)) (front-stops r n)
+    fronted r s e (Long k) n =
+        frame-turns r k n x out′ (record { answer = rw (e, queueTurn, n, frontTurn) at (known .answer); part = rw (e, queueTurn, n, frontTurn) at (known .part); words = rw (e, queueTurn, n, frontTurn) at (known .words) })
 
-      pub frame-turns : (x : TurnedJoin) (out′ : Words)
-          → RowsTurned j (frameRows (widthOf j) (take k (drop (j .«queue_start») left))) (heldOf j right) (length (take k (drop (j .«queue_start») left))) out x out′ → TurnLeaves j left right out x out′
-      frame-turns x out′ h = turns (take k (drop (j .«queue_start») left)) front-here frame _ refl x out′ h
+    pub queue-turns : Goal
+    unfolding queueTurn
+    queue-turns = go (readyAnswer j left right) refl
+      where
+        go : (a : Answer) → readyAnswer j left right ≡ a → Goal
+        go (Wrote s) e = fronted (ready-goes (readyAnswer j left right) refl (ap wrote e)) s e (frontOf (widthOf j) (waiting j left)) refl
+        go WantsRight e = unchanged WantsRight (rw (e, queueTurn)) (ready-stops WantsRight (sym e) refl)
+        go Idle e = unchanged Idle (rw (e, queueTurn)) (ready-stops Idle (sym e) refl)
+        go (Refused n) e = unchanged (Refused n) (rw (e, queueTurn)) (ready-stops (Refused n) (sym e) refl)

@@ -1,34 +1,30 @@
 -- The calls: what each answers, and the join and the words that it leaves. Assumes nothing.
-use mathlib.Core.Bool.{Bool, true, false, cond, not, _&&_, _||_}
+use mathlib.Core.Bool.{cond, not, _&&_, _||_}
 use mathlib.Core.List.{[]}
 use Prim.Native.Nat.{ℕ, _+_, _-_, _*_}
 use lib.Dec.{ltb, eqb}
 use lib.ListN.{length, drop, take}
-use Rattle.frames.specs.Cells.{Rows, Words}
+use Rattle.frames.specs.Cells.{Words}
 use Rattle.frames.specs.Frame.{rowCount, isFrame, frameRows, front}
-use Rattle.frames.specs.Options.{isOn, columns, badOptions}
-use Rattle.frames.specs.Order.{sorted}
-use Rattle.frames.specs.Keyed.{firstKeyed, rowAt, recall, rememberLast, outOfOrder}
-use Rattle.frames.specs.declared.Options.{Options}
-use Rattle.frames.specs.declared.Row.{Row}
-use Rattle.buffer.specs.Area.{capacity, newBase, pushed, moved, written}
-use Rattle.buffer.specs.Reach.{needMore, pruneBy, badSplit}
+use Rattle.area.specs.Area.{capacity, newBase, pushed, moved, written}
+use Rattle.buffer.specs.Reach.{needMore, pruneBy}
 use Rattle.matching.specs.Groups.{matchFrame}
 use Rattle.matching.specs.Answer.{answered}
-use Rattle.node.specs.State.{queueAt, heldAt, stateAt, endedRight, markedFailed, nextTurn, isRunning, isDone, widthOf, mostRows, lastSequence, badJoin, heldOf, waiting}
+use Rattle.ports.specs.Ports.{toFlush, toDone, portsIn}
+use Rattle.prunes.specs.Prunes.{badLeft, badRight, firstPrune, remembered}
+use Rattle.node.specs.State.{queueAt, heldAt, stateAt, endedRight, markedFailed, nextTurn, widthOf, badJoin, heldOf, waiting}
+use Rattle.answers.specs.Answers.{isRunning, isDone, mostRows, lastSequence}
 use Rattle.node.specs.declared.Join.{Join}
-use Rattle.node.specs.declared.NodeState.{NodeState}
-use Rattle.node.specs.declared.NodeState.the-variants.{Running, Flush, Done}
-use Rattle.node.specs.declared.PortState.{PortState}
-use Rattle.node.specs.declared.PortState.the-variants.{Blocked, Ready, Done as PortDone}
-use Rattle.node.specs.declared.Refusal.{Refusal}
-use Rattle.node.specs.declared.Refusal.the-variants.{BadOptions, BadJoin, Failed, Closed, BadFrame, NoRoom, UsedUp, LeftOrder, RightOrder}
-use Rattle.node.specs.declared.Answer.{Answer}
-use Rattle.node.specs.declared.Answer.the-variants.{Wrote, WantsRight, Idle, Refused as TurnRefused}
-use Rattle.node.specs.declared.Took.{Took}
-use Rattle.node.specs.declared.Took.the-variants.{Accepted, Refused}
-use Rattle.node.specs.declared.Ported.{Ported}
-use Rattle.node.specs.declared.Ported.the-variants.{Ports, Refused as PortsRefused}
+use Rattle.answers.specs.declared.NodeState.{NodeState}
+use Rattle.answers.specs.declared.PortState.{PortState}
+use Rattle.answers.specs.declared.Refusal.{Refusal}
+use Rattle.answers.specs.declared.Refusal.the-variants.{BadOptions, BadJoin, Failed, Closed, BadFrame, NoRoom, UsedUp, LeftOrder, RightOrder}
+use Rattle.answers.specs.declared.Answer.{Answer}
+use Rattle.answers.specs.declared.Answer.the-variants.{Wrote, WantsRight, Idle, Refused as TurnRefused}
+use Rattle.answers.specs.declared.Took.{Took}
+use Rattle.answers.specs.declared.Took.the-variants.{Accepted, Refused}
+use Rattle.answers.specs.declared.Ported.{Ported}
+use Rattle.answers.specs.declared.Ported.the-variants.{Ports, Refused as PortsRefused}
 
 -- What a call leaves: its answer, the join handed back, and the words of the two areas and of the output (of a call that is lent one).
 pub record After (A : Type 0) : Type 0 where
@@ -41,10 +37,6 @@ pub record After (A : Type 0) : Type 0 where
 -- From its parts.
 abbrev pub after : {A : Type 0} → A → Join → Words → Words → Words → After A
 after a j l r out = record { answer = a; join = j; left = l; right = r; out = out }
-
--- Opening: refusal 1, or a fresh join.
-unfoldable pub openAnswer : Options → Took
-openAnswer o = cond (badOptions o) (Refused BadOptions) Accepted
 
 -- ---- a left frame
 -- Refusals: 2, 3, outside Running 4, no frame of c columns 5, words waiting + words needed above the left area 6.
@@ -116,38 +108,6 @@ endCall j left right =
     ]
 
 -- ---- ports
-abbrev pub portDone : PortState → Bool
-portDone Blocked = false
-portDone Ready = false
-portDone PortDone = true
-
--- A port that came Blocked.
-abbrev pub portBlocked : PortState → Bool
-portBlocked Blocked = true
-portBlocked Ready = false
-portBlocked PortDone = false
-
--- Send Done makes the node Done; else Running with left Done becomes Flush.
-abbrev pub toFlush : NodeState → PortState → PortState → NodeState
-toFlush s l d = cond (portDone d) Done (cond (isRunning s && portDone l) Flush s)
-
--- Then, in the same call, Flush with nothing waiting becomes Done.
-abbrev pub toDone : NodeState → ℕ → NodeState
-toDone Running words = Running
-toDone Flush words = cond (eqb words 0) Done Flush
-toDone Done words = Done
-
--- Ready unless another one came Blocked.
-abbrev pub readyUnless : Bool → PortState
-readyUnless blocked = cond blocked Blocked Ready
-
--- Running: each port Ready unless another one came Blocked. Flush: left Done; right and send each Ready unless the other came Blocked. Done: all Done.
-abbrev pub portsIn : NodeState → PortState → PortState → PortState → Ported
-portsIn Running l r s =
-    Ports (readyUnless (portBlocked r || portBlocked s)) (readyUnless (portBlocked l || portBlocked s)) (readyUnless (portBlocked l || portBlocked r))
-portsIn Flush l r s = Ports PortDone (readyUnless (portBlocked s)) (readyUnless (portBlocked r))
-portsIn Done l r s = Ports PortDone PortDone PortDone
-
 -- The node's state after a port call.
 abbrev pub portsState : Join → PortState → PortState → NodeState
 portsState j l s = toDone (toFlush (j .state) l s) (j .«queue_words»)
@@ -168,14 +128,6 @@ portsCall j left right l r s =
     ]
 
 -- ---- a turn
--- Left order, with the check on: the remembered row must not be greater than the frame's first row with a key; then the frame must be sorted.
-unfoldable pub badLeft : Options → Row → Rows → Bool
-badLeft o m rows = isOn (o .check) && (outOfOrder o (recall (columns o) m) (rowAt rows (firstKeyed o rows)) || not (sorted o rows))
-
--- Right order, with the check on: the held rows must be sorted; then the split of the prune by the last row must be in order.
-unfoldable pub badRight : Options → Row → Rows → Rows → Bool
-badRight o m rows held = isOn (o .check) && (not (sorted o held) || badSplit o m (length rows - 1) rows held)
-
 -- Refusals: 2, 3, in Done 4; no waiting frame: Idle; the front no frame of c columns 5; need more and right not ended: Wants right;
 -- output under 2 + 2n words 6, sequence 2^64 − 2 7, left out of order 8, right out of order 9. Else Wrote with the old sequence.
 unfoldable pub turnAnswer : Join → Words → Words → Words → Answer
@@ -194,14 +146,6 @@ turnAnswer j left right out =
     (cond (badLeft (j .options) (j .«last_left») rows) (TurnRefused LeftOrder)
     (cond (badRight (j .options) (j .«last_right») rows held) (TurnRefused RightOrder)
     (Wrote (j .sequence)))))))))))
-
--- Prune by row 0 if the check is off.
-unfoldable pub firstPrune : Options → Rows → Rows → ℕ
-firstPrune o rows held = cond (isOn (o .check)) 0 (pruneBy o 0 rows held)
-
--- With the check on, the last row with a key of those that went by is remembered.
-unfoldable pub remembered : Options → Row → Rows → Row
-remembered o m rows = cond (isOn (o .check)) (rememberLast o m rows) m
 
 -- Dropping held rows moves base and pruned up by their count and held down; a frame that leaves moves queue start up by its length and queue words down.
 unfoldable pub dropped : Join → ℕ → Join
@@ -245,10 +189,3 @@ turnCall j left right out =
       | Idle ↦ after Idle j left right out
       | TurnRefused n ↦ after (TurnRefused n) (spoiled n j) left right out
     ]
-
--- Whether a turn wrote.
-abbrev pub wrote : Answer → Bool
-wrote (Wrote s) = true
-wrote WantsRight = false
-wrote Idle = false
-wrote (TurnRefused n) = false

@@ -1,17 +1,15 @@
 -- What each call of the join leaves: the answer, the join handed back and the words of what it was lent to write in, as Calls gives them. Assumes nothing.
 use mathlib.Core.Path.{_≡_}
-use Prim.Native.Nat.{ℕ}
 use Rattle.frames.specs.Cells.{Words}
 use Rattle.frames.specs.declared.Options.{Options}
 use Rattle.node.specs.State.{fresh}
-use Rattle.node.specs.Calls.{openAnswer, leftCall, rightCall, endCall, portsCall, turnCall}
-use Rattle.node.specs.Run.{runCall}
+use Rattle.feeds.specs.Judged.{openAnswer}
+use Rattle.node.specs.Calls.{leftCall, rightCall, endCall, portsCall, turnCall}
 use Rattle.node.specs.declared.Join.{Join}
-use Rattle.node.specs.declared.PortState.{PortState}
+use Rattle.answers.specs.declared.PortState.{PortState}
 use Rattle.node.specs.declared.TookJoin.{TookJoin}
 use Rattle.node.specs.declared.PortedJoin.{PortedJoin}
 use Rattle.node.specs.declared.TurnedJoin.{TurnedJoin}
-use Rattle.node.specs.declared.RanJoin.{RanJoin}
 
 -- Opening. A refused opening's join has the options that were refused, so it meets refusal 2.
 pub record OpenLeaves (o : Options) (r : TookJoin) : Type 0 where
@@ -45,11 +43,3 @@ pub record TurnLeaves (j : Join) (left right out : Words) (r : TurnedJoin) (out�
   pub answer : r .answer ≡ turnCall j left right out .answer
   pub join : r .join ≡ turnCall j left right out .join
   pub words : out′ ≡ turnCall j left right out .out
-
--- A run of at most k turns; the output's words as they are afterwards.
-pub record RunLeaves (j : Join) (k : ℕ) (left right out : Words) (r : RanJoin) (out′ : Words) : Type 0 where
-  pub turns : r .turns ≡ runCall k j left right out .turns
-  pub written : r .words ≡ runCall k j left right out .words
-  pub stop : r .stop ≡ runCall k j left right out .stop
-  pub join : r .join ≡ runCall k j left right out .join
-  pub words : out′ ≡ runCall k j left right out .out

@@ -1,6 +1,6 @@
 -- The join, and what it says of the areas. Assumes nothing.
 use mathlib.Core.Bool.{Bool, true, false, _||_}
-use Prim.Native.Nat.{ℕ, _+_, _-_, _*_, _%_, _^_}
+use Prim.Native.Nat.{ℕ, _+_, _*_, _%_}
 use lib.Dec.{ltb, eqb}
 use lib.ListN.{length, take, drop}
 use Rattle.frames.specs.Cells.{Rows, Words}
@@ -8,38 +8,11 @@ use Rattle.frames.specs.Options.{badOptions, columns}
 use Rattle.frames.specs.Keyed.{noRow}
 use Rattle.frames.specs.declared.Options.{Options}
 use Rattle.frames.specs.declared.Row.{Row}
-use Rattle.buffer.specs.Area.{capacity, heldRows}
+use Rattle.area.specs.Area.{capacity, heldRows}
+use Rattle.answers.specs.Answers.{mostRows}
+use Rattle.answers.specs.declared.NodeState.{NodeState}
+use Rattle.answers.specs.declared.NodeState.the-variants.{Running}
 use Rattle.node.specs.declared.Join.{Join}
-use Rattle.node.specs.declared.NodeState.{NodeState}
-use Rattle.node.specs.declared.NodeState.the-variants.{Running, Flush, Done}
-use Rattle.node.specs.declared.PortState.{PortState}
-use Rattle.node.specs.declared.PortState.the-variants.{Blocked, Ready, Done as PortDone}
-use Rattle.node.specs.declared.Refusal.{Refusal}
-use Rattle.node.specs.declared.Refusal.the-variants.{BadOptions, BadJoin, Failed, Closed, BadFrame, NoRoom, UsedUp, LeftOrder, RightOrder}
-
--- The refusals' numbers, in checking order.
-abbrev pub number : Refusal → ℕ
-number BadOptions = 1
-number BadJoin = 2
-number Failed = 3
-number Closed = 4
-number BadFrame = 5
-number NoRoom = 6
-number UsedUp = 7
-number LeftOrder = 8
-number RightOrder = 9
-
--- The node's states by number: 0 Running, 1 Flush, 2 Done.
-abbrev pub stateCode : NodeState → ℕ
-stateCode Running = 0
-stateCode Flush = 1
-stateCode Done = 2
-
--- The ports' states by number: 0 Blocked, 1 Ready, 2 Done.
-abbrev pub portCode : PortState → ℕ
-portCode Blocked = 0
-portCode Ready = 1
-portCode PortDone = 2
 
 -- A join from all that it is.
 abbrev pub joinOf : Options → ℕ → ℕ → ℕ → ℕ → ℕ → NodeState → Bool → Bool → ℕ → Row → Row → Join
@@ -92,29 +65,9 @@ abbrev pub nextTurn : Join → Row → Row → Join
 nextTurn j l r =
     joinOf (j .options) (j .base) (j .held) (j .pruned) (j .«queue_start») (j .«queue_words») (j .state) (j .«right_ended») (j .failed) (j .sequence + 2) l r
 
--- Whether the node is Running.
-abbrev pub isRunning : NodeState → Bool
-isRunning Running = true
-isRunning Flush = false
-isRunning Done = false
-
--- Whether the node is Done.
-abbrev pub isDone : NodeState → Bool
-isDone Running = false
-isDone Flush = false
-isDone Done = true
-
 -- Frames have c = b + 1 columns; R rows have room in the right area.
 abbrev pub widthOf : Join → ℕ
 widthOf j = columns (j .options)
-
--- The greatest number of right rows: 2^63 − 1.
-abbrev pub mostRows : ℕ
-mostRows = 2 ^ 63 - 1
-
--- The last sequence: 2^64 − 2.
-abbrev pub lastSequence : ℕ
-lastSequence = 2 ^ 64 - 2
 
 -- Base + held above R.
 abbrev pub overRight : Join → Words → Bool

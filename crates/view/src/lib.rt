@@ -52,7 +52,7 @@ pub fn view<'a>(words: &'a [i64], c: usize) -> FrameView<'a>
 {
     FrameView {
         words,
-        rows: frames::row_count(words),
+        rows: framerule::row_count(words),
         columns: c,
     }
 }
@@ -86,10 +86,10 @@ fn cell_in(words: &[i64], c: usize, row: usize, column: usize) -> Found
 pub fn read_cell(words: &[i64], c: usize, row: usize, column: usize) -> Found
     ensures { λ r. ⌜ r ≡ foundAt c (now (words .entry)) row column ⌝ }
 {
-    if !frames::is_frame(words, c) {
+    if !framerule::is_frame(words, c) {
         return Found::Nothing;
     }
-    if frames::row_count(words) <= row {
+    if framerule::row_count(words) <= row {
         return Found::Nothing;
     }
     if c <= column {

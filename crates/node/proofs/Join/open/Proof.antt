@@ -3,8 +3,8 @@ use Rattle.node.proofs.Join.open.Statement.{statement}
 use Rattle.node.proofs.Join.open.Tie as tie
 use Rattle.node.proofs.Join.open.Reads as reads
 use Rattle.node.proofs.Join.open.Lts as lts
-use Rattle.order.proofs.no_row.Reads as no-row-reads
-use Rattle.node.proofs.judge.judge_open.Reads as judge-open-reads
+use Rattle.keyed.proofs.no_row.Reads as no-row-reads
+use Rattle.judges.proofs.judge_open.Reads as judge-open-reads
 
 judge-open-requires : tie.Need-judge-open-requires
 judge-open-requires c κs = search needs

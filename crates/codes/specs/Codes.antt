@@ -1,0 +1,83 @@
+-- Flags, states, ports and refusals as numbers. Assumes nothing.
+use mathlib.Core.Bool.{Bool, true, cond, _&&_}
+use mathlib.Core.List.{List, [], _∷_}
+use Prim.Native.Nat.{ℕ}
+use lib.Dec.{ltb, eqb}
+use Rattle.frames.specs.declared.Check.{Check}
+use Rattle.frames.specs.declared.Check.the-variants.{Off, On}
+use Rattle.answers.specs.Answers.{number}
+use Rattle.answers.specs.declared.NodeState.{NodeState}
+use Rattle.answers.specs.declared.NodeState.the-variants.{Running, Flush, Done}
+use Rattle.answers.specs.declared.PortState.{PortState}
+use Rattle.answers.specs.declared.PortState.the-variants.{Blocked, Ready, Done as PortDone}
+use Rattle.answers.specs.declared.Stop.{Stop}
+use Rattle.answers.specs.declared.Stop.the-variants.{Used, WantsRight, Idle, Refused as StopRefused}
+use Rattle.answers.specs.declared.Took.{Took}
+use Rattle.answers.specs.declared.Took.the-variants.{Accepted, Refused}
+
+-- A flag is 0 or 1.
+abbrev pub isFlag : ℕ → Bool
+isFlag x = ltb x 2
+
+-- 1 says yes.
+abbrev pub flagOf : ℕ → Bool
+flagOf x = eqb x 1
+
+-- The flag of yes and of no.
+abbrev pub flagCode : Bool → ℕ
+flagCode b = cond b 1 0
+
+-- Whether each is a flag.
+unfoldable pub areFlags : List ℕ → Bool
+areFlags [] = true
+areFlags (x ∷ xs) = isFlag x && areFlags xs
+
+-- What each says.
+unfoldable pub flagsOf : List ℕ → List Bool
+flagsOf [] = []
+flagsOf (x ∷ xs) = flagOf x ∷ flagsOf xs
+
+-- The flag of each.
+unfoldable pub flagCodes : List Bool → List ℕ
+flagCodes [] = []
+flagCodes (b ∷ bs) = flagCode b ∷ flagCodes bs
+
+-- Order check: 0 off, 1 on.
+abbrev pub checkOf : ℕ → Check
+checkOf x = cond (flagOf x) On Off
+
+-- Its flag.
+abbrev pub checkCode : Check → ℕ
+checkCode Off = 0
+checkCode On = 1
+
+-- A node's state and a port's state are numbers up to 2.
+abbrev pub isCode : ℕ → Bool
+isCode x = ltb x 3
+
+-- 0 is Running, 1 Flush, 2 Done; `stateCode` is the way back.
+abbrev pub stateOf : ℕ → NodeState
+stateOf x = cond (eqb x 0) Running (cond (eqb x 1) Flush Done)
+
+-- 0 is Blocked, 1 Ready, 2 Done; `portCode` is the way back.
+abbrev pub portOf : ℕ → PortState
+portOf x = cond (eqb x 0) Blocked (cond (eqb x 1) Ready PortDone)
+
+-- Accepted is 0, a refusal its number.
+abbrev pub tookCode : Took → ℕ
+tookCode Accepted = 0
+tookCode (Refused n) = number n
+
+-- What ended a run: 0 its turns are used, 1 wants right, 2 idle, 3 refused.
+abbrev pub stopCode : Stop → ℕ
+stopCode Used = 0
+stopCode WantsRight = 1
+stopCode Idle = 2
+stopCode (StopRefused n) = 3
+
+-- The refusal's number, where a refused turn ended it.
+abbrev pub stopRefusal : Stop → ℕ
+stopRefusal Used = 0
+stopRefusal WantsRight = 0
+stopRefusal Idle = 0
+stopRefusal (StopRefused n) = number n

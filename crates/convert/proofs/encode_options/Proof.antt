@@ -1,0 +1,40 @@
+use Rattle.frames.proofs.Signed.{back}
+use borrow.Author.Needs.{needs}
+use Rattle.convert.proofs.encode_options.Statement.{statement}
+use Rattle.convert.proofs.encode_options.Tie as tie
+use Rattle.convert.proofs.encode_options.Reads as reads
+use Rattle.convert.proofs.encode_options.Lts as lts
+use Rattle.codes.proofs.check_code.Reads as check-code-reads
+use Rattle.codes.proofs.flag_code.Reads as flag-code-reads
+use Rattle.codes.proofs.flag_codes.Reads as flag-codes-reads
+
+flag-codes-requires : tie.Need-flag-codes-requires
+flag-codes-requires c κs = search needs
+
+flag-codes-requires-2 : tie.Need-flag-codes-requires-2
+flag-codes-requires-2 c κs = search needs
+
+cast-t7 : tie.Need-cast-t7
+cast-t7 c = search needs
+
+flag-code-requires : tie.Need-flag-code-requires
+flag-code-requires c κs = search needs
+
+check-code-requires : tie.Need-check-code-requires
+check-code-requires c κs = search needs
+
+returns : tie.Need-returns
+returns c =
+    let f = c .before .before .before .before in
+    rw (back (f .before .before .before .before .args .o .tolerance) (c .struct-told .given .1 .1 .1 .0 .1), c .before .check-code .ensures, c .before .before .flag-code .ensures, f .flag-codes2 .ensures, f .before .flag-codes .ensures)
+
+pub encode-options-spec : {M : Type 1} → statement M
+encode-options-spec =
+    tie.close
+    (tie.spec
+    flag-codes-requires
+    flag-codes-requires-2
+    cast-t7
+    flag-code-requires
+    check-code-requires
+    returns)

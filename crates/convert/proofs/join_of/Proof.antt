@@ -1,0 +1,45 @@
+use Rattle.convert.proofs.ConvertLaws.{join-parts}
+use borrow.Author.Needs.{needs}
+use Rattle.convert.proofs.join_of.Statement.{statement}
+use Rattle.convert.proofs.join_of.Tie as tie
+use Rattle.convert.proofs.join_of.Reads as reads
+use Rattle.convert.proofs.join_of.Lts as lts
+use Rattle.codes.proofs.flag_of.Reads as flag-of-reads
+use Rattle.codes.proofs.state_of.Reads as state-of-reads
+use Rattle.convert.proofs.options_of.Reads as options-of-reads
+use Rattle.convert.proofs.row_of.Reads as row-of-reads
+
+options-of-requires : tie.Need-options-of-requires
+options-of-requires c κs = join-parts _ (c .pre) .options
+
+row-of-requires : tie.Need-row-of-requires
+row-of-requires c κs = search needs
+
+row-of-requires-2 : tie.Need-row-of-requires-2
+row-of-requires-2 c κs = search needs
+
+state-of-requires : tie.Need-state-of-requires
+state-of-requires c κs = search needs
+
+flag-of-requires : tie.Need-flag-of-requires
+flag-of-requires c κs = search needs
+
+flag-of-requires-2 : tie.Need-flag-of-requires-2
+flag-of-requires-2 c κs = search needs
+
+returns : tie.Need-returns
+returns c =
+    let r = c .before .before .before in
+    rw (c .flag-of2 .ensures, c .before .flag-of .ensures, c .before .before .state-of .ensures, r .row-of2 .ensures, r .before .row-of .ensures, r .before .before .options-of .ensures)
+
+pub join-of-spec : {M : Type 1} → statement M
+join-of-spec =
+    tie.close
+    (tie.spec
+    options-of-requires
+    row-of-requires
+    row-of-requires-2
+    state-of-requires
+    flag-of-requires
+    flag-of-requires-2
+    returns)

@@ -1,0 +1,42 @@
+use native.Mathlib.Omega.{arith}
+use Rattle.frames.proofs.Signed.{back}
+use Rattle.convert.proofs.ConvertLaws.{options-parts}
+use borrow.Author.Needs.{needs}
+use Rattle.convert.proofs.options_of.Statement.{statement}
+use Rattle.convert.proofs.options_of.Tie as tie
+use Rattle.convert.proofs.options_of.Reads as reads
+use Rattle.convert.proofs.options_of.Lts as lts
+use Rattle.codes.proofs.check_of.Reads as check-of-reads
+use Rattle.codes.proofs.flag_of.Reads as flag-of-reads
+use Rattle.codes.proofs.flags_of.Reads as flags-of-reads
+
+flags-of-requires : tie.Need-flags-of-requires
+flags-of-requires c κs = search needs
+
+flags-of-requires-2 : tie.Need-flags-of-requires-2
+flags-of-requires-2 c κs = search needs
+
+cast-t6 : tie.Need-cast-t6
+cast-t6 c = omega (arith, options-parts _ (c .before .before .before .before .before .pre) .byte)
+
+flag-of-requires : tie.Need-flag-of-requires
+flag-of-requires c κs = search needs
+
+check-of-requires : tie.Need-check-of-requires
+check-of-requires c κs = search needs
+
+returns : tie.Need-returns
+returns c =
+    let f = c .before .before .before .before in
+    rw (back (f .before .before .before .before .args .h .tolerance) (c .struct-told .given .1 .1 .1 .0 .1), c .before .check-of .ensures, c .before .before .flag-of .ensures, f .flags-of2 .ensures, f .before .flags-of .ensures)
+
+pub options-of-spec : {M : Type 1} → statement M
+options-of-spec =
+    tie.close
+    (tie.spec
+    flags-of-requires
+    flags-of-requires-2
+    cast-t6
+    flag-of-requires
+    check-of-requires
+    returns)

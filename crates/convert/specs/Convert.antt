@@ -1,0 +1,110 @@
+-- A join as a host keeps it, in numbers alone; which join it is, and which numbers are no join. Assumes nothing.
+use mathlib.Core.Path.{_≡_}
+use mathlib.Core.Bool.{Bool, cond, _&&_}
+use mathlib.Core.Option.{Option, none, some}
+use Prim.Native.Nat.{_<_}
+use lib.Dec.{ltb}
+use Rattle.frames.specs.declared.Options.{Options}
+use Rattle.frames.specs.declared.Row.{Row}
+use Rattle.answers.specs.Answers.{stateCode}
+use Rattle.node.specs.declared.Join.{Join}
+use Rattle.codes.specs.Codes.{isFlag, flagOf, flagCode, areFlags, flagsOf, flagCodes, checkOf, checkCode, isCode, stateOf}
+use Rattle.convert.specs.declared.HostOptions.{HostOptions}
+use Rattle.convert.specs.declared.HostRow.{HostRow}
+use Rattle.convert.specs.declared.HostJoin.{HostJoin}
+
+-- ---- options
+-- Options that the library could have written: a strategy is any number that a byte holds, and the rest are flags.
+unfoldable pub isOptions : HostOptions → Bool
+isOptions h = (ltb (h .strategy) 256 && (isFlag (h .«allow_eq») && isFlag (h .check))) && (areFlags (h .descending) && areFlags (h .«nulls_last»))
+
+-- The options that such numbers tell.
+abbrev pub optionsOf : HostOptions → Options
+optionsOf h = record {
+  by = h .by;
+  strategy = h .strategy;
+  «allow_eq» = flagOf (h .«allow_eq»);
+  tolerance = h .tolerance;
+  check = checkOf (h .check);
+  descending = flagsOf (h .descending);
+  «nulls_last» = flagsOf (h .«nulls_last»);
+}
+
+-- The numbers of options.
+abbrev pub encodeOptions : Options → HostOptions
+encodeOptions o = record {
+  by = o .by;
+  strategy = o .strategy;
+  «allow_eq» = flagCode (o .«allow_eq»);
+  tolerance = o .tolerance;
+  check = checkCode (o .check);
+  descending = flagCodes (o .descending);
+  «nulls_last» = flagCodes (o .«nulls_last»);
+}
+
+-- Numbers that no options encode are none.
+unfoldable pub decodeOptions : HostOptions → Option Options
+decodeOptions h = cond (isOptions h) (some (optionsOf h)) none
+
+-- ---- a remembered row
+-- Its flag says whether a row is remembered; its words are the row's own.
+abbrev pub rowOf : HostRow → Row
+rowOf h = record { some = flagOf (h .some); values = h .values; marks = h .marks }
+
+-- The numbers of a remembered row.
+abbrev pub encodeRow : Row → HostRow
+encodeRow r = record { some = flagCode (r .some); values = r .values; marks = r .marks }
+
+-- ---- the join
+-- A join that the library could have written: one of the three states, and flags that are 0 or 1.
+unfoldable pub isJoin : HostJoin → Bool
+isJoin h =
+    (isOptions (h .options) && isCode (h .state))
+    && ((isFlag (h .«right_ended») && isFlag (h .failed)) && (isFlag (h .«last_left» .some) && isFlag (h .«last_right» .some)))
+
+-- The join that such numbers tell.
+abbrev pub joinOf : HostJoin → Join
+joinOf h = record {
+  options = optionsOf (h .options);
+  base = h .base;
+  held = h .held;
+  pruned = h .pruned;
+  «queue_start» = h .«queue_start»;
+  «queue_words» = h .«queue_words»;
+  state = stateOf (h .state);
+  «right_ended» = flagOf (h .«right_ended»);
+  failed = flagOf (h .failed);
+  sequence = h .sequence;
+  «last_left» = rowOf (h .«last_left»);
+  «last_right» = rowOf (h .«last_right»);
+}
+
+-- The numbers of a join.
+abbrev pub encode : Join → HostJoin
+encode j = record {
+  options = encodeOptions (j .options);
+  base = j .base;
+  held = j .held;
+  pruned = j .pruned;
+  «queue_start» = j .«queue_start»;
+  «queue_words» = j .«queue_words»;
+  state = stateCode (j .state);
+  «right_ended» = flagCode (j .«right_ended»);
+  failed = flagCode (j .failed);
+  sequence = j .sequence;
+  «last_left» = encodeRow (j .«last_left»);
+  «last_right» = encodeRow (j .«last_right»);
+}
+
+-- Numbers that no join encodes are none.
+unfoldable pub decode : HostJoin → Option Join
+decode h = cond (isJoin h) (some (joinOf h)) none
+
+-- ---- there and back
+-- What the library writes is read as what it was (a strategy is a byte in every join that runs); what is read came from exactly these numbers,
+-- so a call that changes no field hands back the words that came.
+pub record ThereAndBack : Type 0 where
+  pub options-back : (o : Options) → o .strategy < 256 → decodeOptions (encodeOptions o) ≡ some o
+  pub options-there : (h : HostOptions) (o : Options) → decodeOptions h ≡ some o → encodeOptions o ≡ h
+  pub join-back : (j : Join) → j .options .strategy < 256 → decode (encode j) ≡ some j
+  pub join-there : (h : HostJoin) (j : Join) → decode h ≡ some j → encode j ≡ h

@@ -1,0 +1,103 @@
+-- What opening, a left or right frame, the end of right and the start of a turn are answered, by the numbers of a join; and what a frame that is taken leaves. Assumes nothing.
+use mathlib.Core.Path.{_≡_}
+use mathlib.Core.Bool.{Bool, true, cond, not, _||_}
+use Prim.Native.Nat.{ℕ, suc, _+_, _%_, _≤_}
+use lib.Dec.{ltb, eqb}
+use lib.ListN.{length}
+use Rattle.frames.specs.Cells.{Words}
+use Rattle.frames.specs.Frame.{rowCount, isFrame}
+use Rattle.frames.specs.Options.{badOptions, columns}
+use Rattle.frames.specs.declared.Options.{Options}
+use Rattle.area.specs.Area.{capacity, newBase, pushed, moved, written}
+use Rattle.answers.specs.Answers.{isRunning, isDone, mostRows}
+use Rattle.answers.specs.declared.NodeState.{NodeState}
+use Rattle.answers.specs.declared.Refusal.the-variants.{BadOptions, BadJoin, Failed, Closed, BadFrame, NoRoom, UsedUp}
+use Rattle.answers.specs.declared.Took.{Took}
+use Rattle.answers.specs.declared.Took.the-variants.{Accepted, Refused}
+use Rattle.answers.specs.declared.Answer.{Answer}
+use Rattle.answers.specs.declared.Answer.the-variants.{Wrote, Idle, Refused as TurnRefused}
+use Rattle.feeds.specs.declared.FedLeft.{FedLeft}
+use Rattle.feeds.specs.declared.FedRight.{FedRight}
+use Rattle.feeds.specs.declared.FedEnd.{FedEnd}
+
+-- Refusal 2: options that meet 1, base + held above R, queue start + queue words above the left area, pruned + held above 2^63 − 1, an odd sequence.
+unfoldable pub badNumbers : Options → ℕ → ℕ → ℕ → ℕ → ℕ → ℕ → Words → Words → Bool
+badNumbers o base held pruned start words sequence left right =
+    badOptions o || ltb (capacity (columns o) right) (base + held) || ltb (length left) (start + words) || ltb mostRows (pruned + held) || eqb (sequence % 2) 1
+
+-- Opening: refusal 1, or a fresh join.
+unfoldable pub openAnswer : Options → Took
+openAnswer o = cond (badOptions o) (Refused BadOptions) Accepted
+
+-- A left frame: 2, 3, outside Running 4, no frame of c columns 5, words waiting + words needed above the left area 6.
+unfoldable pub leftJudged : Bool → Bool → NodeState → ℕ → ℕ → Words → Words → Took
+leftJudged bad failed state c words left f =
+    cond bad (Refused BadJoin)
+    (cond failed (Refused Failed)
+    (cond (not (isRunning state)) (Refused Closed)
+    (cond (not (isFrame c f)) (Refused BadFrame)
+    (cond (ltb (length left) (words + length f)) (Refused NoRoom)
+    Accepted))))
+
+-- The end of right: 2, 3, after right has ended or in Done 4.
+unfoldable pub endJudged : Bool → Bool → Bool → NodeState → Took
+endJudged bad failed ended state =
+    cond bad (Refused BadJoin)
+    (cond failed (Refused Failed)
+    (cond (ended || isDone state) (Refused Closed)
+    Accepted))
+
+-- A right frame: 2, 3, after right has ended or in Done 4, no frame 5, held + n above R 6, pruned + held + n above 2^63 − 1 7.
+unfoldable pub rightJudged : Bool → Bool → Bool → NodeState → ℕ → ℕ → ℕ → Words → Words → Took
+rightJudged bad failed ended state c held pruned right f =
+    cond bad (Refused BadJoin)
+    (cond failed (Refused Failed)
+    (cond (ended || isDone state) (Refused Closed)
+    (cond (not (isFrame c f)) (Refused BadFrame)
+    (cond (ltb (capacity c right) (held + rowCount f)) (Refused NoRoom)
+    (cond (ltb mostRows (pruned + held + rowCount f)) (Refused UsedUp)
+    Accepted)))))
+
+-- A turn before it looks at the queue: 2, 3, in Done 4; no waiting frame: Idle. Wrote is that of a turn that goes on.
+unfoldable pub readyJudged : Bool → Bool → NodeState → ℕ → ℕ → Answer
+readyJudged bad failed state words sequence =
+    cond bad (TurnRefused BadJoin)
+    (cond failed (TurnRefused Failed)
+    (cond (isDone state) (TurnRefused Closed)
+    (cond (eqb words 0) Idle
+    (Wrote sequence))))
+
+-- What is there once a frame was accepted, or else as it was.
+abbrev pub taken : {A : Type 0} → Took → A → A → A
+taken Accepted x y = x
+taken (Refused n) x y = y
+
+-- A join that is not bad holds together: few columns, and the waiting words are there.
+pub record LeftHolds (by start words : ℕ) (left : Words) : Type 0 where
+  pub few : by ≤ 4
+  pub room : start + words ≤ length left
+
+-- A left frame: the answer, where the queue starts, how many words wait, and the left area's words as they are afterwards.
+pub record LeftFed (bad failed : Bool) (state : NodeState) (c start words : ℕ) (left f : Words) (r : FedLeft) (left′ : Words) : Type 0 where
+  pub answer : r .answer ≡ leftJudged bad failed state c words left f
+  pub start-is : r .start ≡ taken (leftJudged bad failed state c words left f) (newBase start words (length f) (length left)) start
+  pub words-are : r .words ≡ taken (leftJudged bad failed state c words left f) (words + length f) words
+  pub area : left′ ≡ taken (leftJudged bad failed state c words left f) (let to = newBase start words (length f) (length left) in written f (to + words) (moved start to words left)) left
+
+-- The end of right: the answer, and whether right has ended.
+pub record EndFed (bad failed ended : Bool) (state : NodeState) (r : FedEnd) : Type 0 where
+  pub answer : r .answer ≡ endJudged bad failed ended state
+  pub ended-is : r .ended ≡ taken (endJudged bad failed ended state) true ended
+
+-- The same on the right: the held rows are there, and are few enough.
+pub record RightHolds (by base held pruned : ℕ) (right : Words) : Type 0 where
+  pub few : by ≤ 4
+  pub room : base + held ≤ capacity (suc by) right
+  pub rows : pruned + held ≤ mostRows
+
+-- A right frame: the answer, where the held rows start, how many are held, and the right area's words as they are afterwards.
+pub record RightFed (bad failed ended : Bool) (state : NodeState) (c base held pruned : ℕ) (right f : Words) (r : FedRight) (right′ : Words) : Type 0 where
+  pub answer : r .answer ≡ rightJudged bad failed ended state c held pruned right f
+  pub base-is : r .base ≡ taken (rightJudged bad failed ended state c held pruned right f) (newBase base held (rowCount f) (capacity c right)) base
+  pub held-is : r .held ≡ taken (rightJudged bad failed ended state c held pruned right f) (held + rowCount f) held
+  pub area : right′ ≡ taken (rightJudged bad failed ended state c held pruned right f) (pushed c base held f right) right

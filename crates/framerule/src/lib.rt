@@ -1,0 +1,126 @@
+// The frame rule: rows n, columns c, then n * c values, then n * c marks; for any words of any length.
+use frames::Front;
+ghost use mathlib.Core.Path.{_≡_};
+ghost use Prim.Native.Nat.{_≤_};
+ghost use lib.IntN.{pos};
+ghost use lib.ListN.{length};
+ghost use Rattle.frames.specs.Frame.{isFrame, rowCount, sameZ, pairFine, pairsFine};
+ghost use Rattle.frames.specs.Room.{HasCount};
+ghost use Rattle.frames.specs.Front.{fewRows, frontOf, frontLength, fitting};
+
+// Whether a word is a number of rows, 0 to 4,096.
+fn few_rows(word: i64) -> bool
+    ensures { λ r. ⌜ r ≡ fewRows word ⌝ }
+{
+    if word < 0 {
+        return false;
+    }
+    word <= 4096
+}
+
+// Whether a word is the count c.
+fn same_count(word: i64, c: usize) -> bool
+    ensures { λ r. ⌜ r ≡ sameZ word (pos c) ⌝ }
+{
+    if word < 0 {
+        return false;
+    }
+    word as usize == c
+}
+
+// The rows that the first word tells.
+pub fn row_count(words: &[i64]) -> usize
+    requires { ⌜ HasCount (now words) ⌝ }
+    ensures { λ r. ⌜ r ≡ rowCount (now (words .entry)) ⌝ }
+{
+    words[0] as usize
+}
+
+// The length of a frame of n rows and c columns where it is at most `room`. No product is made that might wrap.
+fn frame_words(n: usize, c: usize, room: usize) -> Front
+    ensures { λ r. ⌜ r ≡ fitting n c room ⌝ }
+{
+    if room < 2 {
+        return Front::Nothing;
+    }
+    if n == 0 {
+        return Front::Words(2);
+    }
+    if (room - 2) / 2 / n < c {
+        return Front::Nothing;
+    }
+    Front::Words(2 + 2 * (n * c))
+}
+
+// The length of the front of words by its n and by c, where n is a number of rows and so many words are there.
+fn front_length(words: &[i64], c: usize) -> Front
+    ensures { λ r. ⌜ r ≡ frontLength c (now (words .entry)) ⌝ }
+{
+    let len = words.len();
+    if len < 2 {
+        return Front::Nothing;
+    }
+    if !few_rows(words[0]) {
+        return Front::Nothing;
+    }
+    frame_words(row_count(words), c, len)
+}
+
+// Whether a mark fits its value: 1, or 0 with value 0.
+fn pair_fine(value: i64, mark: i64) -> bool
+    ensures { λ r. ⌜ r ≡ pairFine value mark ⌝ }
+{
+    if mark == 1 {
+        return true;
+    }
+    if mark != 0 {
+        return false;
+    }
+    value == 0
+}
+
+// Whether each mark fits its value.
+fn pairs_fine(values: &[i64], marks: &[i64]) -> bool
+    requires { ⌜ length (now values) ≤ length (now marks) ⌝ }
+    ensures { λ r. ⌜ r ≡ pairsFine (now (values .entry)) (now (marks .entry)) ⌝ }
+{
+    let mut i = 0;
+    while i < values.len() {
+        if !pair_fine(values[i], marks[i]) {
+            return false;
+        }
+        i += 1;
+    }
+    true
+}
+
+// Whether the words are a frame of c columns.
+pub fn is_frame(words: &[i64], c: usize) -> bool
+    ensures { λ r. ⌜ r ≡ isFrame c (now (words .entry)) ⌝ }
+{
+    let len = words.len();
+    let Front::Words(k) = front_length(words, c) else {
+        return false;
+    };
+    if k != len {
+        return false;
+    }
+    if !same_count(words[1], c) {
+        return false;
+    }
+    let e = len / 2 + 1;
+    pairs_fine(&words[2..e], &words[e..])
+}
+
+// The length of the frame of c columns at the front of words that wait, or nothing where these words are none.
+pub fn front_words(waiting: &[i64], c: usize) -> Front
+    ensures { λ r. ⌜ r ≡ frontOf c (now (waiting .entry)) ⌝ }
+{
+    let Front::Words(k) = front_length(waiting, c) else {
+        return Front::Nothing;
+    };
+    if is_frame(&waiting[..k], c) {
+        return Front::Words(k);
+    }
+    Front::Nothing
+}

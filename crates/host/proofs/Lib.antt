@@ -1,4 +1,0 @@
-pub mod CodeLaws
-pub mod ConvertLaws
-pub mod CallLaws
-pub mod PromiseLaws

@@ -1,5 +1,0 @@
-pub mod Codes
-pub mod Convert
-pub mod Calls
-pub mod Leaves
-pub mod Promises

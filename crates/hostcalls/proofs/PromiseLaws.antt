@@ -1,0 +1,294 @@
+-- A refused call keeps all, and the join of a refused opening is refused by every call. Assumes nothing.
+use mathlib.Core.Path.{_≡_, refl, sym, _∙_, ap, subst}
+use mathlib.Core.Bool.{Bool, true, false, cond, _&&_}
+use mathlib.Core.List.{[]}
+use mathlib.Core.Option.{some}
+use Prim.Native.Nat.{ℕ, _<_}
+use native.Mathlib.Omega.{arith}
+use borrow.Author.Tests.{not-true}
+use Rattle.frames.specs.Cells.{Words}
+use Rattle.frames.specs.Options.{badOptions}
+use Rattle.frames.specs.declared.Options.{Options}
+use Rattle.node.specs.State.{fresh, badJoin, stateAt, endedRight}
+use Rattle.answers.specs.Answers.{portCode}
+use Rattle.node.specs.Calls.{After, after, leftAnswer, leftCall, queued, rightAnswer, rightCall, pushedRight, endAnswer, endCall, portsAnswer, portsState, portsCall, turnAnswer, turnCall, turned, dequeued, dropped, spoiled}
+use Rattle.feeds.specs.Judged.{openAnswer}
+use Rattle.node.specs.declared.Join.{Join}
+use Rattle.answers.specs.declared.PortState.{PortState}
+use Rattle.answers.specs.declared.Refusal.{Refusal}
+use Rattle.answers.specs.declared.Refusal.the-variants.{BadOptions, BadJoin, Failed, Closed, BadFrame, NoRoom, UsedUp, LeftOrder, RightOrder}
+use Rattle.answers.specs.declared.Took.{Took}
+use Rattle.answers.specs.declared.Took.the-variants.{Accepted, Refused}
+use Rattle.answers.specs.declared.Ported.{Ported}
+use Rattle.answers.specs.declared.Ported.the-variants.{Ports, Refused as PortsRefused}
+use Rattle.answers.specs.declared.Answer.{Answer}
+use Rattle.answers.specs.declared.Answer.the-variants.{Wrote, WantsRight, Idle, Refused as TurnRefused}
+use Rattle.node.proofs.Good.{opened-bad}
+use Rattle.codes.specs.Codes.{isCode, portOf, tookCode}
+use Rattle.convert.specs.Convert.{isOptions, optionsOf, decodeOptions, isJoin, joinOf, decode}
+use Rattle.told.specs.Told.{freshHost}
+use Rattle.hostcalls.specs.Calls.{HostAfter, afterHost, encodeAfter, byJoin, openHost, leftHost, rightHost, endHost, portsHost, turnHost}
+use Rattle.hostcalls.specs.Promises.{spoils, stays, Shut, Same, Follows, Promises}
+use Rattle.convert.specs.declared.HostOptions.{HostOptions}
+use Rattle.convert.specs.declared.HostJoin.{HostJoin}
+use Rattle.told.specs.declared.HostTook.{HostTook}
+use Rattle.codes.proofs.CodeLaws.{port-is, port-back}
+use Rattle.convert.proofs.ConvertLaws.{join-numbers, join-same, options-parts, decoded-options, Is, decoded, there-and-back}
+use Rattle.hostcalls.proofs.CallLaws.{open-bad, open-through, by-none, by-some}
+
+-- ---- the node's calls that change nothing
+-- A call by its answer: what it does where it is accepted, or nothing.
+abbrev byTook : Took → After Took → Join → Words → Words → After Took
+byTook t done j left right = elim t [ Accepted ↦ done | Refused n ↦ after (Refused n) j left right [] ]
+
+took-keeps : (t : Took) (done : After Took) (j : Join) (left right : Words) (n : Refusal) → done .answer ≡ Accepted → byTook t done j left right .answer ≡ Refused n
+    → byTook t done j left right ≡ after (Refused n) j left right []
+took-keeps Accepted done j left right n d x = let z : _≡_ {A = ℕ} 0 1 = cc in absurd (omega arith)
+took-keeps (Refused m) done j left right n d x = ap (λ (t : Took). after t j left right []) x
+
+-- A port call and a turn likewise.
+abbrev byPorts : Ported → Join → Join → Words → Words → After Ported
+byPorts p k j left right = elim p [ Ports a b d ↦ after (Ports a b d) k left right [] | PortsRefused n ↦ after (PortsRefused n) j left right [] ]
+
+ports-keep : (p : Ported) (k j : Join) (left right : Words) (n : Refusal) → byPorts p k j left right .answer ≡ PortsRefused n → byPorts p k j left right ≡ after (PortsRefused n) j left right []
+ports-keep (Ports a b d) k j left right n x = let z : _≡_ {A = ℕ} 0 1 = cc in absurd (omega arith)
+ports-keep (PortsRefused m) k j left right n x = ap (λ (p : Ported). after p j left right []) x
+
+abbrev byTurn : Answer → After Answer → Join → Words → Words → Words → After Answer
+byTurn a done j left right out =
+    elim a [
+      | Wrote s ↦ done
+      | WantsRight ↦ after WantsRight j left right out
+      | Idle ↦ after Idle j left right out
+      | TurnRefused n ↦ after (TurnRefused n) (spoiled n j) left right out
+    ]
+
+unspoiled : (n : Refusal) (j : Join) → spoils n ≡ false → spoiled n j ≡ j
+unspoiled BadOptions j e = refl
+unspoiled BadJoin j e = refl
+unspoiled Failed j e = refl
+unspoiled Closed j e = refl
+unspoiled BadFrame j e = refl
+unspoiled NoRoom j e = refl
+unspoiled UsedUp j e = refl
+unspoiled LeftOrder j e = let z : _≡_ {A = ℕ} 0 1 = cc in absurd (omega arith)
+unspoiled RightOrder j e = let z : _≡_ {A = ℕ} 0 1 = cc in absurd (omega arith)
+
+turn-keeps : (a : Answer) (done : After Answer) (s : ℕ) (j : Join) (left right out : Words) (b : Answer) → done .answer ≡ Wrote s → stays b ≡ true → byTurn a done j left right out .answer ≡ b
+    → byTurn a done j left right out ≡ after b j left right out
+turn-keeps (Wrote q) done s j left right out b d k x =
+    let f : false ≡ true = subst (λ (y : Answer). stays y ≡ true) (sym x ∙ d) k in
+    let z : _≡_ {A = ℕ} 0 1 = cc in
+    absurd (omega arith)
+turn-keeps WantsRight done s j left right out b d k x = ap (λ (p : Answer). after p j left right out) x
+turn-keeps Idle done s j left right out b d k x = ap (λ (p : Answer). after p j left right out) x
+turn-keeps (TurnRefused n) done s j left right out b d k x =
+    let f = subst (λ (y : Answer). stays y ≡ true) (sym x) k in
+    ap (λ (y : Join). after (TurnRefused n) y left right out) (unspoiled n j (not-true (spoils n) f)) ∙ ap (λ (y : Answer). after y j left right out) x
+
+-- ---- in numbers
+-- A call that changes nothing where it answers a, in numbers.
+keeps : {A : Type 0} (h : HostJoin) (left right out : Words) (bad a : A) (call : Join → After A) → ((j : Join) → call j .answer ≡ a → call j ≡ after a j left right out)
+    → byJoin h (afterHost bad h left right out) call .answer ≡ a → byJoin h (afterHost bad h left right out) call ≡ afterHost a h left right out
+keeps {A} h left right out bad a call same = go (isJoin h) refl
+  where
+    go : (b : Bool) → isJoin h ≡ b → byJoin h (afterHost bad h left right out) call .answer ≡ a → byJoin h (afterHost bad h left right out) call ≡ afterHost a h left right out
+    go false e x =
+        let n = by-none h (afterHost bad h left right out) call e in
+        n ∙ ap (λ (y : A). afterHost y h left right out) (sym (ap (λ (y : HostAfter A). y .answer) n) ∙ x)
+    go true e x =
+        let s = by-some h (afterHost bad h left right out) call e in
+        let k = same (joinOf h) (sym (ap (λ (y : HostAfter A). y .answer) s) ∙ x) in
+        s ∙ ap encodeAfter k ∙ ap (λ (y : HostJoin). afterHost a y left right out) (join-numbers h e)
+
+module _ (h : HostJoin) (left right : Words) where
+  left-kept : (f : Words) (n : Refusal) → leftHost h left right f .answer ≡ Refused n → leftHost h left right f ≡ afterHost (Refused n) h left right []
+  unfolding leftHost leftCall queued
+  left-kept f n =
+      keeps h left right [] (Refused BadJoin) (Refused n) (λ j. leftCall j left right f) (λ j. took-keeps (leftAnswer j left right f) (queued j left right f) j left right n refl)
+
+  right-kept : (f : Words) (n : Refusal) → rightHost h left right f .answer ≡ Refused n → rightHost h left right f ≡ afterHost (Refused n) h left right []
+  unfolding rightHost rightCall pushedRight
+  right-kept f n =
+      keeps h left right [] (Refused BadJoin) (Refused n) (λ j. rightCall j left right f) (λ j. took-keeps (rightAnswer j left right f) (pushedRight j left right f) j left right n refl)
+
+  end-kept : (n : Refusal) → endHost h left right .answer ≡ Refused n → endHost h left right ≡ afterHost (Refused n) h left right []
+  unfolding endHost endCall
+  end-kept n =
+      keeps h left right [] (Refused BadJoin) (Refused n) (λ j. endCall j left right)
+      (λ j. took-keeps (endAnswer j left right) (after Accepted (endedRight j) left right []) j left right n refl)
+
+  -- Where a test fails, the call is refused with everything kept.
+  either : (t : Bool) (x : HostAfter Ported) (n : Refusal) → (x .answer ≡ PortsRefused n → x ≡ afterHost (PortsRefused n) h left right [])
+      → cond t x (afterHost (PortsRefused BadJoin) h left right []) .answer ≡ PortsRefused n
+      → cond t x (afterHost (PortsRefused BadJoin) h left right []) ≡ afterHost (PortsRefused n) h left right []
+  either true x n k y = k y
+  either false x n k y = ap (λ (p : Ported). afterHost p h left right []) y
+
+  ports-kept : (l r s : ℕ) (n : Refusal) → portsHost h left right l r s .answer ≡ PortsRefused n → portsHost h left right l r s ≡ afterHost (PortsRefused n) h left right []
+  unfolding portsHost portsCall
+  ports-kept l r s n =
+      let call : Join → After Ported = λ j. portsCall j left right (portOf l) (portOf r) (portOf s) in
+      either (isCode l && isCode r && isCode s) (byJoin h (afterHost (PortsRefused BadJoin) h left right []) call) n
+      (keeps h left right [] (PortsRefused BadJoin) (PortsRefused n) call
+      (λ j. ports-keep (portsAnswer j left right (portOf l) (portOf r) (portOf s)) (stateAt j (portsState j (portOf l) (portOf s))) j left right n))
+
+  turn-kept : (out : Words) (a : Answer) → stays a ≡ true → turnHost h left right out .answer ≡ a → turnHost h left right out ≡ afterHost a h left right out
+  unfolding turnHost turnCall turned
+  turn-kept out a k =
+      keeps h left right out (TurnRefused BadJoin) a (λ j. turnCall j left right out)
+      (λ j. turn-keeps (turnAnswer j left right out) (turned j left right out) (j .sequence) j left right out a refl k)
+
+-- ---- the join of a refused opening
+-- The node's calls of a bad join.
+module _ (j : Join) (left right : Words) (e : badJoin j left right ≡ true) where
+  left-bad : (f : Words) → leftCall j left right f .answer ≡ Refused BadJoin
+  unfolding leftCall leftAnswer
+  left-bad f = rw (e, leftCall)
+
+  right-bad : (f : Words) → rightCall j left right f .answer ≡ Refused BadJoin
+  unfolding rightCall rightAnswer
+  right-bad f = rw (e, rightCall)
+
+  end-bad : endCall j left right .answer ≡ Refused BadJoin
+  unfolding endCall endAnswer
+  end-bad = rw (e, endCall)
+
+  ports-bad : (l r s : PortState) → portsCall j left right l r s .answer ≡ PortsRefused BadJoin
+  unfolding portsCall portsAnswer
+  ports-bad l r s = rw (e, portsCall)
+
+  turn-bad : (out : Words) → turnCall j left right out .answer ≡ TurnRefused BadJoin
+  unfolding turnCall turnAnswer
+  turn-bad out = rw (e, turnCall)
+
+-- A call of numbers that are no join, or a bad one, is refused as 2.
+by-bad : {A : Type 0} (h : HostJoin) (left right out : Words) (bad : A) (call : Join → After A) → (isJoin h ≡ true → call (joinOf h) .answer ≡ bad)
+    → byJoin h (afterHost bad h left right out) call .answer ≡ bad
+by-bad {A} h left right out bad call is = go (isJoin h) refl
+  where
+    go : (b : Bool) → isJoin h ≡ b → byJoin h (afterHost bad h left right out) call .answer ≡ bad
+    go false e = ap (λ (y : HostAfter A). y .answer) (by-none h (afterHost bad h left right out) call e)
+    go true e = ap (λ (y : HostAfter A). y .answer) (by-some h (afterHost bad h left right out) call e) ∙ is e
+
+shut-by : (h : HostJoin) (left right : Words) → (isJoin h ≡ true → badJoin (joinOf h) left right ≡ true) → Shut h left right
+unfolding leftHost rightHost endHost portsHost turnHost
+shut-by h left right is = record {
+  by-left = λ f. by-bad h left right [] (Refused BadJoin) (λ j. leftCall j left right f) (λ e. left-bad (joinOf h) left right (is e) f);
+  by-right = λ f. by-bad h left right [] (Refused BadJoin) (λ j. rightCall j left right f) (λ e. right-bad (joinOf h) left right (is e) f);
+  by-end = by-bad h left right [] (Refused BadJoin) (λ j. endCall j left right) (λ e. end-bad (joinOf h) left right (is e));
+  by-ports = λ l r s. unsaid (isCode l && isCode r && isCode s)
+      (byJoin h (afterHost (PortsRefused BadJoin) h left right []) (λ j. portsCall j left right (portOf l) (portOf r) (portOf s)))
+      (by-bad h left right [] (PortsRefused BadJoin) (λ j. portsCall j left right (portOf l) (portOf r) (portOf s))
+      (λ e. ports-bad (joinOf h) left right (is e) (portOf l) (portOf r) (portOf s)));
+  by-turn = λ out. by-bad h left right out (TurnRefused BadJoin) (λ j. turnCall j left right out) (λ e. turn-bad (joinOf h) left right (is e) out);
+}
+  where
+    unsaid : (t : Bool) (x : HostAfter Ported) → x .answer ≡ PortsRefused BadJoin → cond t x (afterHost (PortsRefused BadJoin) h left right []) .answer ≡ PortsRefused BadJoin
+    unsaid true x e = e
+    unsaid false x e = refl
+
+-- Options that are refused meet refusal 1.
+refused-bad : (o : Options) → tookCode (openAnswer o) ≡ 1 → badOptions o ≡ true
+unfolding openAnswer
+refused-bad o = go (badOptions o)
+  where
+    go : (b : Bool) → tookCode (cond b (Refused BadOptions) Accepted) ≡ 1 → b ≡ true
+    go true e = refl
+    go false e = absurd (omega arith)
+
+-- Options that are no options make no join.
+fresh-none : (o : HostOptions) → isOptions o ≡ false → isJoin (freshHost o) ≡ false
+unfolding isJoin
+fresh-none o e = rw e
+
+-- What stands in the join of an opening that answers 1.
+opened : (o : HostOptions) (left right : Words) → openHost o .refusal ≡ 1 → isJoin (openHost o .join) ≡ true → badJoin (joinOf (openHost o .join)) left right ≡ true
+opened o left right = go (isOptions o) refl
+  where
+    go : (b : Bool) → isOptions o ≡ b → openHost o .refusal ≡ 1 → isJoin (openHost o .join) ≡ true → badJoin (joinOf (openHost o .join)) left right ≡ true
+    go false e r is =
+        let f : isJoin (freshHost o) ≡ false = fresh-none o e in
+        let g : isJoin (freshHost o) ≡ true = rw (open-bad o e) at is in
+        let z : _≡_ {A = ℕ} 0 1 = cc in
+        absurd (omega arith)
+    go true e r is =
+        let b : badOptions (optionsOf o) ≡ true = refused-bad (optionsOf o) (rw (open-through o e) at r) in
+        rw (open-through o e, join-same (fresh (optionsOf o))) (opened-bad (optionsOf o) left right b)
+
+-- ---- a list of calls in numbers follows the node's
+-- No call changes the options.
+took-options : (t : Took) (done : After Took) (j : Join) (left right : Words) → done .join .options ≡ j .options → byTook t done j left right .join .options ≡ j .options
+took-options Accepted done j left right e = e
+took-options (Refused n) done j left right e = refl
+
+ports-options : (p : Ported) (k j : Join) (left right : Words) → k .options ≡ j .options → byPorts p k j left right .join .options ≡ j .options
+ports-options (Ports a b d) k j left right e = e
+ports-options (PortsRefused n) k j left right e = refl
+
+spoiled-options : (n : Refusal) (j : Join) → spoiled n j .options ≡ j .options
+spoiled-options BadOptions j = refl
+spoiled-options BadJoin j = refl
+spoiled-options Failed j = refl
+spoiled-options Closed j = refl
+spoiled-options BadFrame j = refl
+spoiled-options NoRoom j = refl
+spoiled-options UsedUp j = refl
+spoiled-options LeftOrder j = refl
+spoiled-options RightOrder j = refl
+
+turn-options : (a : Answer) (done : After Answer) (j : Join) (left right out : Words) → done .join .options ≡ j .options → byTurn a done j left right out .join .options ≡ j .options
+turn-options (Wrote s) done j left right out e = e
+turn-options WantsRight done j left right out e = refl
+turn-options Idle done j left right out e = refl
+turn-options (TurnRefused n) done j left right out e = spoiled-options n j
+
+-- A call that keeps the options is the node's, and hands back numbers that are its join.
+followed : {A : Type 0} (h : HostJoin) (j : Join) (bad : HostAfter A) (call : Join → After A) → Is h j → call j .join .options ≡ j .options → Same (byJoin h bad call) (call j)
+followed {A} h j bad call is e =
+    let b : call j .join .options .strategy < 256 = rw e (is .byte) in
+    let w : byJoin h bad call ≡ encodeAfter (call j) = by-some h bad call (is .numbers) ∙ ap (λ (k : Join). encodeAfter (call k)) (is .join) in
+    record { whole = w; again = ap (λ (x : HostAfter A). decode (x .join)) w ∙ there-and-back .join-back (call j .join) b }
+
+module _ (h : HostJoin) (j : Join) (left right : Words) (is : Is h j) where
+  -- What every port can say is taken.
+  said : (l r s : PortState) → portsHost h left right (portCode l) (portCode r) (portCode s) ≡ byJoin h (afterHost (PortsRefused BadJoin) h left right []) (λ k. portsCall k left right l r s)
+  unfolding portsHost
+  said l r s = simp (port-is, port-back)
+
+  follow : Follows h j left right
+  unfolding leftHost rightHost endHost turnHost leftCall queued rightCall pushedRight endCall portsCall turnCall turned dequeued dropped
+  follow = record {
+    by-left = λ f. followed h j (afterHost (Refused BadJoin) h left right []) (λ k. leftCall k left right f) is
+        (took-options (leftAnswer j left right f) (queued j left right f) j left right refl);
+    by-right = λ f. followed h j (afterHost (Refused BadJoin) h left right []) (λ k. rightCall k left right f) is
+        (took-options (rightAnswer j left right f) (pushedRight j left right f) j left right refl);
+    by-end = followed h j (afterHost (Refused BadJoin) h left right []) (λ k. endCall k left right) is
+        (took-options (endAnswer j left right) (after Accepted (endedRight j) left right []) j left right refl);
+    by-ports = λ l r s. rw (said l r s)
+        (followed h j (afterHost (PortsRefused BadJoin) h left right []) (λ k. portsCall k left right l r s) is
+        (ports-options (portsAnswer j left right l r s) (stateAt j (portsState j l s)) j left right refl));
+    by-turn = λ out. followed h j (afterHost (TurnRefused BadJoin) h left right out) (λ k. turnCall k left right out) is
+        (turn-options (turnAnswer j left right out) (turned j left right out) j left right out refl);
+  }
+
+-- An opening whose numbers are options o.
+opening : (h : HostOptions) (o : Options) → decodeOptions h ≡ some o → decode (openHost h .join) ≡ some (fresh o)
+opening h o e =
+    let p = decoded-options h o e in
+    ap (λ (x : HostTook). decode (x .join)) (open-through h (p .0)) ∙ there-and-back .join-back (fresh (optionsOf h)) (options-parts h (p .0) .byte)
+    ∙ ap (λ (x : Options). some (fresh x)) (p .1)
+
+pub promises : Promises
+promises = record {
+  kept = λ h left right. record {
+    by-left = left-kept h left right;
+    by-right = right-kept h left right;
+    by-end = end-kept h left right;
+    by-ports = ports-kept h left right;
+    by-turn = turn-kept h left right;
+  };
+  shut = λ o left right e. shut-by (openHost o .join) left right (opened o left right e);
+  opens = opening;
+  follows = λ h j left right e. follow h j left right (decoded h j e);
+}

@@ -1,0 +1,78 @@
+-- What a host can lean on, told of the calls in numbers. Assumes nothing.
+use mathlib.Core.Path.{_≡_}
+use mathlib.Core.Bool.{Bool, true, false, not}
+use mathlib.Core.List.{[]}
+use mathlib.Core.Option.{some}
+use Prim.Native.Nat.{ℕ}
+use Rattle.frames.specs.Cells.{Words}
+use Rattle.frames.specs.declared.Options.{Options}
+use Rattle.node.specs.State.{fresh}
+use Rattle.answers.specs.Answers.{portCode}
+use Rattle.node.specs.Calls.{After, leftCall, rightCall, endCall, portsCall, turnCall}
+use Rattle.node.specs.declared.Join.{Join}
+use Rattle.answers.specs.declared.PortState.{PortState}
+use Rattle.answers.specs.declared.Refusal.{Refusal}
+use Rattle.answers.specs.declared.Refusal.the-variants.{BadOptions, BadJoin, Failed, Closed, BadFrame, NoRoom, UsedUp, LeftOrder, RightOrder}
+use Rattle.answers.specs.declared.Took.the-variants.{Refused}
+use Rattle.answers.specs.declared.Ported.the-variants.{Refused as PortsRefused}
+use Rattle.answers.specs.declared.Answer.{Answer}
+use Rattle.answers.specs.declared.Answer.the-variants.{Wrote, WantsRight, Idle, Refused as TurnRefused}
+use Rattle.convert.specs.Convert.{decodeOptions, decode}
+use Rattle.hostcalls.specs.Calls.{HostAfter, afterHost, encodeAfter, openHost, leftHost, rightHost, endHost, portsHost, turnHost}
+use Rattle.convert.specs.declared.HostOptions.{HostOptions}
+use Rattle.convert.specs.declared.HostJoin.{HostJoin}
+
+-- Refusals 8 and 9 mark the join failed; the others change nothing.
+abbrev pub spoils : Refusal → Bool
+spoils BadOptions = false
+spoils BadJoin = false
+spoils Failed = false
+spoils Closed = false
+spoils BadFrame = false
+spoils NoRoom = false
+spoils UsedUp = false
+spoils LeftOrder = true
+spoils RightOrder = true
+
+-- The answers of a turn that changes nothing: Wants right, Idle, and any refusal but 8 and 9.
+abbrev pub stays : Answer → Bool
+stays (Wrote s) = false
+stays WantsRight = true
+stays Idle = true
+stays (TurnRefused n) = not (spoils n)
+
+-- A refused call hands back exactly the numbers that came and alters no lent word; so does a turn that changes nothing.
+pub record Kept (h : HostJoin) (left right : Words) : Type 0 where
+  pub by-left : (f : Words) (n : Refusal) → leftHost h left right f .answer ≡ Refused n → leftHost h left right f ≡ afterHost (Refused n) h left right []
+  pub by-right : (f : Words) (n : Refusal) → rightHost h left right f .answer ≡ Refused n → rightHost h left right f ≡ afterHost (Refused n) h left right []
+  pub by-end : (n : Refusal) → endHost h left right .answer ≡ Refused n → endHost h left right ≡ afterHost (Refused n) h left right []
+  pub by-ports : (l r s : ℕ) (n : Refusal) → portsHost h left right l r s .answer ≡ PortsRefused n → portsHost h left right l r s ≡ afterHost (PortsRefused n) h left right []
+  pub by-turn : (out : Words) (a : Answer) → stays a ≡ true → turnHost h left right out .answer ≡ a → turnHost h left right out ≡ afterHost a h left right out
+
+-- Every call answers 2 to the join of a refused opening; of a run, which is made of turns, nothing is said here.
+pub record Shut (h : HostJoin) (left right : Words) : Type 0 where
+  pub by-left : (f : Words) → leftHost h left right f .answer ≡ Refused BadJoin
+  pub by-right : (f : Words) → rightHost h left right f .answer ≡ Refused BadJoin
+  pub by-end : endHost h left right .answer ≡ Refused BadJoin
+  pub by-ports : (l r s : ℕ) → portsHost h left right l r s .answer ≡ PortsRefused BadJoin
+  pub by-turn : (out : Words) → turnHost h left right out .answer ≡ TurnRefused BadJoin
+
+-- What a call in numbers leaves is what the node's call leaves, and its join is read as the node's.
+pub record Same {A : Type 0} (x : HostAfter A) (y : After A) : Type 0 where
+  pub whole : x ≡ encodeAfter y
+  pub again : decode (x .join) ≡ some (y .join)
+
+-- Where the numbers are join j, each call is the node's call of j; so a list of calls in numbers is a list of the node's.
+pub record Follows (h : HostJoin) (j : Join) (left right : Words) : Type 0 where
+  pub by-left : (f : Words) → Same (leftHost h left right f) (leftCall j left right f)
+  pub by-right : (f : Words) → Same (rightHost h left right f) (rightCall j left right f)
+  pub by-end : Same (endHost h left right) (endCall j left right)
+  pub by-ports : (l r s : PortState) → Same (portsHost h left right (portCode l) (portCode r) (portCode s)) (portsCall j left right l r s)
+  pub by-turn : (out : Words) → Same (turnHost h left right out) (turnCall j left right out)
+
+-- Of any numbers and any areas; of any opening.
+pub record Promises : Type 0 where
+  pub kept : (h : HostJoin) (left right : Words) → Kept h left right
+  pub shut : (o : HostOptions) (left right : Words) → openHost o .refusal ≡ 1 → Shut (openHost o .join) left right
+  pub opens : (h : HostOptions) (o : Options) → decodeOptions h ≡ some o → decode (openHost h .join) ≡ some (fresh o)
+  pub follows : (h : HostJoin) (j : Join) (left right : Words) → decode h ≡ some j → Follows h j left right

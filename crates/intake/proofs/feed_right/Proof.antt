@@ -1,0 +1,78 @@
+use mathlib.Core.Path.{sym, _∙_}
+use native.Mathlib.Numerals.{add-one}
+use native.Mathlib.Omega.{arith}
+use Prim.Native.Nat.{suc}
+use denote.Ref.{now}
+use Rattle.feeds.specs.Judged.{RightHolds}
+use Rattle.feeds.proofs.FeedLaws.{RightTaken, right-taken, right-refused, right-accepted, has-count}
+use borrow.Author.Needs.{needs}
+use Rattle.intake.proofs.feed_right.Statement.{statement}
+use Rattle.intake.proofs.feed_right.Tie as tie
+use Rattle.intake.proofs.feed_right.Reads as reads
+use Rattle.intake.proofs.feed_right.Lts as lts
+use Rattle.area.proofs.push.Reads as push-reads
+use Rattle.framerule.proofs.row_count.Reads as row-count-reads
+use Rattle.judges.proofs.judge_right.Reads as judge-right-reads
+
+judge-right-requires : tie.Need-judge-right-requires
+judge-right-requires c κs = λ e. let h = c .before .pre e in (h .few, h .rows)
+
+enum-told : tie.Need-enum-told
+enum-told c = search needs
+
+same-length : tie.Need-same-length
+same-length c = search needs
+
+returns : tie.Need-returns
+returns c = right-refused _ _ _ _ _ _ _ _ _ _ _ (c .before .before .judge-right .ensures) (c .enum-told .given .0 .0) (c .enum-told .given .1)
+
+enum-told-2 : tie.Need-enum-told-2
+enum-told-2 c = search needs
+
+-- What an accepted frame has: the join holds together, and there is room for the rows and numbers for them.
+taken : (c : tie.After-enum-told2) → let a = c .before .before .before .before .args in RightTaken (a .bad) (a .failed) (a .ended) (a .state) (suc (a .by)) (a .held) (a .pruned) (now (a .right)) (now (a .frame))
+taken c = right-taken _ _ _ _ _ _ _ _ _ (sym (c .before .before .judge-right .ensures) ∙ c .enum-told2 .given .1)
+
+holds : (c : tie.After-enum-told2) → let a = c .before .before .before .before .args in RightHolds (a .by) (a .base) (a .held) (a .pruned) (now (a .right))
+holds c = c .before .before .before .before .pre (taken c .unbroken)
+
+add-c : tie.Need-add-c
+add-c c = omega (arith, holds c .few)
+
+push-requires : tie.Need-push-requires
+push-requires c κs =
+    let t = taken (c .before) in
+    let h = holds (c .before) in
+    rw add-one (record { columns = record { some = omega arith; few = omega (arith, h .few) }; frame = t .frame; within = h .room; room = t .room })
+
+row-count-requires : tie.Need-row-count-requires
+row-count-requires c κs = has-count _ _ (taken (c .before .before .before) .frame)
+
+add-rows : tie.Need-add-rows
+add-rows c = omega (arith, c .row-count .ensures, taken (c .before .before .before .before) .rows)
+
+same-length-2 : tie.Need-same-length-2
+same-length-2 c = search needs
+
+returns-2 : tie.Need-returns-2
+returns-2 c =
+    let p = c .before .before in
+    let t = p .before .before in
+    let put = rw add-one at (p .push .ensures) in
+    right-accepted _ _ _ _ _ _ _ _ _ _ _ (t .before .before .judge-right .ensures) (t .enum-told2 .given .1) _ _ _ (c .row-count .ensures) (put .base-is) (put .area-is)
+
+pub feed-right-spec : {M : Type 1} → statement M
+feed-right-spec =
+    tie.close
+    (tie.spec
+    judge-right-requires
+    enum-told
+    same-length
+    returns
+    enum-told-2
+    add-c
+    push-requires
+    row-count-requires
+    add-rows
+    same-length-2
+    returns-2)

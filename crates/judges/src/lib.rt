@@ -1,0 +1,133 @@
+// The refusals of opening, of frames, of the end of right and of the start of a turn, in checking order. Nothing is altered here.
+use answers::Answer;
+use answers::NodeState;
+use answers::Refusal;
+use answers::Took;
+use answers::above;
+use answers::is_done;
+use answers::is_running;
+use framerule::is_frame;
+use framerule::row_count;
+use frames::Options;
+use options::bad_options;
+ghost use mathlib.Core.Path.{_≡_};
+ghost use mathlib.Core.Bool.{false};
+ghost use Prim.Native.Nat.{suc, _+_, _≤_};
+ghost use Rattle.answers.specs.Answers.{mostRows};
+ghost use Rattle.feeds.specs.Judged.{openAnswer, leftJudged, endJudged, rightJudged, readyJudged};
+
+// The greatest number of right rows.
+const MOST_ROWS: usize = 9223372036854775807;
+
+// Opening: refused for its options, or accepted.
+pub fn judge_open(o: Options) -> Took
+    ensures { λ r. ⌜ r ≡ openAnswer o ⌝ }
+{
+    if bad_options(o) {
+        return Took::Refused(Refusal::BadOptions);
+    }
+    Took::Accepted
+}
+
+// A left frame, with so many words waiting.
+pub fn judge_left(
+    bad: bool,
+    failed: bool,
+    state: NodeState,
+    by: usize,
+    words: usize,
+    left: &[i64],
+    frame: &[i64],
+) -> Took
+    requires { ⌜ (bad ≡ false → by ≤ 4) ⌝ }
+    ensures { λ r. ⌜ r ≡ leftJudged bad failed state (suc by) words (now (left .entry)) (now (frame .entry)) ⌝ }
+{
+    if bad {
+        return Took::Refused(Refusal::BadJoin);
+    }
+    if failed {
+        return Took::Refused(Refusal::Failed);
+    }
+    if !is_running(state) {
+        return Took::Refused(Refusal::Closed);
+    }
+    let c = by + 1;
+    if !is_frame(frame, c) {
+        return Took::Refused(Refusal::BadFrame);
+    }
+    if above(words, frame.len(), left.len()) {
+        return Took::Refused(Refusal::NoRoom);
+    }
+    Took::Accepted
+}
+
+// The end of right.
+pub fn judge_end(bad: bool, failed: bool, ended: bool, state: NodeState) -> Took
+    ensures { λ r. ⌜ r ≡ endJudged bad failed ended state ⌝ }
+{
+    if bad {
+        return Took::Refused(Refusal::BadJoin);
+    }
+    if failed {
+        return Took::Refused(Refusal::Failed);
+    }
+    if ended {
+        return Took::Refused(Refusal::Closed);
+    }
+    if is_done(state) {
+        return Took::Refused(Refusal::Closed);
+    }
+    Took::Accepted
+}
+
+// A right frame: it is refused where the end of right is, and then for its words, for room and for its rows' numbers.
+pub fn judge_right(
+    bad: bool,
+    failed: bool,
+    ended: bool,
+    state: NodeState,
+    by: usize,
+    held: usize,
+    pruned: usize,
+    right: &[i64],
+    frame: &[i64],
+) -> Took
+    requires { ⌜ (bad ≡ false → (by ≤ 4) × (pruned + held ≤ mostRows)) ⌝ }
+    ensures { λ r. ⌜ r ≡ rightJudged bad failed ended state (suc by) held pruned (now (right .entry)) (now (frame .entry)) ⌝ }
+{
+    let open = judge_end(bad, failed, ended, state);
+    if let Took::Refused(_) = open {
+        return open;
+    }
+    let c = by + 1;
+    if !is_frame(frame, c) {
+        return Took::Refused(Refusal::BadFrame);
+    }
+    let n = row_count(frame);
+    if above(held, n, right.len() / (2 * c)) {
+        return Took::Refused(Refusal::NoRoom);
+    }
+    if above(pruned + held, n, MOST_ROWS) {
+        return Took::Refused(Refusal::UsedUp);
+    }
+    Took::Accepted
+}
+
+// Whether a turn may look at the front of the queue, with so many words waiting: refused, Idle, or it goes on.
+pub fn judge_ready(bad: bool, failed: bool, state: NodeState, words: usize, sequence: u64) -> Answer
+    ensures { λ r. ⌜ r ≡ readyJudged bad failed state words sequence ⌝ }
+{
+    if bad {
+        return Answer::Refused(Refusal::BadJoin);
+    }
+    if failed {
+        return Answer::Refused(Refusal::Failed);
+    }
+    if is_done(state) {
+        return Answer::Refused(Refusal::Closed);
+    }
+    if words == 0 {
+        return Answer::Idle;
+    }
+    Answer::Wrote(sequence)
+}

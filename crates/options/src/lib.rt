@@ -1,0 +1,48 @@
+// The options that a join is opened with.
+use frames::Check;
+use frames::Options;
+use frames::Strategy;
+ghost use mathlib.Core.Path.{_≡_};
+ghost use Rattle.frames.specs.Options.{badOptions, strategyOf, isOn};
+
+// Whether the options meet refusal 1: b above 4, strategy outside 0 to 2, tolerance below -1, or Nearest without equality.
+pub fn bad_options(o: Options) -> bool
+    ensures { λ r. ⌜ r ≡ badOptions o ⌝ }
+{
+    if 4 < o.by {
+        return true;
+    }
+    if 2 < o.strategy {
+        return true;
+    }
+    if o.tolerance < -1 {
+        return true;
+    }
+    if o.strategy == 2 {
+        return !o.allow_eq;
+    }
+    false
+}
+
+// The strategy by its number: 0 Backward, 1 Forward, 2 Nearest.
+pub fn strategy_of(o: Options) -> Strategy
+    ensures { λ r. ⌜ r ≡ strategyOf o ⌝ }
+{
+    if o.strategy == 0 {
+        return Strategy::Backward;
+    }
+    if o.strategy == 1 {
+        return Strategy::Forward;
+    }
+    Strategy::Nearest
+}
+
+// Whether the order check is on.
+pub fn is_on(check: Check) -> bool
+    ensures { λ r. ⌜ r ≡ isOn check ⌝ }
+{
+    match check {
+        Check::Off => false,
+        Check::On => true,
+    }
+}

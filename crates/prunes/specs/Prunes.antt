@@ -1,0 +1,40 @@
+-- What a turn asks of rows: their order, its prunes, the row that is remembered. Assumes nothing.
+use mathlib.Core.Bool.{Bool, false, cond, not, _&&_, _||_}
+use Prim.Native.Nat.{ℕ, _-_}
+use lib.Dec.{eqb}
+use lib.ListN.{length, drop}
+use Rattle.frames.specs.Cells.{Rows}
+use Rattle.frames.specs.Options.{isOn, columns}
+use Rattle.frames.specs.Order.{sorted}
+use Rattle.frames.specs.Keyed.{firstKeyed, rowAt, recall, rememberLast, outOfOrder}
+use Rattle.frames.specs.declared.Options.{Options}
+use Rattle.frames.specs.declared.Row.{Row}
+use Rattle.buffer.specs.Reach.{pruneBy, badSplit}
+use Rattle.splits.specs.Split.{outOfOrderAt}
+
+-- Left order, with the check on: the remembered row must not be greater than the frame's first row with a key; then the frame must be sorted.
+unfoldable pub badLeft : Options → Row → Rows → Bool
+badLeft o m rows = isOn (o .check) && (outOfOrder o (recall (columns o) m) (rowAt rows (firstKeyed o rows)) || not (sorted o rows))
+
+-- Right order, with the check on: the held rows must be sorted; then the split of the prune by the last row must be in order.
+unfoldable pub badRight : Options → Row → Rows → Rows → Bool
+badRight o m rows held = isOn (o .check) && (not (sorted o held) || badSplit o m (length rows - 1) rows held)
+
+-- Prune by row 0 if the check is off.
+unfoldable pub firstPrune : Options → Rows → Rows → ℕ
+firstPrune o rows held = cond (isOn (o .check)) 0 (pruneBy o 0 rows held)
+
+-- With the check on, the last row with a key of those that went by is remembered.
+unfoldable pub remembered : Options → Row → Rows → Row
+remembered o m rows = cond (isOn (o .check)) (rememberLast o m rows) m
+
+-- The held rows that the first prune leaves, and how many of them the prune by the last row drops.
+unfoldable pub keptRows : Options → Rows → Rows → Rows
+keptRows o rows held = drop (firstPrune o rows held) held
+
+unfoldable pub lastPrune : Options → Rows → Rows → ℕ
+lastPrune o rows held = pruneBy o (length rows - 1) rows (keptRows o rows held)
+
+-- Right order for a split that is known: s, of a prune by a frame of n rows.
+unfoldable pub badRightAt : Options → Row → ℕ → ℕ → Rows → Bool
+badRightAt o m n s held = isOn (o .check) && (not (sorted o held) || cond (eqb n 0 || eqb (length held) 0) false (outOfOrderAt o m s held))

@@ -1,0 +1,50 @@
+-- A run of turns. Assumes nothing.
+use mathlib.Core.Bool.{cond}
+use mathlib.Core.List.{_++_}
+use Prim.Native.Nat.{ℕ, zero, suc, _+_, _*_}
+use lib.ListN.{take, drop}
+use Rattle.frames.specs.Cells.{Words}
+use Rattle.frames.specs.Frame.{rowCount}
+use Rattle.node.specs.Calls.{turnCall}
+use Rattle.answers.specs.Answers.{wrote}
+use Rattle.node.specs.declared.Join.{Join}
+use Rattle.answers.specs.declared.Answer.{Answer}
+use Rattle.answers.specs.declared.Answer.the-variants.{Wrote, WantsRight, Idle, Refused}
+use Rattle.answers.specs.declared.Stop.{Stop}
+use Rattle.answers.specs.declared.Stop.the-variants.{Used, WantsRight as StopWants, Idle as StopIdle, Refused as StopRefused}
+
+-- What a run leaves: how many turns it made, how many words they wrote, the answer that stopped it, the join and the output.
+pub record Ran : Type 0 where
+  pub turns : ℕ
+  pub words : ℕ
+  pub stop : Stop
+  pub join : Join
+  pub out : Words
+
+-- From its parts.
+abbrev pub ran : ℕ → ℕ → Stop → Join → Words → Ran
+ran t n s j out = record { turns = t; words = n; stop = s; join = j; out = out }
+
+-- The answer that stopped it. A turn that wrote stops no run; where it is the last one, k is used.
+abbrev pub stopOf : Answer → Stop
+stopOf (Wrote s) = Used
+stopOf WantsRight = StopWants
+stopOf Idle = StopIdle
+stopOf (Refused n) = StopRefused n
+
+-- A turn that wrote n rows wrote 2 + 2n words: n is the first of them.
+abbrev pub turnWords : Words → ℕ
+turnWords out = 2 + 2 * rowCount out
+
+-- t turns that wrote n words, and then what the rest of the run leaves, which writes behind them.
+abbrev pub andThen : ℕ → ℕ → Words → Ran → Ran
+andThen t n before r = ran (t + r .turns) (n + r .words) (r .stop) (r .join) (before ++ r .out)
+
+-- At most k turns. Only turns that wrote count; after k of them, or with k = 0, it tries no other. A turn that did not write ends it, and what it
+-- leaves stands: a refused one alters no lent word, and 8 or 9 marks the join failed.
+unfoldable pub runCall : ℕ → Join → Words → Words → Words → Ran
+runCall zero j left right out = ran 0 0 Used j out
+runCall (suc k) j left right out =
+    let t = turnCall j left right out in
+    let n = turnWords (t .out) in
+    cond (wrote (t .answer)) (andThen 1 n (take n (t .out)) (runCall k (t .join) left right (drop n (t .out)))) (ran 0 0 (stopOf (t .answer)) (t .join) (t .out))

@@ -1,0 +1,67 @@
+// A run of turns: what it made, and what ends it.
+use answers::Answer;
+use answers::goes_on;
+use framerule::row_count;
+use node::Join;
+ghost use mathlib.Core.Path.{_≡_};
+ghost use Rattle.frames.specs.Room.{HasCount};
+ghost use Rattle.runs.specs.Run.{stopOf, turnWords};
+ghost use Rattle.runs.specs.RunLeaves.{RunLeaves};
+pub use answers::Stop;
+
+// What a run made: the turns that wrote, the words that they wrote back to back, what ended it, and the join.
+pub struct RanJoin {
+    pub turns: usize,
+    pub words: usize,
+    pub stop: Stop,
+    pub join: Join,
+}
+
+// What a turn's answer ends a run with.
+fn stop_of(answer: Answer) -> Stop
+    ensures { λ r. ⌜ r ≡ stopOf answer ⌝ }
+{
+    match answer {
+        Answer::Wrote(_) => Stop::Used,
+        Answer::WantsRight => Stop::WantsRight,
+        Answer::Idle => Stop::Idle,
+        Answer::Refused(n) => Stop::Refused(n),
+    }
+}
+
+// How many words a turn wrote, by the row count that it wrote first.
+fn turn_words(out: &[i64]) -> usize
+    requires { ⌜ HasCount (now out) ⌝ }
+    ensures { λ r. ⌜ r ≡ turnWords (now (out .entry)) ⌝ }
+{
+    2 + 2 * row_count(out)
+}
+
+// Makes at most k turns, each writing behind the one before; it ends with the first that does not write.
+pub fn run(mut join: Join, k: usize, left: &[i64], right: &[i64], out: &mut [i64]) -> RanJoin
+    ensures { λ r. ⌜ RunLeaves join k (now (left .entry)) (now (right .entry)) (now (out .entry)) r (now (out .exit)) ⌝ }
+{
+    let mut made = 0;
+    let mut at = 0;
+    while made < k {
+        let t = join.turn(left, right, &mut out[at..]);
+        join = t.join;
+        let answer = t.answer;
+        if !goes_on(answer) {
+            return RanJoin {
+                turns: made,
+                words: at,
+                stop: stop_of(answer),
+                join: join,
+            };
+        }
+        at += turn_words(&out[at..]);
+        made += 1;
+    }
+    RanJoin {
+        turns: made,
+        words: at,
+        stop: Stop::Used,
+        join: join,
+    }
+}

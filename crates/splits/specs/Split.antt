@@ -1,0 +1,25 @@
+-- The row before the split, in words; the check at the split for a split that is known. Assumes nothing.
+use mathlib.Core.Bool.{Bool, true}
+use Prim.Native.Nat.{ℕ, _*_}
+use lib.ListN.{take, drop}
+use Rattle.frames.specs.Cells.{Rows, Words}
+use Rattle.frames.specs.Keyed.{firstKeyed, rowAt, outOfOrder}
+use Rattle.frames.specs.declared.Options.{Options}
+use Rattle.frames.specs.declared.Row.{Row}
+use Rattle.frames.specs.declared.Keyed.{Keyed}
+use Rattle.frames.specs.declared.Keyed.the-variants.{At, Nothing}
+use Rattle.buffer.specs.Reach.{rowBefore}
+
+-- The row before the split is the last row with a key in the part before it, or else the remembered row: its w words, of the values or of the marks.
+abbrev pub wordsBefore : ℕ → Words → Words → Keyed → Words
+wordsBefore w held remembered (At i) = take w (drop (i * w) held)
+wordsBefore w held remembered Nothing = take w remembered
+
+-- There is a row before the split: one with a key was found, or one is remembered.
+abbrev pub hasBefore : Keyed → Bool → Bool
+hasBefore (At i) some = true
+hasBefore Nothing some = some
+
+-- It must not be greater than the first row with a key after the split, which is s.
+unfoldable pub outOfOrderAt : Options → Row → ℕ → Rows → Bool
+outOfOrderAt o m s held = outOfOrder o (rowBefore o m (take s held)) (rowAt (drop s held) (firstKeyed o (drop s held)))
