@@ -15,7 +15,7 @@ ghost use lib.Dec.{ltb};
 ghost use lib.IntN.{pos, natAbs, _-ℤ_};
 ghost use lib.Signed.{leZ};
 ghost use Rattle.frames.specs.Cells.{Cell, value, isNull, rowFrom};
-ghost use Rattle.frames.specs.Options.{keyRule};
+ghost use Rattle.frames.specs.Options.{keyRule, strategyOf};
 ghost use Rattle.frames.specs.Order.{cmpCell, keyOf};
 ghost use Rattle.frames.specs.Room.{cellAt, CellIn, RowsIn};
 ghost use Rattle.matching.specs.Match.{nobody, onSide, fits, nearer, choose, matchIn};
@@ -112,12 +112,20 @@ fn meet_row(
     best
 }
 
-// The best row of from..to for the left key v, by its index; `to` where there is none.
-fn choose_row(rv: &[i64], rm: &[i64], from: usize, to: usize, w: usize, v: i64, o: Options) -> usize
-    requires { ⌜ RowsIn o w to (now rv) (now rm) × (from ≤ to) ⌝ }
+// The best row of from..to for the left key v by the strategy s, by its index; `to` where there is none.
+fn best_row(
+    rv: &[i64],
+    rm: &[i64],
+    from: usize,
+    to: usize,
+    w: usize,
+    v: i64,
+    s: Strategy,
+    o: Options,
+) -> usize
+    requires { ⌜ RowsIn o w to (now rv) (now rm) × (from ≤ to) × (s ≡ strategyOf o) ⌝ }
     ensures { λ r. ⌜ BestIn o w to (now (rv .entry)) (now (rm .entry)) r × ((first : ℕ) (x : List Cell) → keyOf o x ≡ value v → hitAt first w to (now (rv .entry)) (now (rm .entry)) r ≡ choose o x (fits o x) nobody (first + from) (between w from to (now (rv .entry)) (now (rm .entry)))) ⌝ }
 {
-    let s = strategy_of(o);
     let mut best = to;
     let mut j = from;
     while j < to {
@@ -125,6 +133,22 @@ fn choose_row(rv: &[i64], rm: &[i64], from: usize, to: usize, w: usize, v: i64, 
         j += 1;
     }
     best
+}
+
+// The best row of from..to for the left key v, by its index; `to` where there is none. The strategies stand in the order of the join_asof documentation, each headed by its sentence.
+fn choose_row(rv: &[i64], rm: &[i64], from: usize, to: usize, w: usize, v: i64, o: Options) -> usize
+    requires { ⌜ RowsIn o w to (now rv) (now rm) × (from ≤ to) ⌝ }
+    ensures { λ r. ⌜ BestIn o w to (now (rv .entry)) (now (rm .entry)) r × ((first : ℕ) (x : List Cell) → keyOf o x ≡ value v → hitAt first w to (now (rv .entry)) (now (rm .entry)) r ≡ choose o x (fits o x) nobody (first + from) (between w from to (now (rv .entry)) (now (rm .entry)))) ⌝ }
+{
+    let s = strategy_of(o);
+    match s {
+        // Backward "selects the last row in the right DataFrame whose 'on' key is less than or equal to the left's key."
+        Strategy::Backward => best_row(rv, rm, from, to, w, v, Strategy::Backward, o),
+        // Forward "selects the first row in the right DataFrame whose 'on' key is greater than or equal to the left's key."
+        Strategy::Forward => best_row(rv, rm, from, to, w, v, Strategy::Forward, o),
+        // Nearest "selects the last row in the right DataFrame whose value is nearest to the left's key."
+        Strategy::Nearest => best_row(rv, rm, from, to, w, v, Strategy::Nearest, o),
+    }
 }
 
 // Whether the distance of two keys is above the tolerance; below 0 there is none.

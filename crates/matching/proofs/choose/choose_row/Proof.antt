@@ -1,85 +1,62 @@
-use mir.Syntax.{w64}
-use mir.Val.{toZ}
-use mathlib.Core.Path.{_≡_, refl, sym, ap, _∙_}
-use mathlib.Core.List.{List}
-use Prim.Native.Nat.{ℕ, _+_, _-_, _≤_, _<_}
-use native.Mathlib.Omega.{arith}
+use mathlib.Core.Path.{sym, _∙_}
 use borrow.Author.Needs.{needs}
-use denote.Ref.{now}
 use mir.Facts.{toZ-ofZ}
-use Rattle.frames.specs.Cells.{Cell, value}
-use Rattle.frames.specs.Order.{keyOf}
-use Rattle.matching.specs.Match.{Hit, nobody, fits, choose}
-use Rattle.matching.specs.Walk.{between, hitAt}
-use Rattle.matching.specs.Inner.{BestIn}
-use Rattle.matching.proofs.BestLaws.{hit-none, scan-more, scan-end}
 use Rattle.matching.proofs.choose.choose_row.Statement.{statement}
 use Rattle.matching.proofs.choose.choose_row.Tie as tie
 
-abbrev Inv-loop : tie.InvT-loop
-Inv-loop rv rm from to w v o s best₀ j₀ best j =
-    (from ≤ j) × (j ≤ to) × BestIn o w to rv rm best
-    × ((first : ℕ) (x : List Cell) → keyOf o x ≡ value (toZ w64 v)
-    → choose o x (fits o x) nobody (first + from) (between w from to rv rm) ≡ choose o x (fits o x) (hitAt first w to rv rm best) (first + j) (between w j to rv rm))
-
-abbrev μ-loop : tie.MeasureT-loop
-μ-loop rv rm from to w v o s best₀ j₀ best j = to - j
-
-strategy-of-requires : tie.Need-strategy-of-requires Inv-loop μ-loop
+strategy-of-requires : tie.Need-strategy-of-requires
 strategy-of-requires c κs = search needs
 
-loop-holds : tie.Need-loop-holds Inv-loop μ-loop
-loop-holds c =
-    let a = c .before .args in (
-      omega arith,
-      omega arith,
-      record { within = omega arith; keyed = λ (h : a .to < a .to). absurd (omega arith) },
-      λ first x ex. rw (hit-none first (a .w) (a .to) (now (a .rv)) (now (a .rm)) (a .to) refl),
-    )
+enum-told : tie.Need-enum-told
+enum-told c = search needs
 
-meet-row-requires : tie.Need-meet-row-requires Inv-loop μ-loop
-meet-row-requires c κs =
-    let p = c .before .before .before .pre in
-    record { rows = p .0; there = c .loop-test .taken; told = c .before .before .strategy-of .ensures; kept = c .before .loop .inv .2 }
+best-row-requires : tie.Need-best-row-requires
+best-row-requires c κs =
+    let t = c .before .before in
+    (t .before .pre .0, t .before .pre .1, sym (c .enum-told .given .1) ∙ t .strategy-of .ensures)
 
-add-j : tie.Need-add-j Inv-loop μ-loop
-add-j c = omega arith
+enum-told-2 : tie.Need-enum-told-2
+enum-told-2 c = search needs
 
-loop-less : tie.Need-loop-less Inv-loop μ-loop
-loop-less c = omega arith
+best-row-requires-2 : tie.Need-best-row-requires-2
+best-row-requires-2 c κs =
+    let t = c .before .before in
+    (t .before .pre .0, t .before .pre .1, sym (c .enum-told2 .given .1) ∙ t .strategy-of .ensures)
 
-loop-again : tie.Need-loop-again Inv-loop μ-loop
-loop-again c =
-    let l = c .before .before .loop in
-    let a = c .before .before .before .before .args in
-    let t = c .before .loop-test .taken in (
-      omega arith,
-      omega arith,
-      c .meet-row .ensures .kept,
-      λ first x ex.
-          l .inv .3 first x ex
-          ∙ scan-more (a .o) x (a .w) (a .to) (now (a .rv)) (now (a .rm)) first (l .j) (hitAt first (a .w) (a .to) (now (a .rv)) (now (a .rm)) (l .best)) t
-          ∙ ap (λ (h : Hit). choose (a .o) x (fits (a .o) x) h (first + (l .j + 1)) (between (a .w) (l .j + 1) (a .to) (now (a .rv)) (now (a .rm)))) (sym (c .meet-row .ensures .met first x ex)),
-    )
+enum-told-3 : tie.Need-enum-told-3
+enum-told-3 c = search needs
 
-returns : tie.Need-returns Inv-loop μ-loop
+best-row-requires-3 : tie.Need-best-row-requires-3
+best-row-requires-3 c κs =
+    let t = c .before .before in
+    (t .before .pre .0, t .before .pre .1, sym (c .enum-told3 .given .1) ∙ t .strategy-of .ensures)
+
+returns : tie.Need-returns
 returns c =
-    let l = c .before .loop in
-    let s = c .before .before .before in
-    let a = s .args in
-    let e : l .j ≡ a .to = omega arith in
-    (l .inv .2, λ first x ex. sym (rw e at (l .inv .3 first x (rw (toZ-ofZ (s .fits .v)) ex)) ∙ scan-end (a .o) x (a .w) (a .to) (now (a .rv)) (now (a .rm)) first _))
+    let f = c .before .before .before .before .fits .v in
+    (c .best-row .ensures .0, λ first x ex. c .best-row .ensures .1 first x (rw (toZ-ofZ f) ex))
+
+returns-2 : tie.Need-returns-2
+returns-2 c =
+    let f = c .before .before .before .before .fits .v in
+    (c .best-row2 .ensures .0, λ first x ex. c .best-row2 .ensures .1 first x (rw (toZ-ofZ f) ex))
+
+returns-3 : tie.Need-returns-3
+returns-3 c =
+    let f = c .before .before .before .before .fits .v in
+    (c .best-row3 .ensures .0, λ first x ex. c .best-row3 .ensures .1 first x (rw (toZ-ofZ f) ex))
 
 pub choose-row-spec : {M : Type 1} → statement M
 choose-row-spec =
     tie.close
     (tie.spec
-    Inv-loop
-    μ-loop
     strategy-of-requires
-    loop-holds
-    meet-row-requires
-    add-j
-    loop-less
-    loop-again
-    returns)
+    enum-told
+    best-row-requires
+    enum-told-2
+    best-row-requires-2
+    enum-told-3
+    best-row-requires-3
+    returns
+    returns-2
+    returns-3)
