@@ -122,7 +122,7 @@ struct Host {
 }
 
 impl Host {
-    /// Opens a join. All memory is there before the first call.
+    /// Opens a join. All memory is there before the first call: the output is filled, since zeros would come page by page.
     fn open(case: &Case) -> Host {
         let by = (case.groups > 0) as usize;
         let options = raw::Options {
@@ -139,7 +139,7 @@ impl Host {
             join: took(raw::rowkeeper_open(options)),
             left: vec![0; 2 + 2 * FRAME_ROWS * (by + 1)],
             right: vec![0; 2 * room * (by + 1)],
-            output: vec![0; 2 * turns + 2 * case.rows],
+            output: vec![1; 2 * turns + 2 * case.rows],
             written: 0,
             turns: 0,
             held: 0,
