@@ -48,7 +48,7 @@ fn put(out: &mut [i64], n: usize, i: usize, choice: Choice)
 }
 
 // Left rows from..to of a frame of n rows, each matched by a scan over right rows at..end.
-fn scan_run(
+pub fn scan_run(
     lv: &[i64],
     lm: &[i64],
     n: usize,
@@ -76,7 +76,7 @@ fn scan_run(
 }
 
 // Left rows from..to of a frame of n rows, each matched at the right cursor, which walks right rows at..end. How often the cursors moved.
-fn walk_run(
+pub fn walk_run(
     lv: &[i64],
     lm: &[i64],
     n: usize,
@@ -112,7 +112,7 @@ fn walk_run(
 }
 
 // Whether left rows from..to and right rows at..end are both sorted by key.
-fn both_sorted(
+pub fn both_sorted(
     lv: &[i64],
     lm: &[i64],
     from: usize,
