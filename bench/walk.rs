@@ -1,4 +1,5 @@
 //! The plain walk: an as-of join of two whole, sorted tables in memory with two places that only move on.
+use crate::tables::Table;
 
 /// Which right row a left row takes; the numbers are those of the C interface.
 #[derive(Clone, Copy, PartialEq)]
@@ -18,12 +19,6 @@ impl Strategy {
             _ => None,
         }
     }
-}
-
-/// A table without nulls: a group for each row, or none at all, and its key.
-pub struct Table {
-    pub groups: Vec<i64>,
-    pub keys: Vec<i64>,
 }
 
 /// The last right row with a key not greater; -1 for none. Rows are numbered from `first` on.
