@@ -67,8 +67,8 @@ fn drive(walked: bool, strategy: usize, left: &[i64], right: &[i64], out: &mut [
 }
 
 /// The picoseconds a left row that so many calls took.
-fn picoseconds(calls: usize, rows: usize, mut call: impl FnMut()) -> u128 {
-    let ((), time) = timed(|| (0..calls).for_each(|_| call()));
+fn picoseconds(calls: usize, rows: usize, mut call: impl FnMut() -> u64) -> u128 {
+    let (_, time) = timed(|| (0..calls).map(|_| call()).sum::<u64>());
     time * 1000 / (calls * rows) as u128
 }
 
@@ -86,10 +86,8 @@ fn measure(rows: usize, strategy: usize, left: &[i64], right: &[i64], runs: usiz
     }
     let (mut scans, mut walks) = (vec![], vec![]);
     for _ in 0..runs {
-        scans.push(picoseconds((MET / rows / rows).max(1), rows, || {
-            drop(drive(false, strategy, left, right, &mut scanned))
-        }));
-        walks.push(picoseconds(MET / rows, rows, || drop(drive(true, strategy, left, right, &mut walked))));
+        scans.push(picoseconds((MET / rows / rows).max(1), rows, || drive(false, strategy, left, right, &mut scanned)));
+        walks.push(picoseconds(MET / rows, rows, || drive(true, strategy, left, right, &mut walked)));
     }
     println!("{rows} {name} {} {} {moves}", median(scans), median(walks));
 }
