@@ -77,7 +77,8 @@ struct Host {
 }
 
 impl Host {
-    /// Opens a join. All memory is there before the first call: the output is filled, since zeros would come page by page.
+    /// Opens a join. All memory is there before the first call: areas and output are filled, since zeros would come page by
+    /// page.
     fn open(case: &Case) -> Host {
         let by = (case.groups > 0) as usize;
         let options = raw::Options {
@@ -92,8 +93,8 @@ impl Host {
         let turns = case.rows.div_ceil(FRAME_ROWS);
         Host {
             join: took(raw::rowkeeper_open(options)),
-            left: vec![0; 2 + 2 * FRAME_ROWS * (by + 1)],
-            right: vec![0; 2 * room * (by + 1)],
+            left: vec![1; 2 + 2 * FRAME_ROWS * (by + 1)],
+            right: vec![1; 2 * room * (by + 1)],
             output: vec![1; 2 * turns + 2 * case.rows],
             written: 0,
             turns: 0,
@@ -190,6 +191,13 @@ fn compare(walked: &[i64], matched: &[i64]) {
     }
 }
 
+/// An empty vector with room for so many numbers, whose memory is there.
+fn room(numbers: usize) -> Vec<i64> {
+    let mut room = vec![1; numbers];
+    room.clear();
+    room
+}
+
 /// Writes a column of numbers to a file of the folder.
 fn write_column(folder: &Path, name: &str, column: &[i64]) {
     let bytes: Vec<u8> = column.iter().flat_map(|number| number.to_le_bytes()).collect();
@@ -217,7 +225,8 @@ fn main() {
     let (left_frames, right_frames) = (make_frames(&left), make_frames(&right));
     let (mut walks, mut ports, mut passes, mut held) = (vec![], vec![], vec![], 0);
     for _ in 0..case.runs {
-        let (walked, walk_time) = timed(|| walk(&left, &right, case.strategy));
+        let mut walked = room(case.rows);
+        let ((), walk_time) = timed(|| walk(&left, &right, case.strategy, &mut walked));
         let mut host = Host::open(&case);
         let ((), port_time) = timed(|| run_port(&mut host, &case, &left_frames, &right_frames));
         let pass = || one_pass(&left_frames, black_box(i64::MIN)) | one_pass(&right_frames, black_box(i64::MIN));

@@ -5,7 +5,8 @@
 //! For runs of 16, 256 and 4,096 rows and each strategy a line: the rows, the strategy, the medians over RUNS runs of the
 //! picoseconds of processor time that the scan and the walk took a left row, and how often the walk's cursors moved. Both
 //! calls judge their frames first; the walk's also asks whether they are sorted. The outputs of the two are compared, and
-//! the moves are held to the rows of both runs: where that fails the program says so and ends with status 1.
+//! the moves are held to the rows of both runs; calls that are to be refused are tried first. Where one of this fails the
+//! program says so and ends with status 1.
 mod clock;
 mod tables;
 
@@ -53,17 +54,43 @@ fn die(status: i32, why: &str) -> ! {
     std::process::exit(status)
 }
 
-/// One of the two calls; its moves. It must not be refused.
-fn drive(walked: bool, strategy: usize, left: &[i64], right: &[i64], out: &mut [i64]) -> u64 {
-    let call = if walked { scanwalk_walk } else { scanwalk_scan };
+/// One of the two calls.
+fn call(walked: bool, strategy: usize, left: &[i64], right: &[i64], out: &mut [i64]) -> Driven {
+    let function = if walked { scanwalk_walk } else { scanwalk_scan };
     // SAFETY: the slices are as long as their lengths say, and none of them overlaps the output.
-    let driven = unsafe {
-        call(strategy as u8, left.as_ptr(), left.len(), right.as_ptr(), right.len(), out.as_mut_ptr(), out.len())
-    };
+    unsafe {
+        function(strategy as u8, left.as_ptr(), left.len(), right.as_ptr(), right.len(), out.as_mut_ptr(), out.len())
+    }
+}
+
+/// A call that must not be refused; its moves.
+fn drive(walked: bool, strategy: usize, left: &[i64], right: &[i64], out: &mut [i64]) -> u64 {
+    let driven = call(walked, strategy, left, right, out);
     if driven.refusal != 0 {
         die(1, &format!("a call is refused by {}", driven.refusal));
     }
     driven.moves
+}
+
+/// Both calls are refused by the number that is due, and alter no word.
+fn refuse(walked: bool, strategy: usize, right: &[i64], room: usize, due: u64) {
+    let left = [2, 1, 3, 4, 1, 1];
+    let mut out = vec![7; room];
+    let driven = call(walked, strategy, &left, right, &mut out);
+    if (driven.refusal, driven.moves) != (due, 0) || out.iter().any(|word| *word != 7) {
+        die(1, &format!("a call is answered by {} and {}, where {due} and 0 are due", driven.refusal, driven.moves));
+    }
+}
+
+/// What is refused: a strategy that there is not, words that are no frame, a short output; and a walk of unsorted keys.
+fn refusals() {
+    let (sorted, unsorted) = ([2, 1, 5, 6, 1, 1], [2, 1, 6, 5, 1, 1]);
+    for walked in [false, true] {
+        refuse(walked, 3, &sorted, 6, 1);
+        refuse(walked, 0, &sorted[..5], 6, 5);
+        refuse(walked, 0, &sorted, 5, 6);
+    }
+    refuse(true, 0, &unsorted, 6, 14);
 }
 
 /// The picoseconds a left row that so many calls took.
@@ -100,6 +127,7 @@ fn main() {
         _ => None,
     };
     let Some(runs) = runs else { die(2, "wants RUNS") };
+    refusals();
     let frame = |rows, seed| make_frames(&make_table(rows, 0, 6, seed)).remove(0);
     for rows in SIZES {
         let (left, right) = (frame(rows, 1), frame(rows, 2));
