@@ -1,24 +1,29 @@
 //! The port, through its C interface, beside a plain Rust walk over the same rows.
 //!
-//!     join GROUPS STRATEGY CHECK FEED ROWS RUNS
+//!     join GROUPS STRATEGY CHECK FEED KEYS ROWS RUNS [FOLDER]
 //!
 //! GROUPS 0: no by-column, else one with so many groups. STRATEGY: backward, forward or nearest. CHECK: on or off. FEED:
-//! `wanted` hands in a right frame where a turn wants one, `first` hands in all right rows before the first turn. Both
-//! tables have ROWS rows. Prints the medians of RUNS runs: nanoseconds of processor time of the walk, of the port and of
-//! one pass over the words of all frames; then the right rows that were held at a turn that wrote, on average. All matches
-//! of the two are compared in every run: where one differs the program says which and ends with status 1.
+//! `wanted` hands in a right frame where a turn wants one, `first` hands in all right rows before the first turn. KEYS:
+//! `rising` from row to row by 0 to 6, or `one` key in all rows. Both tables have ROWS rows. Prints the medians of RUNS
+//! runs: nanoseconds of processor time of the walk, of the port and of one pass over the words of all frames; then the
+//! right rows that were held at a turn that wrote, on average. All matches of the two are compared in every run: where one
+//! differs the program says which and ends with status 1. With a FOLDER it writes there the columns of both tables and the
+//! matches, each a file of 64-bit numbers.
 use std::hint::black_box;
+use std::path::Path;
 
 #[path = "../bindings/rust/src/raw.rs"]
 #[allow(dead_code)]
 mod raw;
 
+mod clock;
+mod tables;
 mod walk;
 
-use walk::{Strategy, Table, walk};
+use clock::{median, timed};
+use tables::{FRAME_ROWS, Table, make_frames, make_table};
+use walk::{Strategy, walk};
 
-/// Rows in a frame.
-const FRAME_ROWS: usize = 4096;
 /// Right rows that the right area has room for where right frames come as they are wanted: four frames.
 const WANTED_ROOM: usize = 4 * FRAME_ROWS;
 /// The answers of a turn.
@@ -32,6 +37,7 @@ struct Case {
     strategy: Strategy,
     check: bool,
     right_first: bool,
+    one_key: bool,
     rows: usize,
     runs: usize,
 }
@@ -44,69 +50,18 @@ fn die(status: i32, why: &str) -> ! {
 
 /// The case of the arguments, or none where they are none.
 fn case_of(words: &[String]) -> Option<Case> {
-    let [groups, strategy, check, feed, rows, runs] = words else { return None };
+    let [groups, strategy, check, feed, keys, rows, runs] = words else { return None };
     let one_of = |word: &str, no: &str, yes: &str| [no, yes].iter().position(|w| *w == word).map(|i| i == 1);
     let case = Case {
         groups: groups.parse().ok()?,
         strategy: Strategy::of_name(strategy)?,
         check: one_of(check, "off", "on")?,
         right_first: one_of(feed, "wanted", "first")?,
+        one_key: one_of(keys, "rising", "one")?,
         rows: rows.parse().ok()?,
         runs: runs.parse().ok()?,
     };
     (case.runs > 0).then_some(case)
-}
-
-/// Numbers that look random and are the same in every run (xorshift).
-struct Random(u64);
-
-impl Random {
-    /// The next number below a bound.
-    fn below(&mut self, bound: u64) -> u64 {
-        self.0 ^= self.0 << 13;
-        self.0 ^= self.0 >> 7;
-        self.0 ^= self.0 << 17;
-        self.0 % bound
-    }
-}
-
-/// A sorted table: its rows in groups of equal size, in each of which the key goes up by 0 to 6 from row to row.
-fn make_table(rows: usize, groups: usize, seed: u64) -> Table {
-    let mut random = Random(seed);
-    let size = rows.div_ceil(groups.max(1));
-    let mut table = Table { groups: vec![], keys: vec![] };
-    let mut key = 0;
-    for row in 0..rows {
-        if row % size == 0 {
-            key = 0;
-        }
-        key += random.below(7) as i64;
-        table.keys.push(key);
-        if groups > 0 {
-            table.groups.push((row / size) as i64);
-        }
-    }
-    table
-}
-
-/// Rows from..to of a table as a frame: n, c, the values row by row, the marks.
-fn make_frame(table: &Table, from: usize, to: usize) -> Vec<i64> {
-    let columns = if table.groups.is_empty() { 1 } else { 2 };
-    let mut frame = vec![(to - from) as i64, columns as i64];
-    for row in from..to {
-        if columns == 2 {
-            frame.push(table.groups[row]);
-        }
-        frame.push(table.keys[row]);
-    }
-    frame.resize(2 + 2 * (to - from) * columns, 1);
-    frame
-}
-
-/// A table cut into frames.
-fn make_frames(table: &Table) -> Vec<Vec<i64>> {
-    let rows = table.keys.len();
-    (0..rows).step_by(FRAME_ROWS).map(|from| make_frame(table, from, rows.min(from + FRAME_ROWS))).collect()
 }
 
 /// A join with its areas, and what its turns wrote, back to back.
@@ -122,7 +77,8 @@ struct Host {
 }
 
 impl Host {
-    /// Opens a join. All memory is there before the first call.
+    /// Opens a join. All memory is there before the first call: areas and output are filled, since zeros would come page by
+    /// page.
     fn open(case: &Case) -> Host {
         let by = (case.groups > 0) as usize;
         let options = raw::Options {
@@ -133,13 +89,13 @@ impl Host {
             check: case.check as u64,
             ..raw::Options::default()
         };
-        let room = if case.right_first { case.rows } else { WANTED_ROOM };
+        let room = if case.right_first || case.one_key { case.rows } else { WANTED_ROOM };
         let turns = case.rows.div_ceil(FRAME_ROWS);
         Host {
             join: took(raw::rowkeeper_open(options)),
-            left: vec![0; 2 + 2 * FRAME_ROWS * (by + 1)],
-            right: vec![0; 2 * room * (by + 1)],
-            output: vec![0; 2 * turns + 2 * case.rows],
+            left: vec![1; 2 + 2 * FRAME_ROWS * (by + 1)],
+            right: vec![1; 2 * room * (by + 1)],
+            output: vec![1; 2 * turns + 2 * case.rows],
             written: 0,
             turns: 0,
             held: 0,
@@ -225,43 +181,6 @@ fn one_pass(frames: &[Vec<i64>], sought: i64) -> bool {
     frames.iter().any(|frame| frame.contains(&sought))
 }
 
-/// A time of the C library: seconds and nanoseconds.
-#[repr(C)]
-struct Timespec {
-    seconds: i64,
-    nanoseconds: i64,
-}
-
-/// The processor time of this program, on Linux.
-const PROCESS_TIME: i32 = 2;
-
-unsafe extern "C" {
-    fn clock_gettime(clock: i32, time: *mut Timespec) -> i32;
-}
-
-/// The processor time that this program took so far, in nanoseconds: other programs on the machine do not count in it.
-fn now() -> u128 {
-    let mut time = Timespec { seconds: 0, nanoseconds: 0 };
-    // SAFETY: the call writes one time to where it is lent one.
-    if unsafe { clock_gettime(PROCESS_TIME, &mut time) } != 0 {
-        die(2, "there is no clock of the processor's time");
-    }
-    time.seconds as u128 * 1_000_000_000 + time.nanoseconds as u128
-}
-
-/// What a call returns, and how many nanoseconds of processor time it took.
-fn timed<T>(call: impl FnOnce() -> T) -> (T, u128) {
-    let start = now();
-    let returned = black_box(call());
-    (returned, now() - start)
-}
-
-/// The middle one of an odd number of numbers, the lower middle one of an even number.
-fn median(mut numbers: Vec<u128>) -> u128 {
-    numbers.sort_unstable();
-    numbers[(numbers.len() - 1) / 2]
-}
-
 /// Ends the program where a match differs.
 fn compare(walked: &[i64], matched: &[i64]) {
     if walked.len() != matched.len() {
@@ -272,15 +191,42 @@ fn compare(walked: &[i64], matched: &[i64]) {
     }
 }
 
+/// An empty vector with room for so many numbers, whose memory is there.
+fn room(numbers: usize) -> Vec<i64> {
+    let mut room = vec![1; numbers];
+    room.clear();
+    room
+}
+
+/// Writes a column of numbers to a file of the folder.
+fn write_column(folder: &Path, name: &str, column: &[i64]) {
+    let bytes: Vec<u8> = column.iter().flat_map(|number| number.to_le_bytes()).collect();
+    if let Err(why) = std::fs::write(folder.join(name), bytes) {
+        die(2, &format!("{name}: {why}"));
+    }
+}
+
+/// Writes the columns of both tables and the matches.
+fn write_all(folder: &Path, left: &Table, right: &Table, matches: &[i64]) {
+    for (side, table) in [("left", left), ("right", right)] {
+        write_column(folder, &format!("{side}.groups"), &table.groups);
+        write_column(folder, &format!("{side}.keys"), &table.keys);
+    }
+    write_column(folder, "matches", matches);
+}
+
 /// Runs the case and prints its medians.
 fn main() {
     let words: Vec<String> = std::env::args().skip(1).collect();
-    let Some(case) = case_of(&words) else { die(2, "wants GROUPS STRATEGY CHECK FEED ROWS RUNS") };
-    let (left, right) = (make_table(case.rows, case.groups, 1), make_table(case.rows, case.groups, 2));
+    let (asked, folder) = words.split_at(words.len().min(7));
+    let Some(case) = case_of(asked) else { die(2, "wants GROUPS STRATEGY CHECK FEED KEYS ROWS RUNS [FOLDER]") };
+    let step = if case.one_key { 0 } else { 6 };
+    let (left, right) = (make_table(case.rows, case.groups, step, 1), make_table(case.rows, case.groups, step, 2));
     let (left_frames, right_frames) = (make_frames(&left), make_frames(&right));
     let (mut walks, mut ports, mut passes, mut held) = (vec![], vec![], vec![], 0);
     for _ in 0..case.runs {
-        let (walked, walk_time) = timed(|| walk(&left, &right, case.strategy));
+        let mut walked = room(case.rows);
+        let ((), walk_time) = timed(|| walk(&left, &right, case.strategy, &mut walked));
         let mut host = Host::open(&case);
         let ((), port_time) = timed(|| run_port(&mut host, &case, &left_frames, &right_frames));
         let pass = || one_pass(&left_frames, black_box(i64::MIN)) | one_pass(&right_frames, black_box(i64::MIN));
@@ -290,6 +236,9 @@ fn main() {
         walks.push(walk_time);
         ports.push(port_time);
         passes.push(pass_time);
+        if let [folder] = folder {
+            write_all(Path::new(folder), &left, &right, &walked);
+        }
     }
     println!("{} {} {} {held}", median(walks), median(ports), median(passes));
 }

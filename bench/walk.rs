@@ -1,4 +1,5 @@
 //! The plain walk: an as-of join of two whole, sorted tables in memory with two places that only move on.
+use crate::tables::Table;
 
 /// Which right row a left row takes; the numbers are those of the C interface.
 #[derive(Clone, Copy, PartialEq)]
@@ -18,12 +19,6 @@ impl Strategy {
             _ => None,
         }
     }
-}
-
-/// A table without nulls: a group for each row, or none at all, and its key.
-pub struct Table {
-    pub groups: Vec<i64>,
-    pub keys: Vec<i64>,
 }
 
 /// The last right row with a key not greater; -1 for none. Rows are numbered from `first` on.
@@ -83,17 +78,15 @@ fn run_end(groups: &[i64], from: usize) -> usize {
     to
 }
 
-/// The matches of two sorted tables, for each left row the number of its right row or -1.
-pub fn walk(left: &Table, right: &Table, strategy: Strategy) -> Vec<i64> {
+/// The matches of two sorted tables, for each left row the number of its right row or -1, into a vector that has none yet.
+pub fn walk(left: &Table, right: &Table, strategy: Strategy, matches: &mut Vec<i64>) {
     let run = match strategy {
         Strategy::Backward => backward,
         Strategy::Forward => forward,
         Strategy::Nearest => nearest,
     };
-    let mut matches = Vec::with_capacity(left.keys.len());
     if left.groups.is_empty() {
-        run(&left.keys, &right.keys, 0, &mut matches);
-        return matches;
+        return run(&left.keys, &right.keys, 0, matches);
     }
     let (mut i, mut j) = (0, 0);
     while i < left.groups.len() {
@@ -103,8 +96,7 @@ pub fn walk(left: &Table, right: &Table, strategy: Strategy) -> Vec<i64> {
         }
         let has_group = j < right.groups.len() && right.groups[j] == left.groups[i];
         let end = if has_group { run_end(&right.groups, j) } else { j };
-        run(&left.keys[i..to], &right.keys[j..end], j, &mut matches);
+        run(&left.keys[i..to], &right.keys[j..end], j, matches);
         (i, j) = (to, end);
     }
-    matches
 }

@@ -1,23 +1,24 @@
 """The main job: sales and notices go through the join in frames, and each sale is written with its notice."""
 from .cells import frame_words
-from .library import IDLE, WANTS_RIGHT
+from .library import IDLE, MOST_ROWS, WANTS_RIGHT
 
 
-# The rows of a frame: fewer than the library takes. A turn's work is the sales of a run times the notices of its group that
-# are held, so frames of this height are quicker than larger ones, and smaller ones cost more calls.
-ROWS = 1024
+# The rows of a frame: as many as the library takes. A turn costs the frame's sales and the notices held, so a full frame
+# has the fewest notices to pass for each of its sales.
+ROWS = MOST_ROWS
 
 
 class Heights:
-    """How many sales a frame has: few at first. Many notices held at once cost time and memory, so the next frame gets fewer
-    sales where one needed many notices, and more where it needed few."""
+    """How many sales a frame has: few at first, then twice as many from frame to frame. Notices that a frame calls for are
+    held all at once and cost memory, so the next frame gets fewer sales where one called for many. Those that are held from
+    before do not count: where many notices have one key, they stay held however few sales the next frame has."""
 
     def __init__(self, most=ROWS, comfort=4 * ROWS, first=16):
         self.most, self.comfort, self.rows = most, comfort, min(most, first)
 
-    def learn(self, held):
-        """Goes by the notices that a turn had."""
-        self.rows = max(1, self.rows // 2) if held > self.comfort else min(self.most, 2 * self.rows)
+    def learn(self, called):
+        """Goes by the notices that a frame called for."""
+        self.rows = max(1, self.rows // 2) if called > self.comfort else min(self.most, 2 * self.rows)
 
 
 class Notices:
@@ -53,7 +54,7 @@ class Pricing:
         self.heights, self.right_height = heights or Heights(), right_height
         by = notices.places[:-1]
         self.kept = Notices([place for place in range(len(notices.header)) if place not in by])
-        self.waiting = None
+        self.waiting, self.called = None, 0
         self.left_frames = self.right_frames = self.matched = 0
 
     def header(self):
@@ -68,7 +69,7 @@ class Pricing:
 
     def next_sales(self):
         """Hands in the next sales; whether there were any."""
-        self.waiting = self.sales.frame(self.heights.rows)
+        self.waiting, self.called = self.sales.frame(self.heights.rows), 0
         if self.waiting.cells:
             self.join.left(frame_words(self.waiting.numbers, self.join.columns))
             self.left_frames += 1
@@ -80,6 +81,7 @@ class Pricing:
         if frame.cells:
             self.join.right(frame_words(frame.numbers, self.join.columns))
             self.kept.add(frame.cells)
+            self.called += len(frame.cells)
             self.right_frames += 1
         else:
             self.join.end_right()
@@ -90,7 +92,7 @@ class Pricing:
         found = self.kept.found
         self.writer.writerows([cells + found(number) for cells, number in zip(self.waiting.cells, matches)])
         self.matched += len(matches) - matches.count(None)
-        self.heights.learn(len(self.kept.rows))
+        self.heights.learn(self.called)
         self.kept.drop(self.join.words.pruned)
 
     def run(self):

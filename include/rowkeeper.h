@@ -74,6 +74,14 @@
  * area, queue_words words from word queue_start on. All other words of both areas are free: they are not read, and the
  * host may alter them between calls.
  *
+ * COST
+ *
+ * A left or a right call costs the words of its frame, whatever is held; one that passes the area's end also moves what is
+ * live to the front. A turn that writes costs the rows of its frame and the held rows of their groups, each passed a few
+ * times, where both are sorted by key; where they are not (check off), every row of the frame looks at all held rows of its
+ * group. With the check on all held rows are passed. So full frames are the quickest, and right rows that are handed in
+ * before a turn wants them are passed by every turn in between.
+ *
  * REFUSALS
  *
  * A refused call gives one of the numbers below, the first that applies. It alters no word of areas, frame or output and

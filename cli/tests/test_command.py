@@ -38,6 +38,15 @@ class Season(Case):
                      'left area   16,386 words', 'right area  ', 'output      8,194 words'):
             self.assertIn(said, run.err)
 
+    def test_one_minute(self):
+        """Notices of one minute stay held: they make the frames of sales no smaller, and each sale takes the last."""
+        rows = 20000
+        table = self.file('table.csv', 'minute,price\n' + ''.join(f'7,{row}\n' for row in range(rows)))
+        run = within(['join', table, table, '--on', 'minute', '--explain'])
+        self.assertEqual(run.status, 0)
+        self.assertEqual(run.out.splitlines()[1:], [f'7,{row},{rows - 1},7,{rows - 1}' for row in range(rows)])
+        self.assertIn('sales       20,000 rows in 14 frames\n', run.err)
+
     def test_picture(self):
         """The picture under docs/ is the one that its script draws."""
         made = subprocess.run([sys.executable, os.path.join(ROOT, 'docs', 'picture')], stdout=subprocess.PIPE, check=True)

@@ -12,6 +12,7 @@ from ..cells import column_numbers, frame_words, number
 from ..library import JoinWords
 from ..order import Order
 from ..page import PAGE
+from ..pricing import Heights
 from ..problem import Problem, at
 from ..progress import Progress
 from ..source import Source
@@ -43,6 +44,20 @@ class Cells(unittest.TestCase):
         """The example of the header file, and no rows."""
         self.assertEqual(list(frame_words([(7, 12), (7, None)], 2)), [2, 2, 7, 12, 7, 0, 1, 1, 1, 0])
         self.assertEqual(list(frame_words([], 3)), [0, 3])
+
+
+class Frames(unittest.TestCase):
+    """How many sales a frame has."""
+
+    def test_heights(self):
+        """Twice as many up to a full frame; half where one called for too many notices, and never none."""
+        heights = Heights()
+        learnt = []
+        for called in [0] * 10 + [16385] * 14 + [16384] * 2:
+            heights.learn(called)
+            learnt.append(heights.rows)
+        self.assertEqual(learnt, [32, 64, 128, 256, 512, 1024, 2048, 4096, 4096, 4096,
+                                  2048, 1024, 512, 256, 128, 64, 32, 16, 8, 4, 2, 1, 1, 1, 2, 4])
 
 
 class Orders(unittest.TestCase):

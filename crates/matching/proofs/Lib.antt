@@ -9,3 +9,5 @@ pub mod WalkLaws
 pub mod ScanLaws
 pub mod BestLaws
 pub mod LayLaws
+pub mod CursorLaws
+pub mod RestLaws

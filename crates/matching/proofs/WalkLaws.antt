@@ -59,7 +59,7 @@ module _ (w : ℕ) (vs ms : Words) where
       let f : (i + 1) * w ≡ i * w + w = omega arith in
       rw (e, f, ← drop-drop w (i * w) vs, ← drop-drop w (i * w) ms)
 
-  between-cut : (i d n : ℕ) → i + d ≤ n → between w i n vs ms ≡ between w i (i + d) vs ms ++ between w (i + d) n vs ms
+  pub between-cut : (i d n : ℕ) → i + d ≤ n → between w i n vs ms ≡ between w i (i + d) vs ms ++ between w (i + d) n vs ms
   unfolding between
   between-cut i d n h =
       let a : n - i ≡ d + (n - (i + d)) = omega arith in

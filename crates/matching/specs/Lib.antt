@@ -5,3 +5,4 @@ pub mod Answer
 pub mod Room
 pub mod Walk
 pub mod Inner
+pub mod Moves

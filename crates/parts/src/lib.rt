@@ -1,9 +1,9 @@
 // What a turn works on: the join without its state, which no turn reads or moves; what the turn has and needs, and what it writes and leaves.
+use answer::match_frame;
 use answers::Answer;
 use answers::Refusal;
 use frames::Options;
 use frames::Row;
-use matching::match_frame;
 use prunes::bad_left;
 use prunes::bad_right;
 use prunes::remembered;

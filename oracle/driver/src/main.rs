@@ -12,7 +12,7 @@ use oracle::{edits, notice, sample, selftest};
 
 /// What the program can be asked for.
 const USAGE: &str = "oracle rust | rules                   answer the script on standard input
-oracle generate KIND SEED COUNT       print random scripts (whole mixed flush nullslast order ends refusals handed)
+oracle generate KIND SEED COUNT       print random scripts (whole mixed flush nullslast order ends equal refusals handed)
 oracle generate KIND SEED COUNT runs  the same scripts with runs in the place of turns
 oracle selftest SEED COUNT            the test of the oracle itself, COUNT scripts a kind
 oracle whole SEED COUNT               the whole-table rule over COUNT scripts

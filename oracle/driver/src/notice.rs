@@ -3,7 +3,7 @@ use std::panic::catch_unwind;
 use std::path::Path;
 
 use judges::exhaustive;
-use judges::generate::{COMPARED, Kind, script};
+use judges::generate::{Kind, RECORDED, script};
 use judges::script::Call;
 use judges::whole_table::Counts;
 
@@ -54,7 +54,7 @@ pub fn print(seed: u64, count: u64, folder: &Path) -> Result<(), String> {
     std::panic::set_hook(Box::new(|_| {}));
     let mut noticed = Noticed { whole: by_whole_table(seed, count), ..Noticed::default() };
     let mut number = 0;
-    let random = (0..count).flat_map(|i| COMPARED.map(|kind| (kind, i)));
+    let random = (0..count).flat_map(|i| RECORDED.map(|kind| (kind, i)));
     let mut open = random.into_iter().all(|(kind, i)| {
         number += 1;
         noticed.steps(number, &script(kind, seed, i))

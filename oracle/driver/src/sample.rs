@@ -4,7 +4,7 @@ use std::collections::BTreeMap;
 use std::fs;
 use std::path::Path;
 
-use judges::generate::{COMPARED, Kind, script};
+use judges::generate::{Kind, RECORDED, script};
 use judges::rules::{Rules, frame_rows};
 use judges::script::{Answer, Call, Open, parse_script};
 
@@ -131,7 +131,7 @@ impl Sample {
     /// Chooses the sample: first what covers something new, then short scripts of every kind until there are enough.
     fn choose() -> Self {
         let mut out = Sample { scripts: String::new(), answers: String::new(), count: 0, coverage: BTreeMap::new() };
-        let offers = |from: u64| (from..).flat_map(|i| COMPARED.map(|kind: Kind| script(kind, SEED, i)));
+        let offers = |from: u64| (from..).flat_map(|i| RECORDED.map(|kind: Kind| script(kind, SEED, i)));
         offers(0).take(60_000).for_each(|calls| {
             if out.count < SCRIPTS {
                 out.offer(&calls, false);

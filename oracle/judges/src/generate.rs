@@ -21,10 +21,18 @@ pub enum Kind {
     Refusals,
     /// As refusals, and between the calls the host alters words of the join and of the areas.
     Handed,
+    /// One to three distinct keys in long runs, in any order: equal keys on both sides.
+    Equal,
 }
 
+/// The kinds that the recorded sample is made of: it stays as it is when a kind is added.
+pub const RECORDED: [Kind; 6] = [Kind::Whole, Kind::Mixed, Kind::Flush, Kind::NullsLast, Kind::Order, Kind::Ends];
+
 /// All kinds that the Rust and the rules are compared on.
-pub const COMPARED: [Kind; 6] = [Kind::Whole, Kind::Mixed, Kind::Flush, Kind::NullsLast, Kind::Order, Kind::Ends];
+pub const COMPARED: [Kind; 7] = {
+    let [a, b, c, d, e, f] = RECORDED;
+    [a, b, c, d, e, f, Kind::Equal]
+};
 
 impl Kind {
     /// The kind of a name, as the command line gives it.
@@ -143,7 +151,11 @@ fn shape(r: &mut Random, kind: Kind) -> Shape {
         _ => r.pick(&[0, 0, 0, 1, 1, 1, 2, 2, 3, 4]),
     };
     let small = [Pool::Below(3), Pool::Below(6), Pool::Below(12), Pool::Below(40), Pool::Ends];
-    let keys = if kind == Kind::Ends { Pool::Ends } else { r.pick(&small) };
+    let keys = match kind {
+        Kind::Ends => Pool::Ends,
+        Kind::Equal => r.pick(&[Pool::Below(1), Pool::Below(2), Pool::Below(3)]),
+        _ => r.pick(&small),
+    };
     let groups = match b {
         _ if kind == Kind::Ends || r.percent(5) => Pool::Ends,
         3 | 4 => Pool::Below(2),
@@ -158,7 +170,11 @@ fn shape(r: &mut Random, kind: Kind) -> Shape {
         Kind::Order => (open.check, null_keys) = (true, r.pick(&[0, 20, 40])),
         _ => {},
     }
-    let rows = if r.percent(2) { 60 } else { r.pick(&[3, 6, 10, 16, 24]) };
+    let rows = match kind {
+        Kind::Equal => r.pick(&[30, 60, 120]),
+        _ if r.percent(2) => 60,
+        _ => r.pick(&[3, 6, 10, 16, 24]),
+    };
     Shape { open, keys, groups, null_keys, null_groups, rows }
 }
 
@@ -629,7 +645,7 @@ fn calls(r: &mut Random, kind: Kind) -> Vec<Call> {
         Kind::Whole => whole(r, d),
         Kind::Mixed | Kind::Ends => mixed(r, d),
         Kind::Flush => flush(r, d),
-        Kind::NullsLast | Kind::Order => plain(r, d),
+        Kind::NullsLast | Kind::Order | Kind::Equal => plain(r, d),
         Kind::Refusals => refusals(r, d),
         Kind::Handed => handed(r, d),
     }

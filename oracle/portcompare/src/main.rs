@@ -13,9 +13,9 @@ use judges::script::Call;
 const TOLD: usize = 10;
 
 /// All kinds of scripts.
-const KINDS: [Kind; 8] = {
-    let [a, b, c, d, e, f] = COMPARED;
-    [a, b, c, d, e, f, Kind::Refusals, Kind::Handed]
+const KINDS: [Kind; 9] = {
+    let [a, b, c, d, e, f, g] = COMPARED;
+    [a, b, c, d, e, f, g, Kind::Refusals, Kind::Handed]
 };
 
 /// The script of this number among a seed's scripts of a kind: every second one with runs.
@@ -70,7 +70,8 @@ fn compare_all(seed: u64, count: u64) -> bool {
     let mut by_kind = vec![Counts::default(); KINDS.len()];
     let mut told = 0;
     for i in 0..count {
-        let (at, number) = ((i % 8) as usize, i / 8);
+        let kinds = KINDS.len() as u64;
+        let (at, number) = ((i % kinds) as usize, i / kinds);
         if compare::all(&made(KINDS[at], seed, number), KINDS[at], &mut by_kind[at]).is_err() {
             tell(KINDS[at], seed, number);
             told += 1;

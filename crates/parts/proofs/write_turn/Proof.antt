@@ -4,7 +4,7 @@ use Rattle.parts.proofs.write_turn.Statement.{statement}
 use Rattle.parts.proofs.write_turn.Tie as tie
 use Rattle.parts.proofs.write_turn.Reads as reads
 use Rattle.parts.proofs.write_turn.Lts as lts
-use Rattle.matching.proofs.match_frame.Reads as match-frame-reads
+use Rattle.answer.proofs.match_frame.Reads as match-frame-reads
 use Rattle.parts.proofs.leave.Reads as leave-reads
 use Rattle.prunes.proofs.remembered.Reads as remembered-reads
 

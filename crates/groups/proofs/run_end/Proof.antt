@@ -1,0 +1,106 @@
+use mathlib.Core.Path.{_≡_, sym, _∙_}
+use mathlib.Core.Bool.{Bool, true, false}
+use Prim.Native.Nat.{_+_, _-_, _*_, _≤_, _<_}
+use native.Mathlib.Omega.{arith}
+use borrow.Author.Tests.{not-true, not-false}
+use denote.Ref.{now}
+use Rattle.frames.specs.Cells.{rowFrom}
+use Rattle.frames.proofs.RowLaws.{row-room}
+use Rattle.matching.specs.Groups.{sameRun}
+use Rattle.matching.specs.Walk.{between, runOn, runLength}
+use Rattle.matching.proofs.WalkLaws.{run-past, on-first, on-more, on-stop, on-end}
+use Rattle.groups.proofs.run_end.Statement.{statement}
+use Rattle.groups.proofs.run_end.Tie as tie
+
+abbrev Inv-loop : tie.InvT-loop
+Inv-loop values marks n w i o p₀ e₀ p e =
+    (i < e) × (e ≤ n) × (p + w ≡ e * w)
+    × (i + runLength o (between w i n values marks) ≡ e + runOn o (rowFrom w p values marks) (between w e n values marks))
+
+abbrev μ-loop : tie.MeasureT-loop
+μ-loop values marks n w i o p₀ e₀ p e = n - e
+
+-- row i is among the rows
+low : (c : tie.Else1 Inv-loop μ-loop) → c .before .args .i < c .before .args .n
+low c = let l = c .if1 .left in omega arith
+
+-- row e ends within them
+room : (c : tie.In-loop Inv-loop μ-loop) → c .before .loop .e * c .before .before .before .args .w + c .before .before .before .args .w ≤ c .before .before .before .args .n * c .before .before .before .args .w
+room c = row-room (c .before .loop .e) (c .before .before .before .args .n) (c .before .before .before .args .w) (c .loop-test .taken)
+
+-- what `same_run` says is what row e says to the row before it
+told : (c : tie.After-same-run Inv-loop μ-loop) (t : Bool) → c .same-run .result ≡ t →
+    let l = c .before .before .loop in
+    let a = c .before .before .before .before .args in
+    sameRun (a .o) (rowFrom (a .w) (l .p) (now (a .values)) (now (a .marks))) (rowFrom (a .w) (l .e * a .w) (now (a .values)) (now (a .marks))) ≡ t
+told c t e =
+    let s = c .before .before .before .before in
+    let l = c .before .before .loop in
+    sym (rw (l .inv .2) at (c .same-run .ensures (s .args .w) (s .pre .rows .wide))) ∙ e
+
+returns : tie.Need-returns Inv-loop μ-loop
+returns c =
+    let a = c .before .args in
+    rw (c .if1 .taken, run-past (a .o) (a .w) (a .n) (now (a .values)) (now (a .marks))) (omega arith)
+
+mul-p : tie.Need-mul-p Inv-loop μ-loop
+mul-p c = omega (arith, row-room (c .before .args .i) (c .before .args .n) (c .before .args .w) (low c))
+
+add-e : tie.Need-add-e Inv-loop μ-loop
+add-e c = omega (arith, low c)
+
+loop-holds : tie.Need-loop-holds Inv-loop μ-loop
+loop-holds c =
+    let a = c .before .args in
+    let h = low c in
+    (omega arith, omega arith, omega arith, on-first (a .o) (a .w) (a .n) (now (a .values)) (now (a .marks)) (a .i) h)
+
+add-q : tie.Need-add-q Inv-loop μ-loop
+add-q c = omega (arith, room c)
+
+same-run-requires : tie.Need-same-run-requires Inv-loop μ-loop
+same-run-requires c κs =
+    let r = room c in
+    let p = c .before .before .before .pre .rows in
+    (record { few = p .few; values = omega arith; marks = omega arith }, record { few = p .few; values = omega arith; marks = omega arith })
+
+returns-2 : tie.Need-returns-2 Inv-loop μ-loop
+returns-2 c =
+    let l = c .before .before .before .loop in
+    sym (l .inv .3 ∙ on-stop _ _ _ _ _ _ (l .e) (c .before .before .loop-test .taken) (told (c .before) false (not-true _ (c .if2 .taken))))
+
+add-e-2 : tie.Need-add-e-2 Inv-loop μ-loop
+add-e-2 c = omega arith
+
+loop-less : tie.Need-loop-less Inv-loop μ-loop
+loop-less c = omega arith
+
+loop-again : tie.Need-loop-again Inv-loop μ-loop
+loop-again c =
+    let l = c .before .before .before .loop in
+    let a = c .before .before .before .before .before .args in
+    let m = on-more _ _ _ _ _ _ (l .e) (c .before .before .loop-test .taken) (told (c .before) true (not-false _ (c .if2 .left))) in
+    (omega arith, omega arith, omega arith, l .inv .3 ∙ rw (l .inv .2) m)
+
+returns-3 : tie.Need-returns-3 Inv-loop μ-loop
+returns-3 c =
+    let l = c .before .loop in
+    sym (l .inv .3 ∙ on-end _ _ _ _ _ _ (l .e) (omega arith))
+
+pub run-end-spec : {M : Type 1} → statement M
+run-end-spec =
+    tie.close
+    (tie.spec
+    Inv-loop
+    μ-loop
+    returns
+    mul-p
+    add-e
+    loop-holds
+    add-q
+    same-run-requires
+    returns-2
+    add-e-2
+    loop-less
+    loop-again
+    returns-3)

@@ -1,0 +1,176 @@
+// Runs of equal groups, and the one right cursor that serves a frame.
+use frames::Options;
+use frames::Order;
+use keyed::null_at;
+use keyed::null_group;
+use matching::Right;
+use order::cmp_group;
+ghost use mathlib.Core.Path.{_≡_};
+ghost use mathlib.Core.Bool.{true};
+ghost use Prim.Native.Nat.{ℕ, _+_, _<_};
+ghost use Rattle.frames.specs.Cells.{rowFrom};
+ghost use Rattle.frames.specs.Order.{cmpGroup};
+ghost use Rattle.frames.specs.Room.{cellAt, CellIn, RowAt};
+ghost use Rattle.frames.specs.declared.Order.the-variants.{Equal};
+ghost use Rattle.matching.specs.Groups.{sameRun};
+ghost use Rattle.matching.specs.Walk.{between, runLength, standing};
+ghost use Rattle.matching.specs.Inner.{Within, PassRoom, Stands, Passed, Serves};
+
+// Whether the cells at a and b have the same value, and neither is null.
+fn same_value(values: &[i64], marks: &[i64], a: usize, b: usize) -> bool
+    requires { ⌜ CellIn a (now values) (now marks) × CellIn b (now values) (now marks) ⌝ }
+    ensures { λ r. ⌜ (r ≡ true → cellAt a (now (values .entry)) (now (marks .entry)) ≡ cellAt b (now (values .entry)) (now (marks .entry))) ⌝ }
+{
+    if null_at(marks, a) {
+        return false;
+    }
+    if null_at(marks, b) {
+        return false;
+    }
+    if values[a] != values[b] {
+        return false;
+    }
+    true
+}
+
+// Whether the rows at p and q have the same by-values, and none of them is null: then they are of one run. Most rows are told so.
+fn same_values(values: &[i64], marks: &[i64], p: usize, q: usize, o: Options) -> bool
+    requires { ⌜ RowAt o p (now values) (now marks) × RowAt o q (now values) (now marks) ⌝ }
+    ensures { λ r. ⌜ (r ≡ true → (w : ℕ) → o .by < w → cmpGroup o (rowFrom w p (now (values .entry)) (now (marks .entry))) (rowFrom w q (now (values .entry)) (now (marks .entry))) ≡ Equal) ⌝ }
+{
+    let by = o.by;
+    let mut j = 0;
+    while j < by {
+        if !same_value(values, marks, p + j, q + j) {
+            return false;
+        }
+        j += 1;
+    }
+    true
+}
+
+// Whether the rows at p and q, which stand one behind the other, are of one run.
+fn same_run(values: &[i64], marks: &[i64], p: usize, q: usize, o: Options) -> bool
+    requires { ⌜ RowAt o p (now values) (now marks) × RowAt o q (now values) (now marks) ⌝ }
+    ensures { λ r. ⌜ ((w : ℕ) → o .by < w → r ≡ sameRun o (rowFrom w p (now (values .entry)) (now (marks .entry))) (rowFrom w q (now (values .entry)) (now (marks .entry)))) ⌝ }
+{
+    if same_values(values, marks, p, q, o) {
+        return true;
+    }
+    match cmp_group(values, marks, p, values, marks, q, o) {
+        Order::Equal => return true,
+        _ => {}
+    }
+    if !null_group(marks, p, o) {
+        return false;
+    }
+    null_group(marks, q, o)
+}
+
+// The end of the run that starts at row i, of n rows that are each w wide; i itself behind the last of them.
+pub fn run_end(values: &[i64], marks: &[i64], n: usize, w: usize, i: usize, o: Options) -> usize
+    requires { ⌜ Within o w n (now values) (now marks) i ⌝ }
+    ensures { λ r. ⌜ r ≡ i + runLength o (between w i n (now (values .entry)) (now (marks .entry))) ⌝ }
+{
+    if i == n {
+        return i;
+    }
+    let mut p = i * w;
+    let mut e = i + 1;
+    while e < n {
+        let q = p + w;
+        if !same_run(values, marks, p, q, o) {
+            return e;
+        }
+        p = q;
+        e += 1;
+    }
+    e
+}
+
+// How the right row at q stands to the left row at p: Less where the cursor passes its run, Equal where it is used.
+fn stands_to(
+    rv: &[i64],
+    rm: &[i64],
+    q: usize,
+    lv: &[i64],
+    lm: &[i64],
+    p: usize,
+    o: Options,
+) -> Order
+    requires { ⌜ RowAt o q (now rv) (now rm) × RowAt o p (now lv) (now lm) ⌝ }
+    ensures { λ r. ⌜ ((wl wr : ℕ) → o .by < wl → o .by < wr → r ≡ standing o (rowFrom wl p (now (lv .entry)) (now (lm .entry))) (rowFrom wr q (now (rv .entry)) (now (rm .entry)))) ⌝ }
+{
+    if null_group(rm, q, o) {
+        return Order::Less;
+    }
+    cmp_group(rv, rm, q, lv, lm, p, o)
+}
+
+// From the right run from..to on, the cursor passes null runs and runs before the group of the left row at p.
+fn pass_runs(
+    rv: &[i64],
+    rm: &[i64],
+    n: usize,
+    w: usize,
+    from: usize,
+    to: usize,
+    lv: &[i64],
+    lm: &[i64],
+    p: usize,
+    o: Options,
+) -> Right
+    requires { ⌜ PassRoom o p (now lv) (now lm) w n (now rv) (now rm) from to ⌝ }
+    ensures { λ r. ⌜ Stands o w n (now (rv .entry)) (now (rm .entry)) r × ((wl : ℕ) → o .by < wl → Passed o w n (now (rv .entry)) (now (rm .entry)) from (rowFrom wl p (now (lv .entry)) (now (lm .entry))) r) ⌝ }
+{
+    let mut at = from;
+    let mut end = to;
+    while at < n {
+        match stands_to(rv, rm, at * w, lv, lm, p, o) {
+            Order::Less => {}
+            Order::Equal => return Right {
+                at: at,
+                end: end,
+                used: end,
+            },
+            Order::Greater => return Right {
+                at: at,
+                end: end,
+                used: at,
+            },
+        }
+        at = end;
+        end = run_end(rv, rm, n, w, at, o);
+    }
+    Right {
+        at: at,
+        end: end,
+        used: at,
+    }
+}
+
+// The right cursor for the left run whose first row is at p: a null group leaves it where it is and uses an empty run.
+pub fn serve(
+    rv: &[i64],
+    rm: &[i64],
+    n: usize,
+    w: usize,
+    from: usize,
+    to: usize,
+    lv: &[i64],
+    lm: &[i64],
+    p: usize,
+    o: Options,
+) -> Right
+    requires { ⌜ PassRoom o p (now lv) (now lm) w n (now rv) (now rm) from to ⌝ }
+    ensures { λ r. ⌜ Stands o w n (now (rv .entry)) (now (rm .entry)) r × ((wl : ℕ) → o .by < wl → Serves o w n (now (rv .entry)) (now (rm .entry)) from (rowFrom wl p (now (lv .entry)) (now (lm .entry))) r) ⌝ }
+{
+    if null_group(lm, p, o) {
+        return Right {
+            at: from,
+            end: to,
+            used: from,
+        };
+    }
+    pass_runs(rv, rm, n, w, from, to, lv, lm, p, o)
+}

@@ -1,0 +1,127 @@
+-- The walk of a sorted left run over a sorted right run: when the right cursor moves on, what lies behind it and ahead of it. Assumes nothing.
+use mathlib.Core.Path.{_≡_}
+use mathlib.Core.Bool.{Bool, true, false, not, _&&_, _||_}
+use mathlib.Core.List.{List, [], _∷_}
+use Prim.Native.Nat.{ℕ, _+_, _-_, _*_, _^_, _≤_, _<_}
+use lib.Dec.{ltb}
+use lib.IntN.{ℤ}
+use Rattle.frames.specs.Cells.{Cell, value, isNull, Rows, Words, rowFrom}
+use Rattle.frames.specs.Options.{strategyOf, keyRule}
+use Rattle.frames.specs.Order.{cmpCell, isGreater, keyOf}
+use Rattle.frames.specs.Room.{cellAt, RowAt, RowsIn}
+use Rattle.frames.specs.declared.Options.{Options}
+use Rattle.frames.specs.declared.Order.the-variants.{Greater}
+use Rattle.frames.specs.declared.Strategy.{Strategy}
+use Rattle.frames.specs.declared.Strategy.the-variants.{Backward, Forward, Nearest}
+use Rattle.matching.specs.Match.{onSide, nearer, matchIn}
+use Rattle.matching.specs.Walk.{between}
+use Rattle.matching.specs.Inner.{RunRoom}
+use Rattle.matching.specs.declared.Step.{Step}
+
+-- A run is sorted: no key is greater than the next.
+unfoldable pub keysSorted : Options → Rows → Bool
+keysSorted o [] = true
+keysSorted o (r ∷ []) = true
+keysSorted o (r ∷ s ∷ rs) = not (isGreater (cmpCell keyRule (keyOf o r) (keyOf o s))) && keysSorted o (s ∷ rs)
+
+-- Whether the right cursor moves on from a row with the key a to the next one, with the key b, for the left key v. Backward: b is null or on v's side. Forward: a does not fit v. Nearest: a is null, or b takes its place.
+abbrev pub movesOn : Strategy → Bool → Cell → Cell → Cell → Bool
+movesOn Backward eq v a b = isNull b || onSide Backward eq (cmpCell keyRule b v)
+movesOn Forward eq v a b = not (not (isNull a) && onSide Forward eq (cmpCell keyRule a v))
+movesOn Nearest eq v a b = isNull a || (not (isNull b) && nearer v b a)
+
+-- The key of row i, of rows that are each w wide.
+abbrev pub keyAt : Options → ℕ → Words → Words → ℕ → Cell
+keyAt o w vs ms i = cellAt (i * w + o .by) vs ms
+
+-- One key is not greater than another.
+abbrev pub NotAbove : Cell → Cell → Type 0
+NotAbove a b = cmpCell keyRule a b ≡ Greater → ⊥
+
+-- The keys of rows at..end do not fall.
+abbrev pub Rising : (ℕ → Cell) → ℕ → ℕ → Type 0
+Rising key at end = (i k : ℕ) → at ≤ i → i ≤ k → k < end → NotAbove (key i) (key k)
+
+-- The key a fits the left key v.
+abbrev pub fitsKey : Strategy → Bool → Cell → Cell → Bool
+fitsKey s eq v a = not (isNull a) && onSide s eq (cmpCell keyRule a v)
+
+-- What is so of a row with the key a that the cursor has passed, and of the row with the key b that it stands at. Backward: b is null or on v's side. Forward: a does not fit v. Nearest: a is null, or b takes its place.
+abbrev pub passed : Strategy → Bool → Cell → Cell → Cell → Bool
+passed Backward eq v a b = isNull b || onSide Backward eq (cmpCell keyRule b v)
+passed Forward eq v a b = not (fitsKey Forward eq v a)
+passed Nearest eq v a b = isNull a || nearer v b a
+
+-- So it is with every row that the cursor, at row c, has passed.
+abbrev pub Behind : Strategy → Bool → (ℕ → Cell) → ℕ → Cell → ℕ → Type 0
+Behind s eq key at v c = (k : ℕ) → at ≤ k → k < c → passed s eq v (key k) (key c) ≡ true
+
+-- The cursor at row c does not move on for v.
+abbrev pub Stopped : Strategy → Bool → (ℕ → Cell) → ℕ → Cell → ℕ → Type 0
+Stopped s eq key end v c = c + 1 < end → movesOn s eq v (key c) (key (c + 1)) ≡ false
+
+-- Row c fits, if it has a key, by where the cursor stands: Backward moved on to it, Forward stopped at it before the last row, for Nearest each key fits.
+abbrev pub knownFit : Strategy → ℕ → ℕ → ℕ → Bool
+knownFit Backward at c end = ltb at c
+knownFit Forward at c end = ltb 1 (end - c)
+knownFit Nearest at c end = true
+
+-- The right cursor stands at row c of rows at..end, of which there is one, for the left key v.
+pub record CursorAt (o : Options) (s : Strategy) (w at end : ℕ) (vs ms : Words) (v : ℤ) (c : ℕ) : Type 0 where
+  pub rows : RowsIn o w end vs ms
+  pub rising : Rising (keyAt o w vs ms) at end
+  pub told : s ≡ strategyOf o
+  pub upward : at ≤ c
+  pub there : c < end
+  pub behind : Behind s (o .«allow_eq») (keyAt o w vs ms) at (value v) c
+
+-- It has moved from row c to row r, and does not move on.
+pub record Came (o : Options) (s : Strategy) (w at end : ℕ) (vs ms : Words) (v : ℤ) (c r : ℕ) : Type 0 where
+  pub forward : c ≤ r
+  pub rests : CursorAt o s w at end vs ms v r
+  pub stopped : Stopped s (o .«allow_eq») (keyAt o w vs ms) end (value v) r
+
+-- It rests at row c, and the numbers of the rows fit.
+pub record Rests (o : Options) (s : Strategy) (w at end : ℕ) (vs ms : Words) (number : ℕ) (v : ℤ) (c : ℕ) : Type 0 where
+  pub rests : CursorAt o s w at end vs ms v c
+  pub stopped : Stopped s (o .«allow_eq») (keyAt o w vs ms) end (value v) c
+  pub numbers : number + end ≤ 2 ^ 63 - 1
+
+-- A step for the left key v: the cursor moves on from row c, and the choice is that of the scan.
+pub record Stepped (o : Options) (s : Strategy) (w at end : ℕ) (vs ms : Words) (number : ℕ) (v : ℤ) (c : ℕ) (r : Step) : Type 0 where
+  pub came : Came o s w at end vs ms v c (r .row)
+  pub chosen : (x : List Cell) → keyOf o x ≡ value v → r .choice ≡ matchIn o (number + at) (between w at end vs ms) x
+
+-- The right cursor at row c of rows at..end, or at their end where there is none, for the left row at p and every later key.
+pub record WalkAt (o : Options) (s : Strategy) (p : ℕ) (lv lm : Words) (w at end : ℕ) (vs ms : Words) (number c : ℕ) : Type 0 where
+  pub left : RowAt o p lv lm
+  pub rows : RowsIn o w end vs ms
+  pub rising : Rising (keyAt o w vs ms) at end
+  pub told : s ≡ strategyOf o
+  pub upward : at ≤ c
+  pub within : c ≤ end
+  pub there : at < end → c < end
+  pub numbers : number + end ≤ 2 ^ 63 - 1
+  pub behind : (u : ℤ) → NotAbove (cellAt (p + o .by) lv lm) (value u) → Behind s (o .«allow_eq») (keyAt o w vs ms) at (value u) c
+
+-- The left row's choice, and where the cursor stands then.
+pub record WalkedRow (o : Options) (s : Strategy) (p : ℕ) (lv lm : Words) (w at end : ℕ) (vs ms : Words) (number c : ℕ) (r : Step) : Type 0 where
+  pub upward : c ≤ r .row
+  pub within : r .row ≤ end
+  pub there : at < end → r .row < end
+  pub behind : (u : ℤ) → NotAbove (cellAt (p + o .by) lv lm) (value u) → Behind s (o .«allow_eq») (keyAt o w vs ms) at (value u) (r .row)
+  pub chosen : (wl : ℕ) → o .by < wl → r .choice ≡ matchIn o (number + at) (between w at end vs ms) (rowFrom wl p lv lm)
+
+-- Both runs are sorted.
+pub record WalkRoom (o : Options) (wl nl : ℕ) (lv lm : Words) (from to : ℕ) (wr : ℕ) (rv rm : Words) (at end number : ℕ) (out : Words) : Type 0 where
+  pub room : RunRoom o wl nl lv lm from to wr rv rm at end number out
+  pub left : keysSorted o (between wl from to lv lm) ≡ true
+  pub right : keysSorted o (between wr at end rv rm) ≡ true
+
+-- How often the two cursors moved, each time one row forward: the left one over all its rows from..to, the right one from row `at` to where it has come, which is not behind row `end`. So they moved at most as often as both runs have rows.
+pub record Counted (from to at end r : ℕ) : Type 0 where
+  pub come : ℕ
+  pub upward : at ≤ come
+  pub within : come ≤ end
+  pub moves : r ≡ (to - from) + (come - at)
+  pub most : r ≤ (to - from) + (end - at)

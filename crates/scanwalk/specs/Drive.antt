@@ -1,0 +1,60 @@
+-- Scan and walk of two frames of one key column: when a call is refused, what it answers, what it leaves in the output. Assumes nothing.
+use mathlib.Core.Path.{_≡_}
+use mathlib.Core.Bool.{Bool, true, false, cond, not, _&&_, _||_}
+use mathlib.Core.List.{_∷_, [], map}
+use Prim.Native.Nat.{ℕ, _+_, _*_, _≤_}
+use lib.Dec.{ltb, eqb}
+use lib.IntN.{negsuc}
+use lib.ListN.{length}
+use Rattle.frames.specs.Cells.{Rows, Words}
+use Rattle.frames.specs.Frame.{isFrame, rowCount, frameRows}
+use Rattle.frames.specs.declared.Check.the-variants.{Off}
+use Rattle.frames.specs.declared.Options.{Options}
+use Rattle.matching.specs.Match.{matchIn}
+use Rattle.matching.specs.Walk.{lay}
+use Rattle.matching.specs.Moves.{keysSorted, Counted}
+use Rattle.scanwalk.specs.declared.Driven.{Driven}
+
+-- No by-columns, equal keys match, any distance will do.
+abbrev pub keyOptions : ℕ → Options
+keyOptions s = record {
+  by = 0;
+  strategy = s;
+  «allow_eq» = true;
+  tolerance = negsuc 0;
+  check = Off;
+  descending = false ∷ false ∷ false ∷ false ∷ [];
+  «nulls_last» = false ∷ false ∷ false ∷ false ∷ [];
+}
+
+-- The refusals of what is handed in: 1 for a strategy that there is not, 5 where the words are no frames of one column, 6 for too short an output; 0 for none.
+abbrev pub judged : ℕ → Words → Words → ℕ → ℕ
+judged s left right room = cond (ltb 2 s) 1 (cond (not (isFrame 1 left)) 5 (cond (not (isFrame 1 right)) 5 (cond (ltb room (2 + 2 * rowCount left)) 6 0)))
+
+-- The refusal of a walk over runs of which one is not sorted: 14. A scan takes any runs.
+abbrev pub unsorted : Bool → ℕ → Rows → Rows → ℕ
+unsorted walked s ls rs = cond (not walked || (keysSorted (keyOptions s) ls && keysSorted (keyOptions s) rs)) 0 14
+
+-- The first refusal of a call, 0 for none.
+abbrev pub refusalOf : Bool → ℕ → Words → Words → ℕ → ℕ
+refusalOf walked s left right room = cond (eqb (judged s left right room) 0) (unsorted walked s (frameRows 1 left) (frameRows 1 right)) (judged s left right room)
+
+-- A walk counts the moves of its cursors over n and m rows; what does not walk has none.
+abbrev pub Moved : Bool → ℕ → ℕ → ℕ → Type 0
+Moved true n m k = Counted 0 n 0 m k
+Moved false n m k = k ≡ 0
+
+-- What is answered and left, where the refusal is the one given: the choices of all left rows are laid into the output behind its first two words, which stay; where it is refused all words stay.
+pub record Drives (walked : Bool) (s : ℕ) (ls rs : Rows) (refusal : ℕ) (out : Words) (r : Driven) (out′ : Words) : Type 0 where
+  pub answer : r .refusal ≡ refusal
+  pub words : out′ ≡ cond (eqb refusal 0) (lay (length ls) 0 (map (matchIn (keyOptions s) 0 rs) ls) out) out
+  pub moves : Moved (walked && eqb refusal 0) (length ls) (length rs) (r .moves)
+
+-- The parts of two frames of n and m rows, and room for n choices.
+pub record PartsIn (n : ℕ) (lv lm : Words) (m : ℕ) (rv rm out : Words) : Type 0 where
+  pub leftValues : n ≤ length lv
+  pub leftMarks : n ≤ length lm
+  pub few : m ≤ 4096
+  pub rightValues : m ≤ length rv
+  pub rightMarks : m ≤ length rm
+  pub room : 2 + 2 * n ≤ length out

@@ -1,0 +1,145 @@
+// Scan and walk of the same two frames of one key column, for the program that compares their times. The join does not use it.
+use framerule::is_frame;
+use framerule::row_count;
+use frames::Check;
+use frames::Options;
+use lay::both_sorted;
+use lay::scan_run;
+use lay::walk_run;
+ghost use mathlib.Core.Path.{_≡_};
+ghost use mathlib.Core.Bool.{true, false};
+ghost use lib.ListN.{length};
+ghost use Rattle.frames.specs.Cells.{rowsOf};
+ghost use Rattle.frames.specs.Frame.{frameRows};
+ghost use Rattle.scanwalk.specs.Drive.{keyOptions, judged, unsorted, refusalOf, Drives, PartsIn};
+
+// What a call answers: 0 or the refusal's number, and how often the cursors of a walk moved.
+#[repr(C)]
+pub struct Driven {
+    pub refusal: u64,
+    pub moves: u64,
+}
+
+// The options of a strategy: no by-columns, equal keys match, any distance will do.
+fn key_options(strategy: u8) -> Options
+    ensures { λ r. ⌜ r ≡ keyOptions strategy ⌝ }
+{
+    Options {
+        by: 0,
+        strategy: strategy,
+        allow_eq: true,
+        tolerance: -1,
+        check: Check::Off,
+        descending: [false; 4],
+        nulls_last: [false; 4],
+    }
+}
+
+// The refusal of what is handed in: 1, 5 or 6; 0 for none.
+fn judge(strategy: u8, left: &[i64], right: &[i64], room: usize) -> u64
+    ensures { λ r. ⌜ r ≡ judged strategy (now (left .entry)) (now (right .entry)) room ⌝ }
+{
+    if 2 < strategy {
+        return 1;
+    }
+    if !is_frame(left, 1) {
+        return 5;
+    }
+    if !is_frame(right, 1) {
+        return 5;
+    }
+    if room < 2 + 2 * row_count(left) {
+        return 6;
+    }
+    0
+}
+
+// n left rows over m right rows: each by a scan, or all by a walk, which wants both sorted and else refuses by 14.
+fn drive(
+    walked: bool,
+    strategy: u8,
+    lv: &[i64],
+    lm: &[i64],
+    n: usize,
+    rv: &[i64],
+    rm: &[i64],
+    m: usize,
+    out: &mut [i64],
+) -> Driven
+    requires { ⌜ PartsIn n (now lv) (now lm) m (now rv) (now rm) (now out) ⌝ }
+    ensures { λ r. ⌜ Drives walked strategy (rowsOf 1 n (now (lv .entry)) (now (lm .entry))) (rowsOf 1 m (now (rv .entry)) (now (rm .entry))) (unsorted walked strategy (rowsOf 1 n (now (lv .entry)) (now (lm .entry))) (rowsOf 1 m (now (rv .entry)) (now (rm .entry)))) (now (out .entry)) r (now (out .exit)) ⌝ }
+{
+    let o = key_options(strategy);
+    if !walked {
+        scan_run(lv, lm, n, 1, 0, n, rv, rm, 1, 0, m, 0, o, out);
+        return Driven {
+            refusal: 0,
+            moves: 0,
+        };
+    }
+    if !both_sorted(lv, lm, 0, n, 1, rv, rm, 0, m, 1, o) {
+        return Driven {
+            refusal: 14,
+            moves: 0,
+        };
+    }
+    let moves = walk_run(lv, lm, n, 1, 0, n, rv, rm, 1, 0, m, 0, o, out);
+    Driven {
+        refusal: 0,
+        moves: moves as u64,
+    }
+}
+
+// The same of two frames, any words, into any output.
+fn call(walked: bool, strategy: u8, left: &[i64], right: &[i64], out: &mut [i64]) -> Driven
+    ensures { λ r. ⌜ Drives walked strategy (frameRows 1 (now (left .entry))) (frameRows 1 (now (right .entry))) (refusalOf walked strategy (now (left .entry)) (now (right .entry)) (length (now (out .entry)))) (now (out .entry)) r (now (out .exit)) ⌝ }
+{
+    let refusal = judge(strategy, left, right, out.len());
+    if refusal != 0 {
+        return Driven {
+            refusal: refusal,
+            moves: 0,
+        };
+    }
+    let n = row_count(left);
+    let m = row_count(right);
+    let e = 2 + n;
+    let f = 2 + m;
+    drive(
+        walked,
+        strategy,
+        &left[2..e],
+        &left[e..],
+        n,
+        &right[2..f],
+        &right[f..],
+        m,
+        out,
+    )
+}
+
+// Scans the right frame for each left row.
+#[no_mangle]
+pub extern "C" fn scanwalk_scan(
+    strategy: u8,
+    left: &[i64],
+    right: &[i64],
+    out: &mut [i64],
+) -> Driven
+    ensures { λ r. ⌜ Drives false strategy (frameRows 1 (now (left .entry))) (frameRows 1 (now (right .entry))) (refusalOf false strategy (now (left .entry)) (now (right .entry)) (length (now (out .entry)))) (now (out .entry)) r (now (out .exit)) ⌝ }
+{
+    call(false, strategy, left, right, out)
+}
+
+// Walks both frames, one cursor each.
+#[no_mangle]
+pub extern "C" fn scanwalk_walk(
+    strategy: u8,
+    left: &[i64],
+    right: &[i64],
+    out: &mut [i64],
+) -> Driven
+    ensures { λ r. ⌜ Drives true strategy (frameRows 1 (now (left .entry))) (frameRows 1 (now (right .entry))) (refusalOf true strategy (now (left .entry)) (now (right .entry)) (length (now (out .entry)))) (now (out .entry)) r (now (out .exit)) ⌝ }
+{
+    call(true, strategy, left, right, out)
+}
