@@ -1,0 +1,90 @@
+//! 2.9, points in intervals: random inputs through the port, the plain reading and the Rust, and making one that differs
+//! small.
+use std::time::Instant;
+
+use judges::generate_spans::input;
+use judges::script::{Call, Judge, Spans};
+use judges::spans;
+use oracle::range::Ways;
+use oracle::spans::{Tally, short, with_rust};
+use port::Port;
+
+use crate::TOLD;
+
+/// Runs an input through all; the first difference, if any.
+fn run(call: &Spans, tally: &mut Tally) -> Result<(), String> {
+    let mut port = Port::default();
+    let (said, ruled) = (port.call(&Call::Spans(call.clone())), spans::answer(call));
+    if said != ruled {
+        return Err(format!("the port says {}, 2.9 says {}", short(&said), short(&ruled)));
+    } else if let Some(wrong) = port.wrong() {
+        return Err(wrong.to_string());
+    }
+    let by_rust = with_rust(call, &said, Ways::default())?;
+    tally.count(call, &said, by_rust);
+    Ok(())
+}
+
+/// How many rows a table has, if it is one that rows can be taken from.
+fn rows(words: &[i64], columns: usize) -> usize {
+    let [n @ 1.., c, cells @ ..] = words else { return 0 };
+    let whole = *c == columns as i64 && cells.len() as i64 == n.saturating_mul(2 * c);
+    if whole { *n as usize } else { 0 }
+}
+
+/// The table without so many rows from one on.
+fn without_rows(words: &[i64], from: usize, count: usize) -> Vec<i64> {
+    let (n, c) = (words[0] as usize, words[1] as usize);
+    let keep = |at: &usize| !(from..from + count).contains(&((at % (n * c)) / c));
+    let cells = (0..2 * n * c).filter(keep).map(|at| words[2 + at]);
+    [(n - count) as i64, c as i64].into_iter().chain(cells).collect()
+}
+
+/// Parts of so many rows, long ones first: halves, quarters and on, to single rows. Each is where it begins and how long it
+/// is.
+fn parts(rows: usize) -> impl Iterator<Item = (usize, usize)> {
+    let lengths = std::iter::successors(Some(rows.div_ceil(2)), |n| (*n > 1).then(|| n / 2));
+    let lengths = lengths.take_while(|n| *n > 0);
+    lengths.flat_map(move |n| (0..rows).step_by(n).map(move |from| (from, n.min(rows - from))))
+}
+
+/// All inputs that are this one less some rows of a side.
+fn smaller(call: &Spans) -> impl Iterator<Item = Spans> {
+    let points = parts(rows(&call.points, 1));
+    let points = points.map(|(from, n)| Spans { points: without_rows(&call.points, from, n), ..call.clone() });
+    let intervals = parts(rows(&call.intervals, 2));
+    let less = |(from, n)| Spans { intervals: without_rows(&call.intervals, from, n), ..call.clone() };
+    points.chain(intervals.map(less))
+}
+
+/// An input that still differs and that no row can be taken from, with how it differs.
+fn smallest(call: &Spans) -> (Spans, String) {
+    let differs = |call: &Spans| run(call, &mut Tally::default()).err();
+    let (mut call, mut why) = (call.clone(), differs(call).unwrap_or_default());
+    while let Some((less, new)) = smaller(&call).find_map(|c| differs(&c).map(|w| (c, w))) {
+        (call, why) = (less, new);
+    }
+    (call, why)
+}
+
+/// Runs COUNT inputs; whether there was no difference and everything was met.
+pub fn compare_all(seed: u64, count: u64) -> bool {
+    let start = Instant::now();
+    let (mut tally, mut told) = (Tally::default(), 0);
+    for i in 0..count {
+        let call = input(seed, i);
+        if run(&call, &mut tally).is_err() {
+            let (call, why) = smallest(&call);
+            println!("DIFFERENCE spans, seed {seed}, input {i}: {why}\n    {call}");
+            told += 1;
+        }
+        if told == TOLD {
+            println!("{TOLD} differences after {} inputs: no more are looked for", i + 1);
+            break;
+        }
+    }
+    let missing = tally.missing().filter(|_| told == 0);
+    missing.iter().for_each(|what| println!("FAIL {what}: none in the whole run"));
+    println!("compared spans with the port: {tally}; {told} differences ({:.1} s)", start.elapsed().as_secs_f64());
+    told == 0 && missing.is_none()
+}
