@@ -1,6 +1,6 @@
 //! 2.9, points in intervals: random inputs through the port, the plain reading and the Rust, and making one that differs
 //! small.
-use std::time::Instant;
+use std::time::{Duration, Instant};
 
 use judges::generate_spans::input;
 use judges::script::{Call, Judge, Spans};
@@ -10,6 +10,9 @@ use oracle::spans::{Tally, short, with_rust};
 use port::Port;
 
 use crate::TOLD;
+
+/// How long a differing input is made smaller.
+const SPENT: Duration = Duration::from_secs(5);
 
 /// Runs an input through all; the first difference, if any.
 fn run(call: &Spans, tally: &mut Tally) -> Result<(), String> {
@@ -27,8 +30,8 @@ fn run(call: &Spans, tally: &mut Tally) -> Result<(), String> {
 
 /// How many rows a table has, if it is one that rows can be taken from.
 fn rows(words: &[i64], columns: usize) -> usize {
-    let [n @ 1.., c, cells @ ..] = words else { return 0 };
-    let whole = *c == columns as i64 && cells.len() as i64 == n.saturating_mul(2 * c);
+    let [n, c, cells @ ..] = words else { return 0 };
+    let whole = *n > 0 && *c == columns as i64 && cells.len() as i64 == n.saturating_mul(2 * c);
     if whole { *n as usize } else { 0 }
 }
 
@@ -48,20 +51,37 @@ fn parts(rows: usize) -> impl Iterator<Item = (usize, usize)> {
     lengths.flat_map(move |n| (0..rows).step_by(n).map(move |from| (from, n.min(rows - from))))
 }
 
-/// All inputs that are this one less some rows of a side.
+/// How many words the output is longer than its table, or shorter; none where there is no table.
+fn spare(call: &Spans) -> Option<i64> {
+    spans::table(call).ok().map(|words| call.output as i64 - words.len() as i64)
+}
+
+/// The input with an output that is longer than its table by so many words.
+fn with_spare(call: Spans, spare: Option<i64>) -> Spans {
+    let (Some(spare), Ok(words)) = (spare, spans::table(&call)) else { return call };
+    Spans { output: (words.len() as i64 + spare).max(0) as usize, ..call }
+}
+
+/// All inputs that are this one less some rows of a side, the output as much shorter as the table.
 fn smaller(call: &Spans) -> impl Iterator<Item = Spans> {
     let points = parts(rows(&call.points, 1));
     let points = points.map(|(from, n)| Spans { points: without_rows(&call.points, from, n), ..call.clone() });
     let intervals = parts(rows(&call.intervals, 2));
     let less = |(from, n)| Spans { intervals: without_rows(&call.intervals, from, n), ..call.clone() };
-    points.chain(intervals.map(less))
+    let spare = spare(call);
+    points.chain(intervals.map(less)).map(move |less| with_spare(less, spare))
 }
 
-/// An input that still differs and that no row can be taken from, with how it differs.
+/// An input that still differs and that no row can be taken from, with how it differs; or the smallest that is found in the
+/// time that is spent on it.
 fn smallest(call: &Spans) -> (Spans, String) {
-    let differs = |call: &Spans| run(call, &mut Tally::default()).err();
+    let (start, differs) = (Instant::now(), |call: &Spans| run(call, &mut Tally::default()).err());
+    let less = |call: &Spans| {
+        let mut tried = smaller(call).take_while(|_| start.elapsed() < SPENT);
+        tried.find_map(|less| differs(&less).map(|why| (less, why)))
+    };
     let (mut call, mut why) = (call.clone(), differs(call).unwrap_or_default());
-    while let Some((less, new)) = smaller(&call).find_map(|c| differs(&c).map(|w| (c, w))) {
+    while let Some((less, new)) = less(&call) {
         (call, why) = (less, new);
     }
     (call, why)
