@@ -156,19 +156,30 @@ fn pairs(call: &Spans, ways: Ways, points: Side, intervals: Side) -> Vec<Pair> {
     pairs
 }
 
-/// The Rust's answer: the table of its pairs. Nothing where the request refuses flags, tables or points: the node has no
-/// counterpart of it. Outputs are as long as needed.
-pub fn answer(call: &Spans, ways: Ways) -> Answer {
+/// The table of the pairs that the Rust finds, whatever the points are; none where the request refuses flags or tables: no
+/// such node or frame can be made.
+pub fn table(call: &Spans, ways: Ways) -> Option<Vec<i64>> {
     let flags = [call.lower, call.upper].iter().all(|flag| [0, 1].contains(flag));
-    let (points, intervals) = (frame::columns(&call.points, 1), frame::columns(&call.intervals, 2));
-    let (Some(points), Some(intervals), true) = (points, intervals, flags) else { return Answer::Nothing };
-    if points[0].contains(&None) || !points[0].is_sorted() {
-        return Answer::Nothing;
-    }
+    let (points, intervals) = (frame::columns(&call.points, 1)?, frame::columns(&call.intervals, 2)?);
     let points = Side::new(&[POINT], points, POINT_NUMBER);
-    let pairs = pairs(call, ways, points, Side::new(&[LOWER, UPPER], intervals, INTERVAL_NUMBER));
+    let intervals = Side::new(&[LOWER, UPPER], intervals, INTERVAL_NUMBER);
+    let pairs = flags.then(|| pairs(call, ways, points, intervals))?;
     let mut words = vec![pairs.len() as i64, 2];
     words.extend(pairs.iter().flat_map(|(interval, point)| [*interval, *point]));
     words.resize(2 + 4 * pairs.len(), 1);
-    Answer::Table(words)
+    Some(words)
+}
+
+/// Whether the request refuses these points by 16, where they are a frame.
+fn refused_by_16(words: &[i64]) -> bool {
+    frame::columns(words, 1).is_some_and(|points| points[0].contains(&None) || !points[0].is_sorted())
+}
+
+/// The Rust's answer. Nothing where the request refuses flags, tables or points: the node has no counterpart of it. Outputs
+/// are as long as needed.
+pub fn answer(call: &Spans, ways: Ways) -> Answer {
+    if refused_by_16(&call.points) {
+        return Answer::Nothing;
+    }
+    table(call, ways).map_or(Answer::Nothing, Answer::Table)
 }

@@ -151,6 +151,29 @@ pub fn longest() -> Result<String, String> {
     Ok("4,096 rows a side meet, 4,097 are refused".into())
 }
 
+/// What docs/DIFFERENCES.md says of points that the request refuses by 16: the Rust drops those that are null, and asserts
+/// that the others are in order.
+pub fn findings() -> Result<String, String> {
+    let told = |text: &str| {
+        let calls = parse_script(text).unwrap();
+        let [Call::Spans(call)] = calls.as_slice() else { unreachable!() };
+        assert_eq!(spans::answer(call), Answer::Refused(16));
+        catch_unwind(|| range::table(call, Ways::default())).map_err(panic_text)
+    };
+    let nulls = told("spans 1 1 6 | 2 1 0 5 0 1 | 1 2 1 9 1 1");
+    if nulls != Ok(Some(vec![1, 2, 0, 1, 1, 1])) {
+        return Err(format!("points null, 5: {nulls:?}"));
+    }
+    let hook = std::panic::take_hook();
+    std::panic::set_hook(Box::new(|_| {}));
+    let unsorted = told("spans 1 1 6 | 2 1 5 1 1 1 | 1 2 1 9 1 1");
+    std::panic::set_hook(hook);
+    match unsorted {
+        Err(text) if text.contains("not sorted correctly") => Ok("null points are dropped, order is asserted".into()),
+        other => Err(format!("points 5, 1: {other:?}")),
+    }
+}
+
 /// A failed input with what went wrong, for the reader to run again.
 fn failure(seed: u64, number: u64, call: &Spans, why: &str) -> String {
     format!("points in intervals, seed {seed}, input {number}: {why}\n{call}")
