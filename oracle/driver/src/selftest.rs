@@ -299,6 +299,7 @@ pub fn all(seed: u64, count: u64) -> bool {
         ("2.9's cases", Box::new(spans::cases)),
         ("2.9, longest tables", Box::new(spans::longest)),
         ("2.9, findings", Box::new(spans::findings)),
+        ("2.9, all short inputs", Box::new(spans::short_inputs)),
         ("2.9, points in intervals", Box::new(move || spans::random(seed, 4 * count))),
         ("2.9, ways of feeding", Box::new(move || spans::ways(seed, count))),
     ])

@@ -2,7 +2,7 @@
 use std::fmt;
 use std::panic::{AssertUnwindSafe, catch_unwind};
 
-use judges::generate_spans::input;
+use judges::generate_spans::{all_short, input};
 use judges::rules::Rules;
 use judges::script::{Answer, Call, Judge, Spans, parse_script};
 use judges::spans::{self, REFUSALS};
@@ -187,6 +187,15 @@ pub fn random(seed: u64, count: u64) -> Result<String, String> {
         with_rules(&call, Ways::default(), &mut tally).map_err(|why| failure(seed, i, &call, &why))?;
     }
     tally.missing().map_or(Ok(tally.to_string()), |what| Err(format!("nothing was tested: no {what} in {tally}")))
+}
+
+/// All short inputs: the Rust and the plain reading.
+pub fn short_inputs() -> Result<String, String> {
+    let mut tally = Tally::default();
+    for call in all_short() {
+        with_rules(&call, Ways::default(), &mut tally).map_err(|why| format!("short input: {why}\n{call}"))?;
+    }
+    Ok(tally.to_string())
 }
 
 /// The same answers however the node is fed and its tasks are scheduled: points on either side, points and intervals in

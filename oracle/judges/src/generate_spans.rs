@@ -161,3 +161,32 @@ pub fn input(seed: u64, number: u64) -> Spans {
     call.output = output(r, &call);
     call
 }
+
+/// All lists of up to this many of these rows.
+fn all_lists(rows: &[Row], most: usize) -> Vec<Vec<Row>> {
+    let mut lists = vec![vec![]];
+    for at in (0..most).map(|n| (0..n).map(|k| rows.len().pow(k as u32)).sum::<usize>()) {
+        let longer =
+            lists[at..].iter().flat_map(|list: &Vec<Row>| rows.iter().map(|r| [&list[..], &[r.clone()]].concat()));
+        let longer: Vec<Vec<Row>> = longer.collect();
+        lists.extend(longer);
+    }
+    lists
+}
+
+/// All short inputs: every list of up to three points and of up to one interval over null, -1, 0 and 1, with every choice of
+/// bounds, and an output that is just enough.
+pub fn all_short() -> impl Iterator<Item = Spans> {
+    let cells = [None, Some(-1), Some(0), Some(1)];
+    let points = all_lists(&cells.map(|cell| vec![cell]), 3);
+    let bounds: Vec<Row> = cells.iter().flat_map(|lower| cells.iter().map(|upper| vec![*lower, *upper])).collect();
+    let intervals = all_lists(&bounds, 1);
+    let flags = [(0, 0), (0, 1), (1, 0), (1, 1)];
+    let count = points.len() * intervals.len() * flags.len();
+    (0..count).map(move |i| {
+        let (lower, upper) = flags[i % 4];
+        let (points, intervals) = (&points[i / 4 / intervals.len()], &intervals[i / 4 % intervals.len()]);
+        let call = Spans { lower, upper, output: 0, points: words(points, 1), intervals: words(intervals, 2) };
+        Spans { output: spans::table(&call).map_or(2, |words| words.len()), ..call }
+    })
+}

@@ -2,7 +2,7 @@
 //! small.
 use std::time::{Duration, Instant};
 
-use judges::generate_spans::input;
+use judges::generate_spans::{all_short, input};
 use judges::script::{Call, Judge, Spans};
 use judges::spans;
 use oracle::range::Ways;
@@ -87,19 +87,19 @@ fn smallest(call: &Spans) -> (Spans, String) {
     (call, why)
 }
 
-/// Runs COUNT inputs; whether there was no difference and everything was met.
+/// Runs all short inputs and COUNT random ones; whether there was no difference and everything was met.
 pub fn compare_all(seed: u64, count: u64) -> bool {
     let start = Instant::now();
     let (mut tally, mut told) = (Tally::default(), 0);
-    for i in 0..count {
-        let call = input(seed, i);
+    let random = (0..count).map(|i| (format!("seed {seed}, input {i}"), input(seed, i)));
+    for (name, call) in all_short().map(|call| ("short input".to_string(), call)).chain(random) {
         if run(&call, &mut tally).is_err() {
             let (call, why) = smallest(&call);
-            println!("DIFFERENCE spans, seed {seed}, input {i}: {why}\n    {call}");
+            println!("DIFFERENCE spans, {name}: {why}\n    {call}");
             told += 1;
         }
         if told == TOLD {
-            println!("{TOLD} differences after {} inputs: no more are looked for", i + 1);
+            println!("{TOLD} differences: no more are looked for");
             break;
         }
     }
