@@ -509,10 +509,10 @@ int main(int argc, char **argv) {
 #else
     (void)at_death;
 #endif
-    lend_init(&left_lend);
-    lend_init(&right_lend);
-    lend_init(&frame_lend);
-    lend_init(&out_lend);
+    lend_init(&left_lend, LEND_MOST);
+    lend_init(&right_lend, LEND_MOST);
+    lend_init(&frame_lend, LEND_MOST);
+    lend_init(&out_lend, LEND_MOST);
     while (made < calls) {
         if (!open_host()) continue;
         for (steps = below(80); steps > 0 && made < calls && !spent(); steps--) step();

@@ -19,6 +19,7 @@ HOLDS(took_size, sizeof(rowkeeper_took) == 360);
 HOLDS(ported_size, sizeof(rowkeeper_ported) == 384);
 HOLDS(turned_size, sizeof(rowkeeper_turned) == 376);
 HOLDS(ran_size, sizeof(rowkeeper_ran) == 384);
+HOLDS(written_size, sizeof(rowkeeper_written) == 16);
 HOLDS(options_at, AT(rowkeeper_options, by) == 0 && AT(rowkeeper_options, strategy) == 1 &&
                       AT(rowkeeper_options, allow_eq) == 2 && AT(rowkeeper_options, tolerance) == 3 &&
                       AT(rowkeeper_options, check) == 4 && AT(rowkeeper_options, descending) == 5 &&
@@ -37,8 +38,9 @@ HOLDS(answers_at, AT(rowkeeper_took, refusal) == 0 && AT(rowkeeper_took, join) =
                       AT(rowkeeper_turned, sequence) == 2 && AT(rowkeeper_turned, join) == 3);
 HOLDS(ran_at, AT(rowkeeper_ran, turns) == 0 && AT(rowkeeper_ran, words) == 1 && AT(rowkeeper_ran, stop) == 2 &&
                   AT(rowkeeper_ran, refusal) == 3 && AT(rowkeeper_ran, join) == 4);
+HOLDS(written_at, AT(rowkeeper_written, refusal) == 0 && AT(rowkeeper_written, rows) == 1);
 
-enum { WORDS = sizeof(rowkeeper_join) / 8, LEFT = 20, RIGHT = 24 };
+enum { WORDS = sizeof(rowkeeper_join) / 8, LEFT = 20, RIGHT = 24, NO_WORD = -1 };
 static int64_t left[LEFT], right[RIGHT];
 static int failed;
 
@@ -49,10 +51,12 @@ static const uint64_t BAD[WORDS] = {
     2, 0, 0, 0, 0, 0, 0, 0, 0, 0, 0, 2, 0, 0, 0, 0, 0, 0, 0, 0, 0, 0     /* remembered rows */
 };
 
-/* Says what does not hold. */
+/* Says what does not hold; word is NO_WORD where no word of a join is to blame. */
 static void want(int holds, const char *what, int word) {
     if (holds) return;
-    printf("FAIL layout: %s (word %d of the join)\n", what, word);
+    printf("FAIL layout: %s", what);
+    if (word != NO_WORD) printf(" (word %d of the join)", word);
+    printf("\n");
     failed = 1;
 }
 
@@ -122,7 +126,36 @@ static void runs(rowkeeper_join join) {
     want(memcmp(out, BOTH, sizeof out) == 0, "a run's output", 0);
 }
 
-/* Alters each word of a fresh join in turn, then looks at each kind of answer. */
+/* Whether spans answer so, over the points 10, 20, 30 and a pass from 10 to 30; a refused call must leave the output. */
+static int covers(uint64_t lower, uint64_t upper, size_t room, uint64_t refusal, uint64_t rows) {
+    static const int64_t POINTS[] = {3, 1, 10, 20, 30, 1, 1, 1}, PASS[] = {1, 2, 10, 30, 1, 1};
+    int64_t out[14] = {-1, -1, -1, -1, -1, -1, -1, -1, -1, -1, -1, -1, -1, -1};
+    rowkeeper_written written = rowkeeper_spans(POINTS, 8, PASS, 6, lower, upper, out, room);
+    uint64_t i, first = lower == 0;
+    if (written.refusal != refusal || written.rows != rows) return 0;
+    if (refusal != 0) return out[0] == -1 && out[1] == -1;
+    for (i = 0; i < 2 * rows; i++)
+        if (out[2 + i] != (i % 2 == 0 ? 0 : (int64_t)(first + i / 2)) || out[2 + 2 * rows + i] != 1) return 0;
+    return out[0] == (int64_t)rows && out[1] == 2 && (rows == 3 || out[ROWKEEPER_SPANS_WORDS(rows)] == -1);
+}
+
+/* What spans bring at their place: each flag at its own, each refusal, an output that is full and one that is a word short. */
+static void spans(void) {
+    static const int64_t NULL_POINT[] = {1, 1, 0, 0}, NONE[] = {0, 2};
+    int64_t out[2] = {-1, -1};
+    want(covers(1, 1, 14, ROWKEEPER_ACCEPTED, 3), "spans, both bounds inclusive", NO_WORD);
+    want(covers(1, 0, 14, ROWKEEPER_ACCEPTED, 2), "spans, the lower bound inclusive", NO_WORD);
+    want(covers(0, 1, 14, ROWKEEPER_ACCEPTED, 2), "spans, the upper bound inclusive", NO_WORD);
+    want(covers(0, 0, 6, ROWKEEPER_ACCEPTED, 1), "spans, no bound inclusive, a full output", NO_WORD);
+    want(covers(0, 0, 5, ROWKEEPER_NO_ROOM, 0), "spans, an output one word short", NO_WORD);
+    want(covers(2, 1, 14, ROWKEEPER_BAD_OPTIONS, 0), "spans, no flag for the lower bound", NO_WORD);
+    want(covers(1, UINT64_MAX, 14, ROWKEEPER_BAD_OPTIONS, 0), "spans, no flag for the upper bound", NO_WORD);
+    want(rowkeeper_spans(NONE, 2, NONE, 2, 1, 1, out, 2).refusal == ROWKEEPER_BAD_FRAME, "spans, two columns", NO_WORD);
+    want(rowkeeper_spans(NULL_POINT, 4, NONE, 2, 1, 1, out, 0).refusal == ROWKEEPER_BAD_POINTS, "spans, a null", NO_WORD);
+    want(out[0] == -1 && out[1] == -1, "spans, the output of a refused call", NO_WORD);
+}
+
+/* Alters each word of a fresh join in turn, then looks at each kind of answer; at last at spans, which have no join. */
 int main(void) {
     rowkeeper_options options;
     rowkeeper_took took;
@@ -143,6 +176,7 @@ int main(void) {
     want(end_with(took.join, 18, ROWKEEPER_DONE) == ROWKEEPER_CLOSED, "state", 18);
     answers(took.join);
     runs(took.join);
+    spans();
     if (!failed) printf("sizes, offsets, each field of a join where the archive reads it, and each answer\n");
     return failed;
 }

@@ -18,9 +18,9 @@
 #define GUARDS 16
 #define GUARD ((int64_t)0x5a5ac3c30f0f9696)
 
-void lend_init(lend *a) {
+void lend_init(lend *a, size_t most) {
     size_t page = (size_t)sysconf(_SC_PAGESIZE);
-    size_t inner = ((LEND_MOST + 2 * GUARDS) * sizeof(int64_t) + page - 1) / page * page;
+    size_t inner = ((most + 2 * GUARDS) * sizeof(int64_t) + page - 1) / page * page;
     char *all = mmap(NULL, inner + 2 * page, PROT_NONE, MAP_PRIVATE | MAP_ANONYMOUS, -1, 0);
     if (all == MAP_FAILED || mprotect(all + page, inner, PROT_READ | PROT_WRITE) != 0) {
         fprintf(stderr, "hostile: no memory\n");

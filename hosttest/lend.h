@@ -5,7 +5,7 @@
 #include <stddef.h>
 #include <stdint.h>
 
-/* The longest slice that is lent, in words. */
+/* The longest slice that the calls of a join are lent, in words. */
 #define LEND_MOST 9000
 
 /* Where a slice lies: between guard words, against the pages before it, or against the pages behind it. */
@@ -19,8 +19,8 @@ typedef struct lend {
     size_t len;     /* its length */
 } lend;
 
-/* Makes the pages; ends the program where there are none. */
-void lend_init(lend *a);
+/* Makes the pages for slices of at most so many words; ends the program where there are none. */
+void lend_init(lend *a, size_t most);
 
 /* Lays these words down at a place, guard words on both sides, and gives their address; null for no words if so wished. */
 int64_t *lend_words(lend *a, const int64_t *words, size_t len, int place, int null_if_empty);

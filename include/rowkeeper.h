@@ -24,6 +24,10 @@
  * ROWKEEPER_WANTS_RIGHT it hands in the next right frame, or ends right where there is none; where one answers
  * ROWKEEPER_IDLE it hands in the next left frame, or is done where there is none.
  *
+ * One call stands by itself, without a join and without areas:
+ *
+ *     rowkeeper_spans       lists which points lie inside the bounds of which intervals
+ *
  * THE JOIN
  *
  * A join is a value: every call takes one and hands the next one back. Go on with the join that the last call handed
@@ -84,8 +88,9 @@
  *
  * REFUSALS
  *
- * A refused call gives one of the numbers below, the first that applies. It alters no word of areas, frame or output and
- * hands the join back as it came, except that 8 and 9 mark it failed.
+ * A refused call gives one of the numbers below, the first that applies: the join's calls check in the order of the
+ * numbers, rowkeeper_spans in the order 1, 5, 16, 6. It alters no word of areas, frame or output and hands the join back
+ * as it came, except that 8 and 9 mark it failed.
  *
  * POINTERS, OWNERSHIP, THREADS
  *
@@ -120,6 +125,8 @@ typedef char rowkeeper_lengths_have_64_bits[sizeof(size_t) == 8 ? 1 : -1];
 #define ROWKEEPER_OUTPUT_WORDS(rows) (2 + 2 * (size_t)(rows))
 /* What so many turns write at most where no frame has more rows. The product is the host's own: a huge `turns` overflows. */
 #define ROWKEEPER_RUN_WORDS(turns, rows) ((size_t)(turns) * ROWKEEPER_OUTPUT_WORDS(rows))
+/* What so many pairs of rowkeeper_spans are. There are at most rows of points × rows of intervals of them. */
+#define ROWKEEPER_SPANS_WORDS(pairs) (2 + 4 * (size_t)(pairs))
 
 /* options.strategy */
 enum { ROWKEEPER_BACKWARD = 0, ROWKEEPER_FORWARD = 1, ROWKEEPER_NEAREST = 2 };
@@ -139,12 +146,13 @@ enum { ROWKEEPER_WROTE = 0, ROWKEEPER_WANTS_RIGHT = 1, ROWKEEPER_IDLE = 2, ROWKE
 /* ran.stop: this, or the answer of the turn that wrote nothing: ROWKEEPER_WANTS_RIGHT, ROWKEEPER_IDLE or ROWKEEPER_REFUSED */
 enum { ROWKEEPER_TURNS_USED = 0 };
 
-/* refusal, in checking order: where several apply the first is given. */
+/* refusal: where several apply, the first in checking order is given (see REFUSALS). */
 enum {
     /* Not refused. */
     ROWKEEPER_ACCEPTED = 0,
-    /* Opening alone: by above 4, strategy above 2, tolerance below -1, Nearest without equality, or a flag that is neither
-       0 nor 1. There is no join then: what stands beside the refusal is refused by 2 in every call. */
+    /* Opening: by above 4, strategy above 2, tolerance below -1, Nearest without equality, or a flag that is neither 0 nor
+       1. There is no join then: what stands beside the refusal is refused by 2 in every call. Spans: a flag that is neither
+       0 nor 1. */
     ROWKEEPER_BAD_OPTIONS = 1,
     /* The join does not hold together or does not fit its areas: options as in 1, base + held above R, queue_start +
        queue_words above the left area, pruned + held above 2^63 - 1, an odd sequence, a state, flag or port code that
@@ -155,16 +163,19 @@ enum {
     /* At the wrong time: a left frame outside Running; a right frame or an end of right after right has ended or in Done;
        a turn in Done. */
     ROWKEEPER_CLOSED = 4,
-    /* The words are no frame of this join's c. At a turn: the words that wait are none. */
+    /* The words are no frame of this join's c. At a turn: the words that wait are none. Spans: the points are no frame of
+       one column, or the intervals none of two. */
     ROWKEEPER_BAD_FRAME = 5,
-    /* No room: for the frame in the left area, for its rows in the right area, or for the matches in the output. */
+    /* No room: for the frame in the left area, for its rows in the right area, or for the matches or pairs in the output. */
     ROWKEEPER_NO_ROOM = 6,
     /* The numbers are used up: right rows past 2^63 - 1, or a turn at sequence 2^64 - 2. */
     ROWKEEPER_USED_UP = 7,
     /* Check on: left rows are out of order, in the frame or against an earlier one. The join is marked failed. */
     ROWKEEPER_LEFT_ORDER = 8,
     /* Check on: right rows are out of order. The join is marked failed. */
-    ROWKEEPER_RIGHT_ORDER = 9
+    ROWKEEPER_RIGHT_ORDER = 9,
+    /* Spans alone: a point is null, or greater than the next. */
+    ROWKEEPER_BAD_POINTS = 16
 };
 
 /* What a join is opened with. Flags are 0 or 1, those past `by` too. */
@@ -236,6 +247,12 @@ typedef struct rowkeeper_ran {
     rowkeeper_join join;
 } rowkeeper_ran;
 
+/* The answer of a call that writes a table: 0 or the refusal's number; how many rows were written (0 where refused). */
+typedef struct rowkeeper_written {
+    uint64_t refusal;
+    uint64_t rows;
+} rowkeeper_written;
+
 /* Opens a join: Running, right not ended, nothing held, waiting or remembered. Refused by 1 alone. */
 rowkeeper_took rowkeeper_open(rowkeeper_options options);
 
@@ -285,6 +302,29 @@ rowkeeper_turned rowkeeper_turn(rowkeeper_join join, const int64_t *left, size_t
    Both areas are only read in every case. No run goes on for ever: each turn takes a waiting frame. */
 rowkeeper_ran rowkeeper_run(rowkeeper_join join, size_t turns, const int64_t *left, size_t left_len, const int64_t *right,
                             size_t right_len, int64_t *out, size_t out_len);
+
+/* Lists which points lie inside the bounds of which intervals, as a pass is good for the performances between two minutes.
+   Points are a frame of one column, none of them null, none greater than the next; equal ones are fine. Intervals are a frame
+   of two columns, the lower and the upper bound, in any order; a row with a null bound covers nothing and is counted all the
+   same. Each flag is 1 where that bound itself is inside, 0 where it is not. Where the lower bound is above the upper one, or
+   equal to it with a flag that is 0, nothing is inside.
+   The output has k, 2, then k pairs of numbers, then 2k marks, all 1: for each point inside, the number of the interval's row
+   and the number of the point's row, both from 0 as they were handed in; interval by interval, and for each in the points'
+   order. These are ROWKEEPER_SPANS_WORDS(k) words, the words behind them are untouched, and `rows` is k. Two frames can have
+   4,096 × 4,096 pairs, which are 67,108,866 words; a host that cannot lend so many hands in fewer intervals at a time, down
+   to one row, whose pairs are at most as many as the points. How many words are wanted is not told beside a 6.
+   Refused by 1, 5, 16 and 6, in this order: a flag above 1; words that are no such frame; points that are null or out of
+   order; too short an output. Both frames are only read in every case.
+   A call looks at every word of both frames, makes four binary searches for each interval and writes four words for each pair.
+   Three minutes, and a pass from 10 up to but not including 30:
+
+       static const int64_t points[] = {3, 1, 10, 20, 30, 1, 1, 1}, pass[] = {1, 2, 10, 30, 1, 1};
+       int64_t out[10];
+       rowkeeper_written w = rowkeeper_spans(points, 8, pass, 6, 1, 0, out, 10);
+
+   w is {0, 2} and out is 2, 2, 0, 0, 0, 1, 1, 1, 1, 1: row 0 covers points 0 and 1. */
+rowkeeper_written rowkeeper_spans(const int64_t *points, size_t point_words, const int64_t *intervals, size_t interval_words,
+                                  uint64_t lower_inclusive, uint64_t upper_inclusive, int64_t *out, size_t out_words);
 
 #ifdef __cplusplus
 }

@@ -3,8 +3,9 @@ use std::path::{Path, PathBuf};
 use std::{env, fs};
 
 /// The files of polars-stream that are compiled, and the names that lib.rs includes them by.
-const FILES: [(&str, &str); 5] = [
+const FILES: [(&str, &str); 6] = [
     ("src/nodes/joins/asof_join.rs", "asof_join.rs"),
+    ("src/nodes/joins/range_join.rs", "range_join.rs"),
     ("src/nodes/joins/utils.rs", "utils.rs"),
     ("src/morsel.rs", "morsel.rs"),
     ("src/graph.rs", "graph.rs"),

@@ -34,6 +34,20 @@
 //! # Ok::<(), Box<dyn std::error::Error>>(())
 //! ```
 //!
+//! Without a join, [`spans()`] lists which points lie inside the bounds of which intervals:
+//!
+//! ```
+//! use rowkeeper::{Bounds, Frame, spans, spans_words};
+//!
+//! // Performances at minutes 10, 20 and 30; passes from 10 to 20 and from 25 to 90, both ends inclusive.
+//! let minutes = Frame::of_keys(&[10, 20, 30])?;
+//! let passes = Frame::new(2, &[[Some(10), Some(20)], [Some(25), Some(90)]])?;
+//! let mut output = vec![0; spans_words(3 * 2)];
+//! let pairs = spans(&minutes, &passes, Bounds::INCLUSIVE, &mut output)?;
+//! assert_eq!(pairs.iter().collect::<Vec<_>>(), [(0, 0), (0, 1), (1, 2)]);
+//! # Ok::<(), Box<dyn std::error::Error>>(())
+//! ```
+//!
 //! A join cannot be lent its own area as a frame, and an output cannot be altered while its matches are looked at:
 //!
 //! ```compile_fail,E0502
@@ -53,9 +67,11 @@ use std::fmt;
 mod frame;
 mod join;
 pub mod raw;
+mod spans;
 
 pub use frame::{Frame, FrameError};
 pub use join::{Join, Matches, Run, Stop, Turn, Written};
+pub use spans::{Bounds, Pairs, spans, spans_words};
 
 /// Which right row a left row takes.
 #[derive(Clone, Copy, Debug, PartialEq, Eq)]
@@ -117,10 +133,11 @@ impl Options {
     }
 }
 
-/// Why a call is refused, in checking order.
+/// Why a call is refused. The calls of a join check in the order of the numbers, [`spans()`] in the order 1, 5, 16, 6.
 #[derive(Clone, Copy, Debug, PartialEq, Eq, PartialOrd, Ord)]
 pub enum Refusal {
-    /// At opening: more than four by-columns, a tolerance above 2^63 − 1, or Nearest without equality.
+    /// At opening: more than four by-columns, a tolerance above 2^63 − 1, or Nearest without equality. Of raw spans: a
+    /// flag that is neither 0 nor 1.
     BadOptions = 1,
     /// The join does not hold together, or not with its areas.
     BadJoin = 2,
@@ -128,7 +145,7 @@ pub enum Refusal {
     Failed = 3,
     /// The call comes at the wrong time.
     Closed = 4,
-    /// The words are no frame of this join.
+    /// The words are no frame of this join; the points or intervals none of one column or two.
     BadFrame = 5,
     /// There is no room in the area or in the output.
     NoRoom = 6,
@@ -138,11 +155,13 @@ pub enum Refusal {
     LeftOrder = 8,
     /// Right rows are out of order. The join is marked failed.
     RightOrder = 9,
+    /// A point is null, or greater than the next.
+    BadPoints = 16,
 }
 
 impl Refusal {
-    /// All refusals, in checking order.
-    pub const ALL: [Refusal; 9] = [
+    /// All refusals, by number.
+    pub const ALL: [Refusal; 10] = [
         Refusal::BadOptions,
         Refusal::BadJoin,
         Refusal::Failed,
@@ -152,13 +171,14 @@ impl Refusal {
         Refusal::UsedUp,
         Refusal::LeftOrder,
         Refusal::RightOrder,
+        Refusal::BadPoints,
     ];
 
     /// The refusal of a number, or none where the call was not refused.
     fn of(number: u64) -> Result<(), Refusal> {
-        match number {
-            0 => Ok(()),
-            n => Err(*Refusal::ALL.get(n as usize - 1).expect("refusals have the numbers 1 to 9")),
+        match Refusal::ALL.into_iter().find(|refusal| number == refusal.number().into()) {
+            Some(refusal) => Err(refusal),
+            None => Ok(assert_eq!(number, 0, "refusals have the numbers 1 to 9 and 16")),
         }
     }
 
@@ -172,15 +192,16 @@ impl fmt::Display for Refusal {
     /// The number and what it says.
     fn fmt(&self, f: &mut fmt::Formatter<'_>) -> fmt::Result {
         let why = match self {
-            Refusal::BadOptions => "these options open no join",
+            Refusal::BadOptions => "these options cannot be",
             Refusal::BadJoin => "the join does not hold together, or not with its areas",
             Refusal::Failed => "rows were out of order in an earlier turn",
             Refusal::Closed => "the call comes at the wrong time",
-            Refusal::BadFrame => "the words are no frame of this join",
+            Refusal::BadFrame => "the words are no frame of these columns",
             Refusal::NoRoom => "there is no room",
             Refusal::UsedUp => "the numbers are used up",
             Refusal::LeftOrder => "left rows are out of order",
             Refusal::RightOrder => "right rows are out of order",
+            Refusal::BadPoints => "a point is null or greater than the next",
         };
         write!(f, "refused by {}: {why}", self.number())
     }

@@ -80,6 +80,14 @@ pub struct Ran {
     pub join: Join,
 }
 
+/// The answer of a call that writes a table.
+#[repr(C)]
+#[derive(Clone, Copy, Debug, PartialEq, Eq)]
+pub struct Written {
+    pub refusal: u64,
+    pub rows: u64,
+}
+
 /// How many words a join is.
 pub const JOIN_WORDS: usize = size_of::<Join>() / 8;
 const _: () = assert!(JOIN_WORDS == 44 && align_of::<Join>() == 8 && size_of::<usize>() == 8);
@@ -161,6 +169,17 @@ unsafe extern "C" {
         out: *mut i64,
         out_len: usize,
     ) -> Ran;
+    /// Lists which points each interval covers.
+    pub fn rowkeeper_spans(
+        points: *const i64,
+        point_words: usize,
+        intervals: *const i64,
+        interval_words: usize,
+        lower_inclusive: u64,
+        upper_inclusive: u64,
+        out: *mut i64,
+        out_words: usize,
+    ) -> Written;
 }
 
 /// The calls with slices in the place of pointers and lengths. A slice of Rust is never null, is aligned and as long as it
@@ -207,5 +226,13 @@ pub mod safe {
         let (o, n) = (out.as_mut_ptr(), out.len());
         // SAFETY: see the module.
         unsafe { rowkeeper_run(join, turns, left.as_ptr(), left.len(), right.as_ptr(), right.len(), o, n) }
+    }
+
+    /// Lists which points each interval covers; the flags: lower, upper.
+    pub fn spans(points: &[i64], intervals: &[i64], [lower, upper]: [u64; 2], out: &mut [i64]) -> Written {
+        let (p, n) = (points.as_ptr(), points.len());
+        let (o, room) = (out.as_mut_ptr(), out.len());
+        // SAFETY: see the module.
+        unsafe { rowkeeper_spans(p, n, intervals.as_ptr(), intervals.len(), lower, upper, o, room) }
     }
 }

@@ -1,4 +1,4 @@
-// The join for hosts in C: every call over structs of numbers, all of 64 bits, and words that the host lends. The exported functions alone; what each does stands in hostfeed and hostturn.
+// The calls for hosts in C, over structs of numbers, all of 64 bits, and words that the host lends: the exported functions alone. What each does stands in hostfeed, hostturn and spanhost.
 use hostfeed::host_end_right;
 use hostfeed::host_left;
 use hostfeed::host_open;
@@ -6,7 +6,9 @@ use hostfeed::host_right;
 use hostturn::host_ports;
 use hostturn::host_run;
 use hostturn::host_turn;
+use spanhost::spans_host;
 ghost use Rattle.hostcalls.specs.Leaves.{HostOpenLeaves, HostLeftLeaves, HostRightLeaves, HostEndLeaves, HostPortsLeaves, HostTurnLeaves, HostRunLeaves};
+ghost use Rattle.spanhost.specs.Call.{HostSpanLeaves};
 pub use convert::HostJoin;
 pub use convert::HostOptions;
 pub use convert::HostRow;
@@ -14,6 +16,7 @@ pub use told::HostPorted;
 pub use told::HostRan;
 pub use told::HostTook;
 pub use told::HostTurned;
+pub use written::HostWritten;
 
 // Opens a join. The join of a refused opening holds the options that came, and every call but a run of no turns answers 2 to it.
 #[no_mangle]
@@ -97,4 +100,18 @@ pub extern "C" fn rowkeeper_run(
     ensures { λ r. ⌜ HostRunLeaves h k (now (left .entry)) (now (right .entry)) (now (out .entry)) r (now (out .exit)) ⌝ }
 {
     host_run(h, k, left, right, out)
+}
+
+// Lists which points each interval covers; lower and upper tell whether a bound is inclusive. No join has a part in it.
+#[no_mangle]
+pub extern "C" fn rowkeeper_spans(
+    points: &[i64],
+    intervals: &[i64],
+    lower: u64,
+    upper: u64,
+    out: &mut [i64],
+) -> HostWritten
+    ensures { λ r. ⌜ HostSpanLeaves lower upper (now (points .entry)) (now (intervals .entry)) (now (out .entry)) r (now (out .exit)) ⌝ }
+{
+    spans_host(points, intervals, lower, upper, out)
 }

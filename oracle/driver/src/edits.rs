@@ -14,8 +14,14 @@ struct Edit {
 }
 
 /// The files that the build reads.
-const FILES: [&str; 5] =
-    ["src/nodes/joins/asof_join.rs", "src/nodes/joins/utils.rs", "src/morsel.rs", "src/graph.rs", "src/pipe.rs"];
+const FILES: [&str; 6] = [
+    "src/nodes/joins/asof_join.rs",
+    "src/nodes/joins/range_join.rs",
+    "src/nodes/joins/utils.rs",
+    "src/morsel.rs",
+    "src/graph.rs",
+    "src/pipe.rs",
+];
 
 /// All edits of a list.
 fn parse(text: &str) -> Result<Vec<Edit>, String> {
@@ -47,9 +53,9 @@ fn read(list: &str) -> Result<Vec<Edit>, String> {
     parse(&fs::read_to_string(list).map_err(|e| format!("{list}: {e}"))?)
 }
 
-/// Prints each edit's name, what is expected of it, and why.
+/// Prints each edit's name, its file, what is expected of it, and why.
 pub fn print(list: &str) -> Result<(), String> {
-    read(list)?.iter().for_each(|e| println!("{} {} {}", e.name, e.expect, e.why));
+    read(list)?.iter().for_each(|e| println!("{} {} {} {}", e.name, e.file, e.expect, e.why));
     Ok(())
 }
 

@@ -2,7 +2,10 @@
 pub mod compare;
 pub mod edits;
 pub mod findings;
+pub mod frame;
 pub mod notice;
+pub mod range;
 pub mod rust;
 pub mod sample;
 pub mod selftest;
+pub mod spans;

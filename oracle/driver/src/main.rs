@@ -5,22 +5,26 @@ use std::process::ExitCode;
 
 use judges::drive::{drive, exit, number};
 use judges::generate::{Kind, script, script_with_runs};
+use judges::generate_spans;
 use judges::rules::Rules;
 use judges::script::Call;
 use oracle::rust::{Rust, Ways};
-use oracle::{edits, notice, sample, selftest};
+use oracle::{edits, notice, sample, selftest, spans};
 
 /// What the program can be asked for.
 const USAGE: &str = "oracle rust | rules                   answer the script on standard input
 oracle generate KIND SEED COUNT       print random scripts (whole mixed flush nullslast order ends equal refusals handed)
 oracle generate KIND SEED COUNT runs  the same scripts with runs in the place of turns
+oracle generate spans SEED COUNT      print random points and intervals
 oracle selftest SEED COUNT            the test of the oracle itself, COUNT scripts a kind
 oracle whole SEED COUNT               the whole-table rule over COUNT scripts
 oracle compare SEED COUNT             the Rust and the step rules over COUNT scripts a kind
+oracle spans SEED COUNT               the range join of the Rust and 2.9 over COUNT inputs
 oracle sample write|replay FOLDER     record the sample, or replay it
 oracle edits LIST                     print the edits of the Rust
 oracle edit LIST NAME FROM TO         lay an edited copy of the source down
-oracle notice SEED COUNT FOLDER       which judge sees that the Rust was edited, and whether the sample does";
+oracle notice SEED COUNT FOLDER       which judge sees that the Rust was edited, and whether the sample does
+oracle notice-spans SEED COUNT        at which input 2.9 sees that the Rust's range join was edited";
 
 /// Prints random scripts of a kind, made by one of the two ways to make them.
 fn print_scripts(make: fn(Kind, u64, u64) -> Vec<Call>, kind: &str, seed: u64, count: u64) -> Result<(), String> {
@@ -28,6 +32,13 @@ fn print_scripts(make: fn(Kind, u64, u64) -> Vec<Call>, kind: &str, seed: u64, c
     let scripts = (0..count).flat_map(|i| make(kind, seed, i));
     let mut output = BufWriter::new(std::io::stdout());
     scripts.into_iter().try_for_each(|call| writeln!(output, "{call}")).map_err(|e| e.to_string())
+}
+
+/// Prints random points and intervals.
+fn print_spans(seed: u64, count: u64) -> Result<(), String> {
+    let mut output = BufWriter::new(std::io::stdout());
+    let mut inputs = (0..count).map(|i| generate_spans::input(seed, i));
+    inputs.try_for_each(|call| writeln!(output, "{call}")).map_err(|e| e.to_string())
 }
 
 /// Runs one step of the self-test alone; an error where it fails.
@@ -40,6 +51,7 @@ fn run(args: &[&str]) -> Result<bool, String> {
     match *args {
         ["rust"] => drive(&mut Rust::default())?,
         ["rules"] => drive(&mut Rules::default())?,
+        ["generate", "spans", seed, count] => print_spans(number(seed)?, number(count)?)?,
         ["generate", kind, seed, count] => print_scripts(script, kind, number(seed)?, number(count)?)?,
         ["generate", kind, seed, count, "runs"] => {
             print_scripts(script_with_runs, kind, number(seed)?, number(count)?)?
@@ -53,6 +65,10 @@ fn run(args: &[&str]) -> Result<bool, String> {
             let (seed, count) = (number(seed)?, number(count)?);
             return alone("step rules", move || selftest::all_kinds(seed, count));
         },
+        ["spans", seed, count] => {
+            let (seed, count) = (number(seed)?, number(count)?);
+            return alone("points in intervals", move || spans::random(seed, count));
+        },
         ["sample", "write", folder] => sample::write(Path::new(folder))?,
         ["sample", "replay", folder] => {
             let folder = folder.to_string();
@@ -61,6 +77,7 @@ fn run(args: &[&str]) -> Result<bool, String> {
         ["edits", list] => edits::print(list)?,
         ["edit", list, name, from, to] => edits::apply(list, name, Path::new(from), Path::new(to))?,
         ["notice", seed, count, folder] => notice::print(number(seed)?, number(count)?, Path::new(folder))?,
+        ["notice-spans", seed, count] => notice::print_spans(number(seed)?, number(count)?),
         _ => return Err(USAGE.to_string()),
     }
     Ok(true)

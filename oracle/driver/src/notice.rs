@@ -10,6 +10,7 @@ use judges::whole_table::Counts;
 use crate::compare::{self, Difference, Tally};
 use crate::rust::{Rust, Ways};
 use crate::sample;
+use crate::spans;
 
 /// The script, counted from 1, at which each judge saw a difference.
 #[derive(Default)]
@@ -72,4 +73,12 @@ pub fn print(seed: u64, count: u64, folder: &Path) -> Result<(), String> {
     let [whole, answers, inside] = [noticed.whole, noticed.answers, noticed.inside].map(text);
     println!("whole {whole} answers {answers} inside {inside}{rest} sample {}", text(by_sample(folder)?));
     Ok(())
+}
+
+/// Prints where the plain reading of 2.9 noticed something: at which of its own cases or random inputs.
+pub fn print_spans(seed: u64, count: u64) {
+    std::panic::set_hook(Box::new(|_| {}));
+    let cases = if catch_unwind(spans::cases).is_ok_and(|said| said.is_ok()) { "-" } else { "yes" };
+    let random = spans::notice(seed, count).map_or(format!("- of {count}"), |n| n.to_string());
+    println!("cases {cases} inputs {random}");
 }

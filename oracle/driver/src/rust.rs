@@ -16,6 +16,8 @@ use slotmap::Key;
 
 use judges::script::{Answer, Call, Judge, Open, Ran, Stop};
 
+use crate::{frame, range};
+
 /// How the node is fed. No answer may depend on it, save `right_pipe` on rows that are not sorted as declared.
 #[derive(Clone, Copy)]
 pub struct Ways {
@@ -73,20 +75,10 @@ impl Names {
 
     /// A frame's words as the Rust's frame, or none where they break 01's frame rule: no such frame can be made.
     fn frame(&self, words: &[i64], b: usize, first_number: usize) -> Option<DataFrame> {
-        let c = b + 1;
-        let [n, columns, cells @ ..] = words else { return None };
-        if !(0..=4096).contains(n) || *columns != c as i64 || cells.len() != 2 * *n as usize * c {
-            return None;
-        }
-        let n = *n as usize;
-        let (values, marks) = cells.split_at(n * c);
-        if values.iter().zip(marks).any(|(v, m)| !(*m == 1 || (*m == 0 && *v == 0))) {
-            return None;
-        }
-        let cell = |at: usize| (marks[at] == 1).then_some(values[at]);
-        let column = |j: usize| (0..n).map(|i| cell(i * c + j)).collect();
-        let named = self.by[..b].iter().copied().chain([self.key]).enumerate();
-        let mut columns: Vec<Column> = named.map(|(j, name)| Column::new(name, column(j))).collect();
+        let cells = frame::columns(words, b + 1)?;
+        let n = cells[0].len();
+        let named = self.by[..b].iter().copied().chain([self.key]).zip(cells);
+        let mut columns: Vec<Column> = named.map(|(name, cells)| Column::new(name, cells)).collect();
         let numbers = || (first_number..first_number + n).map(|i| Some(i as i64)).collect();
         columns.extend(self.number.map(|name| Column::new(name, numbers())));
         Some(DataFrame::new(n, columns))
@@ -145,14 +137,14 @@ fn node(o: &Open) -> AsOfJoinNode {
         allow_eq: o.eq,
         check_sortedness: o.check,
     };
-    let args = JoinArgs { how: JoinType::AsOf(Box::new(options)), suffix: None };
+    let args = JoinArgs { how: JoinType::AsOf(Box::new(options)), suffix: None, build_side: None };
     let (descending, nulls_last) = (flags(&o.descending), flags(&o.nulls_last));
     let (left, right) = (LEFT.schema(o.b), RIGHT.schema(o.b));
     AsOfJoinNode::new(left, right, LEFT.key, RIGHT.key, None, None, descending, nulls_last, args)
 }
 
 /// A task that sends frames into a pipe, as the node before the join would.
-async fn source(mut send: PortSender, frames: Vec<DataFrame>) -> PolarsResult<()> {
+pub(crate) async fn source(mut send: PortSender, frames: Vec<DataFrame>) -> PolarsResult<()> {
     let mut seq = MorselSeq::default();
     for df in frames {
         if send.send(Morsel::new_unregistered(df, seq, SourceToken::new())).await.is_err() {
@@ -405,9 +397,10 @@ pub struct Rust {
 }
 
 impl Judge for Rust {
-    /// Opens, or asks the open join.
+    /// Opens, or asks the open join; points in intervals need none.
     fn call(&mut self, call: &Call) -> Answer {
         match (call, &mut self.join) {
+            (Call::Spans(spans), _) => range::answer(spans, range::Ways::default()),
             (Call::Open(o), join) => {
                 FAULTS.take();
                 *join = Join::open(o, self.ways);

@@ -10,6 +10,7 @@ use judges::whole_table::{self, Counts};
 
 use crate::compare::{self, Difference, Tally};
 use crate::rust::{Rust, Ways};
+use crate::spans;
 
 /// How a step ends: what it counted, or what went wrong.
 type Step = Result<String, String>;
@@ -295,5 +296,11 @@ pub fn all(seed: u64, count: u64) -> bool {
         ("runs", Box::new(move || runs(seed, count))),
         ("ways of feeding", Box::new(move || ways(seed, count / 4))),
         ("refusals", Box::new(move || refusals(seed, count))),
+        ("2.9's cases", Box::new(spans::cases)),
+        ("2.9, longest tables", Box::new(spans::longest)),
+        ("2.9, findings", Box::new(spans::findings)),
+        ("2.9, all short inputs", Box::new(spans::short_inputs)),
+        ("2.9, points in intervals", Box::new(move || spans::random(seed, 4 * count))),
+        ("2.9, ways of feeding", Box::new(move || spans::ways(seed, count))),
     ])
 }

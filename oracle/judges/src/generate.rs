@@ -48,7 +48,12 @@ pub struct Random(u64);
 impl Random {
     /// The source of a script: its seed, kind and number.
     fn new(seed: u64, kind: Kind, number: u64) -> Self {
-        let mut out = Random(seed ^ ((kind as u64 + 1) << 56));
+        Self::of_family(seed, kind as u64 + 1, number)
+    }
+
+    /// The source of a number among a seed's scripts of a family: kinds of scripts over joins have 1 to 8.
+    pub(crate) fn of_family(seed: u64, family: u64, number: u64) -> Self {
+        let mut out = Random(seed ^ (family << 56));
         out.0 = out.next() ^ number.wrapping_mul(0x9E37_79B9_7F4A_7C15);
         out.next();
         out
@@ -64,17 +69,17 @@ impl Random {
     }
 
     /// A number below n.
-    fn below(&mut self, n: usize) -> usize {
+    pub(crate) fn below(&mut self, n: usize) -> usize {
         (self.next() >> 11) as usize % n
     }
 
     /// True in so many of a hundred cases.
-    fn percent(&mut self, n: usize) -> bool {
+    pub(crate) fn percent(&mut self, n: usize) -> bool {
         self.below(100) < n
     }
 
     /// One of these.
-    fn pick<T: Copy>(&mut self, from: &[T]) -> T {
+    pub(crate) fn pick<T: Copy>(&mut self, from: &[T]) -> T {
         from[self.below(from.len())]
     }
 }
@@ -207,7 +212,7 @@ fn table(r: &mut Random, s: &Shape, how: Arrangement) -> Vec<Row> {
 }
 
 /// A frame's words.
-fn words(rows: &[Row], c: usize) -> Vec<i64> {
+pub(crate) fn words(rows: &[Row], c: usize) -> Vec<i64> {
     let cells = || rows.iter().flatten();
     let mut out = vec![rows.len() as i64, c as i64];
     out.extend(cells().map(|x| x.unwrap_or(0)));
@@ -395,7 +400,7 @@ fn plain(r: &mut Random, mut d: Draft) -> Vec<Call> {
 }
 
 /// A frame that breaks the frame rule, most of the time.
-fn broken_frame(r: &mut Random, c: usize) -> Vec<i64> {
+pub(crate) fn broken_frame(r: &mut Random, c: usize) -> Vec<i64> {
     let mut out = words(&vec![vec![Some(1); c]; r.below(3)], c);
     match r.below(6) {
         0 => out.truncate(r.below(out.len() + 1)),

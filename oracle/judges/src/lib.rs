@@ -3,7 +3,9 @@
 pub mod drive;
 pub mod exhaustive;
 pub mod generate;
+pub mod generate_spans;
 pub mod rules;
 pub mod script;
+pub mod spans;
 pub mod whole_table;
 pub mod words;

@@ -4,6 +4,7 @@
 use std::cmp::Ordering;
 
 use crate::script::{Answer, Call, JoinWords, Judge, Look, Open, Place, Ran, Stop};
+use crate::spans;
 use crate::words::{self, RowWords};
 
 /// A cell: null, or a number.
@@ -596,6 +597,7 @@ impl Join {
             Call::Ports(ports) => self.ports(*ports),
             Call::Turn(output) => self.turn(*output),
             Call::Open(_) | Call::Run(..) | Call::State | Call::Areas | Call::Words | Call::Put(..) => unreachable!(),
+            Call::Spans(_) => unreachable!(),
         }
     }
 }
@@ -629,9 +631,10 @@ impl Rules {
 }
 
 impl Judge for Rules {
-    /// Opens, or asks the open join.
+    /// Opens, or asks the open join; a call on tables needs none.
     fn call(&mut self, call: &Call) -> Answer {
         match (call, &mut self.join) {
+            (Call::Spans(spans), _) => spans::answer(spans),
             (Call::Open(o), join) => {
                 *join = Join::open(o);
                 if join.is_some() { Answer::Ok } else { Answer::Refused(1) }

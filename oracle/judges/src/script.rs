@@ -15,6 +15,17 @@ pub struct Open {
     pub right_words: usize,
 }
 
+/// 2.9, points in intervals: whether the lower and the upper bound are inclusive, the length of the output in words, and
+/// the words of both tables. Nothing is checked yet: any words can stand in the place of a flag or of a table.
+#[derive(Clone, Debug, PartialEq)]
+pub struct Spans {
+    pub lower: i64,
+    pub upper: i64,
+    pub output: usize,
+    pub points: Vec<i64>,
+    pub intervals: Vec<i64>,
+}
+
 /// One line of a script.
 #[derive(Clone, Debug, PartialEq)]
 pub enum Call {
@@ -27,6 +38,8 @@ pub enum Call {
     /// At most so many turns, and the length of the output in words.
     Run(usize, usize),
     State,
+    /// Needs no open join.
+    Spans(Spans),
     /// Not of the shared script form: the words of both areas, for tests of the definitions.
     Areas,
     /// Not of the shared script form: the words of the join, as the C interface lays them out.
@@ -97,6 +110,10 @@ pub enum Answer {
     Areas(Vec<i64>, Vec<i64>),
     /// The words of the join.
     Words(Box<JoinWords>),
+    /// All words of the table that was written.
+    Table(Vec<i64>),
+    /// A refused call altered a word of its output, which none may do.
+    Altered,
     /// `-`: the call has no counterpart here.
     Nothing,
 }
@@ -160,8 +177,18 @@ impl fmt::Display for Answer {
                 .and_then(|_| write!(f, " |"))
                 .and_then(|_| words(f, right)),
             Answer::Words(w) => write!(f, "words").and_then(|_| words(f, &w[..])),
+            Answer::Table(w) => write!(f, "ok").and_then(|_| words(f, w)),
+            Answer::Altered => write!(f, "altered"),
             Answer::Nothing => write!(f, "-"),
         }
+    }
+}
+
+impl fmt::Display for Spans {
+    /// The call's line.
+    fn fmt(&self, f: &mut fmt::Formatter<'_>) -> fmt::Result {
+        write!(f, "spans {} {} {}", self.lower, self.upper, self.output)?;
+        [&self.points, &self.intervals].into_iter().try_for_each(|table| write!(f, " |").and_then(|_| words(f, table)))
     }
 }
 
@@ -182,6 +209,7 @@ impl fmt::Display for Call {
             Call::Turn(o) => write!(f, "turn {o}"),
             Call::Run(k, o) => write!(f, "run {k} {o}"),
             Call::State => write!(f, "state"),
+            Call::Spans(s) => write!(f, "{s}"),
             Call::Areas => write!(f, "areas"),
             Call::Words => write!(f, "words"),
             Call::Put(Place::Join, at, word) => write!(f, "put {at} {word}"),
@@ -244,13 +272,33 @@ fn parse_put(place: Place, a: &[i64]) -> Result<Call, String> {
     Ok(Call::Put(place, at, word))
 }
 
+/// Numbers.
+fn numbers(words: &[&str]) -> Result<Vec<i64>, String> {
+    words.iter().map(|w| w.parse::<i64>().map_err(|_| format!("{w} is no 64-bit signed word"))).collect()
+}
+
+/// The words of a `spans` line: both flags and the output's length, the points, the intervals, each behind a `|`.
+fn parse_spans(words: &[&str]) -> Result<Call, String> {
+    let parts = words.split(|w| *w == "|").map(numbers).collect::<Result<Vec<_>, _>>()?;
+    let [first, points, intervals] = parts.as_slice() else {
+        return Err(format!("spans needs 2 tables, each behind a |, not {}", parts.len() - 1));
+    };
+    let [lower, upper, output] = *first.as_slice() else {
+        return Err(format!("spans needs 3 words before its tables, not {}", first.len()));
+    };
+    let (output, points, intervals) = (count(output)?, points.clone(), intervals.clone());
+    Ok(Call::Spans(Spans { lower, upper, output, points, intervals }))
+}
+
 /// One line: none where it holds no call, an error where it is malformed.
 pub fn parse_line(line: &str) -> Result<Option<Call>, String> {
-    let mut parts = line.split('#').next().unwrap_or("").split_ascii_whitespace();
-    let Some(name) = parts.next() else { return Ok(None) };
-    let number = |w: &str| w.parse::<i64>().map_err(|_| format!("{w} is no 64-bit signed word"));
-    let a = parts.map(number).collect::<Result<Vec<_>, _>>()?;
-    let call = match (name, a.as_slice()) {
+    let parts: Vec<&str> = line.split('#').next().unwrap_or("").split_ascii_whitespace().collect();
+    let [name, words @ ..] = parts.as_slice() else { return Ok(None) };
+    if *name == "spans" {
+        return parse_spans(words).map(Some);
+    }
+    let a = numbers(words)?;
+    let call = match (*name, a.as_slice()) {
         ("open", a) => Call::Open(parse_open(a)?),
         ("left", _) => Call::Left(a),
         ("right", _) => Call::Right(a),

@@ -1,5 +1,5 @@
-//! The as-of join node of polars-stream, its files unchanged at their own module paths, and stand-ins for the rest of
-//! that crate. This file stands where polars-stream's lib.rs would.
+//! The as-of join and the range join node of polars-stream, their files unchanged at their own module paths, and stand-ins
+//! for the rest of that crate. This file stands where polars-stream's lib.rs would.
 use std::sync::LazyLock;
 
 #[allow(unused, clippy::all)]
@@ -18,7 +18,7 @@ pub mod pipe {
 }
 
 pub mod execute {
-    /// Stand-in: neither update_state nor spawn of the join reads it.
+    /// Stand-in: neither update_state nor spawn of the joins reads it.
     pub struct StreamingExecutionState;
 }
 
@@ -57,6 +57,11 @@ pub mod nodes {
         /// The node's name.
         fn name(&self) -> &str;
 
+        /// Whether the node holds much memory and nothing goes on behind it; nobody asks here.
+        fn is_memory_intensive_pipeline_blocker(&self) -> bool {
+            false
+        }
+
         /// 01, Ports: from the states in which the ports come to those in which they go.
         fn update_state(
             &mut self,
@@ -76,7 +81,14 @@ pub mod nodes {
         );
     }
 
+    pub mod in_memory_sink;
+
     pub mod joins {
+        #[allow(unused, clippy::all)]
+        pub mod range_join {
+            include!(concat!(env!("OUT_DIR"), "/range_join.rs"));
+        }
+
         #[allow(unused, clippy::all)]
         pub mod asof_join {
             include!(concat!(env!("OUT_DIR"), "/asof_join.rs"));

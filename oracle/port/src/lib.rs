@@ -3,6 +3,8 @@ use judges::script::{Answer, Call, JoinWords, Judge, Open, Place, Ran, Stop};
 use judges::words;
 use rowkeeper::raw::{self, safe};
 
+mod spans;
+
 /// The word that stands before and behind everything that is lent, and how often.
 const GUARD: i64 = 0x5A5A_C3C3_0F0F_9696;
 const GUARDS: usize = 4;
@@ -203,6 +205,7 @@ impl Host {
 #[derive(Default)]
 pub struct Port {
     host: Option<Host>,
+    wrong: Option<&'static str>,
 }
 
 impl Port {
@@ -213,14 +216,19 @@ impl Port {
 
     /// What a call did that no answer tells and none may do.
     pub fn wrong(&self) -> Option<&'static str> {
-        self.host.as_ref().and_then(|h| h.wrong)
+        self.wrong.or_else(|| self.host.as_ref().and_then(|h| h.wrong))
     }
 }
 
 impl Judge for Port {
-    /// Opens, or asks the open join.
+    /// Opens, or asks the open join; a call on tables needs none.
     fn call(&mut self, call: &Call) -> Answer {
         match (call, &mut self.host) {
+            (Call::Spans(spans), _) => {
+                let (answer, wrong) = spans::answer(spans);
+                self.wrong = self.wrong.or(wrong);
+                answer
+            },
             (Call::Open(o), host) => match Host::open(o) {
                 Ok(opened) => {
                     *host = Some(opened);

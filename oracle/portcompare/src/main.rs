@@ -3,6 +3,7 @@ use std::process::ExitCode;
 use std::time::Instant;
 
 mod compare;
+mod spans;
 
 use compare::Counts;
 use judges::drive::{exit, number};
@@ -94,11 +95,18 @@ fn compare_all(seed: u64, count: u64) -> bool {
 
 /// Does what the command line asks for; whether it went well.
 fn run(args: &[&str]) -> Result<bool, String> {
-    let [seed, count] = args else { return Err("compare: wants a seed and a count of scripts".to_string()) };
-    let (seed, count) = (number(seed)?, number(count)?);
+    let (compare, seed, count): (fn(u64, u64) -> bool, _, _) = match *args {
+        [seed, count] => (compare_all, number(seed)?, number(count)?),
+        ["spans", seed, count] => (spans::compare_all, number(seed)?, number(count)?),
+        _ => {
+            return Err(
+                "compare: wants a seed and a count of scripts, or spans, a seed and a count of inputs".to_string()
+            );
+        },
+    };
     // A panic is told as a difference, so its own words need not be.
     std::panic::set_hook(Box::new(|_| ()));
-    Ok(compare_all(seed, count))
+    Ok(compare(seed, count))
 }
 
 /// Runs what the command line asks for.

@@ -1,5 +1,8 @@
-//! Typed arrays with nulls: the encoded rows of several by-columns, and the indices of matched rows.
+//! Typed arrays with nulls: the encoded rows of several by-columns, the indices of rows, and masks of rows.
 use std::fmt::Debug;
+use std::ops::BitAnd;
+
+use polars_utils::pl_str::PlSmallStr;
 
 use crate::value::AnyValue;
 
@@ -19,6 +22,14 @@ pub struct BinaryOffsetType;
 #[derive(Clone, Debug)]
 pub struct IdxType;
 
+/// Arrays of yes and no.
+#[derive(Clone, Debug)]
+pub struct BooleanType;
+
+impl PolarsDataType for BooleanType {
+    type Owned = bool;
+}
+
 impl PolarsDataType for BinaryOffsetType {
     type Owned = Vec<u8>;
 }
@@ -37,6 +48,9 @@ pub type BinaryOffsetChunked = ChunkedArray<BinaryOffsetType>;
 /// An array of row indices.
 pub type IdxCa = ChunkedArray<IdxType>;
 
+/// A mask of rows.
+pub type BooleanChunked = ChunkedArray<BooleanType>;
+
 impl<T: PolarsDataType> ChunkedArray<T> {
     /// The array of these values.
     pub fn new(values: Vec<Option<T::Owned>>) -> Self {
@@ -46,6 +60,39 @@ impl<T: PolarsDataType> ChunkedArray<T> {
     /// Its values.
     pub fn values(&self) -> &[Option<T::Owned>] {
         &self.0
+    }
+}
+
+impl ChunkedArray<IdxType> {
+    /// The array of these indices, none of them null; its name is not kept.
+    pub fn new_vec(_name: PlSmallStr, indices: Vec<IdxSize>) -> Self {
+        Self(indices.into_iter().map(Some).collect())
+    }
+
+    /// How many indices it has.
+    pub fn len(&self) -> usize {
+        self.0.len()
+    }
+
+    /// Whether it has none.
+    pub fn is_empty(&self) -> bool {
+        self.0.is_empty()
+    }
+
+    /// Its indices; a null is a panic, as range_join.rs must never ask for it.
+    pub fn into_no_null_iter(&self) -> impl Iterator<Item = IdxSize> {
+        self.0.iter().map(|i| i.unwrap())
+    }
+}
+
+impl BitAnd for ChunkedArray<BooleanType> {
+    type Output = Self;
+
+    /// The rows that both masks keep; neither has a null.
+    fn bitand(self, other: Self) -> Self {
+        assert_eq!(self.0.len(), other.0.len());
+        let both = |(a, b): (Option<bool>, Option<bool>)| Some(a.unwrap() && b.unwrap());
+        Self(self.0.into_iter().zip(other.0).map(both).collect())
     }
 }
 

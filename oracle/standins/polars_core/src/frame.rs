@@ -4,10 +4,25 @@ use std::sync::Arc;
 use polars_error::{PolarsResult, polars_err};
 use polars_utils::pl_str::PlSmallStr;
 
-use crate::chunked_array::IdxCa;
+use crate::chunked_array::{BooleanChunked, IdxCa};
 use crate::schema::{Schema, SchemaRef};
 use crate::series::Series;
 use crate::value::AnyValue;
+
+pub mod builder;
+
+/// How a column is sorted.
+#[derive(Clone, Copy, Debug, Default)]
+pub struct SortOptions {
+    descending: bool,
+}
+
+impl SortOptions {
+    /// The same in this direction.
+    pub fn with_order_descending(self, descending: bool) -> Self {
+        Self { descending }
+    }
+}
 
 /// A column of a frame.
 #[derive(Clone, Debug)]
@@ -49,6 +64,21 @@ impl Column {
         self.values().iter().rposition(Option::is_some)
     }
 
+    /// 2.9: "a null bound drops the row": which cells are there.
+    pub fn is_not_null(&self) -> BooleanChunked {
+        BooleanChunked::new(self.values().iter().map(|cell| Some(cell.is_some())).collect())
+    }
+
+    /// The same cells in order, which range_join.rs compares its points with.
+    pub fn sort(&self, options: SortOptions) -> PolarsResult<Column> {
+        let mut cells = self.values().to_vec();
+        cells.sort();
+        if options.descending {
+            cells.reverse();
+        }
+        Ok(Column::new(*self.name(), cells))
+    }
+
     /// The value at a place.
     ///
     /// # Safety
@@ -60,6 +90,13 @@ impl Column {
     /// The cells from `offset` on, `len` of them.
     pub fn slice(&self, offset: i64, len: usize) -> Column {
         Column(self.0.slice(offset, len))
+    }
+}
+
+impl PartialEq for Column {
+    /// Equal cells; a null equals a null.
+    fn eq(&self, other: &Self) -> bool {
+        self.values() == other.values()
     }
 }
 
@@ -172,6 +209,22 @@ impl DataFrame {
         let column = self.columns.remove(self.position(name)?);
         *self = Self::new(self.height, std::mem::take(&mut self.columns));
         Ok(column)
+    }
+
+    /// The rows that a mask keeps, in their order.
+    pub fn filter(&self, mask: &BooleanChunked) -> PolarsResult<DataFrame> {
+        if mask.values().len() != self.height {
+            return Err(polars_err!(ShapeMismatch: "{} {}", self.height, mask.values().len()));
+        }
+        let kept: Vec<usize> = (0..self.height).filter(|i| mask.values()[*i] == Some(true)).collect();
+        let pick = |c: &Column| Column::new(*c.name(), kept.iter().map(|i| c.values()[*i]).collect());
+        let columns = self.columns.iter().map(pick).collect();
+        Ok(Self::with_schema(kept.len(), columns, self.schema.clone()))
+    }
+
+    /// Makes each column one piece, which it is.
+    pub fn rechunk_mut_par(&mut self) -> &mut Self {
+        self
     }
 
     /// 01, Turn: "n right numbers, n marks (none: 0 and 0)": the row of each index, a row of nulls where it is null.

@@ -13,9 +13,9 @@ pub mod prelude {
     pub use polars_utils::pl_str::PlSmallStr;
 
     pub use crate::chunked_array::{
-        BinaryOffsetChunked, BinaryOffsetType, ChunkedArray, IdxCa, IdxSize, IdxType, row_encode,
+        BinaryOffsetChunked, BinaryOffsetType, BooleanChunked, ChunkedArray, IdxCa, IdxSize, IdxType, row_encode,
     };
-    pub use crate::frame::{Column, DataFrame};
+    pub use crate::frame::{Column, DataFrame, SortOptions};
     pub use crate::schema::{DataType, Schema, SchemaRef};
     pub use crate::series::Series;
     pub use crate::value::{AnyValue, Scalar};

@@ -1,4 +1,4 @@
-//! Stand-in: the functions whose meaning 01 gives under Order, Groups and Matching.
+//! Stand-in: the functions whose meaning 01 gives under Order, Groups and Matching, and 2.9 to `search_sorted`.
 
 pub mod series {
     use polars_core::prelude::*;
@@ -19,6 +19,45 @@ pub mod series {
     /// The same sentence of 01, for several by-columns, encoded.
     pub fn rle_lengths_helper_ca(ca: &ChunkedArray<BinaryOffsetType>, out: &mut Vec<IdxSize>) {
         lengths(ca.values(), out);
+    }
+
+    /// On which side of equal points a search ends.
+    #[derive(Clone, Copy, Debug)]
+    pub enum SearchSortedSide {
+        Left,
+        Right,
+    }
+
+    impl SearchSortedSide {
+        /// The other side; range_join.rs asks for it where points descend.
+        pub fn flip(self) -> Self {
+            match self {
+                Self::Left => Self::Right,
+                Self::Right => Self::Left,
+            }
+        }
+    }
+
+    /// 2.9: "the first point at or above an inclusive lower bound, above an exclusive one, and the matching ends for
+    /// upper". Left is the first point at or above a value, Right the first above it; where there is none, the end of the
+    /// points. Which side a bound takes is range_join.rs's own. The request knows no descending points, and drops a null
+    /// bound before.
+    pub fn search_sorted(
+        points: &Series,
+        bounds: &Series,
+        side: SearchSortedSide,
+        descending: bool,
+    ) -> PolarsResult<IdxCa> {
+        assert!(!descending, "2.9 is ascending only");
+        let first = |bound: i64| {
+            let found = points.values().iter().map(|p| p.expect("a point is not null")).position(|p| match side {
+                SearchSortedSide::Left => p >= bound,
+                SearchSortedSide::Right => p > bound,
+            });
+            found.unwrap_or(points.len()) as IdxSize
+        };
+        let bounds = bounds.values().iter().map(|b| b.expect("a null bound drops the row before"));
+        Ok(IdxCa::new_vec(PlSmallStr::EMPTY, bounds.map(first).collect()))
     }
 }
 
@@ -51,11 +90,37 @@ pub mod frame {
         AsOf(Box<AsOfOptions>),
     }
 
-    /// A join's kind, and the suffix of its columns' names, which stays out of 01.
+    /// 2.9: "each inclusive or exclusive as chosen": how the left side's value stands to the right side's.
+    #[derive(Clone, Copy, Debug)]
+    pub enum InequalityOperator {
+        Lt,
+        LtEq,
+        Gt,
+        GtEq,
+    }
+
+    /// The comparisons of a join by one or two of them.
+    #[derive(Clone, Debug)]
+    pub struct IEJoinOptions {
+        pub operator1: InequalityOperator,
+        pub operator2: Option<InequalityOperator>,
+    }
+
+    /// Which side is kept in memory; range_join.rs takes its points from it where both sides could be.
+    #[derive(Clone, Copy, Debug)]
+    pub enum JoinBuildSide {
+        PreferLeft,
+        PreferRight,
+        ForceLeft,
+        ForceRight,
+    }
+
+    /// A join's kind, the suffix of its columns' names, which stays out of 01, and the side to keep in memory.
     #[derive(Clone, Debug)]
     pub struct JoinArgs {
         pub how: JoinType,
         pub suffix: Option<PlSmallStr>,
+        pub build_side: Option<JoinBuildSide>,
     }
 
     impl JoinArgs {

@@ -4,10 +4,13 @@ pub mod pl_str {
     use std::ops::Deref;
 
     /// A column's name. Names stay out of 01; the driver's are all fixed.
-    #[derive(Clone, Copy, Debug, PartialEq, Eq, PartialOrd, Ord, Hash)]
+    #[derive(Clone, Copy, Debug, Default, PartialEq, Eq, PartialOrd, Ord, Hash)]
     pub struct PlSmallStr(&'static str);
 
     impl PlSmallStr {
+        /// No name.
+        pub const EMPTY: Self = Self("");
+
         /// A fixed name.
         pub const fn from_static(s: &'static str) -> Self {
             Self(s)

@@ -1,0 +1,65 @@
+// The call over points and intervals: what it is handed is judged, and the pairs are written as a table.
+use framerule::is_frame;
+use framerule::row_count;
+use pairing::count_pairs;
+use pairing::put_pairs;
+use pointsearch::ascending_points;
+use spans::Bounds;
+use tables::Refusal;
+use tables::Written;
+use tables::put_head;
+ghost use Rattle.spans.specs.Inner.{CoverLeaves};
+ghost use Rattle.spans.specs.Calls.{SpanLeaves};
+ghost use Rattle.spans.specs.Room.{PointsIn, IntervalsIn};
+
+// The pairs of n points and m intervals, written as a table; refused by 16 where the points cannot be searched, by 6 where the output is too short.
+fn cover(
+    pv: &[i64],
+    pm: &[i64],
+    n: usize,
+    iv: &[i64],
+    im: &[i64],
+    m: usize,
+    b: Bounds,
+    out: &mut [i64],
+) -> Written
+    requires { ⌜ PointsIn n (now pv) (now pm) × IntervalsIn m (now iv) (now im) ⌝ }
+    ensures { λ r. ⌜ CoverLeaves b n (now (pv .entry)) (now (pm .entry)) m (now (iv .entry)) (now (im .entry)) (now (out .entry)) r (now (out .exit)) ⌝ }
+{
+    if !ascending_points(pv, pm, n) {
+        return Written::Refused(Refusal::BadPoints);
+    }
+    let k = count_pairs(pv, pm, n, iv, im, m, b);
+    if out.len() < 2 + 4 * k {
+        return Written::Refused(Refusal::NoRoom);
+    }
+    put_pairs(pv, pm, n, iv, im, m, b, 2 * k, out);
+    put_head(out, k, 2);
+    Written::Rows(k)
+}
+
+// Lists which points each interval covers: a table of the numbers of the two rows, interval by interval.
+pub fn spans(points: &[i64], intervals: &[i64], b: Bounds, out: &mut [i64]) -> Written
+    ensures { λ r. ⌜ SpanLeaves b (now (points .entry)) (now (intervals .entry)) (now (out .entry)) r (now (out .exit)) ⌝ }
+{
+    if !is_frame(points, 1) {
+        return Written::Refused(Refusal::BadTable);
+    }
+    if !is_frame(intervals, 2) {
+        return Written::Refused(Refusal::BadTable);
+    }
+    let n = row_count(points);
+    let m = row_count(intervals);
+    let e = 2 + n;
+    let f = 2 + 2 * m;
+    cover(
+        &points[2..e],
+        &points[e..],
+        n,
+        &intervals[2..f],
+        &intervals[f..],
+        m,
+        b,
+        out,
+    )
+}

@@ -1,0 +1,31 @@
+// The call over points and intervals, in numbers.
+use codes::both;
+use codes::flag_of;
+use codes::is_flag;
+use spancall::spans;
+use spans::Bounds;
+use tables::Refusal;
+use tables::Written;
+use written::HostWritten;
+use written::written_host;
+ghost use Rattle.spanhost.specs.Call.{HostSpanLeaves};
+
+// Lists which points each interval covers. A choice of bounds that is neither 0 nor 1 is refused by 1, before any word is looked at.
+pub fn spans_host(
+    points: &[i64],
+    intervals: &[i64],
+    lower: u64,
+    upper: u64,
+    out: &mut [i64],
+) -> HostWritten
+    ensures { λ r. ⌜ HostSpanLeaves lower upper (now (points .entry)) (now (intervals .entry)) (now (out .entry)) r (now (out .exit)) ⌝ }
+{
+    if !both(is_flag(lower), is_flag(upper)) {
+        return written_host(Written::Refused(Refusal::BadOptions));
+    }
+    let b = Bounds {
+        lower_in: flag_of(lower),
+        upper_in: flag_of(upper),
+    };
+    written_host(spans(points, intervals, b, out))
+}

@@ -1,0 +1,6 @@
+pub mod Span
+pub mod Port
+pub mod Calls
+pub mod Promises
+pub mod Room
+pub mod Inner

@@ -1,0 +1,6 @@
+// Passes that cover a span, which points lie inside the bounds of each interval: definitions and laws.
+// Whether the lower and the upper bound are inclusive.
+pub struct Bounds {
+    pub lower_in: bool,
+    pub upper_in: bool,
+}

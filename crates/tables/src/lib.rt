@@ -1,0 +1,44 @@
+// Tables: frames of any number of rows; how their cells are written, and what the functions over them answer.
+ghost use mathlib.Core.Path.{_≡_};
+ghost use Prim.Native.Nat.{_+_};
+ghost use lib.IntN.{pos};
+ghost use lib.ListN.{set};
+ghost use Rattle.tables.specs.Lay.{CellRoom, HeadRoom};
+
+// The refusals of the functions over tables, in checking order; their numbers are in specs/Setting.antt.
+pub enum Refusal {
+    BadOptions,
+    TooManyCarried,
+    BadRanks,
+    BadTable,
+    UnknownCode,
+    BadColumns,
+    Unsorted,
+    Beyond,
+    BadPoints,
+    NoRoom,
+}
+
+// A table of so many rows was written; or the call was refused, and nothing was.
+pub enum Written {
+    Rows(usize),
+    Refused(Refusal),
+}
+
+// Cell k of a table of m cells goes to its two places: its value behind the two head words, its mark behind all values.
+pub fn put_cell(out: &mut [i64], m: usize, k: usize, value: i64, mark: i64)
+    requires { ⌜ CellRoom m k (now out) ⌝ }
+    ensures { λ _. ⌜ now (out .exit) ≡ set (set (now (out .entry)) (2 + k) value) (2 + m + k) mark ⌝ }
+{
+    out[2 + k] = value;
+    out[2 + m + k] = mark;
+}
+
+// The head words of a table of n rows and c columns.
+pub fn put_head(out: &mut [i64], n: usize, c: usize)
+    requires { ⌜ HeadRoom n c (now out) ⌝ }
+    ensures { λ _. ⌜ now (out .exit) ≡ set (set (now (out .entry)) 0 (pos n)) 1 (pos c) ⌝ }
+{
+    out[0] = n as i64;
+    out[1] = c as i64;
+}

@@ -1,0 +1,110 @@
+//! 2.9, points in intervals: random inputs through the port, the plain reading and the Rust, and making one that differs
+//! small.
+use std::time::{Duration, Instant};
+
+use judges::generate_spans::{all_short, input};
+use judges::script::{Call, Judge, Spans};
+use judges::spans;
+use oracle::range::Ways;
+use oracle::spans::{Tally, short, with_rust};
+use port::Port;
+
+use crate::TOLD;
+
+/// How long a differing input is made smaller.
+const SPENT: Duration = Duration::from_secs(5);
+
+/// Runs an input through all; the first difference, if any.
+fn run(call: &Spans, tally: &mut Tally) -> Result<(), String> {
+    let mut port = Port::default();
+    let (said, ruled) = (port.call(&Call::Spans(call.clone())), spans::answer(call));
+    if said != ruled {
+        return Err(format!("the port says {}, 2.9 says {}", short(&said), short(&ruled)));
+    } else if let Some(wrong) = port.wrong() {
+        return Err(wrong.to_string());
+    }
+    let by_rust = with_rust(call, &said, Ways::default())?;
+    tally.count(call, &said, by_rust);
+    Ok(())
+}
+
+/// How many rows a table has, if it is one that rows can be taken from.
+fn rows(words: &[i64], columns: usize) -> usize {
+    let [n, c, cells @ ..] = words else { return 0 };
+    let whole = *n > 0 && *c == columns as i64 && cells.len() as i64 == n.saturating_mul(2 * c);
+    if whole { *n as usize } else { 0 }
+}
+
+/// The table without so many rows from one on.
+fn without_rows(words: &[i64], from: usize, count: usize) -> Vec<i64> {
+    let (n, c) = (words[0] as usize, words[1] as usize);
+    let keep = |at: &usize| !(from..from + count).contains(&((at % (n * c)) / c));
+    let cells = (0..2 * n * c).filter(keep).map(|at| words[2 + at]);
+    [(n - count) as i64, c as i64].into_iter().chain(cells).collect()
+}
+
+/// Parts of so many rows, long ones first: halves, quarters and on, to single rows. Each is where it begins and how long it
+/// is.
+fn parts(rows: usize) -> impl Iterator<Item = (usize, usize)> {
+    let lengths = std::iter::successors(Some(rows.div_ceil(2)), |n| (*n > 1).then(|| n / 2));
+    let lengths = lengths.take_while(|n| *n > 0);
+    lengths.flat_map(move |n| (0..rows).step_by(n).map(move |from| (from, n.min(rows - from))))
+}
+
+/// How many words the output is longer than its table, or shorter; none where there is no table.
+fn spare(call: &Spans) -> Option<i64> {
+    spans::table(call).ok().map(|words| call.output as i64 - words.len() as i64)
+}
+
+/// The input with an output that is longer than its table by so many words.
+fn with_spare(call: Spans, spare: Option<i64>) -> Spans {
+    let (Some(spare), Ok(words)) = (spare, spans::table(&call)) else { return call };
+    Spans { output: (words.len() as i64 + spare).max(0) as usize, ..call }
+}
+
+/// All inputs that are this one less some rows of a side, the output as much shorter as the table.
+fn smaller(call: &Spans) -> impl Iterator<Item = Spans> {
+    let points = parts(rows(&call.points, 1));
+    let points = points.map(|(from, n)| Spans { points: without_rows(&call.points, from, n), ..call.clone() });
+    let intervals = parts(rows(&call.intervals, 2));
+    let less = |(from, n)| Spans { intervals: without_rows(&call.intervals, from, n), ..call.clone() };
+    let spare = spare(call);
+    points.chain(intervals.map(less)).map(move |less| with_spare(less, spare))
+}
+
+/// An input that still differs and that no row can be taken from, with how it differs; or the smallest that is found in the
+/// time that is spent on it.
+fn smallest(call: &Spans) -> (Spans, String) {
+    let (start, differs) = (Instant::now(), |call: &Spans| run(call, &mut Tally::default()).err());
+    let less = |call: &Spans| {
+        let mut tried = smaller(call).take_while(|_| start.elapsed() < SPENT);
+        tried.find_map(|less| differs(&less).map(|why| (less, why)))
+    };
+    let (mut call, mut why) = (call.clone(), differs(call).unwrap_or_default());
+    while let Some((less, new)) = less(&call) {
+        (call, why) = (less, new);
+    }
+    (call, why)
+}
+
+/// Runs all short inputs and COUNT random ones; whether there was no difference and everything was met.
+pub fn compare_all(seed: u64, count: u64) -> bool {
+    let start = Instant::now();
+    let (mut tally, mut told) = (Tally::default(), 0);
+    let random = (0..count).map(|i| (format!("seed {seed}, input {i}"), input(seed, i)));
+    for (name, call) in all_short().map(|call| ("short input".to_string(), call)).chain(random) {
+        if run(&call, &mut tally).is_err() {
+            let (call, why) = smallest(&call);
+            println!("DIFFERENCE spans, {name}: {why}\n    {call}");
+            told += 1;
+        }
+        if told == TOLD {
+            println!("{TOLD} differences: no more are looked for");
+            break;
+        }
+    }
+    let missing = tally.missing().filter(|_| told == 0);
+    missing.iter().for_each(|what| println!("FAIL {what}: none in the whole run"));
+    println!("compared spans with the port: {tally}; {told} differences ({:.1} s)", start.elapsed().as_secs_f64());
+    told == 0 && missing.is_none()
+}
