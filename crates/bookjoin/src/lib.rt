@@ -1,0 +1,1 @@
+// A join over two books that were merged. Definitions and proofs only.

@@ -1,0 +1,4 @@
+pub mod Merge
+pub mod Standing
+pub mod Calls
+pub mod Room

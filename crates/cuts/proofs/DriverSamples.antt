@@ -1,0 +1,59 @@
+-- The driver's refusals, and what it writes, by computation. Assumes nothing.
+use mathlib.Core.Path.{_≡_, refl}
+use mathlib.Core.Bool.{true, false}
+use mathlib.Core.List.{List, [], _∷_, map}
+use Prim.Native.Nat.{ℕ, zero, suc}
+use lib.IntN.{pos, negsuc}
+use Rattle.frames.specs.Cells.{null, Words}
+use Rattle.frames.proofs.Samples.{options, row, frameOf}
+use Rattle.frames.specs.declared.Options.{Options}
+use Rattle.prunes.specs.Prunes.{keptRows, lastPrune}
+use Rattle.lists.proofs.Script.{leftArea, rightArea, space, speakAll}
+use Rattle.plan.specs.Plan.{planFrom, plan}
+use Rattle.plan.specs.Table.{isTable, fullHeights}
+use Rattle.cuts.specs.Cut.{cutAt, cutBy}
+use Rattle.cuts.specs.Driver.{inFrames, wordsFor, tooShort, anyShort, ascending, anyNull, badBoundaries, cutAnswer}
+
+abbrev pub o : Options
+o = options 1 0 true (negsuc 0) false [] []
+
+unfoldable pub lefts : Words
+lefts = frameOf 2 (map row ((1 ∷ 15 ∷ []) ∷ (2 ∷ 4 ∷ []) ∷ (4 ∷ 9 ∷ []) ∷ (4 ∷ 30 ∷ []) ∷ []))
+
+unfoldable pub rights : Words
+rights = frameOf 2 (map row ((1 ∷ 10 ∷ []) ∷ (2 ∷ 3 ∷ []) ∷ (4 ∷ 1 ∷ []) ∷ (4 ∷ 20 ∷ []) ∷ []))
+
+-- Boundaries of one column.
+abbrev pub at : List ℕ → Words
+at gs = frameOf 1 (map (λ g. row (g ∷ [])) gs)
+
+-- The answer, over areas of so many words and an output of n.
+unfoldable pub told : Words → ℕ → ℕ → ℕ → ℕ
+unfolding lefts rights
+told b l r n = cutAnswer o lefts rights b (leftArea l) (rightArea r) (space n)
+
+-- Cut at 2 and 3 the longest pair has two rows on either side: 10 words, and R = 2. One word fewer, one row fewer, one word of output fewer: 6. Uncut, more is needed.
+pub rooms : told (at (2 ∷ 3 ∷ [])) 10 8 10 ∷ told (at (2 ∷ 3 ∷ [])) 9 8 10 ∷ told (at (2 ∷ 3 ∷ [])) 10 7 10 ∷ told (at (2 ∷ 3 ∷ [])) 10 8 9 ∷ told (at []) 10 8 10 ∷ told (at []) 18 16 10 ∷ []
+    ≡ 0 ∷ 6 ∷ 6 ∷ 6 ∷ 6 ∷ 0 ∷ []
+unfolding told cutAnswer cutBy cutAt anyShort tooShort wordsFor fullHeights inFrames plan planFrom lastPrune keptRows isTable badBoundaries ascending anyNull speakAll
+rooms = refl
+
+-- Not ascending, twice, null: 18, before 6. No frame of b columns: 5.
+pub refusals : told (at (3 ∷ 2 ∷ [])) 0 0 0 ∷ told (at (2 ∷ 2 ∷ [])) 10 8 10 ∷ told (frameOf 1 ((null ∷ []) ∷ [])) 10 8 10 ∷ told (frameOf 2 (map row ((2 ∷ 1 ∷ []) ∷ []))) 10 8 10 ∷ []
+    ≡ 18 ∷ 18 ∷ 18 ∷ 5 ∷ []
+unfolding told cutAnswer cutBy cutAt anyShort tooShort wordsFor fullHeights inFrames plan planFrom lastPrune keptRows isTable badBoundaries ascending anyNull speakAll
+refusals = refl
+
+-- Sixteen boundaries pass, seventeen are 18. Where b is 0, none passes, one is 18.
+abbrev pub upTo : ℕ → ℕ → List ℕ
+upTo zero i = []
+upTo (suc n) i = i ∷ upTo n (suc i)
+
+abbrev pub plainly : Options
+plainly = options 0 0 true (negsuc 0) false [] []
+
+pub counts : told (at (upTo 16 1)) 10 8 10 ∷ told (at (upTo 17 1)) 10 8 10
+    ∷ cutAnswer plainly (pos 0 ∷ pos 1 ∷ []) (pos 0 ∷ pos 1 ∷ []) (pos 0 ∷ pos 0 ∷ []) [] [] (space 2) ∷ cutAnswer plainly (pos 0 ∷ pos 1 ∷ []) (pos 0 ∷ pos 1 ∷ []) (pos 1 ∷ pos 0 ∷ []) [] [] (space 2) ∷ []
+    ≡ 0 ∷ 18 ∷ 0 ∷ 18 ∷ []
+unfolding told cutAnswer cutBy cutAt anyShort tooShort wordsFor fullHeights inFrames plan planFrom lastPrune keptRows isTable badBoundaries ascending anyNull speakAll
+counts = refl

@@ -1,0 +1,5 @@
+pub mod Samples
+pub mod CutLaws
+pub mod Uncut
+pub mod DriverSamples
+pub mod LoadLaws

@@ -1,0 +1,199 @@
+-- A pair's frames, cut from the tables' values and marks, are the frames of its rows; where the driver's answer is 0, they fit. Assumes nothing.
+use mathlib.Core.Path.{_≡_, refl, ap, _∙_}
+use mathlib.Core.Bool.{Bool, true, false, cond, not, _&&_, _||_}
+use mathlib.Core.List.{List, [], _∷_, map}
+use Prim.Native.Nat.{ℕ, zero, suc, _+_, _-_, _*_, _/_, _%_, _^_, _≤_, _<_}
+use native.Mathlib.Nat.{mul-le-mul-right}
+use native.Mathlib.Omega.{arith}
+use borrow.Author.Tests.{ltb-false, not-false, eqb-false}
+use lib.Dec.{ltb, eqb}
+use lib.ListN.{length, take, drop, length-append, length-drop, replicate}
+use lib.Seq.{length-take-le}
+use Rattle.frames.specs.Cells.{Rows, Words, rowsOf}
+use Rattle.frames.specs.Frame.{rowCount, pairsFine, isFrame, frameRows}
+use Rattle.frames.specs.Options.{columns, badOptions}
+use Rattle.frames.specs.Order.{sorted}
+use Rattle.frames.specs.declared.Options.{Options}
+use Rattle.frames.proofs.SortedLaws.{and-true, sorted-take, sorted-drop}
+use Rattle.frames.proofs.WordLaws.{rows-length, rows-read, rows-drop}
+use Rattle.area.specs.Area.{capacity}
+use Rattle.answers.specs.Answers.{mostRows}
+use Rattle.lists.specs.Lists.{backToBack}
+use Rattle.lists.specs.Demand.{Each, ends, pairs}
+use Rattle.plan.specs.Plan.{plan}
+use Rattle.plan.specs.Table.{isTable, frameFrom, framesBy, total, fullHeights}
+use Rattle.plan.proofs.TableLaws.{fine-drop, rows-from, table-frames, full-total, full-few}
+use Rattle.plan.proofs.TablePlanned.{passes, or-none, shape, table-values, table-marks, frames-count}
+use Rattle.cuts.specs.Cut.{cutAt, Pair, before, behind, cutBy}
+use Rattle.cuts.specs.Scheduled.{Fits}
+use Rattle.cuts.specs.Driver.{inFrames, fullFrames, wordsFor, tooShort, anyShort, badBoundaries, tables, groups, cutAnswer}
+use Rattle.cuts.specs.Loads.{Stretch, rowsWithin, wholeOf, firstOf, othersOf, framesOf, Lent, loadOf, loads, LentWell, DriverFits, DriverWrites}
+use Rattle.cuts.specs.Apart.{BothSorted}
+use Rattle.cuts.proofs.Uncut.{uncut-scheduled}
+use Rattle.cuts.proofs.CutLaws.{cut-within}
+
+-- The first a rows.
+rows-take : (w n a : ℕ) (vs ms : Words) → a ≤ n → rowsOf w a vs ms ≡ take a (rowsOf w n vs ms)
+unfolding rowsOf
+rows-take w n zero vs ms h = refl
+rows-take w zero (suc a) vs ms h = absurd (omega arith)
+rows-take w (suc n) (suc a) vs ms h = rw (rows-take w n a (drop w vs) (drop w ms) (omega arith)) refl
+
+-- Frames of these heights have the rows that the heights cut, and as many words as are counted for them.
+framed : (c : ℕ) (hs : List ℕ) (vs ms : Words) → total hs * c ≤ length vs → total hs * c ≤ length ms
+    → (map (frameRows c) (framesBy c hs vs ms) ≡ inFrames hs (rowsOf c (total hs) vs ms)) × (length (backToBack (framesBy c hs vs ms)) ≡ wordsFor c hs)
+unfolding framesBy total inFrames wordsFor backToBack
+framed c [] vs ms a b = (refl, refl)
+framed c (h ∷ hs) vs ms a b =
+    let s : (h + total hs) * c ≡ h * c + total hs * c = omega arith in
+    let av : h * c + total hs * c ≤ length vs = rw s at a in
+    let bm : h * c + total hs * c ≤ length ms = rw s at b in
+    let lv : length (take (h * c) vs) ≡ h * c = length-take-le (h * c) vs (omega arith) in
+    let lm : length (take (h * c) ms) ≡ h * c = length-take-le (h * c) ms (omega arith) in
+    let ih = framed c hs (drop (h * c) vs) (drop (h * c) ms) (rw (length-drop (h * c) vs) (omega arith)) (rw (length-drop (h * c) ms) (omega arith)) in
+    let m : h + total hs - h ≡ total hs = omega arith in
+    let r₁ : frameRows c (frameFrom c h (take (h * c) vs) (take (h * c) ms)) ≡ take h (rowsOf c (h + total hs) vs ms)
+    = rows-from c h (take (h * c) vs) (take (h * c) ms) lv lm ∙ rows-read c h (h * c) vs ms (omega arith) ∙ rows-take c (h + total hs) h vs ms (omega arith) in
+    let r₂ : rowsOf c (total hs) (drop (h * c) vs) (drop (h * c) ms) ≡ drop h (rowsOf c (h + total hs) vs ms) = rw m at (rows-drop c (h + total hs) h vs ms (omega arith)) in
+    let k₁ = length-append (take (h * c) vs) (take (h * c) ms) in
+    let k₂ = length-append (frameFrom c h (take (h * c) vs) (take (h * c) ms)) (backToBack (framesBy c hs (drop (h * c) vs) (drop (h * c) ms))) in
+    (rw (r₁, ih .0, r₂) refl, k₂ ∙ omega (arith, k₁, lv, lm, ih .1))
+
+-- As many full frames as rows at most.
+count-full : (k m : ℕ) → length (replicate k m) ≡ k
+count-full zero m = refl
+count-full (suc k) m = ap suc (count-full k m)
+
+count-rest : (m : ℕ) → length (cond (eqb m 0) [] (m ∷ [])) ≤ m
+count-rest m = by (eqb m 0) refl m refl
+  where
+    by : (t : Bool) → eqb m 0 ≡ t → (k : ℕ) → m ≡ k → length (cond t [] (m ∷ [])) ≤ m
+    by true e k q = omega arith
+    by false e zero q = absurd (eqb-false m 0 e q)
+    by false e (suc k) q = omega arith
+
+full-count : (n : ℕ) → length (fullHeights n) ≤ n
+unfolding fullHeights
+full-count n =
+    omega (arith, length-append (replicate (n / 4096) 4096) (cond (eqb (n % 4096) 0) [] (n % 4096 ∷ [])), count-full (n / 4096) 4096, count-rest (n % 4096))
+
+-- A stretch whose words are there.
+record Fine (c : ℕ) (s : Stretch) : Type 0 where
+  values : s .rows * c ≤ length (s .values)
+  marks : s .rows * c ≤ length (s .marks)
+  fits : pairsFine (s .values) (s .marks) ≡ true
+
+first-fine : (c a : ℕ) (s : Stretch) → a ≤ s .rows → Fine c s → Fine c (firstOf a s)
+first-fine c a s h f = let m : a * c ≤ s .rows * c = mul-le-mul-right {m = a} {n = s .rows} c h in record { values = omega (arith, m, f .values); marks = omega (arith, m, f .marks); fits = f .fits }
+
+others-fine : (c a : ℕ) (s : Stretch) → a ≤ s .rows → Fine c s → Fine c (othersOf c a s)
+others-fine c a s h f =
+    let n : s .rows ≡ a + (s .rows - a) = omega arith in
+    let m : s .rows * c ≡ a * c + (s .rows - a) * c = ap (λ (k : ℕ). k * c) n ∙ omega arith in
+    record {
+      values = rw (length-drop (a * c) (s .values)) (omega (arith, m, f .values));
+      marks = rw (length-drop (a * c) (s .marks)) (omega (arith, m, f .marks));
+      fits = fine-drop (a * c) (s .values) (s .marks) (f .fits);
+    }
+
+-- ---- one pair
+module _ (o : Options) (allowed : badOptions o ≡ false) (l r : Words) where
+  pair-fits : (x y : Stretch) → Fine (columns o) x → Fine (columns o) y → sorted o (rowsWithin (columns o) x) ≡ true → sorted o (rowsWithin (columns o) y) ≡ true → x .rows < 2 ^ 63 → y .rows ≤ mostRows
+      → tooShort o l r (record { left = rowsWithin (columns o) x; right = rowsWithin (columns o) y }) ≡ false → (e : Lent) → length (e .left) ≡ length l → length (e .right) ≡ length r
+      → Each (λ f out. 2 + 2 * rowCount f ≤ length out) (framesOf (columns o) x) (e .outs) → Fits o (record { left = rowsWithin (columns o) x; right = rowsWithin (columns o) y }) (loadOf (columns o) x y e)
+  unfolding tooShort
+  pair-fits x y fx fy sx sy nx ny short e el er outs =
+      let c = columns o in
+      let tx = full-total (x .rows) in
+      let ty = full-total (y .rows) in
+      let mx : total (fullHeights (x .rows)) * c ≡ x .rows * c = ap (λ (k : ℕ). k * c) tx in
+      let my : total (fullHeights (y .rows)) * c ≡ y .rows * c = ap (λ (k : ℕ). k * c) ty in
+      let X = table-frames c (fullHeights (x .rows)) (x .values) (x .marks) (full-few (x .rows)) (omega (arith, mx, fx .values)) (omega (arith, mx, fx .marks)) (fx .fits) in
+      let Y = table-frames c (fullHeights (y .rows)) (y .values) (y .marks) (full-few (y .rows)) (omega (arith, my, fy .values)) (omega (arith, my, fy .marks)) (fy .fits) in
+      let FX = framed c (fullHeights (x .rows)) (x .values) (x .marks) (omega (arith, mx, fx .values)) (omega (arith, mx, fx .marks)) in
+      let FY = framed c (fullHeights (y .rows)) (y .values) (y .marks) (omega (arith, my, fy .values)) (omega (arith, my, fy .marks)) in
+      let rx = rows-length c (x .rows) (x .values) (x .marks) in
+      let ry = rows-length c (y .rows) (y .values) (y .marks) in
+      let X₁ = rw tx at (X .1) in
+      let Y₁ = rw ty at (Y .1) in
+      let s = or-none (ltb (length l) (wordsFor c (fullHeights (length (rowsWithin c x))))) (ltb (capacity c r) (plan o (fullFrames (rowsWithin c x)) (fullFrames (rowsWithin c y)) .rows)) short in
+      let s₁ = rw rx at (ltb-false (length l) (wordsFor c (fullHeights (length (rowsWithin c x)))) (s .0)) in
+      let s₂ = rw (rx, ry) at (ltb-false (capacity c r) (plan o (fullFrames (rowsWithin c x)) (fullFrames (rowsWithin c y)) .rows) (s .1)) in
+      record {
+        planned = record {
+          allowed = allowed;
+          left-frames = X .0;
+          right-frames = Y .0;
+          left-sorted = rw X₁ sx;
+          right-sorted = rw Y₁ sy;
+          left-room = omega (arith, FX .1, s₁, el);
+          outputs = outs;
+          few-rights = rw (Y₁, ry) ny;
+          few-lefts = omega (arith, frames-count c (fullHeights (x .rows)) (x .values) (x .marks), full-count (x .rows), nx);
+        };
+        room = rw (FX .0, FY .0, tx, ty, er) s₂;
+        left = X₁;
+        right = Y₁;
+      }
+
+  all-fit : (gs : Rows) (x y : Stretch) → Fine (columns o) x → Fine (columns o) y → sorted o (rowsWithin (columns o) x) ≡ true → sorted o (rowsWithin (columns o) y) ≡ true → x .rows < 2 ^ 63 → y .rows ≤ mostRows
+      → anyShort o l r (cutBy o gs (record { left = rowsWithin (columns o) x; right = rowsWithin (columns o) y })) ≡ false → (es : List Lent) → LentWell o (length l) (length r) gs x es
+      → Each (Fits o) (cutBy o gs (record { left = rowsWithin (columns o) x; right = rowsWithin (columns o) y })) (loads o gs x y es)
+  unfolding cutBy anyShort LentWell loads
+  all-fit [] x y fx fy sx sy nx ny a [] w = absurd w
+  all-fit [] x y fx fy sx sy nx ny a (e ∷ es) w = pairs (pair-fits x y fx fy sx sy nx ny (or-none (tooShort o l r (record { left = rowsWithin (columns o) x; right = rowsWithin (columns o) y })) false a .0) e (w .0) (w .1) (w .2)) ends
+  all-fit (g ∷ gs) x y fx fy sx sy nx ny a [] w = absurd w
+  all-fit (g ∷ gs) x y fx fy sx sy nx ny a (e ∷ es) w =
+      let c = columns o in
+      let i = cutAt o g (rowsWithin c x) in
+      let k = cutAt o g (rowsWithin c y) in
+      let hi : i ≤ x .rows = omega (arith, cut-within o g (rowsWithin c x), rows-length c (x .rows) (x .values) (x .marks)) in
+      let hk : k ≤ y .rows = omega (arith, cut-within o g (rowsWithin c y), rows-length c (y .rows) (y .values) (y .marks)) in
+      let x₁ : rowsWithin c (firstOf i x) ≡ take i (rowsWithin c x) = rows-take c (x .rows) i (x .values) (x .marks) hi in
+      let y₁ : rowsWithin c (firstOf k y) ≡ take k (rowsWithin c y) = rows-take c (y .rows) k (y .values) (y .marks) hk in
+      let x₂ : rowsWithin c (othersOf c i x) ≡ drop i (rowsWithin c x) = rows-drop c (x .rows) i (x .values) (x .marks) hi in
+      let y₂ : rowsWithin c (othersOf c k y) ≡ drop k (rowsWithin c y) = rows-drop c (y .rows) k (y .values) (y .marks) hk in
+      let p : Pair = record { left = rowsWithin c x; right = rowsWithin c y } in
+      let p₁ : record { left = rowsWithin c (firstOf i x); right = rowsWithin c (firstOf k y) } ≡ before o g p = rw (x₁, y₁) refl in
+      let p₂ : record { left = rowsWithin c (othersOf c i x); right = rowsWithin c (othersOf c k y) } ≡ behind o g p = rw (x₂, y₂) refl in
+      let q = or-none (tooShort o l r (before o g p)) (anyShort o l r (cutBy o gs (behind o g p))) a in
+      let f₁ = pair-fits (firstOf i x) (firstOf k y) (first-fine c i x hi fx) (first-fine c k y hk fy) (rw x₁ (sorted-take o i (rowsWithin c x) sx)) (rw y₁ (sorted-take o k (rowsWithin c y) sy)) (omega arith) (omega arith) (rw p₁ (q .0)) e (w .0) (w .1) (w .2) in
+      let f₂ = all-fit gs (othersOf c i x) (othersOf c k y) (others-fine c i x hi fx) (others-fine c k y hk fy) (rw x₂ (sorted-drop o i (rowsWithin c x) sx)) (rw y₂ (sorted-drop o k (rowsWithin c y) sy)) (omega arith) (omega arith) (rw p₂ (q .1)) es (w .3) in
+      pairs (rw p₁ at f₁) (rw p₂ at f₂)
+
+-- ---- the whole
+whole-fine : (c : ℕ) (f : Words) → isTable c f ≡ true → Fine c (wholeOf c f)
+whole-fine c f t = record { values = omega (arith, table-values c f t); marks = omega (arith, table-marks c f t); fits = shape c f t .1 }
+
+pub driver-fits : DriverFits
+unfolding cutAnswer frameRows
+driver-fits o left right boundaries l r out e nl nr es w =
+    let c = columns o in
+    let t = tables o left right boundaries l r out in
+    let gs = groups o left right boundaries l r out in
+    let p₁ = passes (badOptions o) 0 _ e in
+    let p₅ = passes (not (isTable c left && isTable c right && isFrame (o .by) boundaries)) 4 _ (p₁ .1) in
+    let u = and-true (isTable c left && isTable c right) (isFrame (o .by) boundaries) (not-false (isTable c left && isTable c right && isFrame (o .by) boundaries) (p₅ .0)) in
+    let v = and-true (isTable c left) (isTable c right) (u .0) in
+    let p₁₄ = passes (not (sorted o (t .left) && sorted o (t .right))) 13 _ (p₅ .1) in
+    let s = and-true (sorted o (t .left)) (sorted o (t .right)) (not-false (sorted o (t .left) && sorted o (t .right)) (p₁₄ .0)) in
+    let p₁₈ = passes (badBoundaries o gs) 17 _ (p₁₄ .1) in
+    let p₆ = passes (anyShort o l r (cutBy o gs t) || ltb (length out) (2 + 2 * length (t .left))) 5 0 (p₁₈ .1) in
+    let a = or-none (anyShort o l r (cutBy o gs t)) (ltb (length out) (2 + 2 * length (t .left))) (p₆ .0) in
+    all-fit o (p₁ .0) l r gs (wholeOf c left) (wholeOf c right) (whole-fine c left (v .0)) (whole-fine c right (v .1)) (s .0) (s .1) nl nr (a .0) es w
+
+-- Both tables are sorted where the answer is 0.
+both-sorted : (o : Options) (left right boundaries l r out : Words) → cutAnswer o left right boundaries l r out ≡ 0 → BothSorted o (tables o left right boundaries l r out)
+unfolding cutAnswer
+both-sorted o left right boundaries l r out e =
+    let c = columns o in
+    let t = tables o left right boundaries l r out in
+    let p₁ = passes (badOptions o) 0 _ e in
+    let p₅ = passes (not (isTable c left && isTable c right && isFrame (o .by) boundaries)) 4 _ (p₁ .1) in
+    let p₁₄ = passes (not (sorted o (t .left) && sorted o (t .right))) 13 _ (p₅ .1) in
+    and-true (sorted o (t .left)) (sorted o (t .right)) (not-false (sorted o (t .left) && sorted o (t .right)) (p₁₄ .0))
+
+pub driver-writes : DriverWrites
+driver-writes o left right boundaries l r out e nl nr es w =
+    uncut-scheduled o (groups o left right boundaries l r out) (tables o left right boundaries l r out) (both-sorted o left right boundaries l r out e)
+    (loads o (groups o left right boundaries l r out) (wholeOf (columns o) left) (wholeOf (columns o) right) es) (driver-fits o left right boundaries l r out e nl nr es w)

@@ -1,0 +1,67 @@
+-- A programme cut in parts, by computation: an absent boundary group, empty halves, null groups, and numbers counted on. Assumes nothing.
+use mathlib.Core.Path.{_≡_, refl}
+use mathlib.Core.Bool.{true, false}
+use mathlib.Core.List.{List, [], _∷_, map}
+use Prim.Native.Nat.{ℕ}
+use lib.IntN.{pos, negsuc}
+use lib.ListN.{length}
+use Rattle.frames.specs.Cells.{null, value}
+use Rattle.frames.specs.Order.{cmpFirst, nullIn}
+use Rattle.frames.proofs.Samples.{options, row}
+use Rattle.frames.specs.declared.Options.{Options}
+use Rattle.matching.specs.Match.{choose, takesOver, fits, tolerate, matchTable, wholeTable}
+use Rattle.matching.specs.declared.Choice.the-variants.{Row, Nothing}
+use Rattle.cuts.specs.Cut.{cutAt, Pair, cutBy, joined, appended}
+
+-- Backward, one by-column; the same descending, nulls last.
+abbrev pub up : Options
+up = options 1 0 true (negsuc 0) false [] []
+
+abbrev pub down : Options
+down = options 1 0 true (negsuc 0) false (true ∷ []) (true ∷ [])
+
+-- Performances 1, 2 and 4; a notice and a sale of none.
+unfoldable pub season : Pair
+season = record {
+  left = (null ∷ value (pos 3) ∷ []) ∷ map row ((1 ∷ 15 ∷ []) ∷ (1 ∷ 16 ∷ []) ∷ (2 ∷ 4 ∷ []) ∷ (4 ∷ 9 ∷ []) ∷ (4 ∷ 30 ∷ []) ∷ []);
+  right = (null ∷ value (pos 3) ∷ []) ∷ map row ((1 ∷ 10 ∷ []) ∷ (2 ∷ 5 ∷ []) ∷ (4 ∷ 1 ∷ []) ∷ (4 ∷ 20 ∷ []) ∷ []);
+}
+
+-- How many rows each pair has on either side.
+pub record Size : Type 0 where
+  pub lefts : ℕ
+  pub rights : ℕ
+
+abbrev pub size : ℕ → ℕ → Size
+size l r = record { lefts = l; rights = r }
+
+abbrev pub sizes : List Pair → List Size
+sizes [] = []
+sizes (p ∷ ps) = size (length (p .left)) (length (p .right)) ∷ sizes ps
+
+-- By 2: cut before it. By 3, which is absent: behind it. By 1, then 9: no rows are behind the last.
+pub cut : (sizes (cutBy up (map row ((2 ∷ []) ∷ [])) season) ≡ size 3 2 ∷ size 3 3 ∷ [])
+    × (sizes (cutBy up (map row ((3 ∷ []) ∷ [])) season) ≡ size 4 3 ∷ size 2 2 ∷ [])
+    × (sizes (cutBy up (map row ((1 ∷ []) ∷ (9 ∷ []) ∷ [])) season) ≡ size 1 1 ∷ size 5 4 ∷ size 0 0 ∷ [])
+unfolding cutBy cutAt season cmpFirst
+cut = (refl, refl, refl)
+
+-- Descending, nulls last: 4, 4, 2, 1, none.
+unfoldable pub turned : Pair
+turned = record {
+  left = map row ((4 ∷ 9 ∷ []) ∷ (1 ∷ 15 ∷ []) ∷ []);
+  right = map row ((4 ∷ 1 ∷ []) ∷ (2 ∷ 5 ∷ []) ∷ (1 ∷ 10 ∷ []) ∷ []);
+}
+
+pub cut-down : sizes (cutBy down (map row ((3 ∷ []) ∷ (2 ∷ []) ∷ [])) turned) ≡ size 1 1 ∷ size 0 0 ∷ size 1 2 ∷ []
+unfolding cutBy cutAt turned cmpFirst
+cut-down = refl
+
+-- The uncut join, and the answers of three pairs appended.
+pub whole : joined up season ≡ Nothing ∷ Row 1 ∷ Row 1 ∷ Nothing ∷ Row 3 ∷ Row 4 ∷ []
+unfolding joined season wholeTable matchTable choose takesOver fits tolerate cmpFirst nullIn
+whole = refl
+
+pub parts : appended up 0 (cutBy up (map row ((2 ∷ []) ∷ (3 ∷ []) ∷ [])) season) ≡ Nothing ∷ Row 1 ∷ Row 1 ∷ Nothing ∷ Row 3 ∷ Row 4 ∷ []
+unfolding appended cutBy cutAt joined season wholeTable matchTable choose takesOver fits tolerate cmpFirst nullIn
+parts = refl

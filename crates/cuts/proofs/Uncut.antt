@@ -1,0 +1,124 @@
+-- Tables cut by any list of boundaries, each pair joined apart: the join of the uncut tables, as tables and as lists of calls. Assumes nothing.
+use mathlib.Core.Path.{_≡_, refl, sym, ap, _∙_}
+use mathlib.Core.Bool.{false}
+use mathlib.Core.List.{List, [], _∷_, _++_, append-nil, map, map-append, map-map}
+use Prim.Native.Nat.{ℕ, _+_}
+use native.Mathlib.Omega.{arith}
+use lib.ListN.{length, take, drop, take-append-drop}
+use lib.Seq.{length-take-le}
+use Rattle.frames.specs.Cells.{Cell, Rows}
+use Rattle.frames.specs.Options.{badOptions}
+use Rattle.frames.specs.declared.Options.{Options}
+use Rattle.frames.proofs.SortedLaws.{All, ordered, sorted-drop}
+use Rattle.matching.specs.Match.{wholeTable}
+use Rattle.matching.specs.declared.Choice.{Choice}
+use Rattle.matching.specs.declared.Choice.the-variants.{Row, Nothing}
+use Rattle.lists.specs.Demand.{asWritten, Each, ends, pairs, lefts, rights}
+use Rattle.lists.proofs.Demand3.{demand3}
+use Rattle.isolation.proofs.Isolated.{all-turned}
+use Rattle.cuts.specs.Cut.{cutAt, Pair, before, behind, cutBy, joined, later, appended}
+use Rattle.cuts.specs.Apart.{BothSorted, UncutTables, Job, Joins, written, laterEntry, allWritten, UncutCalls}
+use Rattle.cuts.specs.Scheduled.{Load, Fits, scheduled, allScheduled, UncutScheduled}
+use Rattle.plan.proofs.Ends.{writes-all}
+use Rattle.cuts.proofs.CutLaws.{cut-before, cut-behind, cut-within, match-before, match-behind}
+
+-- Two functions that agree on each row.
+map-agree : {A : Type 0} (f g : List Cell → A) (xs : Rows) → All (λ x. f x ≡ g x) xs → map f xs ≡ map g xs
+map-agree f g [] h = refl
+map-agree f g (x ∷ xs) h = rw (h .0, map-agree f g xs (h .1))
+
+all-to : (P Q : List Cell → Type 0) (f : (x : List Cell) → P x → Q x) (xs : Rows) → All P xs → All Q xs
+all-to P Q f [] h = tt
+all-to P Q f (x ∷ xs) h = (f x (h .0), all-to P Q f xs (h .1))
+
+later-later : (n k : ℕ) (ms : List Choice) → map (later (n + k)) ms ≡ map (later n) (map (later k) ms)
+later-later n k [] = refl
+later-later n k (Row i ∷ ms) = let q : n + k + i ≡ n + (k + i) = omega arith in rw (q, later-later n k ms)
+later-later n k (Nothing ∷ ms) = rw (later-later n k ms)
+
+later-none : (ms : List Choice) → map (later 0) ms ≡ ms
+later-none [] = refl
+later-none (Row i ∷ ms) = let q : 0 + i ≡ i = omega arith in rw (q, later-none ms)
+later-none (Nothing ∷ ms) = rw (later-none ms)
+
+-- One cut.
+module _ (o : Options) (g : List Cell) (p : Pair) (s : BothSorted o p) where
+  abbrev a : ℕ
+  a = cutAt o g (p .left)
+
+  abbrev b : ℕ
+  b = cutAt o g (p .right)
+
+  one-cut : joined o p ≡ joined o (before o g p) ++ map (later b) (joined o (behind o g p))
+  unfolding joined
+  one-cut =
+      ap (map (wholeTable o (p .right))) (sym (take-append-drop a (p .left)))
+      ∙ map-append (wholeTable o (p .right)) (take a (p .left)) (drop a (p .left))
+      ∙ rw (
+        map-agree (wholeTable o (p .right)) (wholeTable o (take b (p .right))) (take a (p .left)) (all-to _ _ (λ x l. match-before o g (p .right) (s .1) x l) (take a (p .left)) (cut-before o g (p .left))),
+        map-agree (wholeTable o (p .right)) (λ x. later b (wholeTable o (drop b (p .right)) x)) (drop a (p .left)) (all-to _ _ (λ x h. match-behind o g (p .right) (s .1) x h) (drop a (p .left)) (cut-behind o g (p .left) (ordered o (p .left) (s .0)))),
+        map-map (later b) (wholeTable o (drop b (p .right))) (drop a (p .left)),
+      ) refl
+
+  behind-sorted : BothSorted o (behind o g p)
+  behind-sorted = (sorted-drop o a (p .left) (s .0), sorted-drop o b (p .right) (s .1))
+
+  before-count : length (before o g p .right) ≡ b
+  before-count = length-take-le b (p .right) (cut-within o g (p .right))
+
+-- All of them.
+cuts : (o : Options) (gs : Rows) (n : ℕ) (p : Pair) → BothSorted o p → appended o n (cutBy o gs p) ≡ map (later n) (joined o p)
+unfolding appended cutBy
+cuts o [] n p s = append-nil (map (later n) (joined o p))
+cuts o (g ∷ gs) n p s =
+    ap (λ (ms : List Choice). map (later n) (joined o (before o g p)) ++ ms)
+    (ap (λ (k : ℕ). appended o (n + k) (cutBy o gs (behind o g p))) (before-count o g p s) ∙ cuts o gs (n + b o g p s) (behind o g p) (behind-sorted o g p s) ∙ later-later n (b o g p s) (joined o (behind o g p)))
+    ∙ sym (map-append (later n) (joined o (before o g p)) (map (later (b o g p s)) (joined o (behind o g p))))
+    ∙ ap (map (later n)) (sym (one-cut o g p s))
+
+pub uncut-tables : UncutTables
+uncut-tables o gs p s = cuts o gs 0 p s ∙ later-none (joined o p)
+
+-- ---- lists of calls
+later-entry : (n : ℕ) (ms : List Choice) → map (laterEntry n) (map asWritten ms) ≡ map asWritten (map (later n) ms)
+later-entry n [] = refl
+later-entry n (Row i ∷ ms) = rw (later-entry n ms)
+later-entry n (Nothing ∷ ms) = rw (later-entry n ms)
+
+module _ (o : Options) (allowed : badOptions o ≡ false) where
+  -- A job writes the join of its pair: demand 3.
+  job-writes : (p : Pair) (j : Job) → Joins o p j → written o j ≡ map asWritten (joined o p)
+  unfolding joined
+  job-writes p j w =
+      demand3 o allowed (j .left) (j .right) (j .calls) .whole-table (w .finished .declared)
+      ∙ rw (all-turned o (j .left) (j .right) (j .calls) (w .finished), w .left, w .right) (sym (map-map asWritten (wholeTable o (p .right)) (p .left)))
+
+  jobs-write : (n : ℕ) {ps : List Pair} {js : List Job} → Each (Joins o) ps js → allWritten o n ps js ≡ map asWritten (appended o n ps)
+  unfolding allWritten appended
+  jobs-write n ends = refl
+  jobs-write n (pairs {a} {b} {xs} {ys} w ws) =
+      rw (job-writes a b w, later-entry n (joined o a), jobs-write (n + length (a .right)) ws)
+      (sym (map-append asWritten (map (later n) (joined o a)) (appended o (n + length (a .right)) xs)))
+
+pub uncut-calls : UncutCalls
+uncut-calls o allowed gs p whole w js ws =
+    let d = w .finished .declared in
+    let s : BothSorted o p = (rw (w .left) at (d .0), rw (w .right) at (d .1)) in
+    jobs-write o allowed 0 ws ∙ ap (map asWritten) (uncut-tables o gs p s) ∙ sym (job-writes o allowed p whole w)
+
+-- ---- each pair by its schedule
+module _ (o : Options) where
+  load-writes : (p : Pair) (j : Load) → Fits o p j → scheduled o j ≡ map asWritten (joined o p)
+  unfolding joined
+  load-writes p j h =
+      writes-all o (j .left) (j .right) (j .lefts) (j .rights) (j .outs) (h .planned) (h .room) ∙ rw (h .left, h .right) (sym (map-map asWritten (wholeTable o (p .right)) (p .left)))
+
+  loads-write : (n : ℕ) {ps : List Pair} {js : List Load} → Each (Fits o) ps js → allScheduled o n ps js ≡ map asWritten (appended o n ps)
+  unfolding allScheduled appended
+  loads-write n ends = refl
+  loads-write n (pairs {a} {b} {xs} {ys} h hs) =
+      rw (load-writes a b h, later-entry n (joined o a), loads-write (n + length (a .right)) hs)
+      (sym (map-append asWritten (map (later n) (joined o a)) (appended o (n + length (a .right)) xs)))
+
+pub uncut-scheduled : UncutScheduled
+uncut-scheduled o gs p s js hs = loads-write o 0 hs ∙ ap (map asWritten) (uncut-tables o gs p s)

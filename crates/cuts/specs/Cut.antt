@@ -1,0 +1,47 @@
+-- Two tables cut by boundary groups, and the answers of the pairs appended. Assumes nothing.
+use mathlib.Core.Bool.{true, false}
+use mathlib.Core.List.{List, [], _∷_, _++_, map}
+use Prim.Native.Nat.{ℕ, suc, _+_}
+use lib.ListN.{length, take, drop}
+use Rattle.frames.specs.Cells.{Cell, Rows}
+use Rattle.frames.specs.Order.{cmpGroup, isLess}
+use Rattle.frames.specs.declared.Options.{Options}
+use Rattle.matching.specs.Match.{wholeTable}
+use Rattle.matching.specs.declared.Choice.{Choice}
+use Rattle.matching.specs.declared.Choice.the-variants.{Row, Nothing}
+
+-- Cut before the first row whose group is not less than that of the row g: how many rows stand before the cut. All of them, where no row's group is.
+unfoldable pub cutAt : Options → List Cell → Rows → ℕ
+cutAt o g [] = 0
+cutAt o g (r ∷ rs) = elim (isLess (cmpGroup o r g)) [ true ↦ suc (cutAt o g rs) | false ↦ 0 ]
+
+-- A left table and a right table.
+pub record Pair : Type 0 where
+  pub left : Rows
+  pub right : Rows
+
+-- The pair before the cut by g, and the pair behind it.
+abbrev pub before : Options → List Cell → Pair → Pair
+before o g p = record { left = take (cutAt o g (p .left)) (p .left); right = take (cutAt o g (p .right)) (p .right) }
+
+abbrev pub behind : Options → List Cell → Pair → Pair
+behind o g p = record { left = drop (cutAt o g (p .left)) (p .left); right = drop (cutAt o g (p .right)) (p .right) }
+
+-- By a list of boundaries, in order: each cuts what is behind the one before it. n boundaries give n + 1 pairs, of which any may be empty on either side.
+unfoldable pub cutBy : Options → Rows → Pair → List Pair
+cutBy o [] p = p ∷ []
+cutBy o (g ∷ gs) p = before o g p ∷ cutBy o gs (behind o g p)
+
+-- The join of a pair: the whole-table rule for each left row.
+unfoldable pub joined : Options → Pair → List Choice
+joined o p = map (wholeTable o (p .right)) (p .left)
+
+-- A right number of a later pair: the count of right rows before that pair is added.
+abbrev pub later : ℕ → Choice → Choice
+later n (Row i) = Row (n + i)
+later n Nothing = Nothing
+
+-- The answers of pairs appended as one table, where n right rows stand before the first.
+unfoldable pub appended : Options → ℕ → List Pair → List Choice
+appended o n [] = []
+appended o n (p ∷ ps) = map (later n) (joined o p) ++ appended o (n + length (p .right)) ps

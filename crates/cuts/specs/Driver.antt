@@ -1,0 +1,77 @@
+-- The driver for a list of boundaries, for any words: what is refused, in checking order, and what is written. Assumes nothing.
+use mathlib.Core.Bool.{Bool, true, false, cond, not, _&&_, _||_}
+use mathlib.Core.List.{List, [], _∷_}
+use Prim.Native.Nat.{ℕ, _+_, _*_}
+use lib.Dec.{ltb, eqb}
+use lib.ListN.{length, take, drop}
+use Rattle.frames.specs.Cells.{Rows, Words}
+use Rattle.frames.specs.Frame.{frameWords, isFrame, frameRows}
+use Rattle.frames.specs.Options.{columns, badOptions}
+use Rattle.frames.specs.Order.{cmpGroup, isLess, nullGroup, sorted}
+use Rattle.frames.specs.declared.Options.{Options}
+use Rattle.area.specs.Area.{capacity}
+use Rattle.matching.specs.Answer.{answered}
+use Rattle.plan.specs.Plan.{plan}
+use Rattle.plan.specs.Table.{isTable, fullHeights}
+use Rattle.cuts.specs.Cut.{Pair, cutBy, joined}
+
+-- Each pair is joined in full frames of 4,096 rows and one of the rest, if any: their rows.
+unfoldable pub inFrames : List ℕ → Rows → List Rows
+inFrames [] rs = []
+inFrames (h ∷ hs) rs = take h rs ∷ inFrames hs (drop h rs)
+
+abbrev pub fullFrames : Rows → List Rows
+fullFrames rs = inFrames (fullHeights (length rs)) rs
+
+-- The words of left frames of these heights, which all wait at once.
+unfoldable pub wordsFor : ℕ → List ℕ → ℕ
+wordsFor c [] = 0
+wordsFor c (h ∷ hs) = frameWords h c + wordsFor c hs
+
+-- An area too short for a pair: left for its frames, right for the first figure of its plan.
+unfoldable pub tooShort : Options → Words → Words → Pair → Bool
+tooShort o l r p =
+    ltb (length l) (wordsFor (columns o) (fullHeights (length (p .left)))) || ltb (capacity (columns o) r) (plan o (fullFrames (p .left)) (fullFrames (p .right)) .rows)
+
+-- For any pair.
+unfoldable pub anyShort : Options → Words → Words → List Pair → Bool
+anyShort o l r [] = false
+anyShort o l r (p ∷ ps) = tooShort o l r p || anyShort o l r ps
+
+-- Boundaries strictly ascending in the declared order; and one that is null in any column.
+unfoldable pub ascending : Options → Rows → Bool
+ascending o [] = true
+ascending o (g ∷ []) = true
+ascending o (g ∷ h ∷ gs) = isLess (cmpGroup o g h) && ascending o (h ∷ gs)
+
+unfoldable pub anyNull : Options → Rows → Bool
+anyNull o [] = false
+anyNull o (g ∷ gs) = nullGroup o g || anyNull o gs
+
+-- Refusal 18: more than 16 boundaries, one where b is 0, one null in any column, or boundaries not strictly ascending.
+unfoldable pub badBoundaries : Options → Rows → Bool
+badBoundaries o gs = ltb 16 (length gs) || (eqb (o .by) 0 && ltb 0 (length gs)) || anyNull o gs || not (ascending o gs)
+
+module _ (o : Options) (left right boundaries l r out : Words) where
+  -- The two tables.
+  abbrev pub tables : Pair
+  tables = record { left = frameRows (columns o) left; right = frameRows (columns o) right }
+
+  -- Boundaries are a frame of b columns.
+  abbrev pub groups : Rows
+  groups = frameRows (o .by) boundaries
+
+  -- Options 1; tables, then boundaries, 5; an unsorted table 14; boundaries 18; an area too short for any pair, or too short an output, 6. Else 0.
+  -- (10, 11 and 12 come with carried columns and rank lists: behind 1, and behind 5.)
+  unfoldable pub cutAnswer : ℕ
+  cutAnswer =
+      cond (badOptions o) 1
+      (cond (not (isTable (columns o) left && isTable (columns o) right && isFrame (o .by) boundaries)) 5
+      (cond (not (sorted o (tables .left) && sorted o (tables .right))) 14
+      (cond (badBoundaries o groups) 18
+      (cond (anyShort o l r (cutBy o groups tables) || ltb (length out) (2 + 2 * length (tables .left))) 6
+      0))))
+
+  -- Refused, the output stays; else it is the answer of the uncut tables. The words of both areas are free.
+  unfoldable pub cutOutput : Words
+  cutOutput = cond (eqb cutAnswer 0) (answered (joined o tables) out) out

@@ -1,0 +1,5 @@
+pub mod Cut
+pub mod Apart
+pub mod Scheduled
+pub mod Driver
+pub mod Loads

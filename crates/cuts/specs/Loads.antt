@@ -1,0 +1,81 @@
+-- The frames in which a driver hands each pair over: parts of the tables' values and marks. The statement; its proof stands in proofs/. Assumes nothing.
+use mathlib.Core.Path.{_≡_}
+use mathlib.Core.List.{List, [], _∷_, map}
+use Prim.Native.Nat.{ℕ, _+_, _-_, _*_, _^_, _≤_, _<_}
+use lib.ListN.{length, drop}
+use Rattle.frames.specs.Cells.{Rows, Words, rowsOf}
+use Rattle.frames.specs.Frame.{rowCount, valuesIn, marksIn}
+use Rattle.frames.specs.Options.{columns}
+use Rattle.frames.specs.declared.Options.{Options}
+use Rattle.answers.specs.Answers.{mostRows}
+use Rattle.lists.specs.Demand.{asWritten, Each}
+use Rattle.plan.specs.Table.{framesBy, fullHeights}
+use Rattle.cuts.specs.Cut.{cutAt, cutBy, joined}
+use Rattle.cuts.specs.Scheduled.{Load, Fits, allScheduled}
+use Rattle.cuts.specs.Driver.{tables, groups, cutAnswer}
+
+-- A stretch of a table: n rows, from the front of these values and marks.
+pub record Stretch : Type 0 where
+  pub rows : ℕ
+  pub values : Words
+  pub marks : Words
+
+-- The rows of a stretch; a whole table; its first a rows, and the others.
+abbrev pub rowsWithin : ℕ → Stretch → Rows
+rowsWithin c s = rowsOf c (s .rows) (s .values) (s .marks)
+
+abbrev pub wholeOf : ℕ → Words → Stretch
+wholeOf c f = record { rows = rowCount f; values = valuesIn c f; marks = marksIn c f }
+
+abbrev pub firstOf : ℕ → Stretch → Stretch
+firstOf a s = record { rows = a; values = s .values; marks = s .marks }
+
+abbrev pub othersOf : ℕ → ℕ → Stretch → Stretch
+othersOf c a s = record { rows = s .rows - a; values = drop (a * c) (s .values); marks = drop (a * c) (s .marks) }
+
+-- Its full frames of 4,096 rows, and one of the rest.
+abbrev pub framesOf : ℕ → Stretch → List Words
+framesOf c s = framesBy c (fullHeights (s .rows)) (s .values) (s .marks)
+
+-- What a pair is lent when its turn comes: the two areas, and an output for each of its left frames.
+pub record Lent : Type 0 where
+  pub left : Words
+  pub right : Words
+  pub outs : List Words
+
+-- A pair's load.
+abbrev pub loadOf : ℕ → Stretch → Stretch → Lent → Load
+loadOf c x y e = record { left = e .left; right = e .right; lefts = framesOf c x; rights = framesOf c y; outs = e .outs }
+
+-- The loads of all pairs, cut by the boundaries in order.
+unfoldable pub loads : Options → Rows → Stretch → Stretch → List Lent → List Load
+loads o gs x y [] = []
+loads o [] x y (e ∷ es) = loadOf (columns o) x y e ∷ []
+loads o (g ∷ gs) x y (e ∷ es) =
+    let a = cutAt o g (rowsWithin (columns o) x) in
+    let b = cutAt o g (rowsWithin (columns o) y) in
+    loadOf (columns o) (firstOf a x) (firstOf b y) e ∷ loads o gs (othersOf (columns o) a x) (othersOf (columns o) b y) es
+
+-- The areas keep their lengths, whatever words the pair before left in them, and each output is enough: 2 + 2n words.
+unfoldable pub LentWell : Options → ℕ → ℕ → Rows → Stretch → List Lent → Type 0
+LentWell o l r gs x [] = ⊥
+LentWell o l r [] x (e ∷ es) = (length (e .left) ≡ l) × (length (e .right) ≡ r) × Each (λ f out. 2 + 2 * rowCount f ≤ length out) (framesOf (columns o) x) (e .outs)
+LentWell o l r (g ∷ gs) x (e ∷ es) =
+    let a = cutAt o g (rowsWithin (columns o) x) in
+    (length (e .left) ≡ l) × (length (e .right) ≡ r) × Each (λ f out. 2 + 2 * rowCount f ≤ length out) (framesOf (columns o) (firstOf a x)) (e .outs)
+    × LentWell o l r gs (othersOf (columns o) a x) es
+
+-- Where the driver's answer is 0, every pair's frames fit: so `UncutScheduled` tells what is written.
+abbrev pub DriverFits : Type 0
+DriverFits =
+    (o : Options) (left right boundaries l r out : Words) → cutAnswer o left right boundaries l r out ≡ 0 → rowCount left < 2 ^ 63 → rowCount right ≤ mostRows → (es : List Lent)
+    → LentWell o (length l) (length r) (groups o left right boundaries l r out) (wholeOf (columns o) left) es
+    → Each (Fits o) (cutBy o (groups o left right boundaries l r out) (tables o left right boundaries l r out)) (loads o (groups o left right boundaries l r out) (wholeOf (columns o) left) (wholeOf (columns o) right) es)
+
+-- So the pairs, each by its schedule in these frames over these areas, write the answer of the uncut tables.
+abbrev pub DriverWrites : Type 0
+DriverWrites =
+    (o : Options) (left right boundaries l r out : Words) → cutAnswer o left right boundaries l r out ≡ 0 → rowCount left < 2 ^ 63 → rowCount right ≤ mostRows → (es : List Lent)
+    → LentWell o (length l) (length r) (groups o left right boundaries l r out) (wholeOf (columns o) left) es
+    → allScheduled o 0 (cutBy o (groups o left right boundaries l r out) (tables o left right boundaries l r out)) (loads o (groups o left right boundaries l r out) (wholeOf (columns o) left) (wholeOf (columns o) right) es)
+    ≡ map asWritten (joined o (tables o left right boundaries l r out))

@@ -1,0 +1,45 @@
+-- Each pair joined by the schedule of crate plan, one after the other: what a driver for a list of boundaries writes. The statement; its proof stands in proofs/.
+-- Assumes nothing.
+use mathlib.Core.Path.{_≡_}
+use mathlib.Core.List.{List, [], _∷_, _++_, map}
+use Prim.Native.Nat.{ℕ, _+_, _≤_}
+use lib.ListN.{length}
+use Rattle.frames.specs.Cells.{Rows, Words}
+use Rattle.frames.specs.Options.{columns}
+use Rattle.frames.specs.declared.Options.{Options}
+use Rattle.area.specs.Area.{capacity}
+use Rattle.lists.specs.Lists.{start, events, rowsIn, Entry, outputs, matchesIn}
+use Rattle.lists.specs.Demand.{asWritten, Each}
+use Rattle.plan.specs.Schedule.{schedule}
+use Rattle.plan.specs.Plan.{Planned, figures}
+use Rattle.cuts.specs.Cut.{Pair, cutBy, joined}
+use Rattle.cuts.specs.Apart.{BothSorted, laterEntry}
+
+-- A pair's frames on either side, with an output for each left frame, and the two areas as they are when its turn comes: any words.
+pub record Load : Type 0 where
+  pub left : Words
+  pub right : Words
+  pub lefts : List Words
+  pub rights : List Words
+  pub outs : List Words
+
+-- They are the frames of the pair, and the areas are large enough for its schedule.
+pub record Fits (o : Options) (p : Pair) (j : Load) : Type 0 where
+  pub planned : Planned o (j .left) (j .lefts) (j .rights) (j .outs)
+  pub room : figures o (j .left) (j .right) (j .lefts) (j .rights) (j .outs) .rows ≤ capacity (columns o) (j .right)
+  pub left : rowsIn (columns o) (j .lefts) ≡ p .left
+  pub right : rowsIn (columns o) (j .rights) ≡ p .right
+
+-- What its schedule writes.
+abbrev pub scheduled : Options → Load → List Entry
+scheduled o j = matchesIn (outputs (events (start o (j .left) (j .right)) (schedule o (j .left) (j .right) (j .lefts) (j .rights) (j .outs))))
+
+-- The answers appended as one table, where n right rows stand before the first pair.
+unfoldable pub allScheduled : Options → ℕ → List Pair → List Load → List Entry
+allScheduled o n [] js = []
+allScheduled o n (p ∷ ps) [] = []
+allScheduled o n (p ∷ ps) (j ∷ js) = map (laterEntry n) (scheduled o j) ++ allScheduled o (n + length (p .right)) ps js
+
+-- It is the join of the uncut tables, whatever the boundaries.
+abbrev pub UncutScheduled : Type 0
+UncutScheduled = (o : Options) (gs : Rows) (p : Pair) → BothSorted o p → (js : List Load) → Each (Fits o) (cutBy o gs p) js → allScheduled o 0 (cutBy o gs p) js ≡ map asWritten (joined o p)

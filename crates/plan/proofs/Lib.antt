@@ -1,0 +1,9 @@
+pub mod Samples
+pub mod EventLaws
+pub mod Follow
+pub mod Rounds
+pub mod Planned
+pub mod Ends
+pub mod OnePrune
+pub mod TableLaws
+pub mod TablePlanned

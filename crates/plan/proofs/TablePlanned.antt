@@ -1,0 +1,124 @@
+-- The plan of two tables is the plan of the frames that their heights cut. Assumes nothing.
+use mathlib.Core.Path.{_≡_, refl, ap, _∙_}
+use mathlib.Core.Bool.{Bool, true, false, cond, not, _&&_, _||_}
+use mathlib.Core.List.{List, [], _∷_}
+use Prim.Native.Nat.{ℕ, suc, _+_, _*_, _≤_}
+use native.Mathlib.Omega.{arith}
+use borrow.Author.Tests.{eqb-true, not-false, ltb-false}
+use lib.Dec.{leb, eqb}
+use lib.IntN.{ℤ, pos, negsuc, natAbs}
+use lib.Signed.{leZ, ltZ}
+use lib.ListN.{length, drop, getD, length-drop}
+use lib.Seq.{length-take-le}
+use Rattle.frames.specs.Cells.{Words}
+use Rattle.frames.specs.Frame.{sameZ, rowCount, frameWords, pairsFine, valuesIn, marksIn, frameRows}
+use Rattle.frames.specs.Options.{columns, badOptions}
+use Rattle.frames.specs.Order.{sorted}
+use Rattle.frames.specs.declared.Options.{Options}
+use Rattle.frames.proofs.SortedLaws.{and-true}
+use Rattle.frames.proofs.WordLaws.{rows-length}
+use Rattle.answers.specs.Answers.{mostRows}
+use Rattle.lists.specs.Lists.{rowsIn}
+use Rattle.plan.specs.Plan.{AllFrames, Planned}
+use Rattle.plan.specs.Table.{isTable, framesBy, total, anyBad, heightsOf, badHeights}
+use Rattle.plan.specs.TablePlan.{planAnswer, cutInto, TablePlans}
+use Rattle.plan.proofs.TableLaws.{AllFew, table-frames}
+use Rattle.plan.proofs.Planned.{plans}
+use Rattle.plan.proofs.Ends.{writes-all}
+
+-- ---- the chain of refusals, passed
+pub passes : (t : Bool) (n k : ℕ) → cond t (suc n) k ≡ 0 → (t ≡ false) × (k ≡ 0)
+passes true n k e = absurd (omega arith)
+passes false n k e = (refl, e)
+
+pub or-none : (a b : Bool) → (a || b) ≡ false → (a ≡ false) × (b ≡ false)
+or-none true b e = let z : _≡_ {A = ℕ} 0 1 = cc in absurd (omega arith)
+or-none false b e = (refl, e)
+
+-- ---- a table's parts
+module _ (c : ℕ) (f : Words) (h : isTable c f ≡ true) where
+  pub shape : ((leb 2 (length f) && leZ (pos 0) (getD f 0 (pos 0)) && sameZ (getD f 1 (pos 0)) (pos c) && eqb (length f) (frameWords (rowCount f) c)) ≡ true) × (pairsFine (valuesIn c f) (marksIn c f) ≡ true)
+  unfolding isTable
+  shape = and-true (leb 2 (length f) && leZ (pos 0) (getD f 0 (pos 0)) && sameZ (getD f 1 (pos 0)) (pos c) && eqb (length f) (frameWords (rowCount f) c)) (pairsFine (valuesIn c f) (marksIn c f)) h
+
+  table-length : length f ≡ frameWords (rowCount f) c
+  table-length = eqb-true (length f) (frameWords (rowCount f) c) (and-true (leb 2 (length f) && leZ (pos 0) (getD f 0 (pos 0)) && sameZ (getD f 1 (pos 0)) (pos c)) (eqb (length f) (frameWords (rowCount f) c)) (shape .0) .1)
+
+  pub table-values : length (valuesIn c f) ≡ rowCount f * c
+  table-values = length-take-le (rowCount f * c) (drop 2 f) (rw (length-drop 2 f) (omega (arith, table-length)))
+
+  pub table-marks : length (marksIn c f) ≡ rowCount f * c
+  table-marks = length-drop (2 + rowCount f * c) f ∙ omega (arith, table-length)
+
+-- ---- heights
+few-heights : (zs : Words) → anyBad zs ≡ false → AllFew (heightsOf zs)
+unfolding anyBad heightsOf
+few-heights [] e = tt
+few-heights (z ∷ zs) e =
+    let p = or-none (ltZ z (pos 0) || ltZ (pos 4096) z) (anyBad zs) e in
+    let q = or-none (ltZ z (pos 0)) (ltZ (pos 4096) z) (p .0) in
+    (few z (q .0) (q .1), few-heights zs (p .1))
+  where
+    few : (z : ℤ) → ltZ z (pos 0) ≡ false → ltZ (pos 4096) z ≡ false → natAbs z ≤ 4096
+    few (pos n) a b = ltb-false 4096 n b
+    few (negsuc n) a b = let y : _≡_ {A = ℕ} 0 1 = cc in absurd (omega arith)
+
+-- ---- one side
+record Side (o : Options) (f hs : Words) : Type 0 where
+  frames : AllFrames (columns o) (cutInto o f hs)
+  rows : rowsIn (columns o) (cutInto o f hs) ≡ frameRows (columns o) f
+
+side : (o : Options) (f hs : Words) → isTable (columns o) f ≡ true → badHeights (rowCount f) hs ≡ false → Side o f hs
+unfolding badHeights frameRows
+side o f hs t b =
+    let c = columns o in
+    let p = or-none (anyBad hs) (not (eqb (total (heightsOf hs)) (rowCount f))) b in
+    let n : total (heightsOf hs) ≡ rowCount f = eqb-true (total (heightsOf hs)) (rowCount f) (not-false (eqb (total (heightsOf hs)) (rowCount f)) (p .1)) in
+    let m : total (heightsOf hs) * c ≡ rowCount f * c = ap (λ (k : ℕ). k * c) n in
+    let r = table-frames c (heightsOf hs) (valuesIn c f) (marksIn c f) (few-heights hs (p .0)) (omega (arith, m, table-values c f t)) (omega (arith, m, table-marks c f t)) (shape c f t .1) in
+    record { frames = r .0; rows = r .1 ∙ rw n refl }
+
+pub frames-count : (c : ℕ) (hs : List ℕ) (vs ms : Words) → length (framesBy c hs vs ms) ≡ length hs
+unfolding framesBy
+frames-count c [] vs ms = refl
+frames-count c (h ∷ hs) vs ms = ap suc (frames-count c hs _ _)
+
+heights-count : (zs : Words) → length (heightsOf zs) ≡ length zs
+unfolding heightsOf
+heights-count [] = refl
+heights-count (z ∷ zs) = ap suc (heights-count zs)
+
+rows-few : (c : ℕ) (f : Words) → rowCount f ≤ mostRows → length (frameRows c f) ≤ mostRows
+unfolding frameRows
+rows-few c f k = rw (rows-length c (rowCount f) (valuesIn c f) (marksIn c f)) k
+
+pub table-plans : TablePlans
+unfolding planAnswer
+table-plans o left right hl hr l r outs e g =
+    let c = columns o in
+    let p₁ = passes (badOptions o) 0 _ e in
+    let p₅ = passes (not (isTable c left && isTable c right)) 4 _ (p₁ .1) in
+    let t = and-true (isTable c left) (isTable c right) (not-false (isTable c left && isTable c right) (p₅ .0)) in
+    let p₁₄ = passes (not (sorted o (frameRows c left) && sorted o (frameRows c right))) 13 _ (p₅ .1) in
+    let s = and-true (sorted o (frameRows c left)) (sorted o (frameRows c right)) (not-false (sorted o (frameRows c left) && sorted o (frameRows c right)) (p₁₄ .0)) in
+    let p₁₇ = passes (badHeights (rowCount left) hl || badHeights (rowCount right) hr) 16 _ (p₁₄ .1) in
+    let b = or-none (badHeights (rowCount left) hl) (badHeights (rowCount right) hr) (p₁₇ .0) in
+    let L = side o left hl (t .0) (b .0) in
+    let R = side o right hr (t .1) (b .1) in
+    let n = frames-count c (heightsOf hl) (valuesIn c left) (marksIn c left) in
+    let h : Planned o l (cutInto o left hl) (cutInto o right hr) outs = record {
+      allowed = p₁ .0;
+      left-frames = L .frames;
+      right-frames = R .frames;
+      left-sorted = rw (L .rows) (s .0);
+      right-sorted = rw (R .rows) (s .1);
+      left-room = g .left-room;
+      outputs = g .outputs;
+      few-rights = rw (R .rows) (rows-few (columns o) right (g .few-rights));
+      few-lefts = omega (arith, n, heights-count hl, g .few-lefts);
+    } in
+    record {
+      enough = plans .enough o l r (cutInto o left hl) (cutInto o right hr) outs h;
+      short = plans .short o l r (cutInto o left hl) (cutInto o right hr) outs h;
+      written = λ k. writes-all o l r (cutInto o left hl) (cutInto o right hr) outs h k ∙ rw (L .rows, R .rows) refl;
+    }

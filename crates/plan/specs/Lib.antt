@@ -1,0 +1,5 @@
+pub mod Schedule
+pub mod Plan
+pub mod Written
+pub mod Table
+pub mod TablePlan

@@ -1,0 +1,92 @@
+-- The figures worked out from the rows alone, with no match written; and what is claimed of them. Assumes nothing.
+use mathlib.Core.Path.{_≡_}
+use mathlib.Core.Bool.{true, false}
+use mathlib.Core.List.{List, [], _∷_, _++_, map}
+use Prim.Native.Nat.{ℕ, zero, suc, _+_, _*_, _^_, _≤_, _<_, max}
+use lib.ListN.{length, drop}
+use Rattle.frames.specs.Cells.{Rows, Words}
+use Rattle.frames.specs.Frame.{rowCount, isFrame, frameRows}
+use Rattle.frames.specs.Options.{columns, badOptions}
+use Rattle.frames.specs.Order.{sorted}
+use Rattle.frames.specs.declared.Options.{Options}
+use Rattle.area.specs.Area.{capacity}
+use Rattle.buffer.specs.Reach.{needMore}
+use Rattle.answers.specs.Answers.{mostRows}
+use Rattle.prunes.specs.Prunes.{firstPrune, lastPrune}
+use Rattle.lists.specs.Lists.{start, events, rowsIn, outputs, backToBack}
+use Rattle.lists.specs.Demand.{Each}
+use Rattle.plan.specs.Schedule.{schedule, mostHeld, turnCalls, rightsTaken, meetsNoRoom}
+
+-- The most rows ever held, the turn calls up to the last frame written (Wants right included) and the right frames taken.
+pub record Figures : Type 0 where
+  pub rows : ℕ
+  pub turns : ℕ
+  pub rights : ℕ
+
+-- From where the rows `held` are held: nothing is left to write; a turn that writes; a turn that wants right, and the frame that it gets.
+abbrev pub rest : Rows → Figures
+rest held = record { rows = length held; turns = 0; rights = 0 }
+
+abbrev pub afterTurn : Rows → Figures → Figures
+afterTurn held p = record { rows = max (length held) (p .rows); turns = suc (p .turns); rights = p .rights }
+
+abbrev pub afterTaking : Rows → Figures → Figures
+afterTaking held p = record { rows = max (length held) (p .rows); turns = suc (p .turns); rights = suc (p .rights) }
+
+-- The rows that a turn that writes leaves held.
+abbrev pub keptAfter : Options → Rows → Rows → Rows
+keptAfter o x held = drop (firstPrune o x held + lastPrune o x held) held
+
+-- Over the rows of the frames that are left. The fuel is their number.
+unfoldable pub planFrom : ℕ → Options → Rows → List Rows → List Rows → Figures
+planFrom zero o held rights lefts = rest held
+planFrom (suc fuel) o held rights [] = rest held
+planFrom (suc fuel) o held [] (x ∷ xs) = afterTurn held (planFrom fuel o (keptAfter o x held) [] xs)
+planFrom (suc fuel) o held (f ∷ fs) (x ∷ xs) =
+    elim (needMore o x held) [
+      | true ↦ afterTaking held (planFrom fuel o (held ++ f) fs (x ∷ xs))
+      | false ↦ afterTurn held (planFrom fuel o (keptAfter o x held) (f ∷ fs) xs)
+    ]
+
+-- The plan for left frames and right frames, given by their rows.
+unfoldable pub plan : Options → List Rows → List Rows → Figures
+plan o lefts rights = planFrom (length lefts + length rights) o [] rights lefts
+
+-- Each is a frame of c columns.
+abbrev pub AllFrames : ℕ → List Words → Type 0
+AllFrames c [] = Unit {0}
+AllFrames c (f ∷ fs) = (isFrame c f ≡ true) × AllFrames c fs
+
+-- Two sorted tables in frames, with left words and output enough; and the counts that no memory reaches.
+pub record Planned (o : Options) (l : Words) (lefts rights outs : List Words) : Type 0 where
+  pub allowed : badOptions o ≡ false
+  pub left-frames : AllFrames (columns o) lefts
+  pub right-frames : AllFrames (columns o) rights
+  pub left-sorted : sorted o (rowsIn (columns o) lefts) ≡ true
+  pub right-sorted : sorted o (rowsIn (columns o) rights) ≡ true
+  pub left-room : length (backToBack lefts) ≤ length l
+  pub outputs : Each (λ f out. 2 + 2 * rowCount f ≤ length out) lefts outs
+  pub few-rights : length (rowsIn (columns o) rights) ≤ mostRows
+  pub few-lefts : length lefts < 2 ^ 63
+
+module _ (o : Options) (l r : Words) (lefts rights outs : List Words) where
+  -- The plan, from the frames' rows.
+  abbrev pub figures : Figures
+  figures = plan o (map (frameRows (columns o)) lefts) (map (frameRows (columns o)) rights)
+
+  -- Where R is at least the first figure, the schedule meets no refusal 6 on the right, all left frames are written, and it has these figures.
+  pub record Holds : Type 0 where
+    pub unrefused : meetsNoRoom (events (start o l r) (schedule o l r lefts rights outs)) ≡ false
+    pub written : length (outputs (events (start o l r) (schedule o l r lefts rights outs))) ≡ length lefts
+    pub rows : mostHeld (start o l r) (schedule o l r lefts rights outs) ≡ figures .rows
+    pub turns : turnCalls (events (start o l r) (schedule o l r lefts rights outs)) ≡ figures .turns
+    pub rights-taken : rightsTaken (events (start o l r) (schedule o l r lefts rights outs)) ≡ figures .rights
+
+  -- Where R is less, it meets one.
+  abbrev pub Short : Type 0
+  Short = meetsNoRoom (events (start o l r) (schedule o l r lefts rights outs)) ≡ true
+
+-- The first figure is the smallest R at which the schedule meets no refusal 6 on the right; where it isn't 0, one row fewer meets one.
+pub record Plans : Type 0 where
+  pub enough : (o : Options) (l r : Words) (lefts rights outs : List Words) → Planned o l lefts rights outs → figures o l r lefts rights outs .rows ≤ capacity (columns o) r → Holds o l r lefts rights outs
+  pub short : (o : Options) (l r : Words) (lefts rights outs : List Words) → Planned o l lefts rights outs → capacity (columns o) r < figures o l r lefts rights outs .rows → Short o l r lefts rights outs

@@ -1,0 +1,56 @@
+-- The plan of two tables, for any words: what is refused, and the figures. The statement; its proof stands in proofs/. Assumes nothing.
+use mathlib.Core.Path.{_≡_}
+use mathlib.Core.Bool.{cond, not, _&&_, _||_}
+use mathlib.Core.List.{List, map}
+use Prim.Native.Nat.{ℕ, _+_, _*_, _^_, _≤_, _<_}
+use lib.ListN.{length}
+use Rattle.frames.specs.Cells.{Words}
+use Rattle.frames.specs.Frame.{rowCount, valuesIn, marksIn, frameRows}
+use Rattle.frames.specs.Options.{columns, badOptions}
+use Rattle.frames.specs.Order.{sorted}
+use Rattle.frames.specs.declared.Options.{Options}
+use Rattle.area.specs.Area.{capacity}
+use Rattle.matching.specs.Match.{wholeTable}
+use Rattle.answers.specs.Answers.{mostRows}
+use Rattle.lists.specs.Lists.{start, events, outputs, matchesIn, backToBack}
+use Rattle.lists.specs.Demand.{asWritten, Each}
+use Rattle.plan.specs.Schedule.{schedule}
+use Rattle.plan.specs.Plan.{Figures, figures, Holds, Short}
+use Rattle.plan.specs.Table.{isTable, framesBy, heightsOf, badHeights}
+
+-- Refusals: options 1; a table that breaks the rule or has another c 5, the left one first; an unsorted table 14; heights 17. Else 0: the figures.
+-- (10, 11 and 12 come with carried columns and rank lists: behind 1, and behind 5.)
+unfoldable pub planAnswer : Options → Words → Words → Words → Words → ℕ
+planAnswer o left right hl hr =
+    cond (badOptions o) 1
+    (cond (not (isTable (columns o) left && isTable (columns o) right)) 5
+    (cond (not (sorted o (frameRows (columns o) left) && sorted o (frameRows (columns o) right))) 14
+    (cond (badHeights (rowCount left) hl || badHeights (rowCount right) hr) 17
+    0)))
+
+-- The frames of these heights of a table.
+abbrev pub cutInto : Options → Words → Words → List Words
+cutInto o table hs = framesBy (columns o) (heightsOf hs) (valuesIn (columns o) table) (marksIn (columns o) table)
+
+module _ (o : Options) (left right hl hr l r : Words) (outs : List Words) where
+  -- The figures of the plan, which neither areas nor outputs decide.
+  abbrev pub tableFigures : Figures
+  tableFigures = figures o l r (cutInto o left hl) (cutInto o right hr) outs
+
+  -- Left words and output enough; and the counts that no memory reaches.
+  pub record Lent : Type 0 where
+    pub left-room : length (backToBack (cutInto o left hl)) ≤ length l
+    pub outputs : Each (λ f out. 2 + 2 * rowCount f ≤ length out) (cutInto o left hl) outs
+    pub few-rights : rowCount right ≤ mostRows
+    pub few-lefts : length hl < 2 ^ 63
+
+  -- The schedule over these frames: with R at least the first figure, with less, and what it writes.
+  pub record Told : Type 0 where
+    pub enough : tableFigures .rows ≤ capacity (columns o) r → Holds o l r (cutInto o left hl) (cutInto o right hr) outs
+    pub short : capacity (columns o) r < tableFigures .rows → Short o l r (cutInto o left hl) (cutInto o right hr) outs
+    pub written : tableFigures .rows ≤ capacity (columns o) r
+        → matchesIn (outputs (events (start o l r) (schedule o l r (cutInto o left hl) (cutInto o right hr) outs))) ≡ map (λ x. asWritten (wholeTable o (frameRows (columns o) right) x)) (frameRows (columns o) left)
+
+-- Whatever is not refused is told so.
+abbrev pub TablePlans : Type 0
+TablePlans = (o : Options) (left right hl hr l r : Words) (outs : List Words) → planAnswer o left right hl hr ≡ 0 → Lent o left right hl hr l r outs → Told o left right hl hr l r outs

@@ -1,0 +1,4 @@
+pub mod Subtotals
+pub mod Sales
+pub mod Calls
+pub mod Orders

@@ -1,0 +1,86 @@
+-- All orders of the calls, from empty tables: the same table and number, equal to the sums and counts over the sales themselves. The statement. Assumes nothing.
+use mathlib.Core.Path.{_≡_}
+use mathlib.Core.Bool.{true, false}
+use mathlib.Core.List.{List, [], _∷_, _++_}
+use mathlib.Core.Option.{Option, none, some}
+use Prim.Native.Nat.{ℕ}
+use lib.IntN.{ℤ, pos}
+use lib.ListN.{take}
+use Rattle.frames.specs.Cells.{Words}
+use Rattle.frames.specs.Frame.{frameWords}
+use Rattle.tables.specs.Setting.{Setting}
+use Rattle.tables.specs.Table.{isTable}
+use Rattle.takings.specs.Subtotals.{Subtotal, beyondRows, beyondNumber, Tells}
+use Rattle.takings.specs.Sales.{Sale, amountsOf, nullsOf}
+use Rattle.takings.specs.Calls.{After, tableWidth, tableWords, rowsIn, fineSubtotals, salesBy, addCall, joinCall}
+use Rattle.takings.specs.declared.Taken.{Taken}
+use Rattle.takings.specs.declared.Taken.the-variants.{Table, Refused}
+
+-- A table and the number beside it.
+pub record Account : Type 0 where
+  pub table : Words
+  pub number : ℤ
+
+-- An order of calls: from an empty table; a left frame with its answer frame added to what an order of calls gave; or what two orders of calls gave, joined.
+-- Each call is lent an output of any words.
+pub data Calls : Type 0 where
+  fresh : Calls
+  adding : Calls → Words → Words → Words → Calls
+  joining : Calls → Calls → Words → Calls
+
+-- An empty table, with nothing left out.
+abbrev pub emptyAccount : Setting → Account
+emptyAccount s = record { table = tableWords s []; number = pos 0 }
+
+-- What a call that was not refused wrote.
+abbrev pub tookBy : Setting → Words → Taken → Option Account
+tookBy s out (Table n k) = some (record { table = take (frameWords n (tableWidth s)) out; number = k })
+tookBy s out (Refused r) = none
+
+abbrev pub took : Setting → After → Option Account
+took s a = tookBy s (a .out) (a .answer)
+
+-- From what came before, if no call of it was refused.
+abbrev pub after : Option Account → (Account → Option Account) → Option Account
+after none f = none
+after (some a) f = f a
+
+-- What an order of calls gives; none where a call is refused.
+unfoldable pub given : Setting → Calls → Option Account
+given s fresh = some (emptyAccount s)
+given s (adding c left answer out) = after (given s c) (λ a. took s (addCall s (a .table) (a .number) left answer out))
+given s (joining c d out) = after (given s c) (λ a. after (given s d) (λ b. took s (joinCall s (a .table) (a .number) (b .table) (b .number) out)))
+
+-- The sales themselves: all matched sales of its frames.
+unfoldable pub allSales : Setting → Calls → List Sale
+allSales s fresh = []
+allSales s (adding c left answer out) = allSales s c ++ salesBy s left answer
+allSales s (joining c d out) = allSales s c ++ allSales s d
+
+-- The same sales in another order.
+pub data Permuted : List Sale → List Sale → Type 0 where
+  empty : Permuted [] []
+  next : {x : Sale} {xs ys : List Sale} → Permuted xs ys → Permuted (x ∷ xs) (x ∷ ys)
+  swap : {x y : Sale} {xs : List Sale} → Permuted (x ∷ y ∷ xs) (y ∷ x ∷ xs)
+  then : {xs ys zs : List Sale} → Permuted xs ys → Permuted ys zs → Permuted xs zs
+
+-- The account tells the sums and counts over the sales themselves.
+pub record Sums (s : Setting) (sales : List Sale) (a : Account) : Type 0 where
+  pub rows : List Subtotal
+  pub words : a .table ≡ tableWords s rows
+  pub tells : Tells (s .options) rows (amountsOf sales)
+  pub left-out : a .number ≡ pos (nullsOf sales)
+
+-- The account can be handed on: no call refuses it by 5 or 14, nor by 15 for its own rows and its own number.
+pub record HandedOn (s : Setting) (a : Account) : Type 0 where
+  pub table : isTable (tableWidth s) (a .table) ≡ true
+  pub subtotals : fineSubtotals s (a .table) ≡ true
+  pub rows : beyondRows (s .options) (rowsIn s (a .table)) ≡ false
+  pub number : beyondNumber (a .number) ≡ false
+
+-- The statement: an order of calls in which no call is refused gives the sums and counts over the sales themselves; and any two of them over the same
+-- sales, whatever the frames, their order and the tree of joins, give the same table and number.
+pub record AllOrders (s : Setting) : Type 0 where
+  pub sums : (c : Calls) (a : Account) → given s c ≡ some a → Sums s (allSales s c) a
+  pub handed-on : (c : Calls) (a : Account) → given s c ≡ some a → HandedOn s a
+  pub same : (c d : Calls) (a b : Account) → given s c ≡ some a → given s d ≡ some b → Permuted (allSales s c) (allSales s d) → a ≡ b
