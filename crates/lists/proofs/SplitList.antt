@@ -33,6 +33,7 @@ use Rattle.prunes.specs.Prunes.{badLeft, badRight, firstPrune, remembered, kept
 use Rattle.answers.proofs.Tests.{past}
 use Rattle.matching.specs.Answer.{answered}
 use Rattle.lists.specs.Lists.{Call, left, right, end, ports, turn, Event, onLeft, onRight, onEnd, onPorts, onTurn, World, start, step, events, final, rightIn, rightFrames, rowsIn, leftFrames, outputs, rightEnded}
+use Rattle.lists.specs.SplitAlone.{heldAfter, rememberedAfter, SplitsAlone}
 use Rattle.lists.proofs.ListLaws.{right-append, ended-append, rows-in-append}
 use Rattle.lists.proofs.Invariant.{Inv, right-passed}
 use Rattle.lists.proofs.Turn.{judged, leftBy, matchedBy, held, held-is, rows, answer-is, turned-is, no-write}
@@ -217,10 +218,9 @@ module _ (o : Options) (l r : Words) (allowed : badOptions o ≡ false) where
   unfolding rightFrames rowsIn recall
   low-start on = record { empty = λ z q. refl; first = λ h. tt }
 
-  -- After any list of calls from a fresh join, with the check on, over sorted held rows no split is out of order: refusal 9 comes from unsorted held rows alone.
-  pub split-never-alone : (calls : List Call) → isOn (o .check) ≡ true
-      → sorted o (heldOf (final (start o l r) calls .join) (final (start o l r) calls .right)) ≡ true → (k : ℕ) (xs : Rows)
-      → badSplit o (final (start o l r) calls .join .«last_right») k xs (heldOf (final (start o l r) calls .join) (final (start o l r) calls .right)) ≡ false
+  -- Over sorted held rows no split is out of order.
+  split-never-alone : (calls : List Call) → isOn (o .check) ≡ true → sorted o (heldAfter o l r calls) ≡ true → (k : ℕ) (xs : Rows)
+      → badSplit o (rememberedAfter o l r calls) k xs (heldAfter o l r calls) ≡ false
   unfolding held
   split-never-alone calls on s k xs =
       let w = final (start o l r) calls in
@@ -230,20 +230,17 @@ module _ (o : Options) (l r : Words) (allowed : badOptions o ≡ false) where
       let L = low-list calls [] (start o l r) (inv-start o l r allowed) low-start on in
       rw e (split-only o (rightEnded es) (w .join .«last_right») (drop (w .join .pruned) (rowsIn (columns o) (rightFrames es))) L (rw e at s) k xs)
 
-  -- So refusal 9 tells of unsorted held rows alone, and the remembered right row decides no answer.
-  pub right-fault-is : (calls : List Call) (xs : Rows)
-      → badRight o (final (start o l r) calls .join .«last_right») xs (heldOf (final (start o l r) calls .join) (final (start o l r) calls .right))
-      ≡ (isOn (o .check) && not (sorted o (heldOf (final (start o l r) calls .join) (final (start o l r) calls .right))))
+  -- So what is asked of the right side is whether the held rows are sorted.
+  right-fault-is : (calls : List Call) (xs : Rows)
+      → badRight o (rememberedAfter o l r calls) xs (heldAfter o l r calls) ≡ (isOn (o .check) && not (sorted o (heldAfter o l r calls)))
   unfolding badRight
-  right-fault-is calls xs = go (isOn (o .check)) refl (sorted o h) refl
+  right-fault-is calls xs = go (isOn (o .check)) refl (sorted o (heldAfter o l r calls)) refl
     where
-      h : Rows
-      h = heldOf (final (start o l r) calls .join) (final (start o l r) calls .right)
-
-      m : Row
-      m = final (start o l r) calls .join .«last_right»
-
-      go : (b : Bool) → isOn (o .check) ≡ b → (s : Bool) → sorted o h ≡ s → (b && (not s || badSplit o m (length xs - 1) xs h)) ≡ (b && not s)
+      go : (b : Bool) → isOn (o .check) ≡ b → (s : Bool) → sorted o (heldAfter o l r calls) ≡ s
+          → (b && (not s || badSplit o (rememberedAfter o l r calls) (length xs - 1) xs (heldAfter o l r calls))) ≡ (b && not s)
       go false eb s es = refl
       go true eb false es = refl
       go true eb true es = split-never-alone calls eb es (length xs - 1) xs
+
+pub splits-alone : SplitsAlone
+splits-alone o allowed l r calls = record { never-alone = split-never-alone o l r allowed calls; fault-is = right-fault-is o l r allowed calls }

@@ -1,4 +1,4 @@
--- Words outside the held rows and the waiting frames are free and unread: areas of the same lengths that agree on these get the same answer, join and output from every call, and agree on them afterwards. Assumes nothing.
+-- Free words are unread, proved call by call: areas that are alike get the same answer, join and output from each, and are alike afterwards. Assumes nothing.
 use mathlib.Core.Path.{_≡_, refl, sym, ap, _∙_}
 use mathlib.Core.List.{List, [], _∷_, _++_}
 use Prim.Native.Nat.{ℕ, _+_, _-_, _*_, _/_, _≤_}
@@ -29,14 +29,7 @@ use Rattle.prunes.specs.Prunes.{firstPrune, keptRows, lastPrune}
 use Rattle.node.proofs.Good.{LeftTaken, left-taken, RightTaken, right-taken}
 use Rattle.prunes.proofs.PruneLaws.{drops-within}
 use Rattle.lists.specs.Lists.{Call, left, right, end, ports, turn, Event, onLeft, onRight, onEnd, onPorts, onTurn, World, stepped, step, events, final}
-
--- The areas l, r and l′, r′ are alike for the join j: as long, with the same waiting frames and held rows, word by word.
-pub record Alike (j : Join) (l r l′ r′ : Words) : Type 0 where
-  pub left-length : length l′ ≡ length l
-  pub right-length : length r′ ≡ length r
-  pub waits : waiting j l′ ≡ waiting j l
-  pub values : heldValues j r′ ≡ heldValues j r
-  pub marks : heldMarks j r′ ≡ heldMarks j r
+use Rattle.lists.specs.Unread.{Alike, AlikeWorlds, Unread}
 
 -- A call that leaves x over the one and y over the other: the same answer, join and output, and areas that are alike again.
 pub record Same {A : Type 0} (x y : After A) : Type 0 where
@@ -243,11 +236,6 @@ module _ (j : Join) (l r l′ r′ : Words) (a : Alike j l r l′ r′) where
       go (PortsRefused n) e = rw (ports-answer x y z ∙ e, e, portsCall) (record { answer = refl; join = refl; out = refl; alike = a })
 
 -- ---- lists of calls
--- Worlds with one join whose areas are alike.
-pub record AlikeWorlds (v w : World) : Type 0 where
-  pub join : v .join ≡ w .join
-  pub areas : Alike (w .join) (w .left) (w .right) (v .left) (v .right)
-
 from-same : {A : Type 0} (on : A → Event) (x y : After A) → Same x y → (stepped on x .event ≡ stepped on y .event) × AlikeWorlds (stepped on x .world) (stepped on y .world)
 from-same on x y s = (ap on (s .answer), record { join = s .join; areas = s .alike })
 
@@ -263,10 +251,13 @@ step-unread v w a (ports x y z) = rw (a .join) (from-same (onPorts x y z) (ports
 step-unread v w a (turn out) = rw (a .join) (from-turn (turnCall (w .join) (v .left) (v .right) out) (turnCall (w .join) (w .left) (w .right) out) (turn-unread (w .join) (w .left) (w .right) (v .left) (v .right) (a .areas) out))
 
 -- Whatever the free words are altered to, all calls from there on answer the same and write the same.
-pub list-unread : (cs : List Call) (v w : World) → AlikeWorlds v w → (events v cs ≡ events w cs) × AlikeWorlds (final v cs) (final w cs)
+list-unread : (cs : List Call) (v w : World) → AlikeWorlds v w → (events v cs ≡ events w cs) × AlikeWorlds (final v cs) (final w cs)
 unfolding events final
 list-unread [] v w a = (refl, a)
 list-unread (c ∷ cs) v w a =
     let s = step-unread v w a c in
     let t = list-unread cs (step v c .world) (step w c .world) (s .1) in
     (rw (s .0, t .0), t .1)
+
+pub free-unread : Unread
+free-unread v w a cs = let z = list-unread cs v w a in record { answers = z .0; leaves = z .1 }

@@ -85,6 +85,15 @@ module _ (o : Options) (l r : Words) (calls : List Call) where
       → (length (outputs (further outs)) ≡ length outs)
       × (matches ++ matchesIn (outputs (further outs)) ≡ map (λ x. asWritten (wholeTable o rights x)) lefts)
 
+  -- All that RestWritten supposes, with a frame that waits.
+  pub record RestMet (outs : List Words) : Type 0 where
+    pub declared : Declared
+    pub ended : rightEnded all ≡ true
+    pub undone : nodeDone all ≡ false
+    pub waits : 0 < length outs
+    pub enough : Enough outs
+    pub few : length (leftFrames all) < 2 ^ 63
+
   -- SCOPE 15.12.
   abbrev pub Counts : Type 0
   Counts =
