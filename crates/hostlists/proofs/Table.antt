@@ -111,7 +111,7 @@ Full (out ∷ outs) = (turnWords out ≤ length out) × Full outs
 run-count : (n : ℕ) (out : Words) → length (runOutputs n out) ≡ n
 unfolding runOutputs
 run-count zero out = refl
-run-count (suc n) out = ap suc (run-count n (drop (turnWords out) out))
+run-count (suc n) out = ap suc (run-count n _)
 
 run-matches : (os : List Words) → Full os → (rest : Words) → matchesIn (runOutputs (length os) (backToBack (map writtenWords os) ++ rest)) ≡ matchesIn os
 unfolding runOutputs matchesIn backToBack
