@@ -1,3 +1,4 @@
 pub mod Sample
 pub mod Follow
+pub mod Free
 pub mod Table
