@@ -77,7 +77,7 @@
  * (base + i) × c of the right area and its marks from word (R + base + i) × c, where R is the area's length ÷ 2c, rounded
  * down: so a host that changes the right area's length must move the marks. Waiting frames are stored without gaps in the
  * left area, queue_words words from word queue_start on. All other words of both areas are free: no call reads them, and the
- * host may alter them between calls without changing any answer, match or join (proved: `list-unread` in crates/lists).
+ * host may alter them between calls without changing any answer, match or join (proved: `free-unread` in crates/lists).
  *
  * COST
  *
