@@ -23,6 +23,8 @@ pub struct Tally {
     pub in_flush: u64,
     pub states: [u64; 3],
     pub runs: Runs,
+    /// What the whole-table judge was asked about.
+    pub judged: whole_table::Counts,
 }
 
 /// The runs among the calls.
@@ -112,6 +114,7 @@ impl Tally {
         self.idle += other.idle;
         self.in_flush += other.in_flush;
         self.runs.add(&other.runs);
+        self.judged.add(&other.judged);
         (0..4).for_each(|i| self.faults[i] += other.faults[i]);
         (0..3).for_each(|i| self.states[i] += other.states[i]);
     }
@@ -150,6 +153,10 @@ impl fmt::Display for Tally {
         write!(f, "{} wants, {} idle; ", self.wants, self.idle)?;
         write!(f, "faults 8: {continuity} between frames, {frame} in a frame, 9: {held} held, {split} split; ")?;
         write!(f, "ports: {running} Running, {flush} Flush, {done} Done")?;
+        let whole_table::Counts { scripts, sorted, rows, whole, .. } = self.judged;
+        if scripts > 0 {
+            write!(f, "; by the whole table {scripts} scripts, {sorted} sorted, {whole} of {rows} rows")?;
+        }
         if self.runs.made == 0 { Ok(()) } else { write!(f, "; {}", self.runs) }
     }
 }
@@ -196,10 +203,11 @@ fn rust_inside(rust: &Rust) -> Option<Inside> {
     rust.join.as_ref().filter(|j| !j.failed()).map(|j| j.inside())
 }
 
-/// Runs a script through both. An answer that differs comes before a difference inside, even a later one.
+/// Runs a script through both, and what they answered by the whole-table judge. An answer that differs comes before a
+/// difference inside, even a later one.
 fn run_both(calls: &[Call], ways: Ways, tally: &mut Tally) -> Result<(), Difference> {
     let (mut rust, mut rules) = (Rust { ways, join: None }, Rules::default());
-    let mut inside = Ok(());
+    let (mut inside, mut answers) = (Ok(()), vec![]);
     for (i, call) in calls.iter().enumerate() {
         let state = rules.look().map_or(0, |l| l.state);
         let (said, ruled) = (rust.call(call), rules.call(call));
@@ -211,7 +219,8 @@ fn run_both(calls: &[Call], ways: Ways, tally: &mut Tally) -> Result<(), Differe
             tally.compared += 1;
             tally.count(&ruled, state);
         }
-        if parted(&ruled) {
+        answers.push(ruled);
+        if answers.last().is_some_and(parted) {
             break;
         }
         let (is, should) = (rust_inside(&rust), rules_inside(&rules));
@@ -222,6 +231,9 @@ fn run_both(calls: &[Call], ways: Ways, tally: &mut Tally) -> Result<(), Differe
     }
     tally.scripts += 1;
     rules.fault().into_iter().for_each(|f| tally.fault(f));
+    let judged =
+        whole_table::judge(calls, &answers).map_err(|why| Difference::Answer(format!("whole table: {why}")))?;
+    tally.judged.add(&judged);
     inside
 }
 
@@ -246,11 +258,8 @@ pub fn answers(judge: &mut impl Judge, calls: &[Call]) -> Vec<Answer> {
 pub fn with_whole_table(calls: &[Call], ways: Ways, counts: &mut whole_table::Counts) -> Result<(), String> {
     let run = catch_unwind(AssertUnwindSafe(|| {
         let said = answers(&mut Rust { ways, join: None }, calls);
-        whole_table::judge(calls, &said)
+        whole_table::judge_whole(calls, &said)
     }));
-    let one = run.unwrap_or_else(|p| Err(format!("panic: {}", panic_text(p))))?;
-    counts.rows += one.rows;
-    counts.matched += one.matched;
-    counts.wants += one.wants;
+    counts.add(&run.unwrap_or_else(|p| Err(format!("panic: {}", panic_text(p))))?);
     Ok(())
 }

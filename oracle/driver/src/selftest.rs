@@ -5,12 +5,15 @@ use std::time::Instant;
 use judges::exhaustive;
 use judges::generate::{COMPARED, Kind, script, script_with_runs};
 use judges::rules::{Rules, frame_rows};
-use judges::script::{Answer, Call, Judge, parse_script};
+use judges::script::{Answer, Call, Judge, Open, parse_script};
 use judges::whole_table::{self, Counts};
 
 use crate::compare::{self, Difference, Tally};
 use crate::rust::{Rust, Ways};
 use crate::spans;
+
+/// Words enough for all frames of a script, in an area or an output.
+const ROOM: usize = 1 << 20;
 
 /// How a step ends: what it counted, or what went wrong.
 type Step = Result<String, String>;
@@ -86,7 +89,7 @@ pub fn whole(seed: u64, count: u64, ways: Ways) -> Step {
     if counts.matched == 0 || counts.wants == 0 || counts.matched == counts.rows {
         return Err("nothing was tested".into());
     }
-    let Counts { rows, matched, wants } = counts;
+    let Counts { rows, matched, wants, .. } = counts;
     let said = "0 faults, all as the whole table says";
     Ok(format!("{count} scripts, {rows} rows turned, {matched} matched, {wants} wants, {said}"))
 }
@@ -96,7 +99,7 @@ pub fn judges(seed: u64, count: u64) -> Step {
     let mut matched = 0;
     for i in 0..count {
         let calls = script(Kind::Whole, seed, i);
-        let judged = whole_table::judge(&calls, &compare::answers(&mut Rules::default(), &calls));
+        let judged = whole_table::judge_whole(&calls, &compare::answers(&mut Rules::default(), &calls));
         matched += judged.map_err(|why| failure("rules by the whole table", &calls, &why))?.matched;
     }
     Ok(format!("{count} scripts, {matched} rows matched: the rules keep the whole-table rule"))
@@ -151,7 +154,7 @@ pub fn runs(seed: u64, count: u64) -> Step {
     }
     for i in 0..count {
         let calls = script_with_runs(Kind::Whole, seed, i);
-        let rules = whole_table::judge(&calls, &compare::answers(&mut Rules::default(), &calls)).map(|_| ());
+        let rules = whole_table::judge_whole(&calls, &compare::answers(&mut Rules::default(), &calls)).map(|_| ());
         let both = rules.and_then(|_| compare::with_whole_table(&calls, Ways::default(), &mut Counts::default()));
         both.map_err(|why| failure("runs by the whole table", &calls, &why))?;
     }
@@ -210,10 +213,11 @@ fn burst(calls: &[Call]) -> Result<(), String> {
     let mut join = crate::rust::Join::open(open, ways).ok_or("refused")?;
     let wrote = join.burst(&left, &right).ok_or("an order fault")?;
     let handed = left.into_iter().map(Call::Left).chain(right.into_iter().map(Call::Right));
-    let turns = vec![Call::Turn(0); wrote.len()];
-    let calls: Vec<Call> = [calls[0].clone()].into_iter().chain(handed).chain(turns).collect();
+    let turns = vec![Call::Turn(ROOM); wrote.len()];
+    let open = Open { left_words: ROOM, right_words: ROOM, ..open.clone() };
+    let calls: Vec<Call> = [Call::Open(open)].into_iter().chain(handed).chain(turns).collect();
     let oks = vec![Answer::Ok; calls.len() - wrote.len()];
-    whole_table::judge(&calls, &[oks, wrote].concat()).map(|_| ())
+    whole_table::judge_whole(&calls, &[oks, wrote].concat()).map(|_| ())
 }
 
 /// 01, Lists: "accepted right rows = pruned + held, and accepted left rows = rows written in the outputs + rows in the

@@ -1,6 +1,7 @@
 //! Random scripts, made from a seed and a number alone, so that every one can be made again.
-use crate::rules::{Row, Rules, compare_rows};
+use crate::rules::Rules;
 use crate::script::{Answer, Call, Judge, Open, Place};
+use crate::whole_table::{self, Row};
 
 /// What a script is made to reach.
 #[derive(Clone, Copy, Debug, PartialEq)]
@@ -193,12 +194,12 @@ fn row(r: &mut Random, s: &Shape) -> Row {
     out
 }
 
-/// A side's whole table.
+/// A side's whole table, sorted by the whole-table judge's own order: the step rules have no say in what is sorted.
 fn table(r: &mut Random, s: &Shape, how: Arrangement) -> Vec<Row> {
     let count = r.below(s.rows + 1);
     let mut rows: Vec<Row> = (0..count).map(|_| row(r, s)).collect();
     if how != Arrangement::Unsorted {
-        rows.sort_by(|x, y| compare_rows(&s.open, x, y));
+        whole_table::sort(&s.open, &mut rows);
     }
     if how == Arrangement::Nearly && !rows.is_empty() {
         let (i, j) = (r.below(rows.len()), r.below(rows.len()));
