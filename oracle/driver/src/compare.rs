@@ -2,10 +2,11 @@
 use std::fmt;
 use std::panic::{AssertUnwindSafe, catch_unwind};
 
-use judges::rules::{Fault, Rules};
+use judges::rules::Fault;
 use judges::script::{Answer, Call, Judge, Ran, Stop};
 use judges::whole_table;
 
+use crate::pulled::Pulled;
 use crate::rust::{Inside, Rust, Ways};
 
 /// What a run had in it, so that one that tests nothing is seen.
@@ -192,10 +193,11 @@ pub fn agrees(rust: &Answer, said: &Answer) -> bool {
     }
 }
 
-/// What the rules hold and remember, as the Rust tells it.
-fn rules_inside(rules: &Rules) -> Option<Inside> {
-    let look = rules.look().filter(|l| !l.failed)?;
-    Some(Inside { held: look.held, pruned: look.pruned, left: look.left.clone(), right: look.right.clone() })
+/// What the rules hold and remember, as the Rust tells it: rows that wait in the right pipe are held.
+fn rules_inside(pulled: &Pulled) -> Option<Inside> {
+    let look = pulled.rules.look().filter(|l| !l.failed)?;
+    let held = look.held + pulled.rows();
+    Some(Inside { held, pruned: look.pruned, left: look.left.clone(), right: look.right.clone() })
 }
 
 /// What the Rust holds and remembers, while it has not failed.
@@ -206,11 +208,11 @@ fn rust_inside(rust: &Rust) -> Option<Inside> {
 /// Runs a script through both, and what they answered by the whole-table judge. An answer that differs comes before a
 /// difference inside, even a later one.
 fn run_both(calls: &[Call], ways: Ways, tally: &mut Tally) -> Result<(), Difference> {
-    let (mut rust, mut rules) = (Rust { ways, join: None }, Rules::default());
+    let (mut rust, mut pulled) = (Rust { ways, join: None }, Pulled::new(ways.right_pipe));
     let (mut inside, mut answers) = (Ok(()), vec![]);
     for (i, call) in calls.iter().enumerate() {
-        let state = rules.look().map_or(0, |l| l.state);
-        let (said, ruled) = (rust.call(call), rules.call(call));
+        let state = pulled.rules.look().map_or(0, |l| l.state);
+        let (said, ruled) = (rust.call(call), pulled.call(call));
         tally.calls += 1;
         let known = !no_counterpart(&ruled);
         if known && !agrees(&said, &ruled) {
@@ -223,17 +225,18 @@ fn run_both(calls: &[Call], ways: Ways, tally: &mut Tally) -> Result<(), Differe
         if answers.last().is_some_and(parted) {
             break;
         }
-        let (is, should) = (rust_inside(&rust), rules_inside(&rules));
+        let (is, should) = (rust_inside(&rust), rules_inside(&pulled));
         if known && inside.is_ok() && is != should {
             let text = format!("call {}, {call}: the Rust has {is:?}, 01 has {should:?}", i + 1);
             inside = Err(Difference::Inside(text));
         }
     }
     tally.scripts += 1;
-    rules.fault().into_iter().for_each(|f| tally.fault(f));
-    let judged =
-        whole_table::judge(calls, &answers).map_err(|why| Difference::Answer(format!("whole table: {why}")))?;
-    tally.judged.add(&judged);
+    pulled.rules.fault().into_iter().for_each(|f| tally.fault(f));
+    if !ways.right_pipe {
+        let judged = whole_table::judge(calls, &answers);
+        tally.judged.add(&judged.map_err(|why| Difference::Answer(format!("whole table: {why}")))?);
+    }
     inside
 }
 

@@ -1,5 +1,6 @@
 //! The oracle's test of itself, which needs no port: the Rust against 01's cases, against the whole-table rule and
 //! against the step rules. Every step prints its counts and fails where they show that nothing was tested.
+use std::fmt;
 use std::time::Instant;
 
 use judges::exhaustive;
@@ -9,11 +10,9 @@ use judges::script::{Answer, Call, Judge, Open, parse_script};
 use judges::whole_table::{self, Counts};
 
 use crate::compare::{self, Difference, Tally};
-use crate::rust::{Rust, Ways};
+use crate::pulled::{ROOM, all_at_once};
+use crate::rust::{Rust, Spoiled, Ways};
 use crate::spans;
-
-/// Words enough for all frames of a script, in an area or an output.
-const ROOM: usize = 1 << 20;
 
 /// How a step ends: what it counted, or what went wrong.
 type Step = Result<String, String>;
@@ -180,38 +179,116 @@ pub fn short_scripts() -> Step {
     wrong.map_or(Ok(format!("{tally}")), Err)
 }
 
-/// The same answers however the node is fed and its tasks are scheduled; with right frames pulled as the node asks for
-/// them, and with all frames in one phase, on sorted sides.
+/// The same answers however the node is fed and its tasks are scheduled. Where right frames are pulled as the node asks for
+/// them, and where all frames come in one phase, the answers are the whole table's on sorted sides, and on all others those
+/// of the rules that are given right frames as they are wanted.
 pub fn ways(seed: u64, count: u64) -> Step {
     let many = Ways { pipelines: 3, left_pipe: true, right_pipe: false };
     let pulled = Ways { pipelines: 2, left_pipe: true, right_pipe: true };
-    let mut all = Tally::default();
+    let (mut all, mut by_pull, mut bursts) = (Tally::default(), Tally::default(), Bursts::default());
     for (order, ways) in [(0, many), (seed, many), (seed, Ways::default())] {
         polars_async::executor::shuffle(order);
-        for kind in [Kind::Mixed, Kind::Flush, Kind::Order] {
+        for kind in COMPARED {
             all.add(&steps(script, kind, seed, count, ways)?);
         }
     }
     whole(seed, count, pulled)?;
-    all.add(&steps(script, Kind::Whole, seed, count, pulled)?);
-    for i in 0..count {
-        let calls = script(Kind::Whole, seed, i);
-        burst(&calls).map_err(|why| failure("all frames in one phase", &calls, &why))?;
+    for kind in COMPARED {
+        by_pull.add(&steps(script, kind, seed, count, pulled)?);
+        by_pull.add(&steps(script_with_runs, kind, seed, count, pulled)?);
+        bursts.run(kind, seed, count)?;
     }
     polars_async::executor::shuffle(0);
+    if [by_pull.faults[1], by_pull.faults[2], by_pull.matched, bursts.left, bursts.right, bursts.matched].contains(&0) {
+        return Err("nothing was tested".into());
+    }
     let fed = "scripts fed by pipes, to several tasks, in random order";
-    Ok(format!("{} {fed}; {count} pulled; {count} in one phase", all.scripts))
+    let [_, frame, held, _] = by_pull.faults;
+    let pulled = format!("{} pulled ({} with faults)", by_pull.scripts, by_pull.faults[0] + frame + held);
+    Ok(format!("{} {fed}; {pulled}; {bursts}", all.scripts))
 }
 
-/// All left and right frames of a sorted script in one phase, as the Rust runs them when nobody counts turns.
-fn burst(calls: &[Call]) -> Result<(), String> {
-    let [Call::Open(open), rest @ ..] = calls else { panic!("a script opens first") };
-    let frames = |pick: fn(&Call) -> Option<&Vec<i64>>| rest.iter().filter_map(pick).cloned().collect::<Vec<_>>();
-    let left = frames(|c| if let Call::Left(w) = c { Some(w) } else { None });
-    let right = frames(|c| if let Call::Right(w) = c { Some(w) } else { None });
-    let ways = Ways { pipelines: 3, ..Ways::default() };
-    let mut join = crate::rust::Join::open(open, ways).ok_or("refused")?;
-    let wrote = join.burst(&left, &right).ok_or("an order fault")?;
+/// What scripts whose frames all come in one phase had in them.
+#[derive(Default)]
+struct Bursts {
+    scripts: u64,
+    matched: u64,
+    /// Those stopped by an order fault of left rows, and of right rows.
+    left: u64,
+    right: u64,
+    /// Those in which the Rust saw faults of both sides, in no order.
+    both: u64,
+}
+
+impl Bursts {
+    /// Scripts of one kind.
+    fn run(&mut self, kind: Kind, seed: u64, count: u64) -> Result<(), String> {
+        for i in 0..count {
+            let calls = script(kind, seed, i);
+            self.script(&calls, kind == Kind::Whole).map_err(|why| failure("all frames in one phase", &calls, &why))?;
+        }
+        Ok(())
+    }
+
+    /// All left and right frames of a script in one phase, as the Rust runs them when nobody counts turns.
+    fn script(&mut self, calls: &[Call], sorted: bool) -> Result<(), String> {
+        let [Call::Open(open), rest @ ..] = calls else { panic!("a script opens first") };
+        let frames = |pick: fn(&Call) -> Option<&Vec<i64>>| rest.iter().filter_map(pick).cloned().collect::<Vec<_>>();
+        let left = frames(|c| if let Call::Left(w) = c { Some(w) } else { None });
+        let right = frames(|c| if let Call::Right(w) = c { Some(w) } else { None });
+        let ways = Ways { pipelines: 3, ..Ways::default() };
+        let mut join = crate::rust::Join::open(open, ways).ok_or("refused")?;
+        let (wrote, spoiled) = join.burst(&left, &right).ok_or("no frame")?;
+        let (ruled, fault) = all_at_once(open, &left, &right);
+        self.compare(&wrote, spoiled, &ruled, fault)?;
+        if sorted { by_whole_table(open, left, right, wrote) } else { Ok(()) }
+    }
+
+    /// Without a fault the Rust wrote what the rules wrote. With one, what it wrote of the frames before is the same: its
+    /// tasks run ahead of each other, so it may have sent less of them, and frames behind.
+    fn compare(
+        &mut self,
+        wrote: &[Answer],
+        spoiled: Option<Spoiled>,
+        ruled: &[Answer],
+        fault: Option<u8>,
+    ) -> Result<(), String> {
+        let before = |a: &&Answer| matches!(a, Answer::Wrote(seq, _) if *seq < 2 * ruled.len() as u64);
+        let same = wrote.iter().filter(before).all(|a| ruled.contains(a));
+        let sides = spoiled.map(|s| (s.left, s.right));
+        let stopped = match (fault, sides) {
+            (None, None) => wrote.len() == ruled.len(),
+            (Some(8), Some((left, _))) => left,
+            (Some(9), Some((_, right))) => right,
+            _ => false,
+        };
+        self.scripts += 1;
+        self.left += (fault == Some(8)) as u64;
+        self.right += (fault == Some(9)) as u64;
+        self.both += (sides == Some((true, true))) as u64;
+        self.matched += ruled.iter().map(matches).sum::<u64>();
+        let text = |answers: &[Answer]| answers.iter().map(|a| a.to_string()).collect::<Vec<_>>().join(", ");
+        let what = || format!("the Rust {} {sides:?}, the rules {} {fault:?}", text(wrote), text(ruled));
+        if same && stopped { Ok(()) } else { Err(what()) }
+    }
+}
+
+impl fmt::Display for Bursts {
+    /// The counts on one line.
+    fn fmt(&self, f: &mut fmt::Formatter<'_>) -> fmt::Result {
+        let Bursts { scripts, matched, left, right, both } = self;
+        write!(f, "{scripts} in one phase, {matched} rows matched, {left} stopped by 8, {right} by 9, {both} by both")
+    }
+}
+
+/// How many rows a turn matched.
+fn matches(answer: &Answer) -> u64 {
+    let Answer::Wrote(_, words) = answer else { return 0 };
+    words[2 + words[0] as usize..].iter().sum::<i64>() as u64
+}
+
+/// What a sorted script wrote where all its frames came in one phase, by the whole-table rule.
+fn by_whole_table(open: &Open, left: Vec<Vec<i64>>, right: Vec<Vec<i64>>, wrote: Vec<Answer>) -> Result<(), String> {
     let handed = left.into_iter().map(Call::Left).chain(right.into_iter().map(Call::Right));
     let turns = vec![Call::Turn(ROOM); wrote.len()];
     let open = Open { left_words: ROOM, right_words: ROOM, ..open.clone() };
@@ -227,6 +304,8 @@ pub fn refusals(seed: u64, count: u64) -> Step {
     for i in 0..count {
         let calls = script(Kind::Refusals, seed, i);
         let judged = keeps_count(&calls, &mut refused);
+        let judged = judged
+            .and_then(|_| whole_table::judge(&calls, &compare::answers(&mut Rules::default(), &calls)).map(|_| ()));
         judged.map_err(|why| failure(&format!("refusals, seed {seed}, script {i}"), &calls, &why))?;
     }
     if [1, 3, 4, 5, 6, 8, 9].iter().any(|n| refused[*n] == 0) {
@@ -298,7 +377,7 @@ pub fn all(seed: u64, count: u64) -> bool {
         ("the two judges", Box::new(move || judges(seed, count))),
         ("step rules", Box::new(move || all_kinds(seed, count))),
         ("runs", Box::new(move || runs(seed, count))),
-        ("ways of feeding", Box::new(move || ways(seed, count / 4))),
+        ("ways of feeding", Box::new(move || ways(seed, count / 8))),
         ("refusals", Box::new(move || refusals(seed, count))),
         ("2.9's cases", Box::new(spans::cases)),
         ("2.9, longest tables", Box::new(spans::longest)),
