@@ -143,6 +143,26 @@ pub fn all_kinds(seed: u64, count: u64) -> Step {
     Ok(format!("{all}"))
 }
 
+/// Scripts with large tables, every second one with runs: by the step rules and by the whole-table judge. Longest frames must
+/// have come on both sides, and rows in sorted scripts.
+pub fn large(seed: u64, count: u64) -> Step {
+    let (mut tally, mut longest) = (Tally::default(), [0, 0]);
+    for i in 0..count {
+        let make = if i % 2 == 0 { script } else { script_with_runs };
+        let calls = make(Kind::Large, seed, i);
+        let compared = compare::with_rules(&calls, Ways::default(), &mut tally);
+        compared.map_err(|d| format!("Large, seed {seed}, script {i}: {}", text(d)))?;
+        let full = |pick: fn(&Call) -> bool| calls.iter().filter(|c| pick(c)).count();
+        longest[0] += full(|c| matches!(c, Call::Left(w) if w[0] == 4096));
+        longest[1] += full(|c| matches!(c, Call::Right(w) if w[0] == 4096));
+    }
+    let rows = tally.rows + tally.runs.rows;
+    if longest.contains(&0) || tally.judged.whole == 0 || tally.judged.matched == 0 || tally.judged.matched == rows {
+        return Err("nothing was tested".into());
+    }
+    Ok(format!("{tally}; frames of 4,096 rows: {} left, {} right", longest[0], longest[1]))
+}
+
 /// Random scripts with runs in the place of turns: the Rust by the step rules, and both by the whole-table rule. Runs must
 /// have stopped in every way that the Rust knows, and for want of output, after turns that wrote. A fault of right rows alone
 /// comes in a run's first turn: no right row comes in during a run.
@@ -377,6 +397,7 @@ pub fn all(seed: u64, count: u64) -> bool {
         ("the two judges", Box::new(move || judges(seed, count))),
         ("step rules", Box::new(move || all_kinds(seed, count))),
         ("runs", Box::new(move || runs(seed, count))),
+        ("large tables", Box::new(move || large(seed, count / 100))),
         ("ways of feeding", Box::new(move || ways(seed, count / 8))),
         ("refusals", Box::new(move || refusals(seed, count))),
         ("2.9's cases", Box::new(spans::cases)),
