@@ -93,15 +93,31 @@ pub fn whole(seed: u64, count: u64, ways: Ways) -> Step {
     Ok(format!("{count} scripts, {rows} rows turned, {matched} matched, {wants} wants, {said}"))
 }
 
-/// The two judges against each other: the rules' answers, by the whole-table rule.
+/// The two judges against each other: the rules' answers to all kinds of scripts, every second one with runs, by the
+/// whole-table judge. The Rust has no part in it.
 pub fn judges(seed: u64, count: u64) -> Step {
-    let mut matched = 0;
-    for i in 0..count {
-        let calls = script(Kind::Whole, seed, i);
-        let judged = whole_table::judge_whole(&calls, &compare::answers(&mut Rules::default(), &calls));
-        matched += judged.map_err(|why| failure("rules by the whole table", &calls, &why))?.matched;
+    let mut all = Counts::default();
+    for kind in COMPARED.into_iter().chain([Kind::Refusals]) {
+        (0..count).try_for_each(|i| rules_by_whole_table(kind, seed, i, &mut all))?;
     }
-    Ok(format!("{count} scripts, {matched} rows matched: the rules keep the whole-table rule"))
+    let Counts { scripts, sorted, rows, whole, matched, faults, .. } = all;
+    if [sorted, whole, matched, faults, rows - whole, scripts - sorted].contains(&0) {
+        return Err("nothing was tested".into());
+    }
+    let said =
+        format!("{scripts} scripts, {sorted} sorted; {rows} rows, {matched} matched, {whole} as the whole table gives");
+    Ok(format!("{said} and the others qualify; {faults} order faults where they are due"))
+}
+
+/// The rules' answers to one script, by the whole-table judge.
+fn rules_by_whole_table(kind: Kind, seed: u64, number: u64, all: &mut Counts) -> Result<(), String> {
+    let make = if number % 2 == 0 { script } else { script_with_runs };
+    let calls = make(kind, seed, number);
+    let judge = if kind == Kind::Whole { whole_table::judge_whole } else { whole_table::judge };
+    let judged = judge(&calls, &compare::answers(&mut Rules::default(), &calls));
+    let what = || format!("rules by the whole table, {kind:?}, seed {seed}, script {number}");
+    all.add(&judged.map_err(|why| failure(&what(), &calls, &why))?);
+    Ok(())
 }
 
 /// The difference's text, whichever it is.
