@@ -219,29 +219,41 @@ pub fn short_scripts() -> Step {
 /// them, and where all frames come in one phase, the answers are the whole table's on sorted sides, and on all others those
 /// of the rules that are given right frames as they are wanted.
 pub fn ways(seed: u64, count: u64) -> Step {
-    let many = Ways { pipelines: 3, left_pipe: true, right_pipe: false };
-    let pulled = Ways { pipelines: 2, left_pipe: true, right_pipe: true };
-    let (mut all, mut by_pull, mut bursts) = (Tally::default(), Tally::default(), Bursts::default());
-    for (order, ways) in [(0, many), (seed, many), (seed, Ways::default())] {
-        polars_async::executor::shuffle(order);
-        for kind in COMPARED {
-            all.add(&steps(script, kind, seed, count, ways)?);
-        }
-    }
-    whole(seed, count, pulled)?;
-    for kind in COMPARED {
-        by_pull.add(&steps(script, kind, seed, count, pulled)?);
-        by_pull.add(&steps(script_with_runs, kind, seed, count, pulled)?);
-        bursts.run(kind, seed, count)?;
-    }
+    let pushed = pushed(seed, count)?;
+    let (pulled, bursts) = pulled(seed, count)?;
     polars_async::executor::shuffle(0);
-    if [by_pull.faults[1], by_pull.faults[2], by_pull.matched, bursts.left, bursts.right, bursts.matched].contains(&0) {
+    let [between, frame, held, _] = pulled.faults;
+    if [frame, held, pulled.matched, bursts.left, bursts.right, bursts.matched].contains(&0) {
         return Err("nothing was tested".into());
     }
     let fed = "scripts fed by pipes, to several tasks, in random order";
-    let [_, frame, held, _] = by_pull.faults;
-    let pulled = format!("{} pulled ({} with faults)", by_pull.scripts, by_pull.faults[0] + frame + held);
-    Ok(format!("{} {fed}; {pulled}; {bursts}", all.scripts))
+    let faults = between + frame + held;
+    Ok(format!("{} {fed}; {} pulled, {faults} with order faults; {bursts}", pushed.scripts, pulled.scripts))
+}
+
+/// Frames by the left pipe, several compute tasks, tasks in random order.
+fn pushed(seed: u64, count: u64) -> Result<Tally, String> {
+    let many = Ways { pipelines: 3, left_pipe: true, right_pipe: false };
+    let all = [(0, many), (seed, many), (seed, Ways::default())].into_iter();
+    let mut tally = Tally::default();
+    for (order, ways, kind) in all.flat_map(|(order, ways)| COMPARED.map(|kind| (order, ways, kind))) {
+        polars_async::executor::shuffle(order);
+        tally.add(&steps(script, kind, seed, count, ways)?);
+    }
+    Ok(tally)
+}
+
+/// Right frames as the node asks for them, and all frames in one phase.
+fn pulled(seed: u64, count: u64) -> Result<(Tally, Bursts), String> {
+    let ways = Ways { pipelines: 2, left_pipe: true, right_pipe: true };
+    let (mut tally, mut bursts) = (Tally::default(), Bursts::default());
+    whole(seed, count, ways)?;
+    for kind in COMPARED {
+        tally.add(&steps(script, kind, seed, count, ways)?);
+        tally.add(&steps(script_with_runs, kind, seed, count, ways)?);
+        bursts.run(kind, seed, count)?;
+    }
+    Ok((tally, bursts))
 }
 
 /// What scripts whose frames all come in one phase had in them.
