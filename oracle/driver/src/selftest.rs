@@ -425,7 +425,7 @@ pub fn all(seed: u64, count: u64) -> bool {
         ("the two judges", Box::new(move || judges(seed, count))),
         ("step rules", Box::new(move || all_kinds(seed, count))),
         ("runs", Box::new(move || runs(seed, count))),
-        ("large tables", Box::new(move || large(seed, count / 100))),
+        ("large tables", Box::new(move || large(seed, 12.max(count / 200)))),
         ("ways of feeding", Box::new(move || ways(seed, count / 8))),
         ("refusals", Box::new(move || refusals(seed, count))),
         ("2.9's cases", Box::new(spans::cases)),

@@ -200,8 +200,8 @@ fn large_shape(r: &mut Random) -> Shape {
     let keys = r.pick(&keys);
     let groups = r.pick(&[Pool::Below(1), Pool::Below(2), Pool::Below(3), Pool::Below(60), Pool::Ends]);
     let (null_keys, null_groups) = (r.pick(&[0, 0, 1, 10, 60]), r.pick(&[0, 0, 1, 10]));
-    let (open, rows) = (open(r, b, keys), r.pick(&[2000, 5000, 9000, 12_000]));
-    Shape { open, keys, groups, null_keys, null_groups, least: 1000, rows }
+    let (open, rows) = (open(r, b, keys), r.pick(&[4000, 7000, 9000, 12_000]));
+    Shape { open, keys, groups, null_keys, null_groups, least: 1500, rows }
 }
 
 /// A row of the shape.
@@ -266,7 +266,7 @@ fn cut_large(r: &mut Random, rows: &[Row], c: usize) -> Vec<Vec<i64>> {
     while !rest.is_empty() {
         let n = match r.below(10) {
             0 => r.below(3),
-            1..=5 => widest,
+            1..=7 => widest,
             _ => 1 + r.below(widest),
         };
         let (frame, after) = rest.split_at(n.min(rest.len()));
