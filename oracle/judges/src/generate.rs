@@ -426,8 +426,8 @@ fn flush(r: &mut Random, mut d: Draft) -> Vec<Call> {
     d.calls
 }
 
-/// Frames on both sides with turns between, most often with the end of right and a turn for each.
-fn plain(r: &mut Random, mut d: Draft) -> Vec<Call> {
+/// Frames on both sides with turns between, in so many of a hundred cases with the end of right and a turn for each.
+fn plain(r: &mut Random, mut d: Draft, finished: usize) -> Vec<Call> {
     while d.open_ends() {
         match r.below(5) {
             0 => d.left(),
@@ -435,7 +435,7 @@ fn plain(r: &mut Random, mut d: Draft) -> Vec<Call> {
             _ => d.turn(r),
         }
     }
-    if r.percent(90) {
+    if r.percent(finished) {
         d.finish(r);
     }
     d.calls
@@ -610,14 +610,14 @@ fn run_turns(r: &mut Random) -> usize {
 
 /// The length of a run's output: what its turns write, a little more, much more; or, in so many of a hundred cases, less,
 /// so that it is too short at first or after some turns.
-fn run_output(r: &mut Random, rules: &Rules, k: usize, short: usize) -> usize {
+fn run_output(r: &mut Random, rules: &Rules, k: usize, short: usize, spare: usize) -> usize {
     const ENOUGH: usize = 1 << 16;
     let Answer::Ran(ran) = rules.clone().call(&Call::Run(k, ENOUGH)) else { return r.below(20) };
     match (r.percent(short), ran.words.len()) {
         (true, 0) => r.below(6),
         (true, needed) if r.percent(30) => needed - 1,
         (true, needed) => r.below(needed),
-        (false, needed) => needed + r.pick(&[0, 0, 1, 2, 9, 200]),
+        (false, needed) => needed + spare + r.pick(&[0, 0, 1, 2, 9, 200]),
     }
 }
 
@@ -639,6 +639,8 @@ struct Runs {
     rules: Rules,
     /// How many of a hundred outputs are too short.
     short: usize,
+    /// Words that the others are longer than what is written, so that an order fault is not taken for want of output.
+    spare: usize,
     /// Whether the host alters words.
     alters: bool,
 }
@@ -659,7 +661,7 @@ impl Runs {
             alter_for_run(r, &self.rules).into_iter().for_each(|call| self.push(call));
         }
         let k = run_turns(r);
-        let output = run_output(r, &self.rules, k, self.short);
+        let output = run_output(r, &self.rules, k, self.short, self.spare);
         self.push(Call::Run(k, output));
     }
 }
@@ -672,7 +674,8 @@ fn with_runs(r: &mut Random, kind: Kind, calls: Vec<Call>) -> Vec<Call> {
         Kind::Refusals | Kind::Handed => (30, r.pick(&[50, 80, 95])),
         _ => (6, r.pick(&[10, 50, 80])),
     };
-    let mut out = Runs { calls: vec![], rules: Rules::default(), short, alters: kind == Kind::Handed };
+    let spare = if kind == Kind::Large { 2 + 2 * 4096 } else { 0 };
+    let mut out = Runs { calls: vec![], rules: Rules::default(), short, spare, alters: kind == Kind::Handed };
     for call in calls {
         match call {
             Call::Turn(_) if r.percent(piling) => {},
@@ -697,7 +700,8 @@ fn calls(r: &mut Random, kind: Kind) -> Vec<Call> {
         Kind::Whole => whole(r, d),
         Kind::Mixed | Kind::Ends => mixed(r, d),
         Kind::Flush => flush(r, d),
-        Kind::NullsLast | Kind::Order | Kind::Equal | Kind::Large => plain(r, d),
+        Kind::NullsLast | Kind::Order | Kind::Equal => plain(r, d, 90),
+        Kind::Large => plain(r, d, 100),
         Kind::Refusals => refusals(r, d),
         Kind::Handed => handed(r, d),
     }
@@ -719,12 +723,12 @@ pub fn script(kind: Kind, seed: u64, number: u64) -> Vec<Call> {
 }
 
 /// The same script with runs in the place of turns. One for the whole-table rule has outputs enough, and turns at its end
-/// what still waits.
+/// what still waits; so does one with large tables.
 pub fn script_with_runs(kind: Kind, seed: u64, number: u64) -> Vec<Call> {
     let r = &mut Random::new(seed, kind, number);
     let calls = calls(r, kind);
     let mut calls = with_runs(r, kind, calls);
-    if kind == Kind::Whole {
+    if matches!(kind, Kind::Whole | Kind::Large) {
         calls.push(Call::Run(1 << 20, 1 << 16));
     }
     if with_room(kind) && r.percent(50) {
