@@ -701,7 +701,8 @@ fn calls(r: &mut Random, kind: Kind) -> Vec<Call> {
         Kind::Mixed | Kind::Ends => mixed(r, d),
         Kind::Flush => flush(r, d),
         Kind::NullsLast | Kind::Order | Kind::Equal => plain(r, d, 90),
-        Kind::Large => plain(r, d, 100),
+        // What the rules refuse stays, so that a frame that they should take is missed.
+        Kind::Large => plain(r, Draft { keep_refused: true, ..d }, 100),
         Kind::Refusals => refusals(r, d),
         Kind::Handed => handed(r, d),
     }
