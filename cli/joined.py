@@ -53,7 +53,7 @@ class Join:
         self.most_held = max(self.most_held, self.words.held)
 
     def right_rows(self):
-        """The right rows that the area has room for: 01's R."""
+        """The right rows that the area has room for: R of docs/SCOPE.md, 5.4."""
         return len(self.right_area) // (2 * self.columns)
 
     def grow(self, rows):

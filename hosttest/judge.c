@@ -275,7 +275,7 @@ const char *judge(const attempt *a, const outcome *o) {
     int known;
     if (a->call == CALL_RUN) return judge_run(a, o);
     known = known_answer(a);
-    if (known >= 0 && o->answer != known) return "another answer than 01 gives";
+    if (known >= 0 && o->answer != known) return "another answer than SCOPE gives";
     if (known < 0 && !turn_may(a, o->answer)) return "an answer that this turn cannot give";
     return o->answer == 0 ? judge_done(a, o) : judge_unchanged(a, o);
 }

@@ -3,8 +3,9 @@
  *
  * Each row of a left table takes, from a right table, the last row whose key is not greater (Backward), the first whose
  * key is not smaller (Forward), or the one whose key is nearest, within its group. Both tables come in frames, cut
- * anywhere; no cutting changes a match. The library never allocates, has no global state and calls nothing but memcpy,
- * memmove and memset. It keeps what it must keep in two areas of words that the host lends.
+ * anywhere; if both are sorted, no cutting changes a match. The library never allocates and has no global state; it calls
+ * memcpy, memmove and memset and nothing else. Its state is the join, a struct that goes in and out of every call by value,
+ * and two areas of words that the host lends. docs/SCOPE.md has the whole meaning of the calls in numbered clauses.
  *
  * Link with the archive that `rt staticlib host` writes (64-bit x86 Linux):
  *
@@ -16,24 +17,24 @@
  *     rowkeeper_left        hands in a left frame, which then waits
  *     rowkeeper_right       hands in a right frame, whose rows are then held
  *     rowkeeper_end_right   no right frame comes any more
- *     rowkeeper_turn        writes the matches of the waiting frame that came first, or says what it waits for
- *     rowkeeper_run         makes turns, so many at most, and writes their matches one behind the other
+ *     rowkeeper_turn        writes the matches of the waiting frame that came first, or reports what it waits for
+ *     rowkeeper_run         makes turns, up to a given number, and writes their matches one after the other
  *     rowkeeper_ports       moves the node on, for hosts that run it in a pipeline; this is also how left ends
  *
- * They may come in any order. A host that only wants its matches needs no port call: it makes turns; where one answers
- * ROWKEEPER_WANTS_RIGHT it hands in the next right frame, or ends right where there is none; where one answers
- * ROWKEEPER_IDLE it hands in the next left frame, or is done where there is none.
+ * They may come in any order. A host that only wants its matches needs no port call: it makes turns. If one answers
+ * ROWKEEPER_WANTS_RIGHT it hands in the next right frame, or ends right if there is none; if one answers ROWKEEPER_IDLE it
+ * hands in the next left frame, or is done if there is none.
  *
- * One call stands by itself, without a join and without areas:
+ * One call needs no join and no areas:
  *
  *     rowkeeper_spans       lists which points lie inside the bounds of which intervals
  *
  * THE JOIN
  *
- * A join is a value: every call takes one and hands the next one back. Go on with the join that the last call handed
- * back, and with the areas as that call left them. A join and its two areas hold no pointer: they can be copied, or kept
- * in a file and read back later, by another process. Nothing in them is believed: every call judges the join that comes
- * in anew, and any words whatever in joins, areas and frames are safe. Words that no join can have are refused.
+ * A join is a value: every call takes one and returns the next. Go on with the join that the last call returned, and with
+ * the areas as that call left them (free words may be altered: see AREAS). A join and its two areas contain no pointer: they
+ * can be copied, or kept in a file and read back later, by another process. Nothing in them is trusted: every call checks the
+ * join that comes in, and any words whatever in joins, areas and frames are safe. Words that encode no join are refused.
  *
  * FRAMES
  *
@@ -48,8 +49,8 @@
  *
  * Both tables, each taken whole over all its frames, are to be sorted by the by-columns in order, then by the key.
  * Numbers ascend, or descend in a by-column with the flag `descending`. Nulls come first, or last in a by-column with the
- * flag `nulls_last`. The key ascends, nulls first. Where a table is not sorted the matches are not promised. With `check`
- * on, a turn that sees rows out of order refuses by 8 or 9 (between frames it overlooks rows with a null key).
+ * flag `nulls_last`. The key ascends, nulls first. If a table is not sorted, nothing is promised of the matches. With `check`
+ * on, a turn that sees rows out of order is refused by 8 or 9 (between frames it overlooks rows with a null key).
  *
  * MATCHES
  *
@@ -67,16 +68,16 @@
  *     left    the frames that wait at once: ROWKEEPER_FRAME_WORDS(rows, by) for each
  *     right   the right rows that are held at once: ROWKEEPER_RIGHT_WORDS(rows, by)
  *     output  ROWKEEPER_OUTPUT_WORDS(rows) for the waiting frame that came first; 8,194 words are enough for any
- *             for a run, these for each frame that it turns: ROWKEEPER_RUN_WORDS(turns, rows) where no frame has more
+ *             for a run, these for each frame that it turns: ROWKEEPER_RUN_WORDS(turns, rows) if no frame has more
  *             rows; as many words as wait (the join's queue_words) are enough for any number of turns
  *
- * Turns free what they no longer need, and freed words serve again. A right area for all right rows is always enough.
- * Where it is smaller, a frame with no room is refused by 6 and can be handed in again after turns have freed room; but
- * where a turn wants right rows and none fit, only a larger area helps. Held row i (from 0) has its values from word
+ * Turns free what they no longer need, and freed words are used again. A right area for all right rows is always enough.
+ * If it is smaller, a frame with no room is refused by 6 and can be handed in again after turns have freed room; but if a
+ * turn wants right rows and none fit, only a larger area helps. Held row i (from 0) has its values from word
  * (base + i) × c of the right area and its marks from word (R + base + i) × c, where R is the area's length ÷ 2c, rounded
- * down: so a host that changes the right area's length must move the marks. Waiting frames stand back to back in the left
- * area, queue_words words from word queue_start on. All other words of both areas are free: they are not read, and the
- * host may alter them between calls.
+ * down: so a host that changes the right area's length must move the marks. Waiting frames are stored without gaps in the
+ * left area, queue_words words from word queue_start on. All other words of both areas are free: no call reads them, and the
+ * host may alter them between calls without changing any answer, match or join (proved: `free-unread` in crates/lists).
  *
  * COST
  *
@@ -89,13 +90,14 @@
  * REFUSALS
  *
  * A refused call gives one of the numbers below, the first that applies: the join's calls check in the order of the
- * numbers, rowkeeper_spans in the order 1, 5, 16, 6. It alters no word of areas, frame or output and hands the join back
- * as it came, except that 8 and 9 mark it failed.
+ * numbers, rowkeeper_spans in the order 1, 5, 16, 6. A refused call other than rowkeeper_run alters no word of areas, frame
+ * or output and returns the join as it came, except that 8 and 9 mark it failed. In a run all this is true of the turn that
+ * was refused: what the turns before it wrote stays, and the join is the one that they left.
  *
  * POINTERS, OWNERSHIP, THREADS
  *
- * - A pointer must be aligned to 8 bytes and lead to as many words as its length says. Where the length is 0 any pointer
- *   serves, null too: nothing is read or written through it.
+ * - A pointer must be aligned to 8 bytes and lead to as many words as its length says. If the length is 0 any pointer will
+ *   do, null too: nothing is read or written through it.
  * - What a call may write (a pointer that is not const) must not overlap anything else that the same call is given.
  * - All memory stays the host's. No call keeps a pointer: what is lent is the host's again when the call returns.
  * - A call never allocates, blocks, prints, exits, unwinds, sets errno or touches memory outside what it is lent.
@@ -137,7 +139,7 @@ enum { ROWKEEPER_NO_TOLERANCE = -1 };
 /* join.state */
 enum { ROWKEEPER_RUNNING = 0, ROWKEEPER_FLUSH = 1, ROWKEEPER_DONE = 2 };
 
-/* What a port says in rowkeeper_ports, and what it is told. */
+/* The state of a port, as it comes in to rowkeeper_ports and as it is returned. */
 enum { ROWKEEPER_PORT_BLOCKED = 0, ROWKEEPER_PORT_READY = 1, ROWKEEPER_PORT_DONE = 2 };
 
 /* turned.answer */
@@ -146,19 +148,19 @@ enum { ROWKEEPER_WROTE = 0, ROWKEEPER_WANTS_RIGHT = 1, ROWKEEPER_IDLE = 2, ROWKE
 /* ran.stop: this, or the answer of the turn that wrote nothing: ROWKEEPER_WANTS_RIGHT, ROWKEEPER_IDLE or ROWKEEPER_REFUSED */
 enum { ROWKEEPER_TURNS_USED = 0 };
 
-/* refusal: where several apply, the first in checking order is given (see REFUSALS). */
+/* refusal: if several apply, the first in checking order is reported (see REFUSALS). */
 enum {
     /* Not refused. */
     ROWKEEPER_ACCEPTED = 0,
     /* Opening: by above 4, strategy above 2, tolerance below -1, Nearest without equality, or a flag that is neither 0 nor
-       1. There is no join then: what stands beside the refusal is refused by 2 in every call. Spans: a flag that is neither
-       0 nor 1. */
+       1. There is no join then: every call refuses by 2 what is returned beside the refusal, except that a run of no turns
+       tries nothing and so refuses nothing. Spans: a flag that is neither 0 nor 1. */
     ROWKEEPER_BAD_OPTIONS = 1,
     /* The join does not hold together or does not fit its areas: options as in 1, base + held above R, queue_start +
-       queue_words above the left area, pruned + held above 2^63 - 1, an odd sequence, a state, flag or port code that
-       there is not. */
+       queue_words above the left area, pruned + held above 2^63 - 1, an odd sequence, or a state, flag or port code
+       that does not exist. */
     ROWKEEPER_BAD_JOIN = 2,
-    /* An earlier turn found rows out of order and marked the join failed; it answers nothing else any more. */
+    /* An earlier turn found rows out of order and marked the join failed; every later call is refused by this number. */
     ROWKEEPER_FAILED = 3,
     /* At the wrong time: a left frame outside Running; a right frame or an end of right after right has ended or in Done;
        a turn in Done. */
@@ -218,7 +220,7 @@ typedef struct rowkeeper_took {
     rowkeeper_join join;
 } rowkeeper_took;
 
-/* The answer of a port call: 0 or the refusal's number; what each port is told (0, 0, 0 where refused); the join. */
+/* The answer of a port call: 0 or the refusal's number; the new state of each port (0, 0, 0 if refused); the join. */
 typedef struct rowkeeper_ported {
     uint64_t refusal;
     uint64_t left;
@@ -270,11 +272,11 @@ rowkeeper_took rowkeeper_right(rowkeeper_join join, const int64_t *left, size_t 
 rowkeeper_took rowkeeper_end_right(rowkeeper_join join, const int64_t *left, size_t left_len, const int64_t *right,
                                    size_t right_len);
 
-/* A port call: what left, right and send say comes in, what each is told comes back. Send Done makes the node Done. Left
-   Done makes a Running node Flush: it takes no left frame any more. A node in Flush with nothing waiting is Done. Running:
-   each port is told Ready unless another one came Blocked. Flush: left is told Done, right and send each Ready unless the
-   other came Blocked. Done: all are told Done. Right Done is not the end of right: that is rowkeeper_end_right. Alters no
-   word. Refused by 2 and 3; a port code above 2 by 2. */
+/* A port call: the states of left, right and send come in, a new state for each is returned. Send Done makes the node Done.
+   Left Done makes a Running node Flush: it takes no left frame any more. A node in Flush with nothing waiting is Done.
+   Running: a port gets Ready unless one of the other two came Blocked. Flush: left gets Done, right and send each get Ready
+   unless the other came Blocked. Done: all get Done. Right Done is not the end of right: that is rowkeeper_end_right. Alters
+   no word. Refused by 2 and 3; a port code above 2 by 2. */
 rowkeeper_ported rowkeeper_ports(rowkeeper_join join, const int64_t *left, size_t left_len, const int64_t *right,
                                  size_t right_len, uint64_t left_port, uint64_t right_port, uint64_t send_port);
 
@@ -294,12 +296,12 @@ rowkeeper_turned rowkeeper_turn(rowkeeper_join join, const int64_t *left, size_t
    ROWKEEPER_IDLE, ROWKEEPER_WANTS_RIGHT: what the next turn answered; it changed nothing.
    ROWKEEPER_REFUSED: the next turn was refused, by 2 to 9. It altered no word; 8 or 9 marks the join failed. After 6, where
    what is left of the output is too short for the next frame, go on with another output.
-   Whatever ends the run, what the earlier turns wrote and the join that they left stand. The output has `words` words: what
-   each turn that wrote writes, in order, so the first word n of each tells that the next begins 2 + 2n words further on. The
-   words behind them are untouched. The frames' numbers are not told: the first is the sequence of the join that came in, and
-   each further one is 2 more. With `turns` 0 no turn is tried: nothing is refused and the join comes back as it came,
-   whatever it is; only numbers that no join has (a flag above 1, a state above 2, a strategy above 255) are refused by 2.
-   Both areas are only read in every case. No run goes on for ever: each turn takes a waiting frame. */
+   Whatever ends the run, what the earlier turns wrote stays, and so does the join that they left. The output begins with
+   `words` words: what each turn wrote, in order. The first word of each part is its n, so the next part begins 2 + 2n words
+   further on. The words behind them are untouched. The frames' numbers are not reported: the first is the sequence of the
+   join that came in, and each further one is 2 more. With `turns` 0 no turn is tried: nothing is refused and the join comes
+   back as it came, whatever it is; only numbers that no join has (a flag above 1, a state above 2, a strategy above 255) are
+   refused by 2. Both areas are only read in every case. No run goes on for ever: each turn takes a waiting frame. */
 rowkeeper_ran rowkeeper_run(rowkeeper_join join, size_t turns, const int64_t *left, size_t left_len, const int64_t *right,
                             size_t right_len, int64_t *out, size_t out_len);
 

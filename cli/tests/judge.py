@@ -1,4 +1,4 @@
-"""An as-of join in plain Python, over whole tables and by document 01's sentences alone: the tests' judge."""
+"""An as-of join in plain Python, over whole tables, by docs/SCOPE.md, 4, 10 and 14, alone: the tests' judge."""
 
 
 def distance(left, right):

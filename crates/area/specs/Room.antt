@@ -38,6 +38,7 @@ pub record BothIn (half start live : ℕ) (vs ms area : Words) : Type 0 where
   pub within : start + live ≤ half
   pub room : live + length vs ≤ half
 
+-- Where the live words start in both halves after such an append, and the area's words.
 pub record AppendedBoth (half start live : ℕ) (vs ms area : Words) (base : ℕ) (after : Words) : Type 0 where
   pub base-is : base ≡ newBase start live (length vs) half
   pub area-is : after ≡ written ms (half + (base + live)) (written vs (base + live) (moved (half + start) (half + base) live (moved start base live area)))

@@ -24,13 +24,13 @@ pub record Range : Type 0 where
   pub start : ℕ
   pub end : ℕ
 
--- Narrow start and end by the row's by-value in column j: from the first that is at least it to the first above it.
+-- SCOPE 7.3: one step of narrowing, by the by-value in column j.
 unfoldable pub narrowBy : Options → Rows → List Cell → ℕ → Range → Range
 narrowBy o held t j r =
     let s = find AtLeast (byRule o j) j (cell j t) held (r .start) (r .end) in
     record { start = s; end = find Above (byRule o j) j (cell j t) held s (r .end) }
 
--- By each of the first j by-values, in order.
+-- Narrowing by the first j by-values, one after another.
 unfoldable pub narrow : Options → Rows → List Cell → ℕ → Range
 narrow o held t zero = record { start = 0; end = length held }
 narrow o held t (suc j) = narrowBy o held t j (narrow o held t j)
@@ -43,13 +43,13 @@ narrowed o held t = narrow o held t (o .by)
 abbrev pub findKey : Options → Seek → Cell → Rows → ℕ → ℕ → ℕ
 findKey o k v held lower upper = find k keyRule (o .by) v held lower upper
 
--- Forward with equality and Backward without find the first key ≥ v; the other two the first > v.
+-- SCOPE 7.5: which test the search for the key uses.
 abbrev pub seekOf : Strategy → Bool → Seek
 seekOf Backward eq = cond eq Above AtLeast
 seekOf Forward eq = cond eq AtLeast Above
 seekOf Nearest eq = Above
 
--- Nearest finds the first > v (held: yes), then the first beyond that key. Yes if the find is at held or past it.
+-- SCOPE 7.5, 7.6: more is needed, as far as the key decides.
 unfoldable pub keyNeedsMore : Options → Strategy → Cell → Rows → Range → Bool
 keyNeedsMore o Backward v held r = leb (length held) (findKey o (seekOf Backward (o .«allow_eq»)) v held (r .start) (r .end))
 keyNeedsMore o Forward v held r = leb (length held) (findKey o (seekOf Forward (o .«allow_eq»)) v held (r .start) (r .end))
@@ -57,7 +57,7 @@ keyNeedsMore o Nearest v held r =
     let g = findKey o Above v held (r .start) (r .end) in
     cond (leb (length held) g) true (leb (length held) (findKey o Above (keyOf o (getD held g [])) held g (r .end)))
 
--- Held 0: yes. Narrow by the last left row: start = held: yes; end < held: no; then by its key.
+-- SCOPE 7.2, 7.4 to 7.6: more is needed for the left row t.
 unfoldable pub rowNeedsMore : Options → List Cell → Rows → Bool
 rowNeedsMore o t held =
     let r = narrowed o held t in
@@ -66,40 +66,40 @@ rowNeedsMore o t held =
     (cond (ltb (r .end) (length held)) false
     (keyNeedsMore o (strategyOf o) (keyOf o t) held r)))
 
--- Empty left: no. Else by its last row.
+-- SCOPE 7.1: more is needed for a left frame; its last row decides.
 unfoldable pub needMore : Options → Rows → Rows → Bool
 needMore o left held = cond (eqb (length left) 0) false (rowNeedsMore o (getD left (length left - 1) []) held)
 
--- Backward and Nearest step back one, never below start.
+-- SCOPE 11.2: from the result of the search to the split.
 abbrev pub stepBack : Strategy → ℕ → ℕ → ℕ
 stepBack Backward start at = max (at - 1) start
 stepBack Forward start at = at
 stepBack Nearest start at = max (at - 1) start
 
--- The split of a prune by the left row t: narrow by its by-values, find the first key ≥ its key, step back.
+-- SCOPE 11.2: the split of a prune by the left row t.
 unfoldable pub splitAt : Options → List Cell → Rows → ℕ
 splitAt o t held =
     let r = narrowed o held t in
     stepBack (strategyOf o) (r .start) (findKey o AtLeast (keyOf o t) held (r .start) (r .end))
 
--- A prune does nothing if frame or held is empty.
+-- SCOPE 11.1: when a prune does nothing.
 abbrev pub noPrune : Rows → Rows → Bool
 noPrune left held = eqb (length left) 0 || eqb (length held) 0
 
--- How many rows a prune by row i of the left frame drops: those before the split.
+-- SCOPE 11.3: how many held rows a prune by row i of the left frame drops.
 unfoldable pub pruneBy : Options → ℕ → Rows → Rows → ℕ
 pruneBy o i left held = cond (noPrune left held) 0 (splitAt o (getD left i []) held)
 
--- The row before the split: the last row with a key in the part before it, or else the remembered row.
+-- The row at a place among the dropped ones, or the other row if there is no such place.
 abbrev pub rowOr : Rows → Option (List Cell) → Keyed → Option (List Cell)
 rowOr before other (At i) = some (getD before i [])
 rowOr before other Nothing = other
 
--- Of the rows before the split, with the row m that is remembered.
+-- SCOPE 11.4: the row that is compared at the split, of the dropped rows and the remembered row m.
 unfoldable pub rowBefore : Options → Row → Rows → Option (List Cell)
 rowBefore o m before = rowOr before (recall (columns o) m) (lastKeyed o before)
 
--- It must not be greater than the first row with a key after the split.
+-- SCOPE 11.4: the split is out of order.
 unfoldable pub badSplit : Options → Row → ℕ → Rows → Rows → Bool
 badSplit o m i left held =
     let s = pruneBy o i left held in

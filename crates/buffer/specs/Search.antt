@@ -11,7 +11,7 @@ use Rattle.frames.specs.declared.Order.{Order}
 use Rattle.buffer.specs.declared.Seek.{Seek}
 use Rattle.buffer.specs.declared.Seek.the-variants.{AtLeast, Above}
 
--- Over lower..upper, probe (lower + upper) ÷ 2 rounded down; true moves upper to it, false moves lower past it; the answer is lower. The fuel is the range's length.
+-- SCOPE 6.2: the search by halving, with fuel for its steps; as many as the range has rows are enough.
 unfoldable pub searchFor : ℕ → (ℕ → Bool) → ℕ → ℕ → ℕ
 searchFor zero p lower upper = lower
 searchFor (suc fuel) p lower upper =
@@ -28,7 +28,7 @@ searchFor (suc fuel) p lower upper =
 unfoldable pub search : (ℕ → Bool) → ℕ → ℕ → ℕ
 search p lower upper = searchFor (upper - lower) p lower upper
 
--- A comparison kind says of a cell's order to the cell sought whether it is met.
+-- SCOPE 6.4: the two tests, by how a cell compares with the one that is sought.
 abbrev pub meets : Seek → Order → Bool
 meets AtLeast x = not (isLess x)
 meets Above x = isGreater x

@@ -20,7 +20,7 @@ use Rattle.feeds.specs.declared.FedLeft.{FedLeft}
 use Rattle.feeds.specs.declared.FedRight.{FedRight}
 use Rattle.feeds.specs.declared.FedEnd.{FedEnd}
 
--- Refusal 2: options that meet 1, base + held above R, queue start + queue words above the left area, pruned + held above 2^63 − 1, an odd sequence.
+-- SCOPE 16, number 2, by the numbers of a join.
 unfoldable pub badNumbers : Options → ℕ → ℕ → ℕ → ℕ → ℕ → ℕ → Words → Words → Bool
 badNumbers o base held pruned start words sequence left right =
     badOptions o || ltb (capacity (columns o) right) (base + held) || ltb (length left) (start + words) || ltb mostRows (pruned + held) || eqb (sequence % 2) 1
@@ -29,7 +29,7 @@ badNumbers o base held pruned start words sequence left right =
 unfoldable pub openAnswer : Options → Took
 openAnswer o = cond (badOptions o) (Refused BadOptions) Accepted
 
--- A left frame: 2, 3, outside Running 4, no frame of c columns 5, words waiting + words needed above the left area 6.
+-- SCOPE 16.3: the answer to a left frame, by the numbers of a join.
 unfoldable pub leftJudged : Bool → Bool → NodeState → ℕ → ℕ → Words → Words → Took
 leftJudged bad failed state c words left f =
     cond bad (Refused BadJoin)
@@ -39,7 +39,7 @@ leftJudged bad failed state c words left f =
     (cond (ltb (length left) (words + length f)) (Refused NoRoom)
     Accepted))))
 
--- The end of right: 2, 3, after right has ended or in Done 4.
+-- SCOPE 16.3: the answer to an end of right.
 unfoldable pub endJudged : Bool → Bool → Bool → NodeState → Took
 endJudged bad failed ended state =
     cond bad (Refused BadJoin)
@@ -47,7 +47,7 @@ endJudged bad failed ended state =
     (cond (ended || isDone state) (Refused Closed)
     Accepted))
 
--- A right frame: 2, 3, after right has ended or in Done 4, no frame 5, held + n above R 6, pruned + held + n above 2^63 − 1 7.
+-- SCOPE 16.3: the answer to a right frame.
 unfoldable pub rightJudged : Bool → Bool → Bool → NodeState → ℕ → ℕ → ℕ → Words → Words → Took
 rightJudged bad failed ended state c held pruned right f =
     cond bad (Refused BadJoin)

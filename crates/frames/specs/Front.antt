@@ -10,7 +10,7 @@ use Rattle.frames.specs.Frame.{rowCount, frameWords, isFrame, front}
 use Rattle.frames.specs.declared.Front.{Front}
 use Rattle.frames.specs.declared.Front.the-variants.{Words as Long, Nothing}
 
--- The front's length is what its n and c give; it breaks the rule if that exceeds the queue words or these are below 2.
+-- SCOPE 16, number 5: the length of the first waiting frame, or nothing if the waiting words do not begin with a frame of c columns.
 unfoldable pub frontOf : ℕ → Words → Front
 frontOf c ws = cond (isFrame c (front c ws)) (Long (length (front c ws))) Nothing
 
@@ -22,5 +22,6 @@ fewRows z = leZ (pos 0) z && leZ z (pos 4096)
 unfoldable pub fitting : ℕ → ℕ → ℕ → Front
 fitting n c room = cond (leb (frameWords n c) room) (Long (frameWords n c)) Nothing
 
+-- The length of the frame with which waiting words begin, by its n and c alone: whether its marks fit is not looked at.
 unfoldable pub frontLength : ℕ → Words → Front
 frontLength c ws = cond (leb 2 (length ws) && fewRows (getD ws 0 (pos 0))) (fitting (rowCount ws) c (length ws)) Nothing

@@ -38,19 +38,19 @@ next Greater y = Greater
 abbrev pub cmpZ : ℤ → ℤ → Order
 cmpZ a b = cond (ltZ a b) Less (cond (ltZ b a) Greater Equal)
 
--- Null equals null; it stands before every value, or after where nulls last is set, whatever the direction. Values are reversed if descending.
+-- SCOPE 4.1, 4.2: two cells of one column.
 abbrev pub cmpCell : Rule → Cell → Cell → Order
 cmpCell k null null = Equal
 cmpCell k null (value b) = cond (k .nullsLast) Greater Less
 cmpCell k (value a) null = cond (k .nullsLast) Less Greater
 cmpCell k (value a) (value b) = cond (k .descending) (cmpZ b a) (cmpZ a b)
 
--- Two rows by their first j by-columns, in order.
+-- SCOPE 4.4: two rows by their first j by-columns.
 unfoldable pub cmpFirst : Options → ℕ → List Cell → List Cell → Order
 cmpFirst o zero r s = Equal
 cmpFirst o (suc j) r s = next (cmpFirst o j r s) (cmpCell (byRule o j) (cell j r) (cell j s))
 
--- A row's group is its b by-values.
+-- SCOPE 4.6: two rows by their groups alone.
 abbrev pub cmpGroup : Options → List Cell → List Cell → Order
 cmpGroup o r s = cmpFirst o (o .by) r s
 
@@ -58,22 +58,22 @@ cmpGroup o r s = cmpFirst o (o .by) r s
 abbrev pub keyOf : Options → List Cell → Cell
 keyOf o r = cell (o .by) r
 
--- Rows compare by by-columns in order, then key.
+-- SCOPE 4.4: two rows, by group and then by key.
 unfoldable pub cmpRow : Options → List Cell → List Cell → Order
 cmpRow o r s = next (cmpGroup o r s) (cmpCell keyRule (keyOf o r) (keyOf o s))
 
--- Sorted: no row is greater than the next.
+-- SCOPE 4.5: rows are sorted.
 unfoldable pub sorted : Options → Rows → Bool
 sorted o [] = true
 sorted o (r ∷ []) = true
 sorted o (r ∷ s ∷ rs) = not (isGreater (cmpRow o r s)) && sorted o (s ∷ rs)
 
--- A group is null if any by-value is.
+-- SCOPE 4.7: among the first j by-values there is a null.
 unfoldable pub nullIn : ℕ → List Cell → Bool
 nullIn zero r = false
 nullIn (suc j) r = nullIn j r || isNull (cell j r)
 
--- Of a row's group.
+-- The group of a row is null.
 abbrev pub nullGroup : Options → List Cell → Bool
 nullGroup o r = nullIn (o .by) r
 
@@ -81,7 +81,7 @@ nullGroup o r = nullIn (o .by) r
 abbrev pub nullKey : Options → List Cell → Bool
 nullKey o r = isNull (keyOf o r)
 
--- The distance of two keys is the greater less the smaller; to a null it is 0, and never asked.
+-- SCOPE 4.8: the distance of two keys. With a null it is 0, which no definition uses.
 abbrev pub distance : Cell → Cell → ℕ
 distance null y = 0
 distance (value a) null = 0

@@ -12,10 +12,11 @@ use Rattle.frames.specs.declared.Options.{Options}
 abbrev pub cellAt : ℕ → Words → Words → Cell
 cellAt k vs ms = cellOf (getD vs k (pos 0)) (getD ms k (pos 0))
 
--- The mark, or the value and the mark, of the cell at place k are there.
+-- The mark of the cell at place k is there.
 pub record MarkIn (k : ℕ) (ms : Words) : Type 0 where
   pub marks : k < length ms
 
+-- The value and the mark of the cell at place k are there.
 pub record CellIn (k : ℕ) (vs ms : Words) : Type 0 where
   pub values : k < length vs
   pub marks : k < length ms

@@ -3,14 +3,15 @@ use mathlib.Core.Path.{_≡_, refl, sym, _∙_, ap, subst}
 use mathlib.Core.Bool.{Bool, true, false, cond, _&&_}
 use mathlib.Core.List.{[]}
 use mathlib.Core.Option.{some}
-use Prim.Native.Nat.{ℕ, _<_}
+use Prim.Native.Nat.{ℕ, zero, suc, _<_}
 use native.Mathlib.Omega.{arith}
 use borrow.Author.Tests.{not-true}
+use lib.ListN.{take, drop}
 use Rattle.frames.specs.Cells.{Words}
 use Rattle.frames.specs.Options.{badOptions}
 use Rattle.frames.specs.declared.Options.{Options}
 use Rattle.node.specs.State.{fresh, badJoin, stateAt, endedRight}
-use Rattle.answers.specs.Answers.{portCode}
+use Rattle.answers.specs.Answers.{portCode, wrote}
 use Rattle.node.specs.Calls.{After, after, leftAnswer, leftCall, queued, rightAnswer, rightCall, pushedRight, endAnswer, endCall, portsAnswer, portsState, portsCall, turnAnswer, turnCall, turned, dequeued, dropped, spoiled}
 use Rattle.feeds.specs.Judged.{openAnswer}
 use Rattle.node.specs.declared.Join.{Join}
@@ -23,12 +24,14 @@ use Rattle.answers.specs.declared.Ported.{Ported}
 use Rattle.answers.specs.declared.Ported.the-variants.{Ports, Refused as PortsRefused}
 use Rattle.answers.specs.declared.Answer.{Answer}
 use Rattle.answers.specs.declared.Answer.the-variants.{Wrote, WantsRight, Idle, Refused as TurnRefused}
+use Rattle.answers.specs.declared.Stop.{Stop}
+use Rattle.runs.specs.Run.{Ran, ran, andThen, stopOf, turnWords, runCall}
 use Rattle.node.proofs.Good.{opened-bad}
 use Rattle.codes.specs.Codes.{isCode, portOf, tookCode}
 use Rattle.convert.specs.Convert.{isOptions, optionsOf, decodeOptions, isJoin, joinOf, decode}
-use Rattle.told.specs.Told.{freshHost}
-use Rattle.hostcalls.specs.Calls.{HostAfter, afterHost, encodeAfter, byJoin, openHost, leftHost, rightHost, endHost, portsHost, turnHost}
-use Rattle.hostcalls.specs.Promises.{spoils, stays, Shut, Same, Follows, Promises}
+use Rattle.told.specs.Told.{freshHost, Made, refusedRun}
+use Rattle.hostcalls.specs.Calls.{HostAfter, afterHost, encodeAfter, byJoin, openHost, leftHost, rightHost, endHost, portsHost, turnHost, ranAfter, runHost}
+use Rattle.hostcalls.specs.Promises.{spoils, stays, staysAt, noTurn, Shut, Same, Follows, Promises}
 use Rattle.convert.specs.declared.HostOptions.{HostOptions}
 use Rattle.convert.specs.declared.HostJoin.{HostJoin}
 use Rattle.told.specs.declared.HostTook.{HostTook}
@@ -86,6 +89,40 @@ turn-keeps (TurnRefused n) done s j left right out b d k x =
     let f = subst (λ (y : Answer). stays y ≡ true) (sym x) k in
     ap (λ (y : Join). after (TurnRefused n) y left right out) (unspoiled n j (not-true (spoils n) f)) ∙ ap (λ (y : Answer). after y j left right out) x
 
+-- A run that made no turn.
+stays-same : (a : Answer) → wrote a ≡ false → stays a ≡ staysAt (stopOf a)
+stays-same (Wrote s) e = let z : _≡_ {A = ℕ} 0 1 = cc in absurd (omega arith)
+stays-same WantsRight e = refl
+stays-same Idle e = refl
+stays-same (TurnRefused n) e = refl
+
+turn-call-keeps : (j : Join) (left right out : Words) → stays (turnCall j left right out .answer) ≡ true
+    → turnCall j left right out ≡ after (turnCall j left right out .answer) j left right out
+unfolding turnCall turned
+turn-call-keeps j left right out k = turn-keeps (turnAnswer j left right out) (turned j left right out) (j .sequence) j left right out (turnCall j left right out .answer) refl k refl
+
+module _ (left right : Words) (s : Stop) (still : staysAt s ≡ true) where
+  run-keeps : (k : ℕ) (j : Join) (out : Words) → ranAfter (runCall k j left right out) left right .answer ≡ noTurn s
+      → ranAfter (runCall k j left right out) left right ≡ after (noTurn s) j left right out
+  unfolding runCall
+  run-keeps zero j out x = ap (λ (m : Made). after m j left right out) x
+  run-keeps (suc k) j out x = go (wrote (t .answer)) refl x
+    where
+      t : After Answer
+      t = turnCall j left right out
+
+      -- The run by whether its first turn wrote.
+      run-by : Bool → Ran
+      run-by b = let n = turnWords (t .out) in cond b (andThen 1 n (take n (t .out)) (runCall k (t .join) left right (drop n (t .out)))) (ran 0 0 (stopOf (t .answer)) (t .join) (t .out))
+
+      go : (b : Bool) → wrote (t .answer) ≡ b → ranAfter (run-by b) left right .answer ≡ noTurn s → ranAfter (run-by b) left right ≡ after (noTurn s) j left right out
+      go true e x = let z = ap (λ (m : Made). m .turns) x in absurd (omega arith)
+      go false e x =
+          let y : stopOf (t .answer) ≡ s = ap (λ (m : Made). m .stop) x in
+          let q : stays (t .answer) ≡ true = stays-same (t .answer) e ∙ ap staysAt y ∙ still in
+          ap (λ (u : After Answer). after (noTurn (stopOf (t .answer))) (u .join) left right (u .out)) (turn-call-keeps j left right out q)
+          ∙ ap (λ (m : Made). after m j left right out) x
+
 -- ---- in numbers
 -- A call that changes nothing where it answers a, in numbers.
 keeps : {A : Type 0} (h : HostJoin) (left right out : Words) (bad a : A) (call : Join → After A) → ((j : Join) → call j .answer ≡ a → call j ≡ after a j left right out)
@@ -139,6 +176,11 @@ module _ (h : HostJoin) (left right : Words) where
       keeps h left right out (TurnRefused BadJoin) a (λ j. turnCall j left right out)
       (λ j. turn-keeps (turnAnswer j left right out) (turned j left right out) (j .sequence) j left right out a refl k)
 
+  run-kept : (k : ℕ) (out : Words) (s : Stop) → staysAt s ≡ true → runHost h k left right out .answer ≡ noTurn s → runHost h k left right out ≡ afterHost (noTurn s) h left right out
+  unfolding runHost
+  run-kept k out s still =
+      keeps h left right out refusedRun (noTurn s) (λ j. ranAfter (runCall k j left right out) left right) (λ j. run-keeps left right s still k j out)
+
 -- ---- the join of a refused opening
 -- The node's calls of a bad join.
 module _ (j : Join) (left right : Words) (e : badJoin j left right ≡ true) where
@@ -162,6 +204,10 @@ module _ (j : Join) (left right : Words) (e : badJoin j left right ≡ true) whe
   unfolding turnCall turnAnswer
   turn-bad out = rw (e, turnCall)
 
+  run-bad : (k : ℕ) (out : Words) → ranAfter (runCall (suc k) j left right out) left right .answer ≡ refusedRun
+  unfolding runCall
+  run-bad k out = rw (turn-bad out, runCall)
+
 -- A call of numbers that are no join, or a bad one, is refused as 2.
 by-bad : {A : Type 0} (h : HostJoin) (left right out : Words) (bad : A) (call : Join → After A) → (isJoin h ≡ true → call (joinOf h) .answer ≡ bad)
     → byJoin h (afterHost bad h left right out) call .answer ≡ bad
@@ -172,7 +218,7 @@ by-bad {A} h left right out bad call is = go (isJoin h) refl
     go true e = ap (λ (y : HostAfter A). y .answer) (by-some h (afterHost bad h left right out) call e) ∙ is e
 
 shut-by : (h : HostJoin) (left right : Words) → (isJoin h ≡ true → badJoin (joinOf h) left right ≡ true) → Shut h left right
-unfolding leftHost rightHost endHost portsHost turnHost
+unfolding leftHost rightHost endHost portsHost turnHost runHost
 shut-by h left right is = record {
   by-left = λ f. by-bad h left right [] (Refused BadJoin) (λ j. leftCall j left right f) (λ e. left-bad (joinOf h) left right (is e) f);
   by-right = λ f. by-bad h left right [] (Refused BadJoin) (λ j. rightCall j left right f) (λ e. right-bad (joinOf h) left right (is e) f);
@@ -182,6 +228,7 @@ shut-by h left right is = record {
       (by-bad h left right [] (PortsRefused BadJoin) (λ j. portsCall j left right (portOf l) (portOf r) (portOf s))
       (λ e. ports-bad (joinOf h) left right (is e) (portOf l) (portOf r) (portOf s)));
   by-turn = λ out. by-bad h left right out (TurnRefused BadJoin) (λ j. turnCall j left right out) (λ e. turn-bad (joinOf h) left right (is e) out);
+  by-run = λ k out. by-bad h left right out refusedRun (λ j. ranAfter (runCall (suc k) j left right out) left right) (λ e. run-bad (joinOf h) left right (is e) k out);
 }
   where
     unsaid : (t : Bool) (x : HostAfter Ported) → x .answer ≡ PortsRefused BadJoin → cond t x (afterHost (PortsRefused BadJoin) h left right []) .answer ≡ PortsRefused BadJoin
@@ -243,6 +290,29 @@ turn-options WantsRight done j left right out e = refl
 turn-options Idle done j left right out e = refl
 turn-options (TurnRefused n) done j left right out e = spoiled-options n j
 
+turn-call-options : (j : Join) (left right out : Words) → turnCall j left right out .join .options ≡ j .options
+unfolding turnCall turned dequeued dropped
+turn-call-options j left right out = turn-options (turnAnswer j left right out) (turned j left right out) j left right out refl
+
+run-options : (left right : Words) (k : ℕ) (j : Join) (out : Words) → runCall k j left right out .join .options ≡ j .options
+unfolding runCall
+run-options left right zero j out = refl
+run-options left right (suc k) j out =
+    let t = turnCall j left right out in
+    let n = turnWords (t .out) in
+    go (wrote (t .answer)) (run-options left right k (t .join) (drop n (t .out)))
+  where
+    t : After Answer
+    t = turnCall j left right out
+
+    rest : Ran
+    rest = runCall k (t .join) left right (drop (turnWords (t .out)) (t .out))
+
+    go : (b : Bool) → rest .join .options ≡ t .join .options
+        → cond b (andThen 1 (turnWords (t .out)) (take (turnWords (t .out)) (t .out)) rest) (ran 0 0 (stopOf (t .answer)) (t .join) (t .out)) .join .options ≡ j .options
+    go true ih = ih ∙ turn-call-options j left right out
+    go false ih = turn-call-options j left right out
+
 -- A call that keeps the options is the node's, and hands back numbers that are its join.
 followed : {A : Type 0} (h : HostJoin) (j : Join) (bad : HostAfter A) (call : Join → After A) → Is h j → call j .join .options ≡ j .options → Same (byJoin h bad call) (call j)
 followed {A} h j bad call is e =
@@ -257,7 +327,7 @@ module _ (h : HostJoin) (j : Join) (left right : Words) (is : Is h j) where
   said l r s = simp (port-is, port-back)
 
   follow : Follows h j left right
-  unfolding leftHost rightHost endHost turnHost leftCall queued rightCall pushedRight endCall portsCall turnCall turned dequeued dropped
+  unfolding leftHost rightHost endHost turnHost runHost leftCall queued rightCall pushedRight endCall portsCall turnCall turned dequeued dropped
   follow = record {
     by-left = λ f. followed h j (afterHost (Refused BadJoin) h left right []) (λ k. leftCall k left right f) is
         (took-options (leftAnswer j left right f) (queued j left right f) j left right refl);
@@ -270,6 +340,7 @@ module _ (h : HostJoin) (j : Join) (left right : Words) (is : Is h j) where
         (ports-options (portsAnswer j left right l r s) (stateAt j (portsState j l s)) j left right refl));
     by-turn = λ out. followed h j (afterHost (TurnRefused BadJoin) h left right out) (λ k. turnCall k left right out) is
         (turn-options (turnAnswer j left right out) (turned j left right out) j left right out refl);
+    by-run = λ k out. followed h j (afterHost refusedRun h left right out) (λ m. ranAfter (runCall k m left right out) left right) is (run-options left right k j out);
   }
 
 -- An opening whose numbers are options o.
@@ -287,6 +358,7 @@ promises = record {
     by-end = end-kept h left right;
     by-ports = ports-kept h left right;
     by-turn = turn-kept h left right;
+    by-run = run-kept h left right;
   };
   shut = λ o left right e. shut-by (openHost o .join) left right (opened o left right e);
   opens = opening;

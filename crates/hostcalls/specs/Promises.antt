@@ -3,7 +3,7 @@ use mathlib.Core.Path.{_≡_}
 use mathlib.Core.Bool.{Bool, true, false, not}
 use mathlib.Core.List.{[]}
 use mathlib.Core.Option.{some}
-use Prim.Native.Nat.{ℕ}
+use Prim.Native.Nat.{ℕ, suc}
 use Rattle.frames.specs.Cells.{Words}
 use Rattle.frames.specs.declared.Options.{Options}
 use Rattle.node.specs.State.{fresh}
@@ -17,8 +17,12 @@ use Rattle.answers.specs.declared.Took.the-variants.{Refused}
 use Rattle.answers.specs.declared.Ported.the-variants.{Refused as PortsRefused}
 use Rattle.answers.specs.declared.Answer.{Answer}
 use Rattle.answers.specs.declared.Answer.the-variants.{Wrote, WantsRight, Idle, Refused as TurnRefused}
+use Rattle.answers.specs.declared.Stop.{Stop}
+use Rattle.answers.specs.declared.Stop.the-variants.{Used, WantsRight as StopWants, Idle as StopIdle, Refused as StopRefused}
+use Rattle.runs.specs.Run.{runCall}
 use Rattle.convert.specs.Convert.{decodeOptions, decode}
-use Rattle.hostcalls.specs.Calls.{HostAfter, afterHost, encodeAfter, openHost, leftHost, rightHost, endHost, portsHost, turnHost}
+use Rattle.told.specs.Told.{Made}
+use Rattle.hostcalls.specs.Calls.{HostAfter, afterHost, encodeAfter, openHost, leftHost, rightHost, endHost, portsHost, turnHost, ranAfter, runHost}
 use Rattle.convert.specs.declared.HostOptions.{HostOptions}
 use Rattle.convert.specs.declared.HostJoin.{HostJoin}
 
@@ -41,34 +45,49 @@ stays WantsRight = true
 stays Idle = true
 stays (TurnRefused n) = not (spoils n)
 
--- A refused call hands back exactly the numbers that came and alters no lent word; so does a turn that changes nothing.
+-- What ends a run without a change: its turns are used, Wants right, Idle, and any refusal but 8 and 9.
+abbrev pub staysAt : Stop → Bool
+staysAt Used = true
+staysAt StopWants = true
+staysAt StopIdle = true
+staysAt (StopRefused n) = not (spoils n)
+
+-- What a run tells that made no turn.
+abbrev pub noTurn : Stop → Made
+noTurn s = record { turns = 0; words = 0; stop = s }
+
+-- A refused call hands back exactly the numbers that came and alters no lent word; so does a turn that changes nothing, and a run that made no turn and was
+-- ended by one that changes nothing. (A run that was refused after some turns leaves what these left: it is the list of its turns, as hostlists tells.)
 pub record Kept (h : HostJoin) (left right : Words) : Type 0 where
   pub by-left : (f : Words) (n : Refusal) → leftHost h left right f .answer ≡ Refused n → leftHost h left right f ≡ afterHost (Refused n) h left right []
   pub by-right : (f : Words) (n : Refusal) → rightHost h left right f .answer ≡ Refused n → rightHost h left right f ≡ afterHost (Refused n) h left right []
   pub by-end : (n : Refusal) → endHost h left right .answer ≡ Refused n → endHost h left right ≡ afterHost (Refused n) h left right []
   pub by-ports : (l r s : ℕ) (n : Refusal) → portsHost h left right l r s .answer ≡ PortsRefused n → portsHost h left right l r s ≡ afterHost (PortsRefused n) h left right []
   pub by-turn : (out : Words) (a : Answer) → stays a ≡ true → turnHost h left right out .answer ≡ a → turnHost h left right out ≡ afterHost a h left right out
+  pub by-run : (k : ℕ) (out : Words) (s : Stop) → staysAt s ≡ true → runHost h k left right out .answer ≡ noTurn s → runHost h k left right out ≡ afterHost (noTurn s) h left right out
 
--- Every call answers 2 to the join of a refused opening; of a run, which is made of turns, nothing is said here.
+-- Every call answers 2 to the join of a refused opening, and so does every run of at least one turn.
 pub record Shut (h : HostJoin) (left right : Words) : Type 0 where
   pub by-left : (f : Words) → leftHost h left right f .answer ≡ Refused BadJoin
   pub by-right : (f : Words) → rightHost h left right f .answer ≡ Refused BadJoin
   pub by-end : endHost h left right .answer ≡ Refused BadJoin
   pub by-ports : (l r s : ℕ) → portsHost h left right l r s .answer ≡ PortsRefused BadJoin
   pub by-turn : (out : Words) → turnHost h left right out .answer ≡ TurnRefused BadJoin
+  pub by-run : (k : ℕ) (out : Words) → runHost h (suc k) left right out .answer ≡ noTurn (StopRefused BadJoin)
 
 -- What a call in numbers leaves is what the node's call leaves, and its join is read as the node's.
 pub record Same {A : Type 0} (x : HostAfter A) (y : After A) : Type 0 where
   pub whole : x ≡ encodeAfter y
   pub again : decode (x .join) ≡ some (y .join)
 
--- Where the numbers are join j, each call is the node's call of j; so a list of calls in numbers is a list of the node's.
+-- Where the numbers are join j, each call is the node's call of j. That a list of calls in numbers is a list of the node's is proved in hostlists.
 pub record Follows (h : HostJoin) (j : Join) (left right : Words) : Type 0 where
   pub by-left : (f : Words) → Same (leftHost h left right f) (leftCall j left right f)
   pub by-right : (f : Words) → Same (rightHost h left right f) (rightCall j left right f)
   pub by-end : Same (endHost h left right) (endCall j left right)
   pub by-ports : (l r s : PortState) → Same (portsHost h left right (portCode l) (portCode r) (portCode s)) (portsCall j left right l r s)
   pub by-turn : (out : Words) → Same (turnHost h left right out) (turnCall j left right out)
+  pub by-run : (k : ℕ) (out : Words) → Same (runHost h k left right out) (ranAfter (runCall k j left right out) left right)
 
 -- Of any numbers and any areas; of any opening.
 pub record Promises : Type 0 where

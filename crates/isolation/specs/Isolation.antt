@@ -37,7 +37,7 @@ pub data Own : Type 0 where
   place : ℕ → Own
   foreign : Own
 
--- Counted by position among the group's own notices: how many of them stand before right row n.
+-- SCOPE 18.1: how many of the group's own right rows come before right row n.
 abbrev pub ownBefore : Options → List Cell → Rows → ℕ → ℕ
 ownBefore o g rights n = length (ofGroup o g (take n rights))
 
@@ -55,7 +55,7 @@ abbrev pub ownChoice : Choice → Own
 ownChoice (Row k) = place k
 ownChoice Nothing = none
 
--- One group of a list of calls as in demand 3.
+-- One group of a list of calls (SCOPE 15).
 module _ (o : Options) (g : List Cell) (l r : Words) (calls : List Call) where
   -- Its left rows and its right rows, among those that the list accepts.
   abbrev pub ownLefts : Rows
@@ -73,15 +73,14 @@ module _ (o : Options) (g : List Cell) (l r : Words) (calls : List Call) where
   abbrev pub Alone : Type 0
   Alone = Declared o l r calls → ownMatches ≡ map (λ x. ownChoice (wholeTable o ownRights x)) (ofGroup o g (turnedRows o l r calls))
 
--- A list with sorted sides, right ended and all frames turned.
+-- SCOPE 18.2: what is supposed of each of the two lists.
 pub record Finished (o : Options) (l r : Words) (calls : List Call) : Type 0 where
   pub declared : Declared o l r calls
   pub ended : rightEnded (all o l r calls) ≡ true
   pub turned : length (outputs (all o l r calls)) ≡ length (leftFrames (all o l r calls))
 
--- Two lists of calls, over areas of their own, with equal options. If the left rows and the right rows of one non-null group agree in both, the matches of that
--- group agree, each counted by position among the group's own notices: `same`. That a match of the group is none or one of its own notices, and never
--- another's, is `alone`.
+-- SCOPE 18.2 is `same`, for two lists with areas of their own. SCOPE 18.3 is `alone`, for one list: a match of a group is none or one of
+-- the group's own right rows, the one that the whole-table rule gives over these alone.
 pub record Isolation : Type 0 where
   pub alone : (o : Options) → badOptions o ≡ false → (g : List Cell) (l r : Words) (calls : List Call) → Alone o g l r calls
   pub same : (o : Options) → badOptions o ≡ false → (g : List Cell) → nullGroup o g ≡ false

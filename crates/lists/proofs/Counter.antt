@@ -1,4 +1,4 @@
--- The cases of 01's section "At the counter", as one list that holds by computation. Assumes nothing.
+-- SCOPE 21: the worked cases, as one list that holds by computation. Assumes nothing.
 use mathlib.Core.Path.{_≡_, refl}
 use mathlib.Core.Bool.{true, false}
 use mathlib.Core.List.{List, [], _∷_, _++_, map}
@@ -66,35 +66,35 @@ go = turn (space 20)
 
 pub cases : List Case
 cases =
-    -- P Backward, left 5, 20, 25: none, 2, 2; afterwards pruned 2, held 2
+    -- SCOPE 21.1
     case (plain 0 true) 40 (usual ∷ left (frame1 (5 ∷ 20 ∷ 25 ∷ [])) ∷ go ∷ []) (ok ∷ ok ∷ matched 0 (none ∷ some 2 ∷ some 2 ∷ []) ∷ []) 2 2
-    -- P the same, only 10, 20, 20 held, right open: Wants right; right ended: the same matches
+    -- SCOPE 21.2
     ∷ case (plain 0 true) 40 (right (frame1 (10 ∷ 20 ∷ 20 ∷ [])) ∷ left (frame1 (5 ∷ 20 ∷ 25 ∷ [])) ∷ go ∷ end ∷ go ∷ [])
     (ok ∷ ok ∷ wants ∷ ok ∷ matched 0 (none ∷ some 2 ∷ some 2 ∷ []) ∷ []) 2 1
-    -- P Backward without equality, 20: 0
+    -- SCOPE 21.3, Backward without equality
     ∷ case (plain 0 false) 40 (usual ∷ left (frame1 (20 ∷ [])) ∷ go ∷ []) (ok ∷ ok ∷ matched 0 (some 0 ∷ []) ∷ []) 0 4
-    -- P Forward 20: 1
+    -- SCOPE 21.3, Forward
     ∷ case (plain 1 true) 40 (usual ∷ left (frame1 (20 ∷ [])) ∷ go ∷ []) (ok ∷ ok ∷ matched 0 (some 1 ∷ []) ∷ []) 1 3
-    -- P Forward without equality 20: 3
+    -- SCOPE 21.3, Forward without equality
     ∷ case (plain 1 false) 40 (usual ∷ left (frame1 (20 ∷ [])) ∷ go ∷ []) (ok ∷ ok ∷ matched 0 (some 3 ∷ []) ∷ []) 1 3
-    -- P Nearest 14, 15, 25: 0, 2, 3, right ended
+    -- SCOPE 21.4
     ∷ case (plain 2 true) 40 (usual ∷ end ∷ left (frame1 (14 ∷ 15 ∷ 25 ∷ [])) ∷ go ∷ []) (ok ∷ ok ∷ ok ∷ matched 0 (some 0 ∷ some 2 ∷ some 3 ∷ []) ∷ []) 2 2
-    -- P Nearest, held 10, 20, 30, left 25: more needed; with 31 pushed: not
+    -- SCOPE 21.5
     ∷ case (plain 2 true) 40 (right (frame1 (10 ∷ 20 ∷ 30 ∷ [])) ∷ left (frame1 (25 ∷ [])) ∷ go ∷ right (frame1 (31 ∷ [])) ∷ go ∷ [])
     (ok ∷ ok ∷ wants ∷ ok ∷ matched 0 (some 2 ∷ []) ∷ []) 1 3
-    -- P Backward 25, tolerance 4: none; 5: 2
+    -- SCOPE 21.6
     ∷ case (options 0 0 true (pos 4) false [] []) 40 (usual ∷ left (frame1 (25 ∷ [])) ∷ go ∷ []) (ok ∷ ok ∷ matched 0 (none ∷ []) ∷ []) 2 2
     ∷ case (options 0 0 true (pos 5) false [] []) 40 (usual ∷ left (frame1 (25 ∷ [])) ∷ go ∷ []) (ok ∷ ok ∷ matched 0 (some 2 ∷ []) ∷ []) 2 2
-    -- P Backward, right (1,10), (1,20), (2,5); left (1,15), (2,4), (3,9); right ended: 0, none, none; pruned 3
+    -- SCOPE 21.7
     ∷ case (options 1 0 true (negsuc 0) false [] []) 40
     (right (frame2 ((1 ∷ 10 ∷ []) ∷ (1 ∷ 20 ∷ []) ∷ (2 ∷ 5 ∷ []) ∷ [])) ∷ end ∷ left (frame2 ((1 ∷ 15 ∷ []) ∷ (2 ∷ 4 ∷ []) ∷ (3 ∷ 9 ∷ []) ∷ [])) ∷ go ∷ [])
     (ok ∷ ok ∷ ok ∷ matched 0 (some 0 ∷ none ∷ none ∷ []) ∷ []) 3 0
-    -- Check on, Backward: right (2,1), (2,7), (3,1), (4,1); left frames (2,5); (3,null); (2,8): 0, none, none, and no refusal
+    -- SCOPE 21.8
     ∷ case (options 1 0 true (negsuc 0) true [] []) 40
     (right (frame2 ((2 ∷ 1 ∷ []) ∷ (2 ∷ 7 ∷ []) ∷ (3 ∷ 1 ∷ []) ∷ (4 ∷ 1 ∷ []) ∷ [])) ∷ left (frame2 ((2 ∷ 5 ∷ []) ∷ [])) ∷ go
     ∷ left (frameOf 2 ((value (pos 3) ∷ null ∷ []) ∷ [])) ∷ go ∷ left (frame2 ((2 ∷ 8 ∷ []) ∷ [])) ∷ go ∷ [])
     (ok ∷ ok ∷ matched 0 (some 0 ∷ []) ∷ ok ∷ matched 1 (none ∷ []) ∷ ok ∷ matched 2 (none ∷ []) ∷ []) 2 2
-    -- 4,096 rows pass, 4,097 are refusal 5; held = R takes an empty frame, one row is 6
+    -- SCOPE 21.9
     ∷ case (plain 0 true) 8192 (right (long 4096) ∷ []) (ok ∷ []) 0 4096
     ∷ case (plain 0 true) 8194 (right (long 4097) ∷ []) (refused 5 ∷ []) 0 0
     ∷ case (plain 0 true) 9 (usual ∷ right (frame1 []) ∷ right (frame1 (40 ∷ [])) ∷ []) (ok ∷ ok ∷ refused 6 ∷ []) 0 4

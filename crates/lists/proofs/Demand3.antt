@@ -204,6 +204,11 @@ or-false-both : (a b : Bool) → (a || b) ≡ false → (a ≡ false) × (b ≡ 
 or-false-both true b e = let z : _≡_ {A = ℕ} 0 1 = cc in absurd (omega arith)
 or-false-both false b e = (refl, e)
 
+-- What holds of each pair, from what held of it.
+each-map : {A B : Type 0} {P Q : A → B → Type 0} → ((a : A) (b : B) → P a b → Q a b) → (xs : List A) (ys : List B) → Each P xs ys → Each Q xs ys
+each-map f [] [] ends = ends
+each-map f (a ∷ xs) (b ∷ ys) (pairs p e) = pairs (f a b p) (each-map f xs ys e)
+
 -- Demand 3.
 pub demand3 : Demand
 unfolding turnedOf
@@ -216,7 +221,10 @@ demand3 o allowed l r calls =
     record {
       whole-table = λ d. written-so-far o l r allowed es w i S (d .0) (d .1);
       none-exactly = λ d. rw (written-so-far o l r allowed es w i S (d .0) (d .1)) (each-correct o (rowsIn (columns o) (rightFrames es)) (d .1) (rowsIn (columns o) (take k (leftFrames es))));
-      rest-written = λ d en un outs room few. let z = finish o l r allowed outs es w i S (d .0) (d .1) en un few room in (z .all-write, z .all-matched);
+      rest-written = λ d en un outs room few.
+          let enough = each-map {Q = λ (f out : Words). 2 + 2 * rowCount f ≤ length out} (λ f out e. omega (arith, e)) (drop k (leftFrames es)) outs room in
+          let z = finish o l r allowed outs es w i S (d .0) (d .1) en un (omega (arith, few)) enough in
+          (z .all-write, z .all-matched);
       counts = (i .stock .rows, left-count o l r es w i);
       never-broken = (i .flags .unbroken, i .flags .fronts);
       no-false-alarm = λ d. or-false-both (refusedWith 8 es) (refusedWith 9 es) (sym (i .flags .failed) ∙ S (d .0) (d .1) .unfailed);

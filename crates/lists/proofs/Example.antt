@@ -1,5 +1,5 @@
--- One list of calls with refused ones, a want, a prune and a late right frame: the premises of demand 3 are met, and what was written is the whole table's, by computation.
--- Assumes nothing.
+-- One list of calls with refused ones, a want, a prune and a late right frame: its rows are sorted as declared, and what was written is the whole table's, by
+-- computation. It ends with the node done and no frame waiting; RestWitness has a list that meets the premises of rest-written. Assumes nothing.
 use mathlib.Core.Path.{_≡_, refl}
 use mathlib.Core.Bool.{Bool, true, false}
 use mathlib.Core.List.{List, [], _∷_, map}

@@ -6,8 +6,13 @@ pub mod ListLaws
 pub mod Stock
 pub mod Invariant
 pub mod Turn
+pub mod Unread
+pub mod SplitKeeps
+pub mod SplitAlone
 pub mod Sound
 pub mod Steps
 pub mod Demand3
 pub mod Example
 pub mod RunTurns
+pub mod RestWitness
+pub mod SplitList

@@ -1,4 +1,4 @@
--- Demand 3: one claim about a list of calls as a whole, from a fresh join and two areas of any length and any words. The statement; its proof stands in proofs/. Assumes nothing.
+-- The whole-table theorem (SCOPE 15.9 to 15.15): the statement, on lists of calls as wholes. Its proof is in proofs/. Assumes nothing.
 use mathlib.Core.Path.{_≡_}
 use mathlib.Core.Bool.{true, false}
 use mathlib.Core.List.{List, [], _∷_, _++_, map}
@@ -17,7 +17,7 @@ use Rattle.matching.specs.declared.Choice.{Choice}
 use Rattle.lists.specs.Lists.{Call, turn, start, events, final, Event, leftFrames, rightFrames, rowsIn, outputs, matchesIn, Entry, rightEnded, nodeDone, queueRows, backToBack, refusedWith, turnsIn}
 use Rattle.node.specs.State.{waiting, heldValues, heldMarks}
 
--- A match as it is written; none stands as 0 and 0.
+-- SCOPE 12.5: a match as it is written.
 abbrev pub asWritten : Choice → Entry
 asWritten m = record { number = numberWord m; mark = choiceMark m }
 
@@ -31,13 +31,13 @@ pub data Each {A B : Type 0} (P : A → B → Type 0) : List A → List B → Ty
   ends : Each P [] []
   pairs : {a : A} {b : B} {xs : List A} {ys : List B} → P a b → Each P xs ys → Each P (a ∷ xs) (b ∷ ys)
 
--- Over a list of calls from a fresh join with options that are not refused and two areas of any length and any words.
+-- For one list of calls, its options and the two areas with which it begins (SCOPE 15.1, 15.2).
 module _ (o : Options) (l r : Words) (calls : List Call) where
   -- The calls with their answers.
   abbrev pub all : List Event
   all = events (start o l r) calls
 
-  -- Accepted rows are those of the left or right calls that were not refused, in call order.
+  -- SCOPE 15.3: the accepted left rows.
   abbrev pub lefts : Rows
   lefts = rowsIn (columns o) (leftFrames all)
 
@@ -45,7 +45,7 @@ module _ (o : Options) (l r : Words) (calls : List Call) where
   abbrev pub rights : Rows
   rights = rowsIn (columns o) (rightFrames all)
 
-  -- The left rows turned are those of as many accepted left frames, from the first on, as turns answered Wrote; the other accepted left frames wait.
+  -- SCOPE 15.5: the left rows turned.
   abbrev pub turnedRows : Rows
   turnedRows = rowsIn (columns o) (take (length (outputs all)) (leftFrames all))
 
@@ -57,15 +57,15 @@ module _ (o : Options) (l r : Words) (calls : List Call) where
   abbrev pub matches : List Entry
   matches = matchesIn (outputs all)
 
-  -- Sorted as declared: each side's accepted rows, taken whole, are sorted by Order under the options.
+  -- SCOPE 15.4: the sides are sorted as declared.
   abbrev pub Declared : Type 0
   Declared = (sorted o lefts ≡ true) × (sorted o rights ≡ true)
 
-  -- 1. The matches written equal those of the whole-table rule for the left rows turned, over all right rows that the list accepts.
+  -- SCOPE 15.9.
   abbrev pub WholeTable : Type 0
   WholeTable = Declared → matches ≡ map (λ x. asWritten (wholeTable o rights x)) turnedRows
 
-  -- 2. A written none means that no accepted right row qualifies, a written number that this row qualifies and is the one that the strategy picks.
+  -- SCOPE 15.10.
   abbrev pub NoneExactly : Type 0
   NoneExactly = Declared → Each (Correct o rights) turnedRows matches
 
@@ -77,29 +77,38 @@ module _ (o : Options) (l r : Words) (calls : List Call) where
   abbrev pub further : List Words → List Event
   further outs = events (final (start o l r) calls) (map turn outs)
 
-  -- 3. If right has ended and the node is not done, as many further turns as frames wait, each given output enough, with sequence numbers left,
-  -- all answer Wrote, and the matches are then those of every accepted left row.
+  -- SCOPE 15.11: with right ended, the node not done, enough output for each waiting frame and few enough frames, further
+  -- turns all write, and every accepted left row has its match.
   abbrev pub RestWritten : Type 0
   RestWritten =
       Declared → rightEnded all ≡ true → nodeDone all ≡ false → (outs : List Words) → Enough outs → length (leftFrames all) < 2 ^ 63
       → (length (outputs (further outs)) ≡ length outs)
       × (matches ++ matchesIn (outputs (further outs)) ≡ map (λ x. asWritten (wholeTable o rights x)) lefts)
 
-  -- 4. Sorted or not: accepted right rows = pruned + held; accepted left rows = rows written in the outputs + rows in the queue.
+  -- All that RestWritten supposes, with a frame that waits.
+  pub record RestMet (outs : List Words) : Type 0 where
+    pub declared : Declared
+    pub ended : rightEnded all ≡ true
+    pub undone : nodeDone all ≡ false
+    pub waits : 0 < length outs
+    pub enough : Enough outs
+    pub few : length (leftFrames all) < 2 ^ 63
+
+  -- SCOPE 15.12.
   abbrev pub Counts : Type 0
   Counts =
       let w = final (start o l r) calls in
       (length rights ≡ w .join .pruned + w .join .held) × (length lefts ≡ length matches + length (queueRows w))
 
-  -- 5. What a host can rely on. The join never meets refusal 2, and the front of the queue never refusal 5.
+  -- SCOPE 15.13: no call is refused by 2, no turn by 5.
   abbrev pub NeverBroken : Type 0
   NeverBroken = (refusedWith 2 all ≡ false) × (refusedWith 5 (turnsIn all) ≡ false)
 
-  -- Sorted rows never meet 8 or 9.
+  -- SCOPE 15.14: on sorted sides no turn is refused by 8 or 9.
   abbrev pub NoFalseAlarm : Type 0
   NoFalseAlarm = Declared → (refusedWith 8 all ≡ false) × (refusedWith 9 all ≡ false)
 
-  -- The words of waiting frames and of held rows are those accepted, and the areas' lengths stay.
+  -- SCOPE 15.15: waiting and held words are those that were accepted, and no area changes its length.
   abbrev pub WordsKept : Type 0
   WordsKept =
       let w = final (start o l r) calls in
@@ -109,7 +118,7 @@ module _ (o : Options) (l r : Words) (calls : List Call) where
       × (length (w .left) ≡ length l)
       × (length (w .right) ≡ length r)
 
--- Demand 3.
+-- The theorem for one list.
 pub record Demand3 (o : Options) (l r : Words) (calls : List Call) : Type 0 where
   pub whole-table : WholeTable o l r calls
   pub none-exactly : NoneExactly o l r calls
@@ -119,6 +128,6 @@ pub record Demand3 (o : Options) (l r : Words) (calls : List Call) : Type 0 wher
   pub no-false-alarm : NoFalseAlarm o l r calls
   pub words-kept : WordsKept o l r calls
 
--- For all options that are not refused, areas of any length and any words, and lists of calls.
+-- For all valid options, all areas and all lists of calls.
 abbrev pub Demand : Type 0
 Demand = (o : Options) → badOptions o ≡ false → (l r : Words) (calls : List Call) → Demand3 o l r calls

@@ -1,4 +1,4 @@
--- Lists of calls: what they answer and leave, and what demand 3 reads off them. Assumes nothing.
+-- Lists of calls: what they answer and leave, and what the whole-table theorem reads off them (SCOPE 15). Assumes nothing.
 use mathlib.Core.Bool.{Bool, true, false, _&&_, _||_}
 use mathlib.Core.List.{List, [], _∷_, _++_}
 use Prim.Native.Nat.{ℕ, zero, suc, _+_, _-_}
@@ -43,7 +43,7 @@ pub record World : Type 0 where
   pub left : Words
   pub right : Words
 
--- The list starts from a fresh join and two areas of any length and any words.
+-- SCOPE 15.1: where a list begins.
 abbrev pub start : Options → Words → Words → World
 start o l r = record { join = fresh o; left = l; right = r }
 
@@ -74,12 +74,13 @@ unfoldable pub final : World → List Call → World
 final w [] = w
 final w (c ∷ cs) = final (step w c .world) cs
 
--- ---- what demand 3 reads off the events
+-- ---- what the theorem reads off the events
+-- Something, if a call was accepted; else nothing.
 abbrev pub when {ℓ} : {A : Type ℓ} → Took → List A → List A
 when Accepted xs = xs
 when (Refused n) xs = []
 
--- The frames of the left or right calls that were not refused.
+-- SCOPE 15.3: the frame of a left call, if it was accepted.
 abbrev pub leftIn : Event → List Words
 leftIn (onLeft f a) = when a (f ∷ [])
 leftIn (onRight f a) = []
@@ -87,7 +88,7 @@ leftIn (onEnd a) = []
 leftIn (onPorts l r s a) = []
 leftIn (onTurn a out) = []
 
--- The frame of a right call that was not refused.
+-- The frame of a right call, if it was accepted.
 abbrev pub rightIn : Event → List Words
 rightIn (onLeft f a) = []
 rightIn (onRight f a) = when a (f ∷ [])
@@ -150,7 +151,7 @@ unfoldable pub matchesIn : List Words → List Entry
 matchesIn [] = []
 matchesIn (out ∷ outs) = writtenIn out ++ matchesIn outs
 
--- Right has ended once an end-of-right call was accepted.
+-- Whether a call was accepted.
 abbrev pub accepted : Took → Bool
 accepted Accepted = true
 accepted (Refused n) = false
@@ -163,17 +164,17 @@ endsRight (onEnd a) = accepted a
 endsRight (onPorts l r s a) = false
 endsRight (onTurn a out) = false
 
--- Right has ended.
+-- SCOPE 15.7: right has ended.
 unfoldable pub rightEnded : List Event → Bool
 rightEnded [] = false
 rightEnded (e ∷ es) = endsRight e || rightEnded es
 
--- An accepted port call that came with left Done.
+-- Whether a port call was accepted.
 abbrev pub acceptedPorts : Ported → Bool
 acceptedPorts (Ports l r s) = true
 acceptedPorts (PortsRefused n) = false
 
--- It came with left Done.
+-- An accepted port call that had left Done.
 abbrev pub leftDone : Event → Bool
 leftDone (onLeft f a) = false
 leftDone (onRight f a) = false
@@ -181,7 +182,7 @@ leftDone (onEnd a) = false
 leftDone (onPorts l r s a) = acceptedPorts a && portDone l
 leftDone (onTurn a out) = false
 
--- An earlier one came with left Done.
+-- One of these events is an accepted port call that had left Done.
 unfoldable pub leftEnded : List Event → Bool
 leftEnded [] = false
 leftEnded (e ∷ es) = leftDone e || leftEnded es
@@ -190,7 +191,7 @@ leftEnded (e ∷ es) = leftDone e || leftEnded es
 unfoldable pub framesWaiting : List Event → ℕ
 framesWaiting es = length (leftFrames es) - length (outputs es)
 
--- The node is done from an accepted port call on that came with send Done, or that, with left Done in it or in an earlier one, found no frame waiting.
+-- SCOPE 15.8: this event, after those before it, makes the node done.
 unfoldable pub doneBy : List Event → Event → Bool
 doneBy before (onLeft f a) = false
 doneBy before (onRight f a) = false

@@ -1,4 +1,4 @@
--- A run among the calls: it is the list of its turns, so it adds no step to demand 3. The statement; its proof stands in proofs/. Assumes nothing.
+-- SCOPE 17.5: a run is the list of its turns, so the whole-table theorem needs no case for it. The statement; its proof is in proofs/. Assumes nothing.
 use mathlib.Core.Path.{_≡_}
 use mathlib.Core.Bool.{cond}
 use mathlib.Core.List.{List, [], _∷_, _++_, map}

@@ -1,1 +1,1 @@
-// Demand 3: lists of calls from a fresh join, and what holds of them whatever the cutting into frames. Definitions and proofs only.
+// The whole-table theorem: lists of calls from a fresh join, and what holds of them whatever the cutting into frames. Definitions and proofs only.

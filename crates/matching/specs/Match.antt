@@ -20,21 +20,21 @@ pub data Hit : Type 0 where
   nobody : Hit
   hit : ℕ → List Cell → Hit
 
--- A right key lies on the strategy's side of v, told by its order to v: Backward ≤ v (< v without equality), Forward ≥ v (> v), Nearest any.
+-- SCOPE 10.2: the side of the left key on which a right key may lie, by how it compares with the left key.
 abbrev pub onSide : Strategy → Bool → Order → Bool
 onSide Backward eq x = isLess x || (eq && isEqual x)
 onSide Forward eq x = isGreater x || (eq && isEqual x)
 onSide Nearest eq x = true
 
--- A left null key gets none; right null keys never qualify.
+-- SCOPE 10.1, 10.2: the right row r may be chosen for the left row x, as far as keys decide.
 unfoldable pub fits : Options → List Cell → List Cell → Bool
 fits o x r = not (nullKey o x) && not (nullKey o r) && onSide (strategyOf o) (o .«allow_eq») (cmpCell keyRule (keyOf o r) (keyOf o x))
 
--- Of two rows that fit, does the later one, r, take the place of c? Backward: the last by position. Forward: the first. Nearest: least distance, then greater key, then last position.
+-- SCOPE 10.3, Nearest: for the left key v, the key r of a later row is preferred to the key c of an earlier one.
 abbrev pub nearer : Cell → Cell → Cell → Bool
 nearer v r c = ltb (distance r v) (distance c v) || (eqb (distance r v) (distance c v) && not (isLess (cmpCell keyRule r c)))
 
--- By strategy: does r, which stands after c, take its place as the choice for x?
+-- SCOPE 10.3: for the left row x, the later row r is preferred to the earlier row c.
 unfoldable pub takesOver : Options → Strategy → List Cell → List Cell → List Cell → Bool
 takesOver o Backward x r c = true
 takesOver o Forward x r c = false
@@ -50,11 +50,11 @@ unfoldable pub choose : Options → List Cell → (List Cell → Bool) → Hit �
 choose o x may c i [] = c
 choose o x may c i (r ∷ rs) = choose o x may (cond (may r) (meet o x i r c) c) (suc i) rs
 
--- Tolerance −1 is none.
+-- SCOPE 3.3: the tolerance is set, and the distance is greater.
 abbrev pub tooFar : Options → List Cell → List Cell → Bool
 tooFar o x r = leZ (pos 0) (o .tolerance) && ltb (natAbs (o .tolerance)) (distance (keyOf o r) (keyOf o x))
 
--- A choice at distance above the tolerance becomes none.
+-- SCOPE 10.4: the choice, unless it is too far.
 unfoldable pub tolerate : Options → List Cell → Hit → Choice
 tolerate o x nobody = Nothing
 tolerate o x (hit i r) = cond (tooFar o x r) Nothing (Row i)
@@ -71,10 +71,10 @@ sameGroup o x r = not (nullGroup o x) && not (nullGroup o r) && isEqual (cmpGrou
 unfoldable pub matchTable : Options → ℕ → Rows → List Cell → Choice
 matchTable o i rows x = tolerate o x (choose o x (λ r. sameGroup o x r && fits o x r) nobody i rows)
 
--- Whole table: a left row with a null key or group gets none; others get Matching over all right rows of equal group, whatever the frames. A right row's number is here its place among all right rows, from 0.
+-- SCOPE 14: the whole-table rule.
 unfoldable pub wholeTable : Options → Rows → List Cell → Choice
 wholeTable o rights x = matchTable o 0 rights x
 
--- A right row qualifies if no key or by-value of either row is null, its group is equal, its key lies on the strategy's side and its distance is within the tolerance.
+-- SCOPE 10.5: the right row r qualifies for the left row x.
 unfoldable pub qualifies : Options → List Cell → List Cell → Bool
 qualifies o x r = sameGroup o x r && fits o x r && not (tooFar o x r)

@@ -13,7 +13,7 @@ use Rattle.frames.specs.declared.Strategy.{Strategy}
 use Rattle.frames.specs.declared.Strategy.the-variants.{Backward, Forward, Nearest}
 use Rattle.matching.specs.Match.{qualifies}
 
--- Is right row s, at place k, a better pick for x than right row r at place i? Backward: last row by position. Forward: first. Nearest: least distance, then greater key, then last position.
+-- SCOPE 10.3: for the left row x, right row s at place k is preferred to right row r at place i.
 unfoldable pub better : Options → Strategy → List Cell → ℕ → List Cell → ℕ → List Cell → Bool
 better o Backward x k s i r = ltb i k
 better o Forward x k s i r = ltb k i
@@ -22,7 +22,7 @@ better o Nearest x k s i r =
     || (eqb (distance (keyOf o s) (keyOf o x)) (distance (keyOf o r) (keyOf o x))
     && (isGreater (cmpCell keyRule (keyOf o s) (keyOf o r)) || (isEqual (cmpCell keyRule (keyOf o s) (keyOf o r)) && ltb i k)))
 
--- Right row i qualifies for x, and is the one that the strategy picks: none that qualifies is better.
+-- SCOPE 14.3: right row i qualifies for x, and no row that qualifies is preferred to it.
 pub record Picked (o : Options) (rights : Rows) (x : List Cell) (i : ℕ) : Type 0 where
   pub there : i < length rights
   pub fit : qualifies o x (getD rights i []) ≡ true

@@ -39,7 +39,7 @@ abbrev pub after : {A : Type 0} → A → Join → Words → Words → Words →
 after a j l r out = record { answer = a; join = j; left = l; right = r; out = out }
 
 -- ---- a left frame
--- Refusals: 2, 3, outside Running 4, no frame of c columns 5, words waiting + words needed above the left area 6.
+-- SCOPE 16.3: a chain in checking order.
 unfoldable pub leftAnswer : Join → Words → Words → Words → Took
 leftAnswer j left right f =
     cond (badJoin j left right) (Refused BadJoin)
@@ -49,7 +49,7 @@ leftAnswer j left right f =
     (cond (ltb (length left) (j .«queue_words» + length f)) (Refused NoRoom)
     Accepted))))
 
--- The frame is written behind those that wait; where it would pass the end, these move to the front first.
+-- SCOPE 5.8, 5.9: an accepted left frame.
 unfoldable pub queued : Join → Words → Words → Words → After Took
 queued j left right f =
     let start = newBase (j .«queue_start») (j .«queue_words») (length f) (length left) in
@@ -65,7 +65,7 @@ leftCall j left right f =
     ]
 
 -- ---- a right frame
--- Refusals: 2, 3, after right has ended or in Done 4, no frame 5, held + n above R 6, pruned + held + n above 2^63 − 1 7.
+-- SCOPE 16.3: a chain in checking order.
 unfoldable pub rightAnswer : Join → Words → Words → Words → Took
 rightAnswer j left right f =
     cond (badJoin j left right) (Refused BadJoin)
@@ -76,7 +76,7 @@ rightAnswer j left right f =
     (cond (ltb mostRows (j .pruned + j .held + rowCount f)) (Refused UsedUp)
     Accepted)))))
 
--- The frame's rows are pushed behind the held ones.
+-- SCOPE 5.8, 5.9: an accepted right frame.
 unfoldable pub pushedRight : Join → Words → Words → Words → After Took
 pushedRight j left right f =
     let base = newBase (j .base) (j .held) (rowCount f) (capacity (widthOf j) right) in
@@ -91,7 +91,7 @@ rightCall j left right f =
     ]
 
 -- ---- the end of right
--- Refusals: 2, 3, after right has ended or in Done 4.
+-- SCOPE 16.3: a chain in checking order.
 unfoldable pub endAnswer : Join → Words → Words → Took
 endAnswer j left right =
     cond (badJoin j left right) (Refused BadJoin)
@@ -128,8 +128,8 @@ portsCall j left right l r s =
     ]
 
 -- ---- a turn
--- Refusals: 2, 3, in Done 4; no waiting frame: Idle; the front no frame of c columns 5; need more and right not ended: Wants right;
--- output under 2 + 2n words 6, sequence 2^64 − 2 7, left out of order 8, right out of order 9. Else Wrote with the old sequence.
+-- SCOPE 16.3: a chain in checking order, in which Idle and Wants right have their places; past all of
+-- them the answer is Wrote, with the sequence from before the turn.
 unfoldable pub turnAnswer : Join → Words → Words → Words → Answer
 turnAnswer j left right out =
     let f = front (widthOf j) (waiting j left) in
@@ -147,15 +147,15 @@ turnAnswer j left right out =
     (cond (badRight (j .options) (j .«last_right») rows held) (TurnRefused RightOrder)
     (Wrote (j .sequence)))))))))))
 
--- Dropping held rows moves base and pruned up by their count and held down; a frame that leaves moves queue start up by its length and queue words down.
+-- SCOPE 5.10: the join without its first n held rows.
 unfoldable pub dropped : Join → ℕ → Join
 dropped j n = heldAt j (j .base + n) (j .held - n) (j .pruned + n)
 
--- The queue without its first n words.
+-- SCOPE 5.10: the join without the first n waiting words.
 unfoldable pub dequeued : Join → ℕ → Join
 dequeued j n = queueAt j (j .«queue_start» + n) (j .«queue_words» - n)
 
--- The turn's work: prune by row 0 if the check is off; match; prune by the last row; the frame leaves the queue, sequence + 2.
+-- SCOPE 12.4, 12.5: a turn that writes.
 unfoldable pub turned : Join → Words → Words → Words → After Answer
 turned j left right out =
     let f = front (widthOf j) (waiting j left) in
@@ -168,7 +168,7 @@ turned j left right out =
     (nextTurn (dequeued (dropped j (first + last)) (length f)) (remembered (j .options) (j .«last_left») rows) (remembered (j .options) (j .«last_right») (take last kept)))
     left right (answered (matchFrame (j .options) (j .pruned + first) kept rows) out)
 
--- Refusals 8 and 9 mark the join failed and change nothing else; the others change nothing.
+-- SCOPE 16.2: what a refusal changes in the join.
 abbrev pub spoiled : Refusal → Join → Join
 spoiled BadOptions j = j
 spoiled BadJoin j = j
@@ -180,7 +180,7 @@ spoiled UsedUp j = j
 spoiled LeftOrder j = markedFailed j
 spoiled RightOrder j = markedFailed j
 
--- A turn: only one that writes, or that is refused for the order of rows, changes anything.
+-- SCOPE 12.2, 12.3: a turn.
 unfoldable pub turnCall : Join → Words → Words → Words → After Answer
 turnCall j left right out =
     elim (turnAnswer j left right out) [

@@ -31,7 +31,7 @@ joinOf o base held pruned start words state ended failed seq l r = record {
   «last_right» = r;
 }
 
--- A fresh join is Running, right not ended, not failed, no row remembered, counters 0, with the options it was opened with.
+-- SCOPE 5.2: a fresh join.
 abbrev pub fresh : Options → Join
 fresh o = joinOf o 0 0 0 0 0 Running false false 0 noRow noRow
 
@@ -65,19 +65,19 @@ abbrev pub nextTurn : Join → Row → Row → Join
 nextTurn j l r =
     joinOf (j .options) (j .base) (j .held) (j .pruned) (j .«queue_start») (j .«queue_words») (j .state) (j .«right_ended») (j .failed) (j .sequence + 2) l r
 
--- Frames have c = b + 1 columns; R rows have room in the right area.
+-- SCOPE 2.5: c of this join.
 abbrev pub widthOf : Join → ℕ
 widthOf j = columns (j .options)
 
--- Base + held above R.
+-- SCOPE 16, number 2: the held rows do not fit the right area.
 abbrev pub overRight : Join → Words → Bool
 overRight j right = ltb (capacity (widthOf j) right) (j .base + j .held)
 
--- Queue start + queue words above the left area.
+-- The waiting words do not fit the left area.
 abbrev pub overLeft : Join → Words → Bool
 overLeft j left = ltb (length left) (j .«queue_start» + j .«queue_words»)
 
--- Pruned + held above 2^63 − 1.
+-- More right rows than there are numbers.
 abbrev pub overRows : Join → Bool
 overRows j = ltb mostRows (j .pruned + j .held)
 
@@ -85,11 +85,11 @@ overRows j = ltb mostRows (j .pruned + j .held)
 abbrev pub oddSequence : Join → Bool
 oddSequence j = eqb (j .sequence % 2) 1
 
--- Refusal 2: a join whose options meet 1, or one of these.
+-- SCOPE 16, number 2.
 unfoldable pub badJoin : Join → Words → Words → Bool
 badJoin j left right = badOptions (j .options) || overRight j right || overLeft j left || overRows j || oddSequence j
 
--- The held rows, of which row i is right number pruned + i.
+-- SCOPE 5.5, 5.6: the held rows; row i has the right number pruned + i.
 unfoldable pub heldOf : Join → Words → Rows
 heldOf j right = heldRows (widthOf j) (j .base) (j .held) right
 
@@ -101,6 +101,6 @@ heldValues j right = take (j .held * widthOf j) (drop (j .base * widthOf j) righ
 unfoldable pub heldMarks : Join → Words → Words
 heldMarks j right = take (j .held * widthOf j) (drop ((capacity (widthOf j) right + j .base) * widthOf j) right)
 
--- The words that wait: left frames back to back.
+-- SCOPE 5.7: the words that wait.
 unfoldable pub waiting : Join → Words → Words
 waiting j left = take (j .«queue_words») (drop (j .«queue_start») left)

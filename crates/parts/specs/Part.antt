@@ -20,7 +20,7 @@ use Rattle.prunes.specs.Prunes.{badLeft, badRightAt, remembered}
 use Rattle.parts.specs.declared.Part.{Part}
 
 -- ---- answers; Wrote is that of a turn that goes on
--- Need more and right not ended: Wants right; output under 2 + 2n words 6, sequence 2^64 − 2 7.
+-- SCOPE 16.3, a turn from Wants right on: 6 and 7.
 unfoldable pub roomAnswer : Part → Rows → Rows → ℕ → Answer
 roomAnswer j rows held room =
     cond (not (j .«right_ended») && needMore (j .options) rows held) WantsRight

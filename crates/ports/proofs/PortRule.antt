@@ -1,4 +1,4 @@
--- The rule of the ports in 01's words. Two tests are computed, over every state and all that the ports can come with; what they say at each of these is the rule. Assumes nothing.
+-- SCOPE 13 as a rule. Two tests are computed, over every state and all that the ports can come with; what they say at each of these is the rule. Assumes nothing.
 use mathlib.Core.Path.{_≡_, refl, sym, ap, _∙_}
 use mathlib.Core.Bool.{Bool, true, false, cond, not, _&&_, _||_}
 use mathlib.Core.List.{List, [], _∷_}

@@ -25,11 +25,11 @@ portBlocked Blocked = true
 portBlocked Ready = false
 portBlocked PortDone = false
 
--- Send Done makes the node Done; else Running with left Done becomes Flush.
+-- SCOPE 13.1.
 abbrev pub toFlush : NodeState → PortState → PortState → NodeState
 toFlush s l d = cond (portDone d) Done (cond (isRunning s && portDone l) Flush s)
 
--- Then, in the same call, Flush with nothing waiting becomes Done.
+-- SCOPE 13.2, by the number of words that wait.
 abbrev pub toDone : NodeState → ℕ → NodeState
 toDone Running words = Running
 toDone Flush words = cond (eqb words 0) Done Flush
@@ -39,7 +39,7 @@ toDone Done words = Done
 abbrev pub readyUnless : Bool → PortState
 readyUnless blocked = cond blocked Blocked Ready
 
--- Running: each port Ready unless another one came Blocked. Flush: left Done; right and send each Ready unless the other came Blocked. Done: all Done.
+-- SCOPE 13.3: what is returned to each port, by the node's new state.
 abbrev pub portsIn : NodeState → PortState → PortState → PortState → Ported
 portsIn Running l r s =
     Ports (readyUnless (portBlocked r || portBlocked s)) (readyUnless (portBlocked l || portBlocked s)) (readyUnless (portBlocked l || portBlocked r))
@@ -57,6 +57,7 @@ portsJudged bad failed state l r s words =
 unfoldable pub movedState : Bool → Bool → NodeState → PortState → PortState → ℕ → NodeState
 movedState bad failed state l s words = cond bad state (cond failed state (toDone (toFlush state l s) words))
 
+-- A port call: its answer, and the state that it leaves.
 pub record Moves (bad failed : Bool) (state : NodeState) (l r s : PortState) (words : ℕ) (x : PortsMoved) : Type 0 where
   pub answer : x .answer ≡ portsJudged bad failed state l r s words
   pub state-is : x .state ≡ movedState bad failed state l s words

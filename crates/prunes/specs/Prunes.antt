@@ -12,26 +12,27 @@ use Rattle.frames.specs.declared.Row.{Row}
 use Rattle.buffer.specs.Reach.{pruneBy, badSplit}
 use Rattle.splits.specs.Split.{outOfOrderAt}
 
--- Left order, with the check on: the remembered row must not be greater than the frame's first row with a key; then the frame must be sorted.
+-- SCOPE 8.2, 8.3: left rows are out of order, with the check on.
 unfoldable pub badLeft : Options → Row → Rows → Bool
 badLeft o m rows = isOn (o .check) && (outOfOrder o (recall (columns o) m) (rowAt rows (firstKeyed o rows)) || not (sorted o rows))
 
--- Right order, with the check on: the held rows must be sorted; then the split of the prune by the last row must be in order.
+-- SCOPE 8.4, 8.5: right rows are out of order, with the check on; the split is that of the prune by the last row.
 unfoldable pub badRight : Options → Row → Rows → Rows → Bool
 badRight o m rows held = isOn (o .check) && (not (sorted o held) || badSplit o m (length rows - 1) rows held)
 
--- Prune by row 0 if the check is off.
+-- SCOPE 12.4: how many rows the first prune drops.
 unfoldable pub firstPrune : Options → Rows → Rows → ℕ
 firstPrune o rows held = cond (isOn (o .check)) 0 (pruneBy o 0 rows held)
 
--- With the check on, the last row with a key of those that went by is remembered.
+-- SCOPE 8.6, 11.5: what is remembered once these rows went by.
 unfoldable pub remembered : Options → Row → Rows → Row
 remembered o m rows = cond (isOn (o .check)) (rememberLast o m rows) m
 
--- The held rows that the first prune leaves, and how many of them the prune by the last row drops.
+-- The held rows that the first prune leaves.
 unfoldable pub keptRows : Options → Rows → Rows → Rows
 keptRows o rows held = drop (firstPrune o rows held) held
 
+-- How many of these the prune by the last row drops.
 unfoldable pub lastPrune : Options → Rows → Rows → ℕ
 lastPrune o rows held = pruneBy o (length rows - 1) rows (keptRows o rows held)
 

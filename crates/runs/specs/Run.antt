@@ -40,8 +40,8 @@ turnWords out = 2 + 2 * rowCount out
 abbrev pub andThen : ℕ → ℕ → Words → Ran → Ran
 andThen t n before r = ran (t + r .turns) (n + r .words) (r .stop) (r .join) (before ++ r .out)
 
--- At most k turns. Only turns that wrote count; after k of them, or with k = 0, it tries no other. A turn that did not write ends it, and what it
--- leaves stands: a refused one alters no lent word, and 8 or 9 marks the join failed.
+-- SCOPE 17: a run with limit k. A turn that does not write ends it, with whatever join
+-- and output that turn leaves.
 unfoldable pub runCall : ℕ → Join → Words → Words → Words → Ran
 runCall zero j left right out = ran 0 0 Used j out
 runCall (suc k) j left right out =

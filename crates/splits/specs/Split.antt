@@ -10,7 +10,7 @@ use Rattle.frames.specs.declared.Keyed.{Keyed}
 use Rattle.frames.specs.declared.Keyed.the-variants.{At, Nothing}
 use Rattle.buffer.specs.Reach.{rowBefore}
 
--- The row before the split is the last row with a key in the part before it, or else the remembered row: its w words, of the values or of the marks.
+-- SCOPE 11.4: the w words of the row that is compared at the split, of the held rows or remembered; for values and again for marks.
 abbrev pub wordsBefore : ℕ → Words → Words → Keyed → Words
 wordsBefore w held remembered (At i) = take w (drop (i * w) held)
 wordsBefore w held remembered Nothing = take w remembered
@@ -20,6 +20,6 @@ abbrev pub hasBefore : Keyed → Bool → Bool
 hasBefore (At i) some = true
 hasBefore Nothing some = some
 
--- It must not be greater than the first row with a key after the split, which is s.
+-- SCOPE 11.4: out of order at the split s.
 unfoldable pub outOfOrderAt : Options → Row → ℕ → Rows → Bool
 outOfOrderAt o m s held = outOfOrder o (rowBefore o m (take s held)) (rowAt (drop s held) (firstKeyed o (drop s held)))

@@ -1,4 +1,4 @@
--- To its readers, a frame view keeps the host's words and its row and column counts. Assumes nothing.
+-- SCOPE 2.7: the frame view, and what its reader returns. Assumes nothing.
 use mathlib.Core.Path.{_≡_}
 use mathlib.Core.Bool.{true, cond, _&&_}
 use mathlib.Core.List.{[]}

@@ -2,10 +2,11 @@
 use std::fmt;
 use std::panic::{AssertUnwindSafe, catch_unwind};
 
-use judges::rules::{Fault, Rules};
+use judges::rules::Fault;
 use judges::script::{Answer, Call, Judge, Ran, Stop};
 use judges::whole_table;
 
+use crate::pulled::Pulled;
 use crate::rust::{Inside, Rust, Ways};
 
 /// What a run had in it, so that one that tests nothing is seen.
@@ -23,6 +24,8 @@ pub struct Tally {
     pub in_flush: u64,
     pub states: [u64; 3],
     pub runs: Runs,
+    /// What the whole-table judge was asked about.
+    pub judged: whole_table::Counts,
 }
 
 /// The runs among the calls.
@@ -112,6 +115,7 @@ impl Tally {
         self.idle += other.idle;
         self.in_flush += other.in_flush;
         self.runs.add(&other.runs);
+        self.judged.add(&other.judged);
         (0..4).for_each(|i| self.faults[i] += other.faults[i]);
         (0..3).for_each(|i| self.states[i] += other.states[i]);
     }
@@ -150,6 +154,10 @@ impl fmt::Display for Tally {
         write!(f, "{} wants, {} idle; ", self.wants, self.idle)?;
         write!(f, "faults 8: {continuity} between frames, {frame} in a frame, 9: {held} held, {split} split; ")?;
         write!(f, "ports: {running} Running, {flush} Flush, {done} Done")?;
+        let whole_table::Counts { scripts, sorted, rows, whole, .. } = self.judged;
+        if scripts > 0 {
+            write!(f, "; by the whole table {scripts} scripts, {sorted} sorted, {whole} of {rows} rows")?;
+        }
         if self.runs.made == 0 { Ok(()) } else { write!(f, "; {}", self.runs) }
     }
 }
@@ -185,10 +193,11 @@ pub fn agrees(rust: &Answer, said: &Answer) -> bool {
     }
 }
 
-/// What the rules hold and remember, as the Rust tells it.
-fn rules_inside(rules: &Rules) -> Option<Inside> {
-    let look = rules.look().filter(|l| !l.failed)?;
-    Some(Inside { held: look.held, pruned: look.pruned, left: look.left.clone(), right: look.right.clone() })
+/// What the rules hold and remember, as the Rust tells it: rows that wait in the right pipe are held.
+fn rules_inside(pulled: &Pulled) -> Option<Inside> {
+    let look = pulled.rules.look().filter(|l| !l.failed)?;
+    let held = look.held + pulled.rows();
+    Some(Inside { held, pruned: look.pruned, left: look.left.clone(), right: look.right.clone() })
 }
 
 /// What the Rust holds and remembers, while it has not failed.
@@ -196,13 +205,14 @@ fn rust_inside(rust: &Rust) -> Option<Inside> {
     rust.join.as_ref().filter(|j| !j.failed()).map(|j| j.inside())
 }
 
-/// Runs a script through both. An answer that differs comes before a difference inside, even a later one.
+/// Runs a script through both, and what they answered by the whole-table judge. An answer that differs comes before a
+/// difference inside, even a later one.
 fn run_both(calls: &[Call], ways: Ways, tally: &mut Tally) -> Result<(), Difference> {
-    let (mut rust, mut rules) = (Rust { ways, join: None }, Rules::default());
-    let mut inside = Ok(());
+    let (mut rust, mut pulled) = (Rust { ways, join: None }, Pulled::new(ways.right_pipe));
+    let (mut inside, mut answers) = (Ok(()), vec![]);
     for (i, call) in calls.iter().enumerate() {
-        let state = rules.look().map_or(0, |l| l.state);
-        let (said, ruled) = (rust.call(call), rules.call(call));
+        let state = pulled.rules.look().map_or(0, |l| l.state);
+        let (said, ruled) = (rust.call(call), pulled.call(call));
         tally.calls += 1;
         let known = !no_counterpart(&ruled);
         if known && !agrees(&said, &ruled) {
@@ -211,17 +221,22 @@ fn run_both(calls: &[Call], ways: Ways, tally: &mut Tally) -> Result<(), Differe
             tally.compared += 1;
             tally.count(&ruled, state);
         }
-        if parted(&ruled) {
+        answers.push(ruled);
+        if answers.last().is_some_and(parted) {
             break;
         }
-        let (is, should) = (rust_inside(&rust), rules_inside(&rules));
+        let (is, should) = (rust_inside(&rust), rules_inside(&pulled));
         if known && inside.is_ok() && is != should {
             let text = format!("call {}, {call}: the Rust has {is:?}, 01 has {should:?}", i + 1);
             inside = Err(Difference::Inside(text));
         }
     }
     tally.scripts += 1;
-    rules.fault().into_iter().for_each(|f| tally.fault(f));
+    pulled.rules.fault().into_iter().for_each(|f| tally.fault(f));
+    if !ways.right_pipe {
+        let judged = whole_table::judge(calls, &answers);
+        tally.judged.add(&judged.map_err(|why| Difference::Answer(format!("whole table: {why}")))?);
+    }
     inside
 }
 
@@ -246,11 +261,8 @@ pub fn answers(judge: &mut impl Judge, calls: &[Call]) -> Vec<Answer> {
 pub fn with_whole_table(calls: &[Call], ways: Ways, counts: &mut whole_table::Counts) -> Result<(), String> {
     let run = catch_unwind(AssertUnwindSafe(|| {
         let said = answers(&mut Rust { ways, join: None }, calls);
-        whole_table::judge(calls, &said)
+        whole_table::judge_whole(calls, &said)
     }));
-    let one = run.unwrap_or_else(|p| Err(format!("panic: {}", panic_text(p))))?;
-    counts.rows += one.rows;
-    counts.matched += one.matched;
-    counts.wants += one.wants;
+    counts.add(&run.unwrap_or_else(|p| Err(format!("panic: {}", panic_text(p))))?);
     Ok(())
 }

@@ -4,6 +4,7 @@ pub mod edits;
 pub mod findings;
 pub mod frame;
 pub mod notice;
+pub mod pulled;
 pub mod range;
 pub mod rust;
 pub mod sample;

@@ -13,12 +13,15 @@ use oracle::{edits, notice, sample, selftest, spans};
 
 /// What the program can be asked for.
 const USAGE: &str = "oracle rust | rules                   answer the script on standard input
-oracle generate KIND SEED COUNT       print random scripts (whole mixed flush nullslast order ends equal refusals handed)
+oracle generate KIND SEED COUNT       print random scripts (whole mixed flush nullslast order ends equal refusals handed
+                                      large)
 oracle generate KIND SEED COUNT runs  the same scripts with runs in the place of turns
 oracle generate spans SEED COUNT      print random points and intervals
 oracle selftest SEED COUNT            the test of the oracle itself, COUNT scripts a kind
 oracle whole SEED COUNT               the whole-table rule over COUNT scripts
+oracle judges SEED COUNT              the step rules by the whole-table judge over COUNT scripts a kind
 oracle compare SEED COUNT             the Rust and the step rules over COUNT scripts a kind
+oracle large SEED COUNT               the same over COUNT scripts with thousands of rows a side
 oracle spans SEED COUNT               the range join of the Rust and 2.9 over COUNT inputs
 oracle sample write|replay FOLDER     record the sample, or replay it
 oracle edits LIST                     print the edits of the Rust
@@ -64,6 +67,14 @@ fn run(args: &[&str]) -> Result<bool, String> {
         ["compare", seed, count] => {
             let (seed, count) = (number(seed)?, number(count)?);
             return alone("step rules", move || selftest::all_kinds(seed, count));
+        },
+        ["judges", seed, count] => {
+            let (seed, count) = (number(seed)?, number(count)?);
+            return alone("the two judges", move || selftest::judges(seed, count));
+        },
+        ["large", seed, count] => {
+            let (seed, count) = (number(seed)?, number(count)?);
+            return alone("large tables", move || selftest::large(seed, count));
         },
         ["spans", seed, count] => {
             let (seed, count) = (number(seed)?, number(count)?);

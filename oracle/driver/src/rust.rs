@@ -18,7 +18,8 @@ use judges::script::{Answer, Call, Judge, Open, Ran, Stop};
 
 use crate::{frame, range};
 
-/// How the node is fed. No answer may depend on it, save `right_pipe` on rows that are not sorted as declared.
+/// How the node is fed. No answer may depend on it, save `right_pipe` on rows that are not sorted as declared: there the
+/// answers are those of right frames that are handed in as they are wanted.
 #[derive(Clone, Copy)]
 pub struct Ways {
     /// How many compute tasks run side by side, with the real linearizing pipe behind them.
@@ -329,9 +330,9 @@ impl Join {
         self.spoiled
     }
 
-    /// All these frames in one phase, and a second one with right ended: what the Rust writes when nobody counts turns,
-    /// or none at an order fault.
-    pub fn burst(&mut self, left: &[Vec<i64>], right: &[Vec<i64>]) -> Option<Vec<Answer>> {
+    /// All these frames in one phase, and a second one with right ended: what the Rust writes when nobody counts turns, and
+    /// what was seen of the order fault that stopped it.
+    pub fn burst(&mut self, left: &[Vec<i64>], right: &[Vec<i64>]) -> Option<(Vec<Answer>, Option<Spoiled>)> {
         let left = left.iter().map(|w| LEFT.frame(w, self.b, 0)).collect::<Option<_>>()?;
         let number = |at: &mut usize, w: &Vec<i64>| {
             *at += w[0] as usize;
@@ -339,13 +340,14 @@ impl Join {
         };
         let right = right.iter().scan(0, number).collect::<Option<_>>()?;
         let mut sent = self.phase(left, right);
-        if take_spoiled(0).is_some() {
-            return None;
+        let mut spoiled = take_spoiled(sent.len());
+        if spoiled.is_none() {
+            self.ended = true;
+            sent.extend(self.phase(vec![], vec![]));
+            spoiled = take_spoiled(sent.len());
         }
-        self.ended = true;
-        sent.extend(self.phase(vec![], vec![]));
         let wrote = sent.iter().map(|(seq, df)| Answer::Wrote(*seq, written(df))).collect();
-        take_spoiled(0).is_none().then_some(wrote)
+        Some((wrote, spoiled))
     }
 
     /// The answer to a call on an open join. Where 01 refuses, the Rust has no counterpart: `left`, `right` and `end`

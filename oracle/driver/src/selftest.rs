@@ -1,15 +1,17 @@
 //! The oracle's test of itself, which needs no port: the Rust against 01's cases, against the whole-table rule and
 //! against the step rules. Every step prints its counts and fails where they show that nothing was tested.
+use std::fmt;
 use std::time::Instant;
 
 use judges::exhaustive;
 use judges::generate::{COMPARED, Kind, script, script_with_runs};
 use judges::rules::{Rules, frame_rows};
-use judges::script::{Answer, Call, Judge, parse_script};
+use judges::script::{Answer, Call, Judge, Open, parse_script};
 use judges::whole_table::{self, Counts};
 
 use crate::compare::{self, Difference, Tally};
-use crate::rust::{Rust, Ways};
+use crate::pulled::{ROOM, all_at_once};
+use crate::rust::{Rust, Spoiled, Ways};
 use crate::spans;
 
 /// How a step ends: what it counted, or what went wrong.
@@ -86,20 +88,36 @@ pub fn whole(seed: u64, count: u64, ways: Ways) -> Step {
     if counts.matched == 0 || counts.wants == 0 || counts.matched == counts.rows {
         return Err("nothing was tested".into());
     }
-    let Counts { rows, matched, wants } = counts;
+    let Counts { rows, matched, wants, .. } = counts;
     let said = "0 faults, all as the whole table says";
     Ok(format!("{count} scripts, {rows} rows turned, {matched} matched, {wants} wants, {said}"))
 }
 
-/// The two judges against each other: the rules' answers, by the whole-table rule.
+/// The two judges against each other: the rules' answers to all kinds of scripts, every second one with runs, by the
+/// whole-table judge. The Rust has no part in it.
 pub fn judges(seed: u64, count: u64) -> Step {
-    let mut matched = 0;
-    for i in 0..count {
-        let calls = script(Kind::Whole, seed, i);
-        let judged = whole_table::judge(&calls, &compare::answers(&mut Rules::default(), &calls));
-        matched += judged.map_err(|why| failure("rules by the whole table", &calls, &why))?.matched;
+    let mut all = Counts::default();
+    for kind in COMPARED.into_iter().chain([Kind::Refusals]) {
+        (0..count).try_for_each(|i| rules_by_whole_table(kind, seed, i, &mut all))?;
     }
-    Ok(format!("{count} scripts, {matched} rows matched: the rules keep the whole-table rule"))
+    let Counts { scripts, sorted, rows, whole, matched, faults, .. } = all;
+    if [sorted, whole, matched, faults, rows - whole, scripts - sorted].contains(&0) {
+        return Err("nothing was tested".into());
+    }
+    let said =
+        format!("{scripts} scripts, {sorted} sorted; {rows} rows, {matched} matched, {whole} as the whole table gives");
+    Ok(format!("{said} and the others qualify; {faults} order faults where they are due"))
+}
+
+/// The rules' answers to one script, by the whole-table judge.
+fn rules_by_whole_table(kind: Kind, seed: u64, number: u64, all: &mut Counts) -> Result<(), String> {
+    let make = if number % 2 == 0 { script } else { script_with_runs };
+    let calls = make(kind, seed, number);
+    let judge = if kind == Kind::Whole { whole_table::judge_whole } else { whole_table::judge };
+    let judged = judge(&calls, &compare::answers(&mut Rules::default(), &calls));
+    let what = || format!("rules by the whole table, {kind:?}, seed {seed}, script {number}");
+    all.add(&judged.map_err(|why| failure(&what(), &calls, &why))?);
+    Ok(())
 }
 
 /// The difference's text, whichever it is.
@@ -141,6 +159,26 @@ pub fn all_kinds(seed: u64, count: u64) -> Step {
     Ok(format!("{all}"))
 }
 
+/// Scripts with large tables, every second one with runs: by the step rules and by the whole-table judge. Longest frames must
+/// have come on both sides, and rows in sorted scripts.
+pub fn large(seed: u64, count: u64) -> Step {
+    let (mut tally, mut longest) = (Tally::default(), [0, 0]);
+    for i in 0..count {
+        let make = if i % 2 == 0 { script } else { script_with_runs };
+        let calls = make(Kind::Large, seed, i);
+        let compared = compare::with_rules(&calls, Ways::default(), &mut tally);
+        compared.map_err(|d| format!("Large, seed {seed}, script {i}: {}", text(d)))?;
+        let full = |pick: fn(&Call) -> bool| calls.iter().filter(|c| pick(c)).count();
+        longest[0] += full(|c| matches!(c, Call::Left(w) if w[0] == 4096));
+        longest[1] += full(|c| matches!(c, Call::Right(w) if w[0] == 4096));
+    }
+    let rows = tally.rows + tally.runs.rows;
+    if longest.contains(&0) || tally.judged.whole == 0 || tally.judged.matched == 0 || tally.judged.matched == rows {
+        return Err("nothing was tested".into());
+    }
+    Ok(format!("{tally}; frames of 4,096 rows: {} left, {} right", longest[0], longest[1]))
+}
+
 /// Random scripts with runs in the place of turns: the Rust by the step rules, and both by the whole-table rule. Runs must
 /// have stopped in every way that the Rust knows, and for want of output, after turns that wrote. A fault of right rows alone
 /// comes in a run's first turn: no right row comes in during a run.
@@ -151,7 +189,7 @@ pub fn runs(seed: u64, count: u64) -> Step {
     }
     for i in 0..count {
         let calls = script_with_runs(Kind::Whole, seed, i);
-        let rules = whole_table::judge(&calls, &compare::answers(&mut Rules::default(), &calls)).map(|_| ());
+        let rules = whole_table::judge_whole(&calls, &compare::answers(&mut Rules::default(), &calls)).map(|_| ());
         let both = rules.and_then(|_| compare::with_whole_table(&calls, Ways::default(), &mut Counts::default()));
         both.map_err(|why| failure("runs by the whole table", &calls, &why))?;
     }
@@ -177,43 +215,134 @@ pub fn short_scripts() -> Step {
     wrong.map_or(Ok(format!("{tally}")), Err)
 }
 
-/// The same answers however the node is fed and its tasks are scheduled; with right frames pulled as the node asks for
-/// them, and with all frames in one phase, on sorted sides.
+/// The same answers however the node is fed and its tasks are scheduled. Where right frames are pulled as the node asks for
+/// them, and where all frames come in one phase, the answers are the whole table's on sorted sides, and on all others those
+/// of the rules that are given right frames as they are wanted.
 pub fn ways(seed: u64, count: u64) -> Step {
-    let many = Ways { pipelines: 3, left_pipe: true, right_pipe: false };
-    let pulled = Ways { pipelines: 2, left_pipe: true, right_pipe: true };
-    let mut all = Tally::default();
-    for (order, ways) in [(0, many), (seed, many), (seed, Ways::default())] {
-        polars_async::executor::shuffle(order);
-        for kind in [Kind::Mixed, Kind::Flush, Kind::Order] {
-            all.add(&steps(script, kind, seed, count, ways)?);
-        }
-    }
-    whole(seed, count, pulled)?;
-    all.add(&steps(script, Kind::Whole, seed, count, pulled)?);
-    for i in 0..count {
-        let calls = script(Kind::Whole, seed, i);
-        burst(&calls).map_err(|why| failure("all frames in one phase", &calls, &why))?;
-    }
+    let pushed = pushed(seed, count)?;
+    let (pulled, bursts) = pulled(seed, count)?;
     polars_async::executor::shuffle(0);
+    let [between, frame, held, _] = pulled.faults;
+    if [frame, held, pulled.matched, bursts.left, bursts.right, bursts.matched].contains(&0) {
+        return Err("nothing was tested".into());
+    }
     let fed = "scripts fed by pipes, to several tasks, in random order";
-    Ok(format!("{} {fed}; {count} pulled; {count} in one phase", all.scripts))
+    let faults = between + frame + held;
+    Ok(format!("{} {fed}; {} pulled, {faults} with order faults; {bursts}", pushed.scripts, pulled.scripts))
 }
 
-/// All left and right frames of a sorted script in one phase, as the Rust runs them when nobody counts turns.
-fn burst(calls: &[Call]) -> Result<(), String> {
-    let [Call::Open(open), rest @ ..] = calls else { panic!("a script opens first") };
-    let frames = |pick: fn(&Call) -> Option<&Vec<i64>>| rest.iter().filter_map(pick).cloned().collect::<Vec<_>>();
-    let left = frames(|c| if let Call::Left(w) = c { Some(w) } else { None });
-    let right = frames(|c| if let Call::Right(w) = c { Some(w) } else { None });
-    let ways = Ways { pipelines: 3, ..Ways::default() };
-    let mut join = crate::rust::Join::open(open, ways).ok_or("refused")?;
-    let wrote = join.burst(&left, &right).ok_or("an order fault")?;
+/// Frames by the left pipe, several compute tasks, tasks in random order.
+fn pushed(seed: u64, count: u64) -> Result<Tally, String> {
+    let many = Ways { pipelines: 3, left_pipe: true, right_pipe: false };
+    let all = [(0, many), (seed, many), (seed, Ways::default())].into_iter();
+    let mut tally = Tally::default();
+    for (order, ways, kind) in all.flat_map(|(order, ways)| COMPARED.map(|kind| (order, ways, kind))) {
+        polars_async::executor::shuffle(order);
+        tally.add(&steps(script, kind, seed, count, ways)?);
+    }
+    Ok(tally)
+}
+
+/// Right frames as the node asks for them, and all frames in one phase.
+fn pulled(seed: u64, count: u64) -> Result<(Tally, Bursts), String> {
+    let ways = Ways { pipelines: 2, left_pipe: true, right_pipe: true };
+    let (mut tally, mut bursts) = (Tally::default(), Bursts::default());
+    whole(seed, count, ways)?;
+    for kind in COMPARED {
+        tally.add(&steps(script, kind, seed, count, ways)?);
+        tally.add(&steps(script_with_runs, kind, seed, count, ways)?);
+        bursts.run(kind, seed, count)?;
+    }
+    Ok((tally, bursts))
+}
+
+/// What scripts whose frames all come in one phase had in them.
+#[derive(Default)]
+struct Bursts {
+    scripts: u64,
+    matched: u64,
+    /// Those stopped by an order fault of left rows, and of right rows.
+    left: u64,
+    right: u64,
+    /// Those in which the Rust saw faults of both sides, in no order.
+    both: u64,
+}
+
+impl Bursts {
+    /// Scripts of one kind.
+    fn run(&mut self, kind: Kind, seed: u64, count: u64) -> Result<(), String> {
+        for i in 0..count {
+            let calls = script(kind, seed, i);
+            self.script(&calls, kind == Kind::Whole).map_err(|why| failure("all frames in one phase", &calls, &why))?;
+        }
+        Ok(())
+    }
+
+    /// All left and right frames of a script in one phase, as the Rust runs them when nobody counts turns.
+    fn script(&mut self, calls: &[Call], sorted: bool) -> Result<(), String> {
+        let [Call::Open(open), rest @ ..] = calls else { panic!("a script opens first") };
+        let frames = |pick: fn(&Call) -> Option<&Vec<i64>>| rest.iter().filter_map(pick).cloned().collect::<Vec<_>>();
+        let left = frames(|c| if let Call::Left(w) = c { Some(w) } else { None });
+        let right = frames(|c| if let Call::Right(w) = c { Some(w) } else { None });
+        let ways = Ways { pipelines: 3, ..Ways::default() };
+        let mut join = crate::rust::Join::open(open, ways).ok_or("refused")?;
+        let (wrote, spoiled) = join.burst(&left, &right).ok_or("no frame")?;
+        let (ruled, fault) = all_at_once(open, &left, &right);
+        self.compare(&wrote, spoiled, &ruled, fault)?;
+        if sorted { by_whole_table(open, left, right, wrote) } else { Ok(()) }
+    }
+
+    /// Without a fault the Rust wrote what the rules wrote. With one, what it wrote of the frames before is the same: its
+    /// tasks run ahead of each other, so it may have sent less of them, and frames behind.
+    fn compare(
+        &mut self,
+        wrote: &[Answer],
+        spoiled: Option<Spoiled>,
+        ruled: &[Answer],
+        fault: Option<u8>,
+    ) -> Result<(), String> {
+        let before = |a: &&Answer| matches!(a, Answer::Wrote(seq, _) if *seq < 2 * ruled.len() as u64);
+        let same = wrote.iter().filter(before).all(|a| ruled.contains(a));
+        let sides = spoiled.map(|s| (s.left, s.right));
+        let stopped = match (fault, sides) {
+            (None, None) => wrote.len() == ruled.len(),
+            (Some(8), Some((left, _))) => left,
+            (Some(9), Some((_, right))) => right,
+            _ => false,
+        };
+        self.scripts += 1;
+        self.left += (fault == Some(8)) as u64;
+        self.right += (fault == Some(9)) as u64;
+        self.both += (sides == Some((true, true))) as u64;
+        self.matched += ruled.iter().map(matches).sum::<u64>();
+        let text = |answers: &[Answer]| answers.iter().map(|a| a.to_string()).collect::<Vec<_>>().join(", ");
+        let what = || format!("the Rust {} {sides:?}, the rules {} {fault:?}", text(wrote), text(ruled));
+        if same && stopped { Ok(()) } else { Err(what()) }
+    }
+}
+
+impl fmt::Display for Bursts {
+    /// The counts on one line.
+    fn fmt(&self, f: &mut fmt::Formatter<'_>) -> fmt::Result {
+        let Bursts { scripts, matched, left, right, both } = self;
+        write!(f, "{scripts} in one phase, {matched} rows matched, {left} stopped by 8, {right} by 9, {both} by both")
+    }
+}
+
+/// How many rows a turn matched.
+fn matches(answer: &Answer) -> u64 {
+    let Answer::Wrote(_, words) = answer else { return 0 };
+    words[2 + words[0] as usize..].iter().sum::<i64>() as u64
+}
+
+/// What a sorted script wrote where all its frames came in one phase, by the whole-table rule.
+fn by_whole_table(open: &Open, left: Vec<Vec<i64>>, right: Vec<Vec<i64>>, wrote: Vec<Answer>) -> Result<(), String> {
     let handed = left.into_iter().map(Call::Left).chain(right.into_iter().map(Call::Right));
-    let turns = vec![Call::Turn(0); wrote.len()];
-    let calls: Vec<Call> = [calls[0].clone()].into_iter().chain(handed).chain(turns).collect();
+    let turns = vec![Call::Turn(ROOM); wrote.len()];
+    let open = Open { left_words: ROOM, right_words: ROOM, ..open.clone() };
+    let calls: Vec<Call> = [Call::Open(open)].into_iter().chain(handed).chain(turns).collect();
     let oks = vec![Answer::Ok; calls.len() - wrote.len()];
-    whole_table::judge(&calls, &[oks, wrote].concat()).map(|_| ())
+    whole_table::judge_whole(&calls, &[oks, wrote].concat()).map(|_| ())
 }
 
 /// 01, Lists: "accepted right rows = pruned + held, and accepted left rows = rows written in the outputs + rows in the
@@ -223,6 +352,8 @@ pub fn refusals(seed: u64, count: u64) -> Step {
     for i in 0..count {
         let calls = script(Kind::Refusals, seed, i);
         let judged = keeps_count(&calls, &mut refused);
+        let judged = judged
+            .and_then(|_| whole_table::judge(&calls, &compare::answers(&mut Rules::default(), &calls)).map(|_| ()));
         judged.map_err(|why| failure(&format!("refusals, seed {seed}, script {i}"), &calls, &why))?;
     }
     if [1, 3, 4, 5, 6, 8, 9].iter().any(|n| refused[*n] == 0) {
@@ -294,7 +425,8 @@ pub fn all(seed: u64, count: u64) -> bool {
         ("the two judges", Box::new(move || judges(seed, count))),
         ("step rules", Box::new(move || all_kinds(seed, count))),
         ("runs", Box::new(move || runs(seed, count))),
-        ("ways of feeding", Box::new(move || ways(seed, count / 4))),
+        ("large tables", Box::new(move || large(seed, 12.max(count / 200)))),
+        ("ways of feeding", Box::new(move || ways(seed, count / 8))),
         ("refusals", Box::new(move || refusals(seed, count))),
         ("2.9's cases", Box::new(spans::cases)),
         ("2.9, longest tables", Box::new(spans::longest)),

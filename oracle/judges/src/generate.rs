@@ -1,6 +1,7 @@
 //! Random scripts, made from a seed and a number alone, so that every one can be made again.
-use crate::rules::{Row, Rules, compare_rows};
+use crate::rules::Rules;
 use crate::script::{Answer, Call, Judge, Open, Place};
+use crate::whole_table::{self, Row};
 
 /// What a script is made to reach.
 #[derive(Clone, Copy, Debug, PartialEq)]
@@ -23,12 +24,15 @@ pub enum Kind {
     Handed,
     /// One to three distinct keys in long runs, in any order: equal keys on both sides.
     Equal,
+    /// Thousands of rows a side, frames of up to 4,096: long groups and long runs of equal keys, both ends of the 64-bit
+    /// range. A script of this kind takes as long as a thousand others.
+    Large,
 }
 
 /// The kinds that the recorded sample is made of: it stays as it is when a kind is added.
 pub const RECORDED: [Kind; 6] = [Kind::Whole, Kind::Mixed, Kind::Flush, Kind::NullsLast, Kind::Order, Kind::Ends];
 
-/// All kinds that the Rust and the rules are compared on.
+/// All kinds that the Rust and the rules are compared on, but for large tables.
 pub const COMPARED: [Kind; 7] = {
     let [a, b, c, d, e, f] = RECORDED;
     [a, b, c, d, e, f, Kind::Equal]
@@ -37,7 +41,7 @@ pub const COMPARED: [Kind; 7] = {
 impl Kind {
     /// The kind of a name, as the command line gives it.
     pub fn named(name: &str) -> Option<Kind> {
-        let all = COMPARED.into_iter().chain([Kind::Refusals, Kind::Handed]);
+        let all = COMPARED.into_iter().chain([Kind::Refusals, Kind::Handed, Kind::Large]);
         all.into_iter().find(|k| format!("{k:?}").eq_ignore_ascii_case(name))
     }
 }
@@ -51,7 +55,7 @@ impl Random {
         Self::of_family(seed, kind as u64 + 1, number)
     }
 
-    /// The source of a number among a seed's scripts of a family: kinds of scripts over joins have 1 to 8.
+    /// The source of a number among a seed's scripts of a family: kinds of scripts over joins have 1 to 10.
     pub(crate) fn of_family(seed: u64, family: u64, number: u64) -> Self {
         let mut out = Random(seed ^ (family << 56));
         out.0 = out.next() ^ number.wrapping_mul(0x9E37_79B9_7F4A_7C15);
@@ -91,6 +95,8 @@ enum Pool {
     Below(usize),
     /// Both ends of the 64-bit range, and around 0.
     Ends,
+    /// Any 64 bits, and often an end.
+    Any,
 }
 
 impl Pool {
@@ -100,6 +106,8 @@ impl Pool {
         match self {
             Pool::Below(n) => r.below(n) as i64,
             Pool::Ends => r.pick(&ENDS),
+            Pool::Any if r.percent(30) => r.pick(&ENDS),
+            Pool::Any => r.next() as i64,
         }
     }
 }
@@ -119,6 +127,8 @@ struct Shape {
     groups: Pool,
     null_keys: usize,
     null_groups: usize,
+    /// The fewest and the most rows a side.
+    least: usize,
     rows: usize,
 }
 
@@ -128,7 +138,7 @@ fn tolerance(r: &mut Random, keys: Pool) -> i64 {
         (0..=3, _) => -1,
         (4, _) => 0,
         (5, _) => i64::MAX,
-        (6, Pool::Ends) => r.pick(&[i64::MAX - 1, i64::MAX - 2, 1 << 62]),
+        (6, Pool::Ends | Pool::Any) => r.pick(&[i64::MAX - 1, i64::MAX - 2, 1 << 62]),
         _ => 1 + r.below(4) as i64,
     }
 }
@@ -180,7 +190,18 @@ fn shape(r: &mut Random, kind: Kind) -> Shape {
         _ if r.percent(2) => 60,
         _ => r.pick(&[3, 6, 10, 16, 24]),
     };
-    Shape { open, keys, groups, null_keys, null_groups, rows }
+    Shape { open, keys, groups, null_keys, null_groups, least: 0, rows }
+}
+
+/// The shape of a script with large tables: few groups or many, keys in long runs or seldom equal.
+fn large_shape(r: &mut Random) -> Shape {
+    let b = r.pick(&[0, 0, 1, 1, 2, 3, 4]);
+    let keys = [Pool::Below(1), Pool::Below(3), Pool::Below(40), Pool::Below(2000), Pool::Ends, Pool::Any, Pool::Any];
+    let keys = r.pick(&keys);
+    let groups = r.pick(&[Pool::Below(1), Pool::Below(2), Pool::Below(3), Pool::Below(60), Pool::Ends]);
+    let (null_keys, null_groups) = (r.pick(&[0, 0, 1, 10, 60]), r.pick(&[0, 0, 1, 10]));
+    let (open, rows) = (open(r, b, keys), r.pick(&[4000, 7000, 9000, 12_000]));
+    Shape { open, keys, groups, null_keys, null_groups, least: 1500, rows }
 }
 
 /// A row of the shape.
@@ -193,12 +214,12 @@ fn row(r: &mut Random, s: &Shape) -> Row {
     out
 }
 
-/// A side's whole table.
+/// A side's whole table, sorted by the whole-table judge's own order: the step rules have no say in what is sorted.
 fn table(r: &mut Random, s: &Shape, how: Arrangement) -> Vec<Row> {
-    let count = r.below(s.rows + 1);
+    let count = s.least + r.below(s.rows - s.least + 1);
     let mut rows: Vec<Row> = (0..count).map(|_| row(r, s)).collect();
     if how != Arrangement::Unsorted {
-        rows.sort_by(|x, y| compare_rows(&s.open, x, y));
+        whole_table::sort(&s.open, &mut rows);
     }
     if how == Arrangement::Nearly && !rows.is_empty() {
         let (i, j) = (r.below(rows.len()), r.below(rows.len()));
@@ -220,6 +241,9 @@ pub(crate) fn words(rows: &[Row], c: usize) -> Vec<i64> {
     out
 }
 
+/// How a table is cut into frames of so many columns.
+type Cut = fn(&mut Random, &[Row], usize) -> Vec<Vec<i64>>;
+
 /// A table cut into frames: whole, row by row, or anywhere, with empty ones among them.
 fn cut(r: &mut Random, rows: &[Row], c: usize) -> Vec<Vec<i64>> {
     let widest = r.pick(&[1, 3, 3, 6, usize::MAX]).min(rows.len().max(1));
@@ -228,6 +252,24 @@ fn cut(r: &mut Random, rows: &[Row], c: usize) -> Vec<Vec<i64>> {
     while !rest.is_empty() || r.percent(10) {
         let n = if r.percent(8) { 0 } else { (1 + r.below(widest)).min(rest.len()) };
         let (frame, after) = rest.split_at(n);
+        frames.push(words(frame, c));
+        rest = after;
+    }
+    frames
+}
+
+/// A large table cut into frames: of 4,096 rows, of hundreds or thousands, with short and empty ones among them.
+fn cut_large(r: &mut Random, rows: &[Row], c: usize) -> Vec<Vec<i64>> {
+    let widest = r.pick(&[4096, 4096, 4096, 2500, 700]);
+    let mut frames = vec![];
+    let mut rest = rows;
+    while !rest.is_empty() {
+        let n = match r.below(10) {
+            0 => r.below(3),
+            1..=7 => widest,
+            _ => 1 + r.below(widest),
+        };
+        let (frame, after) = rest.split_at(n.min(rest.len()));
         frames.push(words(frame, c));
         rest = after;
     }
@@ -248,9 +290,9 @@ struct Draft {
 
 impl Draft {
     /// Cuts both tables, and opens with areas for all of them, so that 6 never arises.
-    fn new(r: &mut Random, mut s: Shape, left: &[Row], right: &[Row]) -> Self {
+    fn new(r: &mut Random, mut s: Shape, tables: [&[Row]; 2], cut: Cut) -> Self {
         let c = s.open.b + 1;
-        let (mut left, mut right) = (cut(r, left, c), cut(r, right, c));
+        let [mut left, mut right] = tables.map(|rows| cut(r, rows, c));
         s.open.left_words = left.iter().map(Vec::len).sum();
         s.open.right_words = right.iter().map(|f| 2 * c * f[0] as usize).sum();
         let output = 2 + 2 * left.iter().map(|f| f[0] as usize).max().unwrap_or(0);
@@ -384,8 +426,8 @@ fn flush(r: &mut Random, mut d: Draft) -> Vec<Call> {
     d.calls
 }
 
-/// Frames on both sides with turns between, most often with the end of right and a turn for each.
-fn plain(r: &mut Random, mut d: Draft) -> Vec<Call> {
+/// Frames on both sides with turns between, in so many of a hundred cases with the end of right and a turn for each.
+fn plain(r: &mut Random, mut d: Draft, finished: usize) -> Vec<Call> {
     while d.open_ends() {
         match r.below(5) {
             0 => d.left(),
@@ -393,7 +435,7 @@ fn plain(r: &mut Random, mut d: Draft) -> Vec<Call> {
             _ => d.turn(r),
         }
     }
-    if r.percent(90) {
+    if r.percent(finished) {
         d.finish(r);
     }
     d.calls
@@ -532,6 +574,10 @@ fn arrangements(r: &mut Random, kind: Kind) -> [Arrangement; 2] {
     match kind {
         Kind::Whole => [Sorted, Sorted],
         Kind::NullsLast => [r.pick(&[Unsorted, Unsorted, Nearly]), Unsorted],
+        Kind::Large => {
+            let unsorted = r.pick(&[[Unsorted, Sorted], [Sorted, Unsorted], [Unsorted, Unsorted]]);
+            r.pick(&[[Sorted, Sorted], [Sorted, Sorted], [Nearly, Nearly], [Sorted, Nearly], unsorted])
+        },
         Kind::Order => r.pick(&[[Nearly, Sorted], [Sorted, Nearly], [Nearly, Nearly], [Sorted, Sorted]]),
         _ => [r.pick(&[Sorted, Sorted, Nearly, Unsorted]), r.pick(&[Sorted, Sorted, Nearly, Unsorted])],
     }
@@ -564,14 +610,14 @@ fn run_turns(r: &mut Random) -> usize {
 
 /// The length of a run's output: what its turns write, a little more, much more; or, in so many of a hundred cases, less,
 /// so that it is too short at first or after some turns.
-fn run_output(r: &mut Random, rules: &Rules, k: usize, short: usize) -> usize {
+fn run_output(r: &mut Random, rules: &Rules, k: usize, short: usize, spare: usize) -> usize {
     const ENOUGH: usize = 1 << 16;
     let Answer::Ran(ran) = rules.clone().call(&Call::Run(k, ENOUGH)) else { return r.below(20) };
     match (r.percent(short), ran.words.len()) {
         (true, 0) => r.below(6),
         (true, needed) if r.percent(30) => needed - 1,
         (true, needed) => r.below(needed),
-        (false, needed) => needed + r.pick(&[0, 0, 1, 2, 9, 200]),
+        (false, needed) => needed + spare + r.pick(&[0, 0, 1, 2, 9, 200]),
     }
 }
 
@@ -593,6 +639,8 @@ struct Runs {
     rules: Rules,
     /// How many of a hundred outputs are too short.
     short: usize,
+    /// Words that the others are longer than what is written, so that an order fault is not taken for want of output.
+    spare: usize,
     /// Whether the host alters words.
     alters: bool,
 }
@@ -613,7 +661,7 @@ impl Runs {
             alter_for_run(r, &self.rules).into_iter().for_each(|call| self.push(call));
         }
         let k = run_turns(r);
-        let output = run_output(r, &self.rules, k, self.short);
+        let output = run_output(r, &self.rules, k, self.short, self.spare);
         self.push(Call::Run(k, output));
     }
 }
@@ -626,7 +674,8 @@ fn with_runs(r: &mut Random, kind: Kind, calls: Vec<Call>) -> Vec<Call> {
         Kind::Refusals | Kind::Handed => (30, r.pick(&[50, 80, 95])),
         _ => (6, r.pick(&[10, 50, 80])),
     };
-    let mut out = Runs { calls: vec![], rules: Rules::default(), short, alters: kind == Kind::Handed };
+    let spare = if kind == Kind::Large { 2 + 2 * 4096 } else { 0 };
+    let mut out = Runs { calls: vec![], rules: Rules::default(), short, spare, alters: kind == Kind::Handed };
     for call in calls {
         match call {
             Call::Turn(_) if r.percent(piling) => {},
@@ -643,39 +692,47 @@ fn with_runs(r: &mut Random, kind: Kind, calls: Vec<Call>) -> Vec<Call> {
 
 /// The calls of a kind's script over areas that are large enough, save for kinds that are to find no room.
 fn calls(r: &mut Random, kind: Kind) -> Vec<Call> {
-    let s = shape(r, kind);
+    let large = kind == Kind::Large;
+    let s = if large { large_shape(r) } else { shape(r, kind) };
     let [left, right] = arrangements(r, kind).map(|how| table(r, &s, how));
-    let d = Draft::new(r, s, &left, &right);
+    let d = Draft::new(r, s, [&left, &right], if large { cut_large } else { cut });
     match kind {
         Kind::Whole => whole(r, d),
         Kind::Mixed | Kind::Ends => mixed(r, d),
         Kind::Flush => flush(r, d),
-        Kind::NullsLast | Kind::Order | Kind::Equal => plain(r, d),
+        Kind::NullsLast | Kind::Order | Kind::Equal => plain(r, d, 90),
+        // What the rules refuse stays, so that a frame that they should take is missed.
+        Kind::Large => plain(r, Draft { keep_refused: true, ..d }, 100),
         Kind::Refusals => refusals(r, d),
         Kind::Handed => handed(r, d),
     }
+}
+
+/// Whether a kind's scripts find room for all that they hand in.
+fn with_room(kind: Kind) -> bool {
+    kind == Kind::Large || COMPARED.contains(&kind)
 }
 
 /// The script of this number among a seed's scripts of a kind.
 pub fn script(kind: Kind, seed: u64, number: u64) -> Vec<Call> {
     let r = &mut Random::new(seed, kind, number);
     let mut calls = calls(r, kind);
-    if COMPARED.contains(&kind) && r.percent(50) {
+    if with_room(kind) && r.percent(50) {
         tighten(r, &mut calls);
     }
     calls
 }
 
 /// The same script with runs in the place of turns. One for the whole-table rule has outputs enough, and turns at its end
-/// what still waits.
+/// what still waits; so does one with large tables.
 pub fn script_with_runs(kind: Kind, seed: u64, number: u64) -> Vec<Call> {
     let r = &mut Random::new(seed, kind, number);
     let calls = calls(r, kind);
     let mut calls = with_runs(r, kind, calls);
-    if kind == Kind::Whole {
+    if matches!(kind, Kind::Whole | Kind::Large) {
         calls.push(Call::Run(1 << 20, 1 << 16));
     }
-    if COMPARED.contains(&kind) && r.percent(50) {
+    if with_room(kind) && r.percent(50) {
         tighten(r, &mut calls);
     }
     calls

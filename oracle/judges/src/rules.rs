@@ -54,12 +54,12 @@ fn compare_keys(x: Cell, y: Cell) -> Ordering {
 }
 
 /// "Rows compare by by-columns in order, then key."
-pub fn compare_rows(o: &Open, x: &Row, y: &Row) -> Ordering {
+fn compare_rows(o: &Open, x: &Row, y: &Row) -> Ordering {
     compare_groups(o, x, y).then(compare_keys(x[o.b], y[o.b]))
 }
 
 /// "Sorted: no row is greater than the next."
-pub fn sorted(o: &Open, rows: &[Row]) -> bool {
+fn sorted(o: &Open, rows: &[Row]) -> bool {
     rows.windows(2).all(|two| compare_rows(o, &two[0], &two[1]) != Ordering::Greater)
 }
 

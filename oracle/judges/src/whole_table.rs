@@ -1,20 +1,86 @@
-//! A judge of sorted sides that knows nothing of steps: 01's whole-table rule by brute force, straight from its
-//! sentences. It shares no code with the step rules, the stand-ins or the Rust's driver, and looks at no call's inside:
-//! only at what was handed in and what was written.
+//! A judge that knows nothing of steps: 01's whole-table rule by brute force, straight from its sentences, with an order, a
+//! sorting and a matching of its own. It shares no function with the step rules, the stand-ins or the Rust's driver, and looks
+//! at no call's inside: only at what was handed in and what was answered.
+//!
+//! Up to the first accepted row that is out of order every match must be the whole table's; behind it a match must at least
+//! be a row that qualifies. Order faults and refusals 1 and 3 to 6 are judged everywhere. It takes from nowhere how many rows
+//! are held or when more are needed: a want is due wherever a frame waits and right is open, and a right frame may be refused
+//! by 6 where all rows accepted so far would not fit.
 use crate::script::{Answer, Call, Open, Ran, Stop};
 
 /// A row as handed in: b by-values, then the key; none is null.
-type Row = Vec<Option<i64>>;
+pub type Row = Vec<Option<i64>>;
 
-/// What a judged script had in it.
-#[derive(Default)]
+/// What judged scripts had in them.
+#[derive(Default, Clone)]
 pub struct Counts {
+    pub scripts: u64,
+    /// Scripts whose sides are sorted to their end.
+    pub sorted: u64,
     pub rows: u64,
+    /// Rows that were written before any row out of order was accepted: their matches are the whole table's.
+    pub whole: u64,
     pub matched: u64,
     pub wants: u64,
+    /// Order faults, each of them due.
+    pub faults: u64,
+    /// Frames that were never turned.
+    pub waiting: u64,
 }
 
-/// The rows of a frame's words: "rows n, columns c, then two parallel arrays of n × c, values and marks, row by row".
+impl Counts {
+    /// Adds another script's counts.
+    pub fn add(&mut self, other: &Counts) {
+        self.scripts += other.scripts;
+        self.sorted += other.sorted;
+        self.rows += other.rows;
+        self.whole += other.whole;
+        self.matched += other.matched;
+        self.wants += other.wants;
+        self.faults += other.faults;
+        self.waiting += other.waiting;
+    }
+}
+
+/// Where a cell stands on the line of whole numbers: "Null … stands before every value, or after where nulls last is set,
+/// whatever the direction. Values compare as numbers, reversed if descending."
+fn place(cell: Option<i64>, descending: bool, nulls_last: bool) -> i128 {
+    const BEYOND: i128 = 1 << 64;
+    let sign = |reversed: bool| if reversed { -1 } else { 1 };
+    cell.map_or(-BEYOND * sign(nulls_last), |v| v as i128 * sign(descending))
+}
+
+/// A row's places: "by-columns in order, then key", the key "ascending, nulls first".
+fn places<'a>(o: &'a Open, row: &'a Row) -> impl Iterator<Item = i128> + 'a {
+    let by = (0..o.b).map(|j| place(row[j], o.descending[j], o.nulls_last[j]));
+    by.chain([place(row[o.b], false, false)])
+}
+
+/// Sorts rows as the options declare.
+pub fn sort(o: &Open, rows: &mut [Row]) {
+    rows.sort_by_cached_key(|row| places(o, row).collect::<Vec<_>>());
+}
+
+/// "Sorted: no row is greater than the next.": whether the second row may follow the first.
+fn may_follow(o: &Open, row: &Row, next: &Row) -> bool {
+    places(o, row).le(places(o, next))
+}
+
+/// "Sorted", of all these rows.
+pub fn is_sorted(o: &Open, rows: &[Row]) -> bool {
+    (1..rows.len()).all(|i| may_follow(o, &rows[i - 1], &rows[i]))
+}
+
+/// The frame rule: "rows n (0 to 4,096), columns c, then two parallel arrays of n × c"; "Mark 1 is present, 0 is null with
+/// value 0; no other mark."
+fn keeps_rule(o: &Open, words: &[i64]) -> bool {
+    let [n @ 0..=4096, c, cells @ ..] = words else { return false };
+    let pairs = *n as usize * (o.b + 1);
+    let cell = |at: usize| matches!((cells[at], cells[pairs + at]), (_, 1) | (0, 0));
+    *c == o.b as i64 + 1 && cells.len() == 2 * pairs && (0..pairs).all(cell)
+}
+
+/// The rows of a frame's words: "two parallel arrays of n × c, values and marks, row by row".
 fn rows(words: &[i64]) -> Vec<Row> {
     let (n, c) = (words[0] as usize, words[1] as usize);
     let (values, marks) = words[2..].split_at(n * c);
@@ -51,109 +117,296 @@ fn whole_table_match(o: &Open, left: &Row, right: &[Row]) -> Option<usize> {
     .map(|(i, _)| i)
 }
 
-/// The words that a turn must write for a frame: "n, 1, n right numbers, n marks (none: 0 and 0)".
-fn expected(o: &Open, frame: &[i64], right: &[Row]) -> Vec<i64> {
-    let left = rows(frame);
-    let matches: Vec<_> = left.iter().map(|x| whole_table_match(o, x, right)).collect();
-    let mut words = vec![left.len() as i64, 1];
+/// The words that a turn writes for these matches: "n, 1, n right numbers, n marks (none: 0 and 0)".
+fn written(matches: &[Option<usize>]) -> Vec<i64> {
+    let mut words = vec![matches.len() as i64, 1];
     words.extend(matches.iter().map(|m| m.unwrap_or(0) as i64));
     words.extend(matches.iter().map(|m| m.is_some() as i64));
     words
 }
 
-/// What a script handed in on both sides, whatever the frames.
-struct Tables<'a> {
-    open: &'a Open,
-    left_frames: Vec<&'a [i64]>,
-    right_rows: Vec<Row>,
+/// 1: options that are refused at opening.
+fn no_options(o: &Open) -> bool {
+    o.b > 4 || ![0, 1, 2].contains(&o.strategy) || o.tolerance < -1 || (!o.eq && o.strategy == 2)
 }
 
-/// Gathers both tables of a script that opens once.
-fn tables(calls: &[Call]) -> Tables<'_> {
-    let [Call::Open(open), rest @ ..] = calls else { panic!("a script opens first") };
-    let mut out = Tables { open, left_frames: vec![], right_rows: vec![] };
-    for call in rest {
-        match call {
-            Call::Left(words) => out.left_frames.push(words),
-            Call::Right(words) => out.right_rows.extend(rows(words)),
-            _ => {},
+/// A side's accepted rows, and how many of them, from the first on, are sorted.
+#[derive(Default)]
+struct Side {
+    rows: Vec<Row>,
+    sorted: usize,
+}
+
+impl Side {
+    /// Adds a frame's rows.
+    fn add(&mut self, o: &Open, words: &[i64]) {
+        for row in rows(words) {
+            let follows = self.rows.last().is_none_or(|last| may_follow(o, last, &row));
+            self.sorted += (self.is_sorted() && follows) as usize;
+            self.rows.push(row);
         }
     }
-    out
+
+    /// Whether all rows are sorted.
+    fn is_sorted(&self) -> bool {
+        self.sorted == self.rows.len()
+    }
+}
+
+/// The part of a script in which both sides are sorted: how many calls it has, and the right rows accepted in it.
+fn sorted_part(o: &Open, calls: &[Call], answers: &[Answer]) -> (usize, Vec<Row>) {
+    let (mut left, mut right) = (Side::default(), Side::default());
+    for (i, pair) in calls.iter().zip(answers).enumerate() {
+        let before = right.rows.len();
+        match pair {
+            (Call::Left(words), Answer::Ok) => left.add(o, words),
+            (Call::Right(words), Answer::Ok) => right.add(o, words),
+            _ => continue,
+        }
+        if !left.is_sorted() || !right.is_sorted() {
+            right.rows.truncate(before);
+            return (i, right.rows);
+        }
+    }
+    (calls.len(), right.rows)
 }
 
 /// How far the answers to a script are judged.
 struct Judged<'a> {
-    tables: Tables<'a>,
-    waiting: usize,
-    turned: usize,
+    o: &'a Open,
+    /// The right rows of the whole table, while the calls are in the part of the script that is sorted.
+    table: Option<Vec<Row>>,
+    right: Side,
+    /// Frames that wait, with the words in them.
+    waiting: std::collections::VecDeque<&'a [i64]>,
+    waiting_words: usize,
+    turned: u64,
+    /// The last row with a key of the frames that were turned.
+    last: Option<Row>,
     ended: bool,
+    left_done: bool,
+    done: bool,
+    failed: bool,
     counts: Counts,
 }
 
-impl Judged<'_> {
-    /// A turn that wrote these words; how it is wrong, if it is.
-    fn wrote(&mut self, words: &[i64]) -> Result<(), String> {
-        if self.waiting == 0 {
-            return Err(format!("{words:?} written, but no frame waits"));
+/// How an answer is judged: fine, or why not.
+type Verdict = Result<(), String>;
+
+/// Fine where it holds.
+fn due(holds: bool, what: &str) -> Verdict {
+    if holds { Ok(()) } else { Err(what.to_string()) }
+}
+
+impl<'a> Judged<'a> {
+    /// A left frame: 3, 4, 5, 6 or taken.
+    fn left(&mut self, words: &'a [i64], answer: &Answer) -> Verdict {
+        let refusal = match () {
+            _ if self.failed => 3,
+            _ if self.left_done || self.done => 4,
+            _ if !keeps_rule(self.o, words) => 5,
+            _ if self.waiting_words + words.len() > self.o.left_words => 6,
+            _ => 0,
+        };
+        if refusal > 0 {
+            return due(*answer == Answer::Refused(refusal), &format!("{refusal} is due"));
         }
-        let want = expected(self.tables.open, self.tables.left_frames[self.turned], &self.tables.right_rows);
-        if *words != want {
-            return Err(format!("{words:?} written, but the whole table gives {want:?}"));
+        self.waiting.push_back(words);
+        self.waiting_words += words.len();
+        due(*answer == Answer::Ok, "the frame is to be taken")
+    }
+
+    /// A right frame: 3, 4, 5, 6 or taken. How many rows are held is not known, only that it is no more than came in.
+    fn right(&mut self, words: &[i64], answer: &Answer) -> Verdict {
+        let refusal = match () {
+            _ if self.failed => 3,
+            _ if self.ended || self.done => 4,
+            _ if !keeps_rule(self.o, words) => 5,
+            _ => 0,
+        };
+        if refusal > 0 {
+            return due(*answer == Answer::Refused(refusal), &format!("{refusal} is due"));
         }
-        self.counts.rows += words[0] as u64;
-        self.counts.matched += words[2 + words[0] as usize..].iter().sum::<i64>() as u64;
-        (self.waiting, self.turned) = (self.waiting - 1, self.turned + 1);
+        let (n, room) = (words[0] as usize, self.o.right_words / (2 * self.o.b + 2));
+        if *answer == Answer::Refused(6) {
+            return due(self.right.rows.len() + n > room, "all rows would fit");
+        }
+        self.right.add(self.o, words);
+        due(*answer == Answer::Ok && n <= room, "the frame is to be taken, or 6 is due")
+    }
+
+    /// The end of right: 3, 4 or taken.
+    fn end(&mut self, answer: &Answer) -> Verdict {
+        match answer {
+            Answer::Refused(3) => due(self.failed, "no order fault came before"),
+            Answer::Refused(4) => due(!self.failed && (self.ended || self.done), "right is open"),
+            Answer::Ok => {
+                let open = !self.failed && !self.ended && !self.done;
+                self.ended = true;
+                due(open, "it is to be refused")
+            },
+            _ => due(false, "no such answer is due"),
+        }
+    }
+
+    /// "The node is done from an accepted port call on that came with send Done, or that, with left Done in it or in an
+    /// earlier one, found no frame waiting."
+    fn ports(&mut self, [left, _, send]: [u8; 3], answer: &Answer) -> Verdict {
+        if self.failed {
+            return due(*answer == Answer::Refused(3), "3 is due");
+        }
+        self.left_done |= left == 2;
+        self.done |= send == 2 || (self.left_done && self.waiting.is_empty());
+        let state = if self.done { 2 } else { self.left_done as u8 };
+        due(matches!(answer, Answer::Ports(_, told) if *told == state), &format!("node state {state} is due"))
+    }
+
+    /// Whether the front frame is out of order: in itself, or its rows with a key behind those of earlier frames.
+    fn left_fault(&self, front: &[Row]) -> bool {
+        let keyed = |r: &&Row| r[self.o.b].is_some();
+        let seam = self.last.iter().zip(front.iter().find(keyed)).all(|(last, first)| may_follow(self.o, last, first));
+        self.o.check && !(seam && is_sorted(self.o, front))
+    }
+
+    /// An order fault: 8 where left rows are out of order, else 9 where right rows are.
+    fn fault(&mut self, number: u8, front: &[Row]) -> Verdict {
+        let left = self.left_fault(front);
+        self.failed = true;
+        self.counts.faults += 1;
+        match number {
+            8 => due(left, "the left rows are in order, or the check is off"),
+            _ => due(!left && self.o.check && !self.right.is_sorted(), "9 is not due"),
+        }
+    }
+
+    /// Whether every match that these words tell is an accepted right row that qualifies.
+    fn all_qualify(&self, front: &[Row], words: &[i64]) -> bool {
+        let (n, rows) = (front.len(), &self.right.rows);
+        let fits =
+            |i: usize, number: usize| number < rows.len() && qualifies(self.o, &front[i], &rows[number]).is_some();
+        words.len() == 2 + 2 * n
+            && words[..2] == [n as i64, 1]
+            && (0..n).all(|i| match (words[2 + i], words[2 + n + i]) {
+                (number, 1) => fits(i, number as usize),
+                none => none == (0, 0),
+            })
+    }
+
+    /// A turn that wrote these words for the front frame.
+    fn wrote(&mut self, front: &[Row], words: &[i64]) -> Verdict {
+        due(!self.left_fault(front), "8 is due")?;
+        due(!self.o.check || self.right.is_sorted(), "9 is due")?;
+        if let Some(table) = &self.table {
+            let want: Vec<_> = front.iter().map(|x| whole_table_match(self.o, x, table)).collect();
+            due(*words == written(&want), &format!("the whole table gives {:?}", written(&want)))?;
+            self.counts.whole += front.len() as u64;
+        }
+        due(self.all_qualify(front, words), "a match does not qualify")?;
+        self.counts.rows += front.len() as u64;
+        self.counts.matched += words[2 + front.len()..].iter().sum::<i64>() as u64;
+        self.last = front.iter().rfind(|r| r[self.o.b].is_some()).cloned().or(self.last.take());
+        self.waiting_words -= self.waiting.pop_front().map_or(0, <[i64]>::len);
+        self.turned += 1;
         Ok(())
     }
 
-    /// A run of at most k turns: its words are those of its turns, and it stopped where a turn would write nothing, or
-    /// after k of them.
-    fn ran(&mut self, k: usize, ran: &Ran) -> Result<(), String> {
+    /// A turn with an output of so many words.
+    fn turn(&mut self, output: usize, answer: &Answer) -> Verdict {
+        if self.failed || self.done {
+            let refusal = if self.failed { 3 } else { 4 };
+            return due(*answer == Answer::Refused(refusal), &format!("{refusal} is due"));
+        }
+        let Some(frame) = self.waiting.front() else { return due(*answer == Answer::Idle, "no frame waits") };
+        let front = rows(frame);
+        let short = output < 2 + 2 * front.len();
+        match answer {
+            Answer::Wants => {
+                self.counts.wants += 1;
+                due(!self.ended && !front.is_empty(), "nothing more is needed")
+            },
+            Answer::Refused(6) => due(short, "the output is enough"),
+            _ if short => due(false, "the output is too short"),
+            Answer::Refused(number @ (8 | 9)) => self.fault(*number, &front),
+            Answer::Wrote(sequence, words) if *sequence == 2 * self.turned => self.wrote(&front, words),
+            _ => due(false, "no such answer is due"),
+        }
+    }
+
+    /// A run of at most k turns: its words are those of its turns, and what stopped it is what a further turn answers, or
+    /// that k of them wrote.
+    fn run(&mut self, k: usize, output: usize, ran: &Ran) -> Verdict {
         let (mut rest, before) = (&ran.words[..], self.turned);
         while let [n, ..] = rest {
             let (words, further) = rest.split_at_checked(2 + 2 * *n as usize).ok_or("a turn's words are cut off")?;
-            self.wrote(words)?;
+            let wrote = Answer::Wrote(2 * self.turned, words.to_vec());
+            self.turn(output.saturating_sub(ran.words.len() - rest.len()), &wrote)?;
             rest = further;
         }
         let made = self.turned - before;
-        let right = match ran.stop {
-            Stop::Used => made == k,
-            Stop::Wants => made < k && self.waiting > 0 && !self.ended,
-            Stop::Idle => made < k && self.waiting == 0,
-            Stop::Refused(_) => false,
+        due(ran.turns == made && ran.count == ran.words.len() as u64, &format!("{made} turns wrote"))?;
+        due((made == k as u64) == (ran.stop == Stop::Used), &format!("{made} turns wrote"))?;
+        let last = match ran.stop {
+            Stop::Used => return Ok(()),
+            Stop::Wants => Answer::Wants,
+            Stop::Idle => Answer::Idle,
+            Stop::Refused(number) => Answer::Refused(number),
         };
-        let counted = ran.turns == made as u64 && ran.count == ran.words.len() as u64;
-        self.counts.wants += (ran.stop == Stop::Wants) as u64;
-        if right && counted { Ok(()) } else { Err(format!("{made} turns wrote, {} frames wait", self.waiting)) }
+        self.turn(output.saturating_sub(ran.words.len()), &last)
     }
 
-    /// One call and its answer; how it is wrong, if it is.
-    fn judge(&mut self, call: &Call, answer: &Answer) -> Result<(), String> {
+    /// One call and its answer.
+    fn judge(&mut self, call: &'a Call, answer: &Answer) -> Verdict {
         match (call, answer) {
-            (Call::Left(_), Answer::Ok) => self.waiting += 1,
-            (Call::End, Answer::Ok) => self.ended = true,
-            (Call::Open(_) | Call::Right(_), Answer::Ok) => {},
-            (Call::Turn(_), Answer::Idle) if self.waiting == 0 => {},
-            (Call::Turn(_), Answer::Wants) if self.waiting > 0 && !self.ended => self.counts.wants += 1,
-            (Call::Turn(_), Answer::Wrote(sequence, words)) if *sequence == 2 * self.turned as u64 => {
-                self.wrote(words)?
-            },
-            (Call::Run(k, _), Answer::Ran(ran)) => self.ran(*k, ran)?,
-            _ => return Err("no such answer is due".to_string()),
+            (Call::Left(words), _) => self.left(words, answer),
+            (Call::Right(words), _) => self.right(words, answer),
+            (Call::End, _) => self.end(answer),
+            (Call::Ports(ports), _) => self.ports(*ports, answer),
+            (Call::Turn(output), _) => self.turn(*output, answer),
+            (Call::Run(k, output), Answer::Ran(ran)) => self.run(*k, *output, ran),
+            (Call::State | Call::Areas | Call::Words, _) => Ok(()),
+            _ => due(false, "no such answer is due"),
         }
-        Ok(())
     }
 }
 
-/// Judges the answers to a script whose sides are sorted as declared, in which nothing is refused, and which ends right
-/// and then makes enough turns: every turn writes what the whole table gives, in sequence; no order fault; once right
-/// has ended nothing is wanted; idle only where no frame waits; at the end no frame does. A run is its turns.
+/// Judges the answers to a script that opens once: of as many calls as were answered. A script in which the host alters words
+/// itself is not judged.
 pub fn judge(calls: &[Call], answers: &[Answer]) -> Result<Counts, String> {
-    let mut judged = Judged { tables: tables(calls), waiting: 0, turned: 0, ended: false, counts: Counts::default() };
-    for (call, answer) in calls.iter().zip(answers) {
+    let [Call::Open(o), rest @ ..] = calls else { panic!("a script opens first") };
+    if calls.iter().any(|call| matches!(call, Call::Put(..))) {
+        return Ok(Counts::default());
+    } else if no_options(o) || answers[0] != Answer::Ok {
+        let same = no_options(o) && answers[0] == Answer::Refused(1);
+        return due(same, "open: 1 is due, or an open join").map(|_| Counts::default());
+    }
+    let (until, table) = sorted_part(o, rest, &answers[1..]);
+    let mut judged = Judged {
+        o,
+        table: Some(table),
+        right: Side::default(),
+        waiting: Default::default(),
+        waiting_words: 0,
+        turned: 0,
+        last: None,
+        ended: false,
+        left_done: false,
+        done: false,
+        failed: false,
+        counts: Counts { scripts: 1, sorted: (until == rest.len()) as u64, ..Counts::default() },
+    };
+    for (i, (call, answer)) in rest.iter().zip(&answers[1..]).enumerate() {
+        judged.table = judged.table.filter(|_| i < until);
         judged.judge(call, answer).map_err(|why| format!("{call}: {answer}: {why}"))?;
     }
-    let Judged { waiting, counts, .. } = judged;
-    if waiting > 0 { Err(format!("{waiting} frames never turned")) } else { Ok(counts) }
+    judged.counts.waiting = judged.waiting.len() as u64;
+    Ok(judged.counts)
+}
+
+/// Judges the answers to a script whose sides are sorted, which ends right and then makes enough turns: at its end no frame
+/// waits.
+pub fn judge_whole(calls: &[Call], answers: &[Answer]) -> Result<Counts, String> {
+    let counts = judge(calls, answers)?;
+    due(counts.sorted == 1, "the sides are not sorted")?;
+    due(counts.waiting == 0, &format!("{} frames never turned", counts.waiting))?;
+    Ok(counts)
 }

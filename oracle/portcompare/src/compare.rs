@@ -1,13 +1,21 @@
-//! Running a script through the port, through 01's step rules and through the Rust, and making a script that differs small.
+//! Running a script through the port, through 01's step rules and through the Rust, asking the whole-table judge about what
+//! they answered, and making a script that differs small.
 use std::fmt;
 use std::panic::{AssertUnwindSafe, catch_unwind};
+use std::time::{Duration, Instant};
 
 use judges::generate::Kind;
 use judges::rules::Rules;
 use judges::script::{Answer, Call, Judge};
+use judges::whole_table;
 use oracle::compare::{Tally, agrees, no_counterpart, panic_text, parted};
 use oracle::rust::Rust;
 use port::Port;
+
+use crate::spans::parts;
+
+/// How long a differing script is made smaller.
+const SPENT: Duration = Duration::from_secs(20);
 
 /// What a run had in it.
 #[derive(Default, Clone)]
@@ -92,6 +100,7 @@ fn words_differ(port: &Port, rules: &Rules) -> Option<String> {
 fn run(calls: &[Call], kind: Kind, counts: &mut Counts) -> Result<(), String> {
     let (mut port, mut rules) = (Port::default(), Rules::default());
     let mut beside = Beside { rust: Rust::default(), parted: !asks_rust(kind) };
+    let mut answers = vec![];
     for (i, call) in calls.iter().enumerate() {
         let state = rules.look().map_or(0, |l| l.state);
         let (said, ruled) = (port.call(call), rules.call(call));
@@ -106,9 +115,11 @@ fn run(calls: &[Call], kind: Kind, counts: &mut Counts) -> Result<(), String> {
         counts.tally.compared += beside.differs(call, &said).map_err(differs)? as u64;
         counts.altered += matches!(call, Call::Put(..)) as u64;
         counts.count(&said, state);
+        answers.push(said);
     }
     counts.tally.scripts += 1;
     rules.fault().into_iter().for_each(|f| counts.tally.fault(f));
+    counts.tally.judged.add(&whole_table::judge(calls, &answers).map_err(|why| format!("whole table: {why}"))?);
     Ok(())
 }
 
@@ -118,12 +129,12 @@ pub fn all(calls: &[Call], kind: Kind, counts: &mut Counts) -> Result<(), String
     run.unwrap_or_else(|p| Err(format!("panic: {}", panic_text(p))))
 }
 
-/// The frame of a call without one of its rows.
-fn without_row(words: &[i64], row: usize) -> Vec<i64> {
+/// The frame of a call without so many of its rows from one on.
+fn without_rows(words: &[i64], from: usize, count: usize) -> Vec<i64> {
     let (n, c) = (words[0] as usize, words[1] as usize);
-    let keep = |at: &usize| (at % (n * c)) / c != row;
+    let keep = |at: &usize| !(from..from + count).contains(&((at % (n * c)) / c));
     let cells = (0..2 * n * c).filter(keep).map(|at| words[2 + at]);
-    [n as i64 - 1, c as i64].into_iter().chain(cells).collect()
+    [(n - count) as i64, c as i64].into_iter().chain(cells).collect()
 }
 
 /// How many rows a call's frame has, if it is one that a row can be taken from.
@@ -133,27 +144,33 @@ fn rows(call: &Call) -> usize {
     if cells.len() == 2 * *n as usize * *c as usize { *n as usize } else { 0 }
 }
 
-/// All scripts that are this one less a call, or less a row of a frame.
-fn smaller(calls: &[Call]) -> Vec<Vec<Call>> {
-    let less = |i: usize| [&calls[..i], &calls[i + 1..]].concat();
-    let mut out: Vec<Vec<Call>> = (0..calls.len()).map(less).collect();
-    for (i, call) in calls.iter().enumerate() {
-        for row in 0..rows(call) {
-            let mut script = calls.to_vec();
-            if let Call::Left(w) | Call::Right(w) = &mut script[i] {
-                *w = without_row(w, row);
-            }
-            out.push(script);
-        }
+/// The script less some rows of a call's frame.
+fn less_rows(calls: &[Call], i: usize, from: usize, count: usize) -> Vec<Call> {
+    let mut script = calls.to_vec();
+    if let Call::Left(w) | Call::Right(w) = &mut script[i] {
+        *w = without_rows(w, from, count);
     }
-    out
+    script
 }
 
-/// A script that still differs and that no call and no row can be taken from, with how it differs.
+/// All scripts that are this one less a call, or less rows of a frame: long parts of it first, then single rows. The call
+/// that opens stays.
+fn smaller(calls: &[Call]) -> impl Iterator<Item = Vec<Call>> {
+    let less = |i: usize| [&calls[..i], &calls[i + 1..]].concat();
+    let frames = (1..calls.len()).flat_map(|i| parts(rows(&calls[i])).map(move |(from, n)| (i, from, n)));
+    (1..calls.len()).map(less).chain(frames.map(|(i, from, n)| less_rows(calls, i, from, n)))
+}
+
+/// A script that still differs and that no call and no row can be taken from, with how it differs; or the smallest that is
+/// found in the time that is spent on it.
 pub fn smallest(calls: &[Call], kind: Kind) -> (Vec<Call>, String) {
-    let differs = |calls: &[Call]| all(calls, kind, &mut Counts::default()).err();
+    let (start, differs) = (Instant::now(), |calls: &[Call]| all(calls, kind, &mut Counts::default()).err());
+    let less = |calls: &[Call]| {
+        let mut tried = smaller(calls).take_while(|_| start.elapsed() < SPENT);
+        tried.find_map(|less| differs(&less).map(|why| (less, why)))
+    };
     let (mut script, mut why) = (calls.to_vec(), differs(calls).unwrap_or_default());
-    while let Some((less, new)) = smaller(&script).into_iter().find_map(|s| differs(&s).map(|w| (s, w))) {
+    while let Some((less, new)) = less(&script) {
         (script, why) = (less, new);
     }
     (script, why)

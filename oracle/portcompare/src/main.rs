@@ -13,11 +13,14 @@ use judges::script::Call;
 /// How many differences are told before a run ends.
 const TOLD: usize = 10;
 
-/// All kinds of scripts.
-const KINDS: [Kind; 9] = {
+/// All kinds of scripts, large tables last.
+const KINDS: [Kind; 10] = {
     let [a, b, c, d, e, f, g] = COMPARED;
-    [a, b, c, d, e, f, g, Kind::Refusals, Kind::Handed]
+    [a, b, c, d, e, f, g, Kind::Refusals, Kind::Handed, Kind::Large]
 };
+
+/// The place of the kind that comes once in so many scripts.
+const LARGE: (usize, u64) = (9, 1000);
 
 /// The script of this number among a seed's scripts of a kind: every second one with runs.
 fn made(kind: Kind, seed: u64, number: u64) -> Vec<Call> {
@@ -51,6 +54,14 @@ const STOPS: [(&str, usize); 11] = [
 /// always does.
 const LATER: [usize; 7] = [0, 1, 2, 7, 8, 9, 10];
 
+/// All scripts of a run, by the place of their kind and their number: one with large tables in a thousand, the first of them
+/// too, the other kinds in turn.
+fn scripts(count: u64) -> impl Iterator<Item = (usize, u64)> {
+    let ((large, often), kinds) = (LARGE, KINDS.len() as u64 - 1);
+    let one = move |i: u64| if i % often == 0 { (large, i / often) } else { ((i % kinds) as usize, i / kinds) };
+    (0..count).map(one)
+}
+
 /// What a run never met, though it is made to.
 fn missing(all: &Counts) -> Option<String> {
     let tally = &all.tally;
@@ -70,9 +81,7 @@ fn compare_all(seed: u64, count: u64) -> bool {
     let start = Instant::now();
     let mut by_kind = vec![Counts::default(); KINDS.len()];
     let mut told = 0;
-    for i in 0..count {
-        let kinds = KINDS.len() as u64;
-        let (at, number) = ((i % kinds) as usize, i / kinds);
+    for (i, (at, number)) in scripts(count).enumerate() {
         if compare::all(&made(KINDS[at], seed, number), KINDS[at], &mut by_kind[at]).is_err() {
             tell(KINDS[at], seed, number);
             told += 1;
@@ -89,7 +98,8 @@ fn compare_all(seed: u64, count: u64) -> bool {
     }
     let missing = missing(&all).filter(|_| told == 0);
     missing.iter().for_each(|what| println!("FAIL {what}: none in the whole run"));
-    println!("compared with the port: {all}; {told} differences ({:.1} s)", start.elapsed().as_secs_f64());
+    let (large, time) = (by_kind[LARGE.0].tally.scripts, start.elapsed().as_secs_f64());
+    println!("compared with the port: {all}; {large} scripts with large tables; {told} differences ({time:.1} s)");
     told == 0 && missing.is_none()
 }
 

@@ -45,7 +45,7 @@ fn without_rows(words: &[i64], from: usize, count: usize) -> Vec<i64> {
 
 /// Parts of so many rows, long ones first: halves, quarters and on, to single rows. Each is where it begins and how long it
 /// is.
-fn parts(rows: usize) -> impl Iterator<Item = (usize, usize)> {
+pub fn parts(rows: usize) -> impl Iterator<Item = (usize, usize)> {
     let lengths = std::iter::successors(Some(rows.div_ceil(2)), |n| (*n > 1).then(|| n / 2));
     let lengths = lengths.take_while(|n| *n > 0);
     lengths.flat_map(move |n| (0..rows).step_by(n).map(move |from| (from, n.min(rows - from))))

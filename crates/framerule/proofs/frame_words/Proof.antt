@@ -18,7 +18,7 @@ div-if3 : tie.Need-div-if3
 div-if3 c = search needs
 
 returns-3 : tie.Need-returns-3
-returns-3 c = sym (fit-over _ _ _ (c .before .if2 .left) (c .if3 .taken))
+returns-3 c = sym (fit-over _ _ _ (c .before .if2 .left) (omega (arith, c .if3 .taken)))
 
 bound : (c : tie.Else3) → let a = c .before .before .before .args in frameWords (a .n) (a .c) ≤ a .room
 bound c = fit-bound _ _ _ (c .before .before .if1 .left) (c .before .if2 .left) (c .if3 .left)

@@ -1,3 +1,4 @@
+use native.Mathlib.Omega.{arith}
 use borrow.Author.Needs.{needs}
 use denote.Ref.{now}
 use Rattle.area.proofs.AreaLaws.{append-moved, append-kept}
@@ -22,7 +23,7 @@ same-length c = search needs
 returns : tie.Need-returns
 returns c =
     let a = c .before .before .before .before .before .before .before .args in
-    append-moved (a .start) (a .live) (now (a .words)) (now (a .area)) _ _ (c .before .before .before .before .before .before .if1 .taken) (c .before .before .before .before .move-front .ensures) (c .before .write-words .ensures)
+    append-moved (a .start) (a .live) (now (a .words)) (now (a .area)) _ _ (omega (arith, c .before .before .before .before .before .before .if1 .taken)) (c .before .before .before .before .move-front .ensures) (c .before .write-words .ensures)
 
 add-write-words : tie.Need-add-write-words
 add-write-words c = search needs

@@ -1,0 +1,4 @@
+pub mod Sample
+pub mod Follow
+pub mod Free
+pub mod Table

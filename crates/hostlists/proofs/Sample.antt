@@ -1,0 +1,83 @@
+-- One list of calls in numbers, with a port code that cannot be, a run of two turns and a turn: what each call returns and what a host reads off it, by computation.
+-- Assumes nothing.
+use mathlib.Core.Path.{_≡_, refl}
+use mathlib.Core.Bool.{true}
+use mathlib.Core.List.{List, [], _∷_, map}
+use Prim.Native.Nat.{ℕ}
+use lib.IntN.{pos, negsuc}
+use Rattle.frames.specs.Cells.{Words}
+use Rattle.frames.proofs.Samples.{keys, frameOf}
+use Rattle.codes.specs.Codes.{areFlags, flagsOf, flagCodes}
+use Rattle.convert.specs.Convert.{isOptions, decodeOptions, isJoin, decode}
+use Rattle.convert.specs.declared.HostOptions.{HostOptions}
+use Rattle.runs.specs.Run.{runCall}
+use Rattle.hostcalls.specs.Calls.{byJoin, openHost, leftHost, rightHost, endHost, portsHost, turnHost, runHost}
+use Rattle.lists.specs.Lists.{Entry, pairUp, writtenIn, matchesIn}
+use Rattle.lists.proofs.Script.{leftArea, rightArea, space, speakAll}
+use Rattle.hostlists.specs.HostLists.{HostCall, left, right, end, ports, turn, run, HostEvent, onLeft, onRight, onEnd, onPorts, onTurn, onRun, hostStep, hostEvents, hostFinal}
+use Rattle.hostlists.specs.HostTable.{runOutputs, hostLefts, hostRights, hostOutputs, returned, has, hostWaiting, hostMatches}
+
+-- Backward with equality, no by-column, no tolerance, the check on.
+abbrev h : HostOptions
+h = record {
+  by = 0;
+  strategy = 0;
+  «allow_eq» = 1;
+  tolerance = negsuc 0;
+  check = 1;
+  descending = 0 ∷ 0 ∷ 0 ∷ 0 ∷ [];
+  «nulls_last» = 0 ∷ 0 ∷ 0 ∷ 0 ∷ [];
+}
+
+-- The numbers of what a call returned, without its join.
+abbrev numbers : HostEvent → List ℕ
+numbers (onLeft f t) = t .refusal ∷ []
+numbers (onRight f t) = t .refusal ∷ []
+numbers (onEnd t) = t .refusal ∷ []
+numbers (onPorts l r s t) = t .refusal ∷ t .left ∷ t .right ∷ t .send ∷ []
+numbers (onTurn t out) = t .answer ∷ t .refusal ∷ t .sequence ∷ []
+numbers (onRun t out) = t .turns ∷ t .words ∷ t .stop ∷ t .refusal ∷ []
+
+abbrev entry : ℕ → ℕ → Entry
+entry n m = record { number = pos n; mark = pos m }
+
+unfoldable pub calls : List HostCall
+calls =
+    right (frameOf 1 (keys (10 ∷ 20 ∷ [])))
+    ∷ left (frameOf 1 (keys (5 ∷ 15 ∷ [])))
+    ∷ left (frameOf 1 (keys (25 ∷ [])))
+    ∷ turn (space 9)
+    ∷ ports 1 7 1
+    ∷ left (pos 1 ∷ pos 2 ∷ pos 5 ∷ pos 1 ∷ [])
+    ∷ run 5 (space 9)
+    ∷ left (frameOf 1 (keys (30 ∷ [])))
+    ∷ end
+    ∷ run 5 (space 9)
+    ∷ left (frameOf 1 (keys (40 ∷ [])))
+    ∷ ports 1 1 1
+    ∷ []
+
+pub returns : map numbers (returned h (leftArea 20) (rightArea 8) calls)
+    ≡ (0 ∷ [])
+    ∷ (0 ∷ [])
+    ∷ (0 ∷ [])
+    ∷ (0 ∷ 0 ∷ 0 ∷ [])
+    ∷ (2 ∷ 0 ∷ 0 ∷ 0 ∷ [])
+    ∷ (5 ∷ [])
+    ∷ (0 ∷ 0 ∷ 1 ∷ 0 ∷ [])
+    ∷ (0 ∷ [])
+    ∷ (0 ∷ [])
+    ∷ (2 ∷ 8 ∷ 2 ∷ 0 ∷ [])
+    ∷ (0 ∷ [])
+    ∷ (0 ∷ 1 ∷ 1 ∷ 1 ∷ [])
+    ∷ []
+unfolding speakAll calls hostEvents hostStep openHost leftHost rightHost endHost portsHost turnHost runHost byJoin decode isJoin decodeOptions isOptions areFlags flagsOf flagCodes runCall
+returns = refl
+
+-- The four rows that were written, and the frame that waits; the join says that right has ended and that the node runs.
+pub reads : (hostMatches h (leftArea 20) (rightArea 8) calls ≡ entry 0 0 ∷ entry 0 1 ∷ entry 1 1 ∷ entry 1 1 ∷ [])
+    × (hostWaiting h (leftArea 20) (rightArea 8) calls ≡ frameOf 1 (keys (40 ∷ [])) ∷ [])
+    × (has h (leftArea 20) (rightArea 8) calls .join .«right_ended» ≡ 1)
+    × (has h (leftArea 20) (rightArea 8) calls .join .state ≡ 0)
+unfolding speakAll calls hostEvents hostFinal hostStep openHost leftHost rightHost endHost portsHost turnHost runHost byJoin decode isJoin decodeOptions isOptions areFlags flagsOf flagCodes runCall hostLefts hostRights hostOutputs runOutputs matchesIn writtenIn pairUp
+reads = (refl, refl, refl, refl)

@@ -1,0 +1,3 @@
+pub mod HostLists
+pub mod HostTable
+pub mod HostFree
