@@ -1,4 +1,4 @@
-//! The wrapper over the archive: 01's counter cases, every refusal, any cut, runs, keeping a join, and threads.
+//! The wrapper over the archive: the worked cases, every refusal, any cut, runs, keeping a join, and threads.
 use rowkeeper::{ByColumn, Frame, Join, NodeState, Options, Port, Ports, Refusal, Run, Stop, Strategy, Turn, raw};
 
 type Row = [Option<i64>; 2];
@@ -49,7 +49,7 @@ fn matches(options: &Options, left: &[i64]) -> Vec<Option<u64>> {
     turn(&mut join).unwrap()
 }
 
-/// 01, At the counter: the strategies, equality and tolerance.
+/// SCOPE 21: the strategies, equality and tolerance.
 #[test]
 fn counter() {
     use Strategy::*;
@@ -62,7 +62,7 @@ fn counter() {
     assert_eq!(matches(&options(Backward, true, Some(5)), &[25]), [Some(2)]);
 }
 
-/// 01, At the counter: what is held afterwards, and a turn that wants more.
+/// SCOPE 21: what is held afterwards, and a turn that wants more.
 #[test]
 fn wants_and_drops() {
     let mut join = open(&options(Strategy::Backward, true, None));

@@ -1,4 +1,4 @@
--- By demand 3: the merge of two sorted books is sorted. Assumes nothing.
+-- By the whole-table theorem: the merge of two sorted books is sorted. Assumes nothing.
 use mathlib.Core.Path.{_≡_, sym, subst}
 use mathlib.Core.Bool.{true, false}
 use mathlib.Core.List.{List, map}

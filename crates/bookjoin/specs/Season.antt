@@ -12,7 +12,7 @@ use Rattle.lists.specs.Demand.{lefts, rights, turnedRows, matches, asWritten, C
 use Rattle.books.specs.Merge.{merge}
 
 -- Any list of calls whose accepted right rows are the merged table, however it is cut in frames and whatever else the list has: what it writes are the
--- matches of the whole-table rule over the merged table, and each is right as demand 3 says.
+-- matches of the whole-table rule over the merged table, and each is right as the whole-table theorem says.
 pub record SeasonOf (o : Options) (l r : Words) (calls : List Call) (house festival : Rows) : Type 0 where
   pub whole-table : matches o l r calls ≡ map (λ x. asWritten (wholeTable o (merge o house festival) x)) (turnedRows o l r calls)
   pub none-exactly : Each (Correct o (merge o house festival)) (turnedRows o l r calls) (matches o l r calls)

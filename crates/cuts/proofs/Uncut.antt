@@ -86,7 +86,7 @@ later-entry n (Row i ∷ ms) = rw (later-entry n ms)
 later-entry n (Nothing ∷ ms) = rw (later-entry n ms)
 
 module _ (o : Options) (allowed : badOptions o ≡ false) where
-  -- A job writes the join of its pair: demand 3.
+  -- A job writes the join of its pair, by the whole-table theorem.
   job-writes : (p : Pair) (j : Job) → Joins o p j → written o j ≡ map asWritten (joined o p)
   unfolding joined
   job-writes p j w =

@@ -1,4 +1,4 @@
--- The match of a row is that over its group's own notices, counted among them; so is what is written, by demand 3. Assumes nothing.
+-- The match of a row is that over its group's own notices, counted among them; so is what is written, by the whole-table theorem. Assumes nothing.
 use mathlib.Core.Path.{_≡_, refl, sym, ap, _∙_}
 use mathlib.Core.Bool.{Bool, true, false, cond, not}
 use mathlib.Core.List.{List, [], _∷_, map}
@@ -95,7 +95,7 @@ own-all o g R s (x ∷ xs) = by (inGroup o g x) refl (own-all o g R s xs)
     by true e ih = rw (own-is o g R x e s, ih)
     by false e ih = ih
 
--- What is written is the whole table's, by demand 3.
+-- What is written is the whole table's, by the whole-table theorem.
 pub alone : (o : Options) → badOptions o ≡ false → (g : List Cell) (l r : Words) (calls : List Call) → Alone o g l r calls
 alone o allowed g l r calls d =
     ap (λ (m : List Entry). map (own o g (rights o l r calls)) (writtenFor o g (turnedRows o l r calls) m)) (demand3 o allowed l r calls .whole-table d)

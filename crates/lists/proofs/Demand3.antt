@@ -1,4 +1,4 @@
--- Demand 3, proved: the statement of specs/Demand.antt, for all options that are not refused, areas and lists of calls. Assumes nothing.
+-- The whole-table theorem, proved: the statement of specs/Demand.antt, for all options that are not refused, areas and lists of calls. Assumes nothing.
 use mathlib.Core.Path.{_≡_, refl, sym, ap, _∙_}
 use mathlib.Core.Bool.{Bool, true, false, cond, not, _&&_, _||_, or-false}
 use mathlib.Core.List.{List, [], _∷_, _++_, append-nil, append-assoc, map}
@@ -209,7 +209,7 @@ each-map : {A B : Type 0} {P Q : A → B → Type 0} → ((a : A) (b : B) → P 
 each-map f [] [] ends = ends
 each-map f (a ∷ xs) (b ∷ ys) (pairs p e) = pairs (f a b p) (each-map f xs ys e)
 
--- Demand 3.
+-- The whole-table theorem.
 pub demand3 : Demand
 unfolding turnedOf
 demand3 o allowed l r calls =

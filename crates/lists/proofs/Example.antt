@@ -60,7 +60,7 @@ pub answers : says o (leftArea 20) (rightArea 8) calls
 unfolding calls says
 answers = refl
 
--- What demand 3 reads off this list: the accepted rows of each side, which are sorted, the rows turned, and the matches written.
+-- What the whole-table theorem reads off this list: the accepted rows of each side, which are sorted, the rows turned, and the matches written.
 pub told : (lefts o (leftArea 20) (rightArea 8) calls ≡ keys (5 ∷ 15 ∷ 20 ∷ 25 ∷ 27 ∷ []))
     × (rights o (leftArea 20) (rightArea 8) calls ≡ keys (10 ∷ 20 ∷ 20 ∷ 30 ∷ []))
     × (turnedRows o (leftArea 20) (rightArea 8) calls ≡ keys (5 ∷ 15 ∷ 20 ∷ 25 ∷ 27 ∷ []))

@@ -1,4 +1,4 @@
--- Random lists of calls, told as text in lists.txt: every answer, and then the join and the words of both areas, are those that the rules read from 01 give.
+-- Random lists of calls, told as text in lists.txt: every answer, and then the join and the words of both areas, are those that the rules read from SCOPE give.
 -- Written by make. Assumes nothing.
 use mathlib.Core.Path.{_≡_, refl}
 use mathlib.Core.Bool.{true, false}

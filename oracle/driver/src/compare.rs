@@ -171,18 +171,18 @@ pub enum Difference {
     Inside(String),
 }
 
-/// Whether 01 refuses the call by 1 to 7, a run in its first turn: the Rust has no counterpart.
+/// Whether SCOPE refuses the call by 1 to 7, a run in its first turn: the Rust has no counterpart.
 pub fn no_counterpart(answer: &Answer) -> bool {
     matches!(answer, Answer::Refused(1..=7) | Answer::State(_) | Answer::NoJoin)
         || matches!(answer, Answer::Ran(Ran { turns: 0, stop: Stop::Refused(1..=7), .. }))
 }
 
-/// Whether the Rust went another way than 01 from here on: it knows no areas and no outputs, so it took what 01 refused.
+/// Whether the Rust went another way than SCOPE from here on: it knows no areas and no outputs, so it took what SCOPE refused.
 pub fn parted(answer: &Answer) -> bool {
     matches!(answer, Answer::Refused(2 | 6 | 7) | Answer::Ran(Ran { stop: Stop::Refused(2 | 6 | 7), .. }))
 }
 
-/// Whether the Rust's answer is this one. Where 01 refuses a later turn of a run by 1 to 7 the Rust may go on: its first
+/// Whether the Rust's answer is this one. Where SCOPE refuses a later turn of a run by 1 to 7 the Rust may go on: its first
 /// turns must have written the same.
 pub fn agrees(rust: &Answer, said: &Answer) -> bool {
     match (rust, said) {
@@ -216,7 +216,10 @@ fn run_both(calls: &[Call], ways: Ways, tally: &mut Tally) -> Result<(), Differe
         tally.calls += 1;
         let known = !no_counterpart(&ruled);
         if known && !agrees(&said, &ruled) {
-            return Err(Difference::Answer(format!("call {}, {call}: the Rust says {said}, 01 says {ruled}", i + 1)));
+            return Err(Difference::Answer(format!(
+                "call {}, {call}: the Rust says {said}, SCOPE says {ruled}",
+                i + 1
+            )));
         } else if known {
             tally.compared += 1;
             tally.count(&ruled, state);
@@ -227,7 +230,7 @@ fn run_both(calls: &[Call], ways: Ways, tally: &mut Tally) -> Result<(), Differe
         }
         let (is, should) = (rust_inside(&rust), rules_inside(&pulled));
         if known && inside.is_ok() && is != should {
-            let text = format!("call {}, {call}: the Rust has {is:?}, 01 has {should:?}", i + 1);
+            let text = format!("call {}, {call}: the Rust has {is:?}, SCOPE has {should:?}", i + 1);
             inside = Err(Difference::Inside(text));
         }
     }
@@ -240,7 +243,7 @@ fn run_both(calls: &[Call], ways: Ways, tally: &mut Tally) -> Result<(), Differe
     inside
 }
 
-/// Text of a panic, which is a difference like any other: 01 knows no panic.
+/// Text of a panic, which is a difference like any other: SCOPE knows no panic.
 pub fn panic_text(panic: Box<dyn std::any::Any + Send>) -> String {
     let text = panic.downcast_ref::<String>().cloned();
     text.or_else(|| panic.downcast_ref::<&str>().map(|s| s.to_string())).unwrap_or_default()

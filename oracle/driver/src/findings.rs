@@ -30,7 +30,7 @@ fn open(text: &str) -> Open {
     o
 }
 
-/// 1: left and right faults in one turn arise side by side; 01 says 8.
+/// 1: left and right faults in one turn arise side by side; SCOPE says 8.
 fn both_sides() -> Found {
     let text = "open 0 0 1 -1 1 6 4\nright 2 1 1 0 1 1\nend\nleft 2 1 2 1 1 1\nturn 6";
     let mut rust = Rust::default();

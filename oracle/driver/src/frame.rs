@@ -1,6 +1,6 @@
 //! Words that a host hands in, as the Rust's columns.
 
-/// A frame's columns, or none where its words break 01's frame rule or have other columns: no such frame can be made.
+/// A frame's columns, or none where its words break SCOPE's frame rule or have other columns: no such frame can be made.
 pub fn columns(words: &[i64], c: usize) -> Option<Vec<Vec<Option<i64>>>> {
     let [n, columns, cells @ ..] = words else { return None };
     if !(0..=4096).contains(n) || *columns != c as i64 || cells.len() != 2 * *n as usize * c {

@@ -22,12 +22,12 @@ oracle whole SEED COUNT               the whole-table rule over COUNT scripts
 oracle judges SEED COUNT              the step rules by the whole-table judge over COUNT scripts a kind
 oracle compare SEED COUNT             the Rust and the step rules over COUNT scripts a kind
 oracle large SEED COUNT               the same over COUNT scripts with thousands of rows a side
-oracle spans SEED COUNT               the range join of the Rust and 2.9 over COUNT inputs
+oracle spans SEED COUNT               the range join of the Rust and SCOPE 19 over COUNT inputs
 oracle sample write|replay FOLDER     record the sample, or replay it
 oracle edits LIST                     print the edits of the Rust
 oracle edit LIST NAME FROM TO         lay an edited copy of the source down
 oracle notice SEED COUNT FOLDER       which judge sees that the Rust was edited, and whether the sample does
-oracle notice-spans SEED COUNT        at which input 2.9 sees that the Rust's range join was edited";
+oracle notice-spans SEED COUNT        at which input SCOPE 19 sees that the Rust's range join was edited";
 
 /// Prints random scripts of a kind, made by one of the two ways to make them.
 fn print_scripts(make: fn(Kind, u64, u64) -> Vec<Call>, kind: &str, seed: u64, count: u64) -> Result<(), String> {

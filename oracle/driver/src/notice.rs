@@ -75,7 +75,7 @@ pub fn print(seed: u64, count: u64, folder: &Path) -> Result<(), String> {
     Ok(())
 }
 
-/// Prints where the plain reading of 2.9 noticed something: at which of its own cases or random inputs.
+/// Prints where the plain reading of SCOPE 19 noticed something: at which of its own cases or random inputs.
 pub fn print_spans(seed: u64, count: u64) {
     std::panic::set_hook(Box::new(|_| {}));
     let cases = if catch_unwind(spans::cases).is_ok_and(|said| said.is_ok()) { "-" } else { "yes" };

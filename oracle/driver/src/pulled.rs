@@ -1,5 +1,5 @@
-//! 01's step rules behind a host that hands right frames over only where they are wanted, as the Rust pulls them from its
-//! pipe: a list of calls like any other, so that 01 fixes its answers on unsorted sides too.
+//! SCOPE's step rules behind a host that hands right frames over only where they are wanted, as the Rust pulls them from its
+//! pipe: a list of calls like any other, so that SCOPE fixes its answers on unsorted sides too.
 use std::collections::VecDeque;
 
 use judges::rules::Rules;

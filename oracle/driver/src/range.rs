@@ -156,7 +156,7 @@ fn pairs(call: &Spans, ways: Ways, points: Side, intervals: Side) -> Vec<Pair> {
     pairs
 }
 
-/// The table of the pairs that the Rust finds, whatever the points are; none where the request refuses flags or tables: no
+/// The table of the pairs that the Rust finds, whatever the points are; none where SCOPE 19 refuses flags or tables: no
 /// such node or frame can be made.
 pub fn table(call: &Spans, ways: Ways) -> Option<Vec<i64>> {
     let flags = [call.lower, call.upper].iter().all(|flag| [0, 1].contains(flag));
@@ -170,12 +170,12 @@ pub fn table(call: &Spans, ways: Ways) -> Option<Vec<i64>> {
     Some(words)
 }
 
-/// Whether the request refuses these points by 16, where they are a frame.
+/// Whether SCOPE 19 refuses these points by 16, where they are a frame.
 fn refused_by_16(words: &[i64]) -> bool {
     frame::columns(words, 1).is_some_and(|points| points[0].contains(&None) || !points[0].is_sorted())
 }
 
-/// The Rust's answer. Nothing where the request refuses flags, tables or points: the node has no counterpart of it. Outputs
+/// The Rust's answer. Nothing where SCOPE 19 refuses flags, tables or points: the node has no counterpart of it. Outputs
 /// are as long as needed.
 pub fn answer(call: &Spans, ways: Ways) -> Answer {
     if refused_by_16(&call.points) {

@@ -74,7 +74,7 @@ impl Names {
         Arc::new(Schema::of_names(self.by[..b].iter().copied().chain([self.key]).chain(self.number)))
     }
 
-    /// A frame's words as the Rust's frame, or none where they break 01's frame rule: no such frame can be made.
+    /// A frame's words as the Rust's frame, or none where they break SCOPE's frame rule: no such frame can be made.
     fn frame(&self, words: &[i64], b: usize, first_number: usize) -> Option<DataFrame> {
         let cells = frame::columns(words, b + 1)?;
         let n = cells[0].len();
@@ -120,7 +120,7 @@ pub struct Join {
     spoiled: Option<Spoiled>,
 }
 
-/// Whether 01 refuses these options by 1: it gives them no meaning that a stand-in could have.
+/// Whether SCOPE refuses these options by 1: it gives them no meaning that a stand-in could have.
 fn refused_by_1(o: &Open) -> bool {
     o.b > 4 || !(0..=2).contains(&o.strategy) || o.tolerance < -1 || (o.strategy == 2 && !o.eq)
 }
@@ -166,7 +166,7 @@ async fn sink(mut recv: polars_stream::pipe::PortReceiver, sent: &RefCell<Sent>)
 }
 
 impl Join {
-    /// A fresh join, or none where 01 refuses its options.
+    /// A fresh join, or none where SCOPE refuses its options.
     pub fn open(o: &Open, ways: Ways) -> Option<Self> {
         (!refused_by_1(o)).then(|| Self::open_any(o, ways))
     }
@@ -204,7 +204,7 @@ impl Join {
         sent.into_inner()
     }
 
-    /// 01, The join: held rows. The node itself takes right frames into its buffer when no left frame is there.
+    /// SCOPE 5: held rows. The node itself takes right frames into its buffer when no left frame is there.
     fn buffer_right(&mut self, frames: Vec<DataFrame>) {
         let held = self.node.hook_held() + frames.iter().map(|f| f.height()).sum::<usize>();
         let queue = std::mem::take(self.node.hook_left_buffer());
@@ -213,7 +213,7 @@ impl Join {
         *self.node.hook_left_buffer() = queue;
     }
 
-    /// 01, Turn: one phase in which only the front frame waits.
+    /// SCOPE 12: one phase in which only the front frame waits.
     pub fn turn(&mut self) -> Answer {
         let mut queue = std::mem::take(self.node.hook_left_buffer());
         let front = queue.pop_front();
@@ -240,7 +240,7 @@ impl Join {
         }
     }
 
-    /// 01, `run`: at most k turns, one frame at a time. Outputs are as long as needed.
+    /// SCOPE 17: at most k turns, one frame at a time. Outputs are as long as needed.
     fn run(&mut self, k: usize) -> Ran {
         let (mut turns, mut words) = (0, vec![]);
         let stop = loop {
@@ -259,7 +259,7 @@ impl Join {
         Ran { turns: turns as u64, count: words.len() as u64, stop, words }
     }
 
-    /// 01, Ports: the node's own `update_state`.
+    /// SCOPE 13: the node's own `update_state`.
     fn ports(&mut self, ports: [u8; 3]) -> Answer {
         let [left, right, send] = ports.map(|p| [PortState::Blocked, PortState::Ready, PortState::Done][p as usize]);
         let (mut recv, mut send) = ([left, right], [send]);
@@ -267,7 +267,7 @@ impl Join {
         Answer::Ports([recv[0] as u8, recv[1] as u8, send[0] as u8], self.node.hook_state())
     }
 
-    /// 01, left: the frame joins the waiting ones. One that 01 refuses has no counterpart and is not taken.
+    /// SCOPE 5.8, left: the frame joins the waiting ones. One that SCOPE refuses has no counterpart and is not taken.
     fn left(&mut self, words: &[i64]) {
         if !self.failed() && self.node.hook_state() == 0 {
             let frame = LEFT.frame(words, self.b, 0);
@@ -275,7 +275,7 @@ impl Join {
         }
     }
 
-    /// 01, right: the frame's rows are held. One that 01 refuses has no counterpart and is not taken.
+    /// SCOPE 5.8, right: the frame's rows are held. One that SCOPE refuses has no counterpart and is not taken.
     fn right(&mut self, words: &[i64]) {
         if self.failed() || self.ended || self.node.hook_state() == 2 {
             return;
@@ -289,7 +289,7 @@ impl Join {
         }
     }
 
-    /// 01, Ports: "Ending right stands for `recv_right` being none." What is still in the pipe is taken first.
+    /// SCOPE 13.5: right ends. What is still in the pipe is taken first.
     fn end(&mut self) {
         if self.failed() || self.ended || self.node.hook_state() == 2 {
             return;
@@ -350,7 +350,7 @@ impl Join {
         Some((wrote, spoiled))
     }
 
-    /// The answer to a call on an open join. Where 01 refuses, the Rust has no counterpart: `left`, `right` and `end`
+    /// The answer to a call on an open join. Where SCOPE refuses, the Rust has no counterpart: `left`, `right` and `end`
     /// say ok and nothing changes; `turn`, `run` and `ports` say nothing.
     pub fn call(&mut self, call: &Call) -> Answer {
         match call {
@@ -373,8 +373,8 @@ fn only_order_errors(errors: &[PolarsError]) {
     assert_eq!(errors.len(), FAULTS.with_borrow(|f| f.len()));
 }
 
-/// 01, refusals 8 and 9, told by the side whose check said no. Where both did it is 8: the Rust's two tasks fail side
-/// by side, 01 has an order.
+/// SCOPE 8.8, refusals 8 and 9, told by the side whose check said no. Where both did it is 8: the Rust's two tasks fail side
+/// by side, SCOPE has an order.
 fn take_spoiled(sent: usize) -> Option<Spoiled> {
     let faults = FAULTS.take();
     let left = faults.contains(&KEY_LEFT);
@@ -382,7 +382,7 @@ fn take_spoiled(sent: usize) -> Option<Spoiled> {
     (left || right).then_some(Spoiled { left, right, sent })
 }
 
-/// 01, Turn: "Written: n, 1, n right numbers, n marks (none: 0 and 0)".
+/// SCOPE 12.5: the words of an answer.
 fn written(df: &DataFrame) -> Vec<i64> {
     let numbers = df.column(&NUMBER).unwrap().values();
     let mut out = vec![df.height() as i64, 1];

@@ -108,7 +108,7 @@ struct Sample {
 }
 
 impl Sample {
-    /// Takes a script where it covers something not yet covered enough, and is short, and 01 refuses none of its calls
+    /// Takes a script where it covers something not yet covered enough, and is short, and SCOPE refuses none of its calls
     /// by 1 to 7.
     fn offer(&mut self, calls: &[Call], everything: bool) {
         let text: String = calls.iter().map(|c| format!("{c}\n")).collect();

@@ -1,4 +1,4 @@
-//! The oracle's test of itself, which needs no port: the Rust against 01's cases, against the whole-table rule and
+//! The oracle's test of itself, which needs no port: the Rust against SCOPE's cases, against the whole-table rule and
 //! against the step rules. Every step prints its counts and fails where they show that nothing was tested.
 use std::fmt;
 use std::time::Instant;
@@ -26,12 +26,12 @@ fn failure(what: &str, calls: &[Call], why: &str) -> String {
     format!("{what}: {why}\n{}", lines.join("\n"))
 }
 
-/// The answers that 01 gives to its counter cases, line by line.
+/// The answers to the worked cases, line by line.
 fn expected_answers(text: &str) -> Vec<&str> {
     text.lines().filter_map(|l| l.strip_prefix("= ")).collect()
 }
 
-/// Calls with the answers that were read from 01 by hand, by the rules, and by the Rust where it has a counterpart.
+/// Calls with the answers that were read from SCOPE by hand, by the rules, and by the Rust where it has a counterpart.
 fn cases(text: &str) -> Step {
     let lines: Vec<&str> = text.lines().filter(|l| !l.starts_with('=')).collect();
     let calls = parse_script(&lines.join("\n"))?;
@@ -51,17 +51,17 @@ fn cases(text: &str) -> Step {
     Ok(format!("{} calls, {asked} of them answered by the Rust", calls.len()))
 }
 
-/// 01, At the counter.
+/// SCOPE 21: the worked cases.
 pub fn counter_cases() -> Step {
     cases(include_str!("../counter.txt"))
 }
 
-/// 01, After demand 3.
+/// SCOPE 17: runs.
 pub fn run_cases() -> Step {
     cases(include_str!("../runs.txt"))
 }
 
-/// 01, At the counter: "4,096 rows pass, 4,097 are refusal 5".
+/// SCOPE 2.2: a frame has at most 4,096 rows.
 pub fn longest_frames() -> Step {
     let frame = |n: i64| [vec![n, 1], (0..n).collect(), vec![1; n as usize]].concat();
     let open = parse_script("open 0 0 1 -1 1 8194 8192")?;
@@ -345,8 +345,7 @@ fn by_whole_table(open: &Open, left: Vec<Vec<i64>>, right: Vec<Vec<i64>>, wrote:
     whole_table::judge_whole(&calls, &[oks, wrote].concat()).map(|_| ())
 }
 
-/// 01, Lists: "accepted right rows = pruned + held, and accepted left rows = rows written in the outputs + rows in the
-/// queue", and "changes nothing" of each refusal: the rules' own promises, over scripts full of refusals.
+/// SCOPE 15.12 and 16.1: the rules' own promises, over scripts full of refusals.
 pub fn refusals(seed: u64, count: u64) -> Step {
     let mut refused = [0u64; 10];
     for i in 0..count {
@@ -416,8 +415,8 @@ pub fn run(steps: Vec<Named>) -> bool {
 /// The whole self-test with so many random scripts a kind.
 pub fn all(seed: u64, count: u64) -> bool {
     run(vec![
-        ("01's counter cases", Box::new(counter_cases)),
-        ("01's runs", Box::new(run_cases)),
+        ("worked cases", Box::new(counter_cases)),
+        ("runs", Box::new(run_cases)),
         ("longest frames", Box::new(longest_frames)),
         ("findings", Box::new(crate::findings::all)),
         ("all short scripts", Box::new(short_scripts)),
@@ -428,11 +427,11 @@ pub fn all(seed: u64, count: u64) -> bool {
         ("large tables", Box::new(move || large(seed, 12.max(count / 200)))),
         ("ways of feeding", Box::new(move || ways(seed, count / 8))),
         ("refusals", Box::new(move || refusals(seed, count))),
-        ("2.9's cases", Box::new(spans::cases)),
-        ("2.9, longest tables", Box::new(spans::longest)),
-        ("2.9, findings", Box::new(spans::findings)),
-        ("2.9, all short inputs", Box::new(spans::short_inputs)),
-        ("2.9, points in intervals", Box::new(move || spans::random(seed, 4 * count))),
-        ("2.9, ways of feeding", Box::new(move || spans::ways(seed, count))),
+        ("spans, cases", Box::new(spans::cases)),
+        ("spans, longest tables", Box::new(spans::longest)),
+        ("spans, findings", Box::new(spans::findings)),
+        ("spans, all short inputs", Box::new(spans::short_inputs)),
+        ("spans, points in intervals", Box::new(move || spans::random(seed, 4 * count))),
+        ("spans, ways of feeding", Box::new(move || spans::ways(seed, count))),
     ])
 }

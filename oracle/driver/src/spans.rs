@@ -1,4 +1,4 @@
-//! 2.9, points in intervals: the Rust beside the plain reading.
+//! SCOPE 19, points in intervals: the Rust beside the plain reading.
 use std::fmt;
 use std::panic::{AssertUnwindSafe, catch_unwind};
 
@@ -91,7 +91,7 @@ pub fn with_rust(call: &Spans, said: &Answer, ways: Ways) -> Result<bool, String
     if agrees(call, &rust, said) {
         return Ok(rust != Answer::Nothing);
     }
-    Err(format!("the Rust says {}, 2.9 says {}", short(&rust), short(said)))
+    Err(format!("the Rust says {}, SCOPE 19 says {}", short(&rust), short(said)))
 }
 
 /// Compares the Rust with the plain reading on one input.
@@ -102,7 +102,7 @@ pub fn with_rules(call: &Spans, ways: Ways, tally: &mut Tally) -> Result<(), Str
     Ok(())
 }
 
-/// Calls with the answers that were read from 2.9 by hand, by the plain reading, and by the Rust.
+/// Calls with the answers that were read from SCOPE 19 by hand, by the plain reading, and by the Rust.
 pub fn cases() -> Result<String, String> {
     let text = include_str!("../spans.txt");
     let lines: Vec<&str> = text.lines().filter(|l| !l.starts_with('=')).collect();
@@ -112,7 +112,7 @@ pub fn cases() -> Result<String, String> {
     let mut asked = 0;
     for (call, want) in calls.iter().zip(&expected) {
         let (ruled, rust) = (Rules::default().call(call), Rust::default().call(call));
-        let Call::Spans(spans) = call else { return Err(format!("{call}: not of 2.9")) };
+        let Call::Spans(spans) = call else { return Err(format!("{call}: not of SCOPE 19")) };
         if ruled.to_string() != *want || !agrees(spans, &rust, &ruled) {
             return Err(format!("{call}: wanted {want}, the Rust says {rust}, the plain reading says {ruled}"));
         }
@@ -128,7 +128,7 @@ fn ladder(rows: i64, columns: i64) -> Vec<i64> {
     [rows, columns].into_iter().chain(values).chain(marks).collect()
 }
 
-/// 2.9: "Both sides hold at most 4,096 rows; more are 5."
+/// SCOPE 19: each side has at most 4,096 rows.
 pub fn longest() -> Result<String, String> {
     let call = |points: i64, intervals: i64| Spans {
         lower: 1,
@@ -151,7 +151,7 @@ pub fn longest() -> Result<String, String> {
     Ok("4,096 rows a side meet, 4,097 are refused".into())
 }
 
-/// What docs/DIFFERENCES.md says of points that the request refuses by 16: the Rust drops those that are null, and asserts
+/// What docs/DIFFERENCES.md says of points that SCOPE 19 refuses by 16: the Rust drops those that are null, and asserts
 /// that the others are in order.
 pub fn findings() -> Result<String, String> {
     let told = |text: &str| {

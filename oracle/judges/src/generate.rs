@@ -18,7 +18,7 @@ pub enum Kind {
     Order,
     /// Keys, groups and tolerances at both ends of the 64-bit range.
     Ends,
-    /// Small areas, broken frames, calls at the wrong time: what 01 refuses, and the Rust does not know.
+    /// Small areas, broken frames, calls at the wrong time: what SCOPE refuses, and the Rust does not know.
     Refusals,
     /// As refusals, and between the calls the host alters words of the join and of the areas.
     Handed,
@@ -277,14 +277,14 @@ fn cut_large(r: &mut Random, rows: &[Row], c: usize) -> Vec<Vec<i64>> {
 }
 
 /// What is still to be handed in, and the script so far. The rules' join stands beside it, to know when a turn would be
-/// idle and what 01 refuses.
+/// idle and what SCOPE refuses.
 struct Draft {
     left: Vec<Vec<i64>>,
     right: Vec<Vec<i64>>,
     output: usize,
     calls: Vec<Call>,
     rules: Rules,
-    /// Whether calls that 01 refuses stay in the script.
+    /// Whether calls that SCOPE refuses stay in the script.
     keep_refused: bool,
 }
 
@@ -303,7 +303,7 @@ impl Draft {
         out
     }
 
-    /// Adds a call, unless 01 refuses it and such calls are left out.
+    /// Adds a call, unless SCOPE refuses it and such calls are left out.
     fn push(&mut self, call: Call) {
         let answer = self.rules.call(&call);
         if self.keep_refused || !matches!(answer, Answer::Refused(1..=7)) {
@@ -455,7 +455,7 @@ pub(crate) fn broken_frame(r: &mut Random, c: usize) -> Vec<i64> {
     out
 }
 
-/// Other options than a draft began with: small areas, and now and then ones that 01 refuses.
+/// Other options than a draft began with: small areas, and now and then ones that SCOPE refuses.
 fn small_open(r: &mut Random, mut o: Open) -> Open {
     o.left_words = r.below(o.left_words + 8);
     o.right_words = r.below(o.right_words + 8);
@@ -468,7 +468,7 @@ fn small_open(r: &mut Random, mut o: Open) -> Open {
     o
 }
 
-/// Any call, also ones that 01 refuses.
+/// Any call, also ones that SCOPE refuses.
 fn any_call(r: &mut Random, d: &mut Draft, c: usize) {
     match r.below(20) {
         0..=4 => d.left(),
@@ -483,7 +483,7 @@ fn any_call(r: &mut Random, d: &mut Draft, c: usize) {
     }
 }
 
-/// Opens a draft again, with small areas if so said, and keeps what 01 refuses; the number of its columns.
+/// Opens a draft again, with small areas if so said, and keeps what SCOPE refuses; the number of its columns.
 fn open_again(r: &mut Random, d: &mut Draft, small: bool) -> usize {
     let Some(Call::Open(o)) = d.calls.pop() else { unreachable!() };
     let c = o.b + 1;

@@ -1,4 +1,4 @@
-//! A judge that knows nothing of the Rust: 01's step rules, sentence by sentence, as plainly as they can be said. It
+//! A judge that knows nothing of the Rust: SCOPE's step rules, sentence by sentence, as plainly as they can be said. It
 //! speaks the whole script language, with areas, all refusals and `state`. It shares no code with the Rust's driver,
 //! with the stand-ins or with the judge of the whole-table rule.
 use std::cmp::Ordering;
@@ -602,7 +602,7 @@ impl Join {
     }
 }
 
-/// The judge that answers by 01's step rules.
+/// The judge that answers by SCOPE's step rules.
 #[derive(Default, Clone)]
 pub struct Rules {
     join: Option<Join>,

@@ -15,7 +15,7 @@ pub struct Open {
     pub right_words: usize,
 }
 
-/// 2.9, points in intervals: whether the lower and the upper bound are inclusive, the length of the output in words, and
+/// SCOPE 19, points in intervals: whether the lower and the upper bound are inclusive, the length of the output in words, and
 /// the words of both tables. Nothing is checked yet: any words can stand in the place of a flag or of a table.
 #[derive(Clone, Debug, PartialEq)]
 pub struct Spans {
@@ -326,7 +326,7 @@ pub fn parse_script(text: &str) -> Result<Vec<Call>, String> {
     text.lines().enumerate().filter_map(line).collect()
 }
 
-/// Whoever answers calls: the Rust, or the rules read from 01.
+/// Whoever answers calls: the Rust, or the rules read from SCOPE.
 pub trait Judge {
     /// The answer to a call.
     fn call(&mut self, call: &Call) -> Answer;

@@ -1,4 +1,4 @@
-//! 2.9, points in intervals, as plainly as it can be said: every pair of rows is looked at. It shares no code with the
+//! SCOPE 19, points in intervals, as plainly as it can be said: every pair of rows is looked at. It shares no code with the
 //! Rust's driver, with the stand-ins or with the step rules.
 use crate::script::{Answer, Spans};
 
@@ -8,7 +8,7 @@ pub const REFUSALS: [u8; 4] = [1, 5, 16, 6];
 /// The most rows that a side may have: "Both sides hold at most 4,096 rows; more are 5."
 const MOST: i64 = 4096;
 
-/// A side's rows, each cell null or a number; none where its words break 01's frame rule or have other columns than these.
+/// A side's rows, each cell null or a number; none where its words break SCOPE's frame rule or have other columns than these.
 fn rows(words: &[i64], columns: usize) -> Option<Vec<Vec<Option<i64>>>> {
     let [n, c, cells @ ..] = words else { return None };
     if *n < 0 || *n > MOST || *c != columns as i64 || cells.len() != 2 * *n as usize * columns {

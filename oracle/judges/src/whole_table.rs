@@ -1,4 +1,4 @@
-//! A judge that knows nothing of steps: 01's whole-table rule by brute force, straight from its sentences, with an order, a
+//! A judge that knows nothing of steps: SCOPE's whole-table rule by brute force, straight from its sentences, with an order, a
 //! sorting and a matching of its own. It shares no function with the step rules, the stand-ins or the Rust's driver, and looks
 //! at no call's inside: only at what was handed in and what was answered.
 //!

@@ -62,7 +62,7 @@ pub mod nodes {
             false
         }
 
-        /// 01, Ports: from the states in which the ports come to those in which they go.
+        /// SCOPE 13: from the states in which the ports come to those in which they go.
         fn update_state(
             &mut self,
             recv: &mut [PortState],

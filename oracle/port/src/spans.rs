@@ -1,4 +1,4 @@
-//! 2.9, points in intervals, by the port: one call over two tables and an output, each between guard words.
+//! SCOPE 19, points in intervals, by the port: one call over two tables and an output, each between guard words.
 use judges::script::{Answer, Spans};
 use rowkeeper::raw::safe;
 

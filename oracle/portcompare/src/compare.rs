@@ -1,4 +1,4 @@
-//! Running a script through the port, through 01's step rules and through the Rust, asking the whole-table judge about what
+//! Running a script through the port, through SCOPE's step rules and through the Rust, asking the whole-table judge about what
 //! they answered, and making a script that differs small.
 use std::fmt;
 use std::panic::{AssertUnwindSafe, catch_unwind};
@@ -82,7 +82,7 @@ impl Beside {
 /// What stands first in two lists at the same place and differs.
 fn first_difference(what: &str, port: &[i64], rules: &[i64]) -> Option<String> {
     let at = (0..port.len().max(rules.len())).find(|i| port.get(*i) != rules.get(*i))?;
-    Some(format!("word {at} of {what}: the port has {:?}, 01 has {:?}", port.get(at), rules.get(at)))
+    Some(format!("word {at} of {what}: the port has {:?}, SCOPE has {:?}", port.get(at), rules.get(at)))
 }
 
 /// How the port's join and areas differ from the rules', word by word.
@@ -106,7 +106,7 @@ fn run(calls: &[Call], kind: Kind, counts: &mut Counts) -> Result<(), String> {
         let (said, ruled) = (port.call(call), rules.call(call));
         let differs = |why: String| format!("call {}, {call}: {why}", i + 1);
         if said != ruled {
-            return Err(differs(format!("the port says {said}, 01 says {ruled}")));
+            return Err(differs(format!("the port says {said}, SCOPE says {ruled}")));
         } else if let Some(wrong) = port.wrong() {
             return Err(differs(wrong.to_string()));
         } else if let Some(why) = words_differ(&port, &rules) {

@@ -1,4 +1,4 @@
-//! 2.9, points in intervals: random inputs through the port, the plain reading and the Rust, and making one that differs
+//! SCOPE 19, points in intervals: random inputs through the port, the plain reading and the Rust, and making one that differs
 //! small.
 use std::time::{Duration, Instant};
 
@@ -19,7 +19,7 @@ fn run(call: &Spans, tally: &mut Tally) -> Result<(), String> {
     let mut port = Port::default();
     let (said, ruled) = (port.call(&Call::Spans(call.clone())), spans::answer(call));
     if said != ruled {
-        return Err(format!("the port says {}, 2.9 says {}", short(&said), short(&ruled)));
+        return Err(format!("the port says {}, SCOPE 19 says {}", short(&said), short(&ruled)));
     } else if let Some(wrong) = port.wrong() {
         return Err(wrong.to_string());
     }

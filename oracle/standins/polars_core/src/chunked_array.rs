@@ -121,14 +121,14 @@ pub mod row_encode {
     use super::BinaryOffsetChunked;
     use crate::frame::Column;
 
-    /// 01, Order: "Values compare as numbers, reversed if descending." One value as bytes that compare like it.
+    /// SCOPE 4.2: one value as bytes that compare like it.
     fn encode_value(value: i64, descending: bool) -> [u8; 8] {
         let word = (value as u64) ^ (1 << 63);
         (if descending { !word } else { word }).to_be_bytes()
     }
 
-    /// 01, Groups: "A group is null if any by-value is." (`broadcast_nulls`); Order: "Rows compare by by-columns in
-    /// order". Each row of the by-columns as bytes that compare like it, or none for a null group.
+    /// SCOPE 4.6 and 4.7 (`broadcast_nulls`): each row of the by-columns as bytes that compare like it, or none for a null
+    /// group.
     pub fn _get_rows_encoded_ca(
         _name: PlSmallStr,
         by: &[Column],

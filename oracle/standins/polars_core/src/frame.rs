@@ -54,17 +54,17 @@ impl Column {
         self.clone()
     }
 
-    /// 01, Order check: "the frame's first row with a key": the place of the first cell that is not null.
+    /// SCOPE 8.2: the place of the first cell that is not null.
     pub fn first_non_null(&self) -> Option<usize> {
         self.values().iter().position(Option::is_some)
     }
 
-    /// 01, Order check: "the frame's last row with a key": the place of the last cell that is not null.
+    /// SCOPE 8.6: the place of the last cell that is not null.
     pub fn last_non_null(&self) -> Option<usize> {
         self.values().iter().rposition(Option::is_some)
     }
 
-    /// 2.9: "a null bound drops the row": which cells are there.
+    /// SCOPE 19: a row with a null bound has no pair; which cells are there.
     pub fn is_not_null(&self) -> BooleanChunked {
         BooleanChunked::new(self.values().iter().map(|cell| Some(cell.is_some())).collect())
     }
@@ -227,7 +227,7 @@ impl DataFrame {
         self
     }
 
-    /// 01, Turn: "n right numbers, n marks (none: 0 and 0)": the row of each index, a row of nulls where it is null.
+    /// SCOPE 12.5: the row of each index, a row of nulls where it is null.
     pub fn take(&self, idx: &IdxCa) -> PolarsResult<DataFrame> {
         let pick = |c: &Column| {
             let cell = |i: &Option<u32>| i.and_then(|i| c.values()[i as usize]);

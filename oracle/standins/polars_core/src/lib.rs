@@ -1,4 +1,4 @@
-//! Stand-in: frames of named columns of 64-bit numbers with nulls. 01, Frames: "Mark 1 is present, 0 is null"; here a
+//! Stand-in: frames of named columns of 64-bit numbers with nulls. SCOPE 2; here a
 //! cell is `Some` or `None`.
 
 pub mod chunked_array;

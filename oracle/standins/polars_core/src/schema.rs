@@ -1,10 +1,10 @@
-//! Names and types of a frame's columns. Names stay out of 01; every type is `Int64`.
+//! Names and types of a frame's columns. Names stay out of SCOPE; every type is `Int64`.
 use std::sync::Arc;
 
 use polars_error::{PolarsResult, polars_err};
 use polars_utils::pl_str::PlSmallStr;
 
-/// The type of a column: whole numbers are all that 01 keeps.
+/// The type of a column: whole numbers are all that SCOPE keeps.
 #[derive(Clone, Debug, PartialEq)]
 pub enum DataType {
     Int64,

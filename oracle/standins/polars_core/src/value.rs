@@ -26,14 +26,14 @@ impl IsNull for AnyValue<'_> {
 }
 
 impl PartialEq for AnyValue<'_> {
-    /// 01, Order: "Null equals null".
+    /// SCOPE 4.1: a null equals a null.
     fn eq(&self, other: &Self) -> bool {
         self.partial_cmp(other) == Some(Ordering::Equal)
     }
 }
 
 impl PartialOrd for AnyValue<'_> {
-    /// 01, Need more: "Null keys compare as nulls first." and Order: "The key is ascending, nulls first."
+    /// SCOPE 4.3 and 7.7: keys ascend, nulls first.
     fn partial_cmp(&self, other: &Self) -> Option<Ordering> {
         use AnyValue::*;
         match (self, other) {

@@ -1,4 +1,4 @@
-//! Stand-in: a frame that never spills and is registered nowhere. Spilling stays out of 01.
+//! Stand-in: a frame that never spills and is registered nowhere. Spilling stays out of SCOPE.
 use std::ops::{Deref, DerefMut};
 
 use polars_core::frame::DataFrame;

@@ -1,4 +1,4 @@
-//! Stand-in: the functions whose meaning 01 gives under Order, Groups and Matching, and 2.9 to `search_sorted`.
+//! Stand-in: the functions whose meaning SCOPE gives in sections 4, 9 and 10, and in 19 for `search_sorted`.
 
 pub mod series {
     use polars_core::prelude::*;
@@ -9,14 +9,13 @@ pub mod series {
         out.extend(values.chunk_by(|a, b| a == b).map(|run| run.len() as IdxSize));
     }
 
-    /// 01, Groups: "A run is consecutive rows of equal group; neighbouring null groups form one run." For one
-    /// by-column.
+    /// SCOPE 9.1: runs of equal groups, for one by-column.
     pub fn rle_lengths(col: &Column, out: &mut Vec<IdxSize>) -> PolarsResult<()> {
         lengths(col.values(), out);
         Ok(())
     }
 
-    /// The same sentence of 01, for several by-columns, encoded.
+    /// SCOPE 9.1 for several by-columns, encoded.
     pub fn rle_lengths_helper_ca(ca: &ChunkedArray<BinaryOffsetType>, out: &mut Vec<IdxSize>) {
         lengths(ca.values(), out);
     }
@@ -38,9 +37,8 @@ pub mod series {
         }
     }
 
-    /// 2.9: "the first point at or above an inclusive lower bound, above an exclusive one, and the matching ends for
-    /// upper". Left is the first point at or above a value, Right the first above it; where there is none, the end of the
-    /// points. Which side a bound takes is range_join.rs's own. The request knows no descending points, and drops a null
+    /// SCOPE 19.7: Left is the first point at or above a value, Right the first above it; where there is none, the end of the
+    /// points. Which side a bound takes is range_join.rs's own. SCOPE knows no descending points, and drops a null
     /// bound before.
     pub fn search_sorted(
         points: &Series,
@@ -48,7 +46,7 @@ pub mod series {
         side: SearchSortedSide,
         descending: bool,
     ) -> PolarsResult<IdxCa> {
-        assert!(!descending, "2.9 is ascending only");
+        assert!(!descending, "SCOPE 19 is ascending only");
         let first = |bound: i64| {
             let found = points.values().iter().map(|p| p.expect("a point is not null")).position(|p| match side {
                 SearchSortedSide::Left => p >= bound,
@@ -64,7 +62,7 @@ pub mod series {
 pub mod frame {
     use polars_core::prelude::*;
 
-    /// 01, Options: "Strategy 0 Backward, 1 Forward, 2 Nearest".
+    /// SCOPE 3.1: the strategies.
     #[derive(Clone, Copy, Debug, PartialEq)]
     pub enum AsofStrategy {
         Backward,
@@ -72,7 +70,7 @@ pub mod frame {
         Nearest,
     }
 
-    /// 01, Options: strategy, tolerance, by-columns, equality and order check.
+    /// SCOPE 3: strategy, tolerance, by-columns, equality and order check.
     #[derive(Clone, Debug)]
     pub struct AsOfOptions {
         pub strategy: AsofStrategy,
@@ -90,7 +88,7 @@ pub mod frame {
         AsOf(Box<AsOfOptions>),
     }
 
-    /// 2.9: "each inclusive or exclusive as chosen": how the left side's value stands to the right side's.
+    /// SCOPE 19: how the left side's value stands to the right side's.
     #[derive(Clone, Copy, Debug)]
     pub enum InequalityOperator {
         Lt,
@@ -115,7 +113,7 @@ pub mod frame {
         ForceRight,
     }
 
-    /// A join's kind, the suffix of its columns' names, which stays out of 01, and the side to keep in memory.
+    /// A join's kind, the suffix of its columns' names, which stays out of SCOPE, and the side to keep in memory.
     #[derive(Clone, Debug)]
     pub struct JoinArgs {
         pub how: JoinType,
@@ -142,27 +140,25 @@ pub mod frame {
         Ok(())
     }
 
-    /// The left columns with the right ones beside them; suffixes stay out of 01.
+    /// The left columns with the right ones beside them; suffixes stay out of SCOPE.
     pub fn _finish_join(left: DataFrame, right: DataFrame, _suffix: Option<PlSmallStr>) -> PolarsResult<DataFrame> {
         left.hstack(&right)
     }
 
-    /// 01, Matching: "Backward: last row by position with key ≤ v (< v without equality). Forward: first ≥ v (> v).
-    /// Nearest: least distance, then greater key, then last position."
+    /// SCOPE 10.2 and 10.3: the row that is chosen, before the tolerance is asked.
     fn choice(right: &[Option<i64>], v: i64, strategy: AsofStrategy, allow_eq: bool) -> Option<(usize, i64)> {
         let mut keys = right.iter().enumerate().filter_map(|(i, k)| k.map(|k| (i, k)));
         match strategy {
             AsofStrategy::Backward => keys.rfind(|&(_, k)| k < v || (allow_eq && k == v)),
             AsofStrategy::Forward => keys.find(|&(_, k)| k > v || (allow_eq && k == v)),
             AsofStrategy::Nearest => {
-                assert!(allow_eq, "01 gives Nearest without equality no meaning");
+                assert!(allow_eq, "SCOPE gives Nearest without equality no meaning");
                 keys.max_by_key(|&(i, k)| (std::cmp::Reverse(k.abs_diff(v)), k, i))
             },
         }
     }
 
-    /// 01, Matching: "A left null key gets none; right null keys never qualify." and "A choice at distance above the
-    /// tolerance becomes none."
+    /// SCOPE 10.1 and 10.4: null keys match nothing, and a choice beyond the tolerance is none.
     pub fn _join_asof_dispatch(
         left: &Series,
         right: &Series,
@@ -200,7 +196,7 @@ pub mod frame {
         }
 
         impl DataFrameIsSorted for DataFrame {
-            /// 01, Order: "Rows compare by by-columns in order, then key. Sorted: no row is greater than the next."
+            /// SCOPE 4.4 and 4.5: whether rows are sorted.
             fn is_sorted(&self, by: &[PlSmallStr], descending: &[bool], nulls_last: &[bool]) -> PolarsResult<bool> {
                 assert!(by.len() == descending.len() && by.len() == nulls_last.len());
                 let columns = by.iter().map(|n| self.column(n)).collect::<PolarsResult<Vec<_>>>()?;

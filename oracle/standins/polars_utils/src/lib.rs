@@ -3,7 +3,7 @@
 pub mod pl_str {
     use std::ops::Deref;
 
-    /// A column's name. Names stay out of 01; the driver's are all fixed.
+    /// A column's name. Names stay out of SCOPE; the driver's are all fixed.
     #[derive(Clone, Copy, Debug, Default, PartialEq, Eq, PartialOrd, Ord, Hash)]
     pub struct PlSmallStr(&'static str);
 
@@ -59,8 +59,7 @@ pub mod sort {
 
     use crate::nulls::IsNull;
 
-    /// 01, Order: "Null equals null; it stands before every value, or after where nulls last is set, whatever the
-    /// direction. Values compare as numbers, reversed if descending."
+    /// SCOPE 4.1 and 4.2: two cells of one column.
     pub fn reorder_cmp<T: IsNull + PartialOrd>(a: &T, b: &T, descending: bool, nulls_last: bool) -> Ordering {
         match (a.is_null(), b.is_null()) {
             (true, true) => Ordering::Equal,
@@ -79,7 +78,7 @@ pub mod sort {
 pub mod range {
     use std::ops::{Bound, Range, RangeBounds, RangeTo};
 
-    /// 01, Search: "Over lower..upper". The range with both ends told; one out of bounds is a panic, as the join must
+    /// SCOPE 6.1: the range with both ends told; one out of bounds is a panic, as the join must
     /// never ask for it.
     pub fn check_range<R: RangeBounds<usize>>(range: R, bounds: RangeTo<usize>) -> Range<usize> {
         let start = match range.start_bound() {

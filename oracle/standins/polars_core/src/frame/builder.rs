@@ -1,5 +1,5 @@
-//! Frames made of copied rows. 2.9: "List every pair": each side's rows of a pair are copied, so numbers among their columns
-//! tell which rows met.
+//! Frames made of copied rows. Each side's rows of a pair are copied, so numbers among their columns tell
+//! which rows met.
 use arrow::array::builder::ShareStrategy;
 
 use crate::frame::{Column, DataFrame};
