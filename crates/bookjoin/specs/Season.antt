@@ -1,4 +1,4 @@
--- A join over the merged table, cut in frames, matches sorted left rows by the whole-table rule over it. The statement. Assumes nothing.
+-- What a join writes whose right rows are a merged table, in any frames: the whole-table matches over that table. The statement. Assumes nothing.
 use mathlib.Core.Path.{_≡_}
 use mathlib.Core.Bool.{true, false}
 use mathlib.Core.List.{List, map}

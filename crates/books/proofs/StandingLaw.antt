@@ -1,4 +1,4 @@
--- With no withdrawals, Backward and Nearest pick the same notices over the standing table as over the whole: a notice that is corrected later is never
+-- If nothing is withdrawn, leaving out the notices that do not stand changes no match of Backward or Nearest: a notice that is corrected later is never
 -- picked, since its correction takes its place. Rows may stand in any order. Assumes nothing.
 use mathlib.Core.Path.{_≡_, refl, sym, ap, _∙_, subst}
 use mathlib.Core.Bool.{Bool, true, false, cond, not, _&&_, _||_}

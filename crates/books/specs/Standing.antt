@@ -26,11 +26,11 @@ isOne (value v) = sameZ v (pos 1)
 abbrev pub withdrawn : Options → ℕ → List Cell → Bool
 withdrawn o q r = isOne (cell (suc (o .by) + q) r)
 
--- A correction has the same performance and minute as the notice it corrects: the same group and key.
+-- One notice corrects another if it comes later and has the same group and key.
 abbrev pub corrects : Options → List Cell → List Cell → Bool
 corrects o s r = isEqual (cmpRow o s r)
 
--- Some row behind r corrects it: r is not the last row of its group and key.
+-- Some row behind r corrects it: r is not the last with its group and key.
 unfoldable pub corrected : Options → List Cell → Rows → Bool
 corrected o r [] = false
 corrected o r (s ∷ rs) = corrects o s r || corrected o r rs
@@ -44,12 +44,12 @@ lastOf o r n i (s ∷ rs) = lastOf o r (cond (corrects o s r) i n) (suc i) rs
 abbrev pub nameless : Options → List Cell → Bool
 nameless o r = nullKey o r || nullGroup o r
 
--- Of each group and key the last row stands, none if it is withdrawn. Behind r stand the rows rs.
+-- A row stands if no later one corrects it and it does not withdraw. The rows behind r are rs.
 unfoldable pub stands : Options → ℕ → List Cell → Rows → Bool
 stands o q r rs = not (nameless o r) && not (corrected o r rs) && not (withdrawn o q r)
 
--- What the output says of row i: 1 if it stands, else 0, and the row it names, null for none or where it stands. Each row left out names the last row of its
--- group and key, a withdrawn last row thus itself; a null key or group names none.
+-- The output's row for row i. A row that stands: 1 and null. A row that does not: 0 and the number of the last row with its group and key, its own if it is that row
+-- and withdraws; 0 and null if its key or group is null.
 unfoldable pub noticeOf : Options → ℕ → ℕ → List Cell → Rows → List Cell
 noticeOf o q i r rs =
     cond (stands o q r rs) (value (pos 1) ∷ null ∷ [])
@@ -61,7 +61,7 @@ unfoldable pub notices : Options → ℕ → ℕ → Rows → Rows
 notices o q i [] = []
 notices o q i (r ∷ rs) = noticeOf o q i r rs ∷ notices o q (suc i) rs
 
--- The standing table is the rows that stand, in order.
+-- The rows that stand, as a table.
 unfoldable pub standing : Options → ℕ → Rows → Rows
 standing o q [] = []
 standing o q (r ∷ rs) = cond (stands o q r rs) (r ∷ standing o q rs) (standing o q rs)
@@ -81,7 +81,7 @@ abbrev pub translated : List ℕ → Choice → Choice
 translated ns (Row k) = Row (getD ns k 0)
 translated ns Nothing = Nothing
 
--- The statement. With no withdrawals, Backward and Nearest pick the same notices over the standing table as over the whole, row numbers translated.
+-- The statement: if nothing is withdrawn, a left row has the same notice over the standing table as over all rows, by Backward and by Nearest; the numbers differ by the rows left out before it.
 abbrev pub SamePicks : Type 0
 SamePicks =
     (o : Options) (q : ℕ) (rows : Rows) → (strategyOf o ≡ Backward) ⊎ (strategyOf o ≡ Nearest) → noneWithdrawn o q rows ≡ true
@@ -97,7 +97,7 @@ pub record LastIs (o : Options) (rows : Rows) (i n : ℕ) : Type 0 where
 abbrev pub namedBy : Options → Rows → ℕ → ℕ
 namedBy o rows i = lastOf o (getD rows i []) i (suc i) (drop (suc i) rows)
 
--- The statement: it is the last row of its group and key, and it is row i itself exactly where no later row corrects it.
+-- The statement: no later row has its group and key, and it is row i itself exactly if no later row corrects row i.
 pub record NamesLast (o : Options) (rows : Rows) (i : ℕ) : Type 0 where
   pub named : LastIs o rows i (namedBy o rows i)
   pub itself : corrected o (getD rows i []) (drop (suc i) rows) ≡ not (eqb (namedBy o rows i) i)

@@ -19,7 +19,7 @@ use Rattle.cuts.specs.Cut.{Pair, cutBy, joined, appended}
 abbrev pub BothSorted : Options → Pair → Type 0
 BothSorted o p = (sorted o (p .left) ≡ true) × (sorted o (p .right) ≡ true)
 
--- The result equals the join of the uncut tables, whatever the boundaries: empty halves, absent groups, groups with nulls, and boundaries in any order.
+-- Joined pair by pair, the tables give what they give uncut. This holds for all boundaries: empty halves, absent groups, groups with nulls, any order.
 abbrev pub UncutTables : Type 0
 UncutTables = (o : Options) (gs : Rows) (p : Pair) → BothSorted o p → appended o 0 (cutBy o gs p) ≡ joined o p
 

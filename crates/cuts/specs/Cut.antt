@@ -10,7 +10,7 @@ use Rattle.matching.specs.Match.{wholeTable}
 use Rattle.matching.specs.declared.Choice.{Choice}
 use Rattle.matching.specs.declared.Choice.the-variants.{Row, Nothing}
 
--- Cut before the first row whose group is not less than that of the row g: how many rows stand before the cut. All of them, where no row's group is.
+-- Where a table is cut for the boundary g: the number of rows up to the first whose group is g's or comes after it; all rows if there is none.
 unfoldable pub cutAt : Options → List Cell → Rows → ℕ
 cutAt o g [] = 0
 cutAt o g (r ∷ rs) = elim (isLess (cmpGroup o r g)) [ true ↦ suc (cutAt o g rs) | false ↦ 0 ]

@@ -15,7 +15,7 @@ use Rattle.plan.specs.Plan.{plan}
 use Rattle.plan.specs.Table.{isTable, fullHeights}
 use Rattle.cuts.specs.Cut.{Pair, cutBy, joined}
 
--- Each pair is joined in full frames of 4,096 rows and one of the rest, if any: their rows.
+-- The heights of a pair's frames: as many of 4,096 rows as there are, then one with what is left over.
 unfoldable pub inFrames : List ℕ → Rows → List Rows
 inFrames [] rs = []
 inFrames (h ∷ hs) rs = take h rs ∷ inFrames hs (drop h rs)
@@ -48,7 +48,7 @@ unfoldable pub anyNull : Options → Rows → Bool
 anyNull o [] = false
 anyNull o (g ∷ gs) = nullGroup o g || anyNull o gs
 
--- Refusal 18: more than 16 boundaries, one where b is 0, one null in any column, or boundaries not strictly ascending.
+-- Refusal 18: the list has 17 boundaries or more; or any at all without by-columns; or a null in it; or a boundary that does not come after the one before.
 unfoldable pub badBoundaries : Options → Rows → Bool
 badBoundaries o gs = ltb 16 (length gs) || (eqb (o .by) 0 && ltb 0 (length gs)) || anyNull o gs || not (ascending o gs)
 
@@ -61,7 +61,7 @@ module _ (o : Options) (left right boundaries l r out : Words) where
   abbrev pub groups : Rows
   groups = frameRows (o .by) boundaries
 
-  -- Options 1; tables, then boundaries, 5; an unsorted table 14; boundaries 18; an area too short for any pair, or too short an output, 6. Else 0.
+  -- Options 1; tables, then boundaries, 5; an unsorted table 14; boundaries 18; no room for one of the pairs in an area, or for the answer in the output, 6. Else 0.
   -- (10, 11 and 12 come with carried columns and rank lists: behind 1, and behind 5.)
   unfoldable pub cutAnswer : ℕ
   cutAnswer =

@@ -33,7 +33,7 @@ firstOf a s = record { rows = a; values = s .values; marks = s .marks }
 abbrev pub othersOf : ℕ → ℕ → Stretch → Stretch
 othersOf c a s = record { rows = s .rows - a; values = drop (a * c) (s .values); marks = drop (a * c) (s .marks) }
 
--- Its full frames of 4,096 rows, and one of the rest.
+-- Its frames: 4,096 rows each, but for the last.
 abbrev pub framesOf : ℕ → Stretch → List Words
 framesOf c s = framesBy c (fullHeights (s .rows)) (s .values) (s .marks)
 

@@ -72,7 +72,7 @@ hostOutputs [] = []
 hostOutputs (e ∷ es) = hostOutputIn e ++ hostOutputs es
 
 -- ---- the theorem
--- Over a list of calls from an opening with these numbers, and two areas of any length and any words.
+-- For a list of calls that begins with an opening by these numbers; the areas are arbitrary.
 module _ (h : HostOptions) (l r : Words) (calls : List HostCall) where
   -- The options that the numbers tell.
   abbrev pub o : Options
@@ -106,7 +106,7 @@ module _ (h : HostOptions) (l r : Words) (calls : List HostCall) where
   abbrev pub hostMatches : List Entry
   hostMatches = matchesIn (hostOutputs returned)
 
-  -- Each side's accepted rows, taken whole, are sorted as declared.
+  -- The rows accepted on a side, in one table, are sorted; so on both sides.
   abbrev pub HostDeclared : Type 0
   HostDeclared = (sorted o leftRows ≡ true) × (sorted o rightRows ≡ true)
 

@@ -5,7 +5,7 @@ use frames::Strategy;
 ghost use mathlib.Core.Path.{_≡_};
 ghost use Rattle.frames.specs.Options.{badOptions, strategyOf, isOn};
 
-// Whether the options meet refusal 1: b above 4, strategy outside 0 to 2, tolerance below -1, or Nearest without equality.
+// Whether the options are invalid (SCOPE 3.6).
 pub fn bad_options(o: Options) -> bool
     ensures { λ r. ⌜ r ≡ badOptions o ⌝ }
 {

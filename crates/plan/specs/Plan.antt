@@ -17,7 +17,7 @@ use Rattle.lists.specs.Lists.{start, events, rowsIn, outputs, backToBack}
 use Rattle.lists.specs.Demand.{Each}
 use Rattle.plan.specs.Schedule.{schedule, mostHeld, turnCalls, rightsTaken, meetsNoRoom}
 
--- The most rows ever held, the turn calls up to the last frame written (Wants right included) and the right frames taken.
+-- Three figures of a schedule: the right rows that have to find room at once, the turns that it makes, those that want right rows among them, and the right frames that it hands over.
 pub record Figures : Type 0 where
   pub rows : ℕ
   pub turns : ℕ
@@ -74,7 +74,7 @@ module _ (o : Options) (l r : Words) (lefts rights outs : List Words) where
   abbrev pub figures : Figures
   figures = plan o (map (frameRows (columns o)) lefts) (map (frameRows (columns o)) rights)
 
-  -- Where R is at least the first figure, the schedule meets no refusal 6 on the right, all left frames are written, and it has these figures.
+  -- With room for as many right rows as the first figure says, no right frame is refused by 6, every left frame gets written, and the schedule has these figures.
   pub record Holds : Type 0 where
     pub unrefused : meetsNoRoom (events (start o l r) (schedule o l r lefts rights outs)) ≡ false
     pub written : length (outputs (events (start o l r) (schedule o l r lefts rights outs))) ≡ length lefts
@@ -86,7 +86,7 @@ module _ (o : Options) (l r : Words) (lefts rights outs : List Words) where
   abbrev pub Short : Type 0
   Short = meetsNoRoom (events (start o l r) (schedule o l r lefts rights outs)) ≡ true
 
--- The first figure is the smallest R at which the schedule meets no refusal 6 on the right; where it isn't 0, one row fewer meets one.
+-- The first figure is exact: with room for so many right rows no right frame is refused by 6, with room for fewer one is.
 pub record Plans : Type 0 where
   pub enough : (o : Options) (l r : Words) (lefts rights outs : List Words) → Planned o l lefts rights outs → figures o l r lefts rights outs .rows ≤ capacity (columns o) r → Holds o l r lefts rights outs
   pub short : (o : Options) (l r : Words) (lefts rights outs : List Words) → Planned o l lefts rights outs → capacity (columns o) r < figures o l r lefts rights outs .rows → Short o l r lefts rights outs

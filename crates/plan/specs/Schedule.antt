@@ -10,12 +10,12 @@ use Rattle.node.specs.Calls.{turnAnswer}
 use Rattle.answers.specs.declared.Answer.the-variants.{Wrote, WantsRight, Idle, Refused}
 use Rattle.lists.specs.Lists.{Call, left, right, end, turn, Event, onLeft, onRight, onEnd, onPorts, onTurn, World, start, step, final, rightFrames, tookRefusal, turnsIn}
 
--- Right ended after the last right frame, or at the start where there is none.
+-- Right ends as soon as no right frame is left.
 abbrev pub endIf : List Words → List Call
 endIf [] = end ∷ []
 endIf (f ∷ fs) = []
 
--- A turn after the other, one output for each left frame; a right frame handed over only when a turn wants one. The fuel is the number of frames.
+-- Turns, each with the output of the next left frame; after one that wants right rows, the next right frame. The fuel is the number of frames.
 unfoldable pub rounds : ℕ → World → List Words → List Words → List Call
 rounds zero w rights outs = []
 rounds (suc fuel) w rights [] = []

@@ -39,10 +39,10 @@ unfoldable pub heightsOf : Words → List ℕ
 heightsOf [] = []
 heightsOf (z ∷ zs) = natAbs z ∷ heightsOf zs
 
--- Refusal 17: heights below 0, above 4,096 or not adding up to their table.
+-- Refusal 17: a height that no frame can have, or heights whose sum is not the table's row count.
 unfoldable pub badHeights : ℕ → Words → Bool
 badHeights n zs = anyBad zs || not (eqb (total (heightsOf zs)) n)
 
--- Full frames of 4,096 rows and one of the rest, if any.
+-- Heights of 4,096, and at last what is left over.
 unfoldable pub fullHeights : ℕ → List ℕ
 fullHeights n = replicate (n / 4096) 4096 ++ cond (eqb (n % 4096) 0) [] (n % 4096 ∷ [])

@@ -135,7 +135,7 @@ pub record ReadyUnless (ps : List Port) (came told : Port → PortState) (p : Po
   pub ready : ((q : Port) → isIn q ps → (q ≡ p → ⊥) → came q ≡ Blocked → ⊥) → told p ≡ Ready
   pub blocked : (q : Port) → isIn q ps → (q ≡ p → ⊥) → came q ≡ Blocked → told p ≡ Blocked
 
--- Running: each port Ready unless another one came Blocked. Flush: left Done; right and send each Ready unless the other came Blocked. Done: all Done.
+-- SCOPE 13.3, as a relation.
 abbrev pub Told : NodeState → (Port → PortState) → (Port → PortState) → Type 0
 Told Running came told = (p : Port) → ReadyUnless each came told p
 Told Flush came told = (told left ≡ PortDone) × ((p : Port) → isIn p behind → ReadyUnless behind came told p)
@@ -200,7 +200,7 @@ told-rule t l r s a b d e =
 abbrev pub LeftEnds : NodeState → PortState → Type 0
 LeftEnds t l = (t ≡ Flush) ⊎ ((t ≡ Running) × (l ≡ PortDone))
 
--- Send Done makes the node Done; else Running with left Done becomes Flush; then, in the same call, Flush with nothing waiting becomes Done.
+-- SCOPE 13.1 and 13.2, as a relation.
 pub record Moved (t : NodeState) (l s : PortState) (words : ℕ) (u : NodeState) : Type 0 where
   pub sent : s ≡ PortDone → u ≡ Done
   pub empty : LeftEnds t l → words ≡ 0 → u ≡ Done

@@ -17,7 +17,7 @@ ghost use Rattle.frames.specs.Room.{RowAt, RowsIn};
 ghost use Rattle.splits.specs.Split.{wordsBefore, hasBefore, outOfOrderAt};
 ghost use Rattle.splits.specs.Room.{BeforeIn, SplitIn, LastIn};
 
-// The row before the split, its values or its marks: the last row with a key in the part before it, or else the remembered row.
+// The row that the first kept one is compared with (SCOPE 11.4), its values or its marks.
 pub(crate) fn before_split<'a>(
     held: &'a [i64],
     remembered: &'a [i64],

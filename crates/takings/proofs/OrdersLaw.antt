@@ -1,4 +1,4 @@
--- All orders of additions and joins in which no call is refused give the same table and number: the sums and counts over the sales themselves. Assumes nothing.
+-- However frames are added and subtotals joined, if no call is refused the account is what the sales add up to. Assumes nothing.
 use mathlib.Core.Path.{_≡_, refl, sym, ap, _∙_, subst}
 use mathlib.Core.Bool.{Bool, true, false, cond, not, _&&_, _||_}
 use mathlib.Core.List.{List, [], _∷_, _++_, map}

@@ -37,7 +37,7 @@ columnsIn f = natAbs (getD f 1 (pos 0))
 abbrev pub anyFrame : Words → Bool
 anyFrame f = isFrame (columnsIn f) f
 
--- Answer frames have 1 + p or 2 + p columns, else 13; with p = 0 the answer is 13.
+-- Refusal 13: an answer frame's columns are neither 1 + p nor, with a distance, one more; or nothing is carried.
 abbrev pub answerColumns : Setting → ℕ → Bool
 answerColumns s c = not (eqb (s .carried) 0) && (eqb c (suc (s .carried)) || eqb c (suc (suc (s .carried))))
 
@@ -48,7 +48,7 @@ rowsIn s t = tableRows (tableWidth s) t
 abbrev pub subtotalsIn : Setting → Words → List Subtotal
 subtotalsIn s t = subtotalsOf (s .options) (rowsIn s t)
 
--- A subtotal table with a null or groups not strictly ascending is 14.
+-- Refusal 14: a subtotal table has a null, or a group that does not come after the one before.
 unfoldable pub fineSubtotals : Setting → Words → Bool
 fineSubtotals s t = not (anyNull (tableWidth s) (rowsIn s t)) && ascending (s .options) (subtotalsIn s t)
 
@@ -56,7 +56,7 @@ fineSubtotals s t = not (anyNull (tableWidth s) (rowsIn s t)) && ascending (s .o
 unfoldable pub salesBy : Setting → Words → Words → List Sale
 salesBy s left answer = salesOf (s .options) (frameRows (leftWidth s) left) (frameRows (columnsIn answer) answer)
 
--- Options that meet 1, 10 or 11 are refused first.
+-- Refusals 1, 10 and 11 come before all others.
 abbrev pub unless : Setting → Taken → Taken
 unless s w =
     cond (badOptions (s .options)) (Refused BadOptions)

@@ -1,4 +1,4 @@
--- All orders of the calls, from empty tables: the same table and number, equal to the sums and counts over the sales themselves. The statement. Assumes nothing.
+-- That the order of adding and joining does not matter: the account is what the sales add up to. The statement. Assumes nothing.
 use mathlib.Core.Path.{_≡_}
 use mathlib.Core.Bool.{true, false}
 use mathlib.Core.List.{List, [], _∷_, _++_}
@@ -64,7 +64,7 @@ pub data Permuted : List Sale → List Sale → Type 0 where
   swap : {x y : Sale} {xs : List Sale} → Permuted (x ∷ y ∷ xs) (y ∷ x ∷ xs)
   then : {xs ys zs : List Sale} → Permuted xs ys → Permuted ys zs → Permuted xs zs
 
--- The account tells the sums and counts over the sales themselves.
+-- The account is what the sales add up to.
 pub record Sums (s : Setting) (sales : List Sale) (a : Account) : Type 0 where
   pub rows : List Subtotal
   pub words : a .table ≡ tableWords s rows
@@ -78,7 +78,7 @@ pub record HandedOn (s : Setting) (a : Account) : Type 0 where
   pub rows : beyondRows (s .options) (rowsIn s (a .table)) ≡ false
   pub number : beyondNumber (a .number) ≡ false
 
--- The statement: an order of calls in which no call is refused gives the sums and counts over the sales themselves; and any two of them over the same
+-- The statement: calls of which none is refused give what the sales add up to; and any two of them over the same
 -- sales, whatever the frames, their order and the tree of joins, give the same table and number.
 pub record AllOrders (s : Setting) : Type 0 where
   pub sums : (c : Calls) (a : Account) → given s c ≡ some a → Sums s (allSales s c) a

@@ -15,7 +15,7 @@ pub record Sale : Type 0 where
   pub group : List Cell
   pub amount : Cell
 
--- A left row x is matched where its answer row a has a right number. A left row of null group counts as unmatched.
+-- A left row x is matched if its answer row a has a right number and x's group is not null.
 abbrev pub matched : Options → List Cell → List Cell → Bool
 matched o x a = not (isNull (cell 0 a)) && not (nullGroup o x)
 
@@ -28,7 +28,7 @@ salesOf o [] answers = []
 salesOf o (x ∷ xs) [] = []
 salesOf o (x ∷ xs) (a ∷ answers) = cond (matched o x a) (saleOf o x a ∷ salesOf o xs answers) (salesOf o xs answers)
 
--- A matched sale with an amount is a subtotal of one sale; with a null amount it is left out.
+-- A matched sale with an amount is a subtotal of one sale; one without an amount adds nothing here.
 abbrev pub withAmount : List Cell → Cell → List Subtotal → List Subtotal
 withAmount g null us = us
 withAmount g (value v) us = record { group = g; total = v; count = 1 } ∷ us

@@ -96,14 +96,14 @@ anyNull n [] = false
 anyNull n (r ∷ rs) = hasNull n r || anyNull n rs
 
 -- ---- the bounds
--- Amounts run from −1,000,000,000 to 1,000,000,000; at most 2^31 sales.
+-- The limits: an amount is at most 10^9 in size, and a table counts at most 2^31 sales.
 abbrev pub mostAmount : ℕ
 mostAmount = 1000000000
 
 abbrev pub mostSales : ℕ
 mostSales = 2 ^ 31
 
--- A count below 1, or a subtotal larger in size than its count times 1,000,000,000.
+-- A row that no sales add up to: it counts none, or its sum is beyond what so many amounts can give.
 unfoldable pub beyondRow : Options → List Cell → Bool
 beyondRow o r = ltZ (numberIn (cell (suc (o .by)) r)) (pos 1) || ltb (natAbs (numberIn (cell (suc (o .by)) r)) * mostAmount) (natAbs (numberIn (cell (o .by) r)))
 
