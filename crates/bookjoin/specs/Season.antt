@@ -8,7 +8,7 @@ use Rattle.frames.specs.Order.{sorted}
 use Rattle.frames.specs.declared.Options.{Options}
 use Rattle.matching.specs.Match.{wholeTable}
 use Rattle.lists.specs.Lists.{Call}
-use Rattle.lists.specs.Demand.{lefts, rights, turnedRows, matches, asWritten, Correct, Each}
+use Rattle.lists.specs.WholeTables.{lefts, rights, turnedRows, matches, asWritten, Correct, Each}
 use Rattle.books.specs.Merge.{merge}
 
 -- Any list of calls whose accepted right rows are the merged table, however it is cut in frames and whatever else the list has: what it writes are the

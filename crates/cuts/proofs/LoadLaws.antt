@@ -19,7 +19,7 @@ use Rattle.frames.proofs.WordLaws.{rows-length, rows-read, rows-drop}
 use Rattle.area.specs.Area.{capacity}
 use Rattle.answers.specs.Answers.{mostRows}
 use Rattle.lists.specs.Lists.{backToBack}
-use Rattle.lists.specs.Demand.{Each, ends, pairs}
+use Rattle.lists.specs.WholeTables.{Each, ends, pairs}
 use Rattle.plan.specs.Plan.{plan}
 use Rattle.plan.specs.Table.{isTable, frameFrom, framesBy, total, fullHeights}
 use Rattle.plan.proofs.TableLaws.{fine-drop, rows-from, table-frames, full-total, full-few}

@@ -13,8 +13,8 @@ use Rattle.frames.proofs.SortedLaws.{All, ordered, sorted-drop}
 use Rattle.matching.specs.Match.{wholeTable}
 use Rattle.matching.specs.declared.Choice.{Choice}
 use Rattle.matching.specs.declared.Choice.the-variants.{Row, Nothing}
-use Rattle.lists.specs.Demand.{asWritten, Each, ends, pairs, lefts, rights}
-use Rattle.lists.proofs.Demand3.{demand3}
+use Rattle.lists.specs.WholeTables.{asWritten, Each, ends, pairs, lefts, rights}
+use Rattle.lists.proofs.WholeTableTheorem.{whole-table-theorem}
 use Rattle.isolation.proofs.Isolated.{all-turned}
 use Rattle.cuts.specs.Cut.{cutAt, Pair, before, behind, cutBy, joined, later, appended}
 use Rattle.cuts.specs.Apart.{BothSorted, UncutTables, Job, Joins, written, laterEntry, allWritten, UncutCalls}
@@ -90,7 +90,7 @@ module _ (o : Options) (allowed : badOptions o ≡ false) where
   job-writes : (p : Pair) (j : Job) → Joins o p j → written o j ≡ map asWritten (joined o p)
   unfolding joined
   job-writes p j w =
-      demand3 o allowed (j .left) (j .right) (j .calls) .whole-table (w .finished .declared)
+      whole-table-theorem o allowed (j .left) (j .right) (j .calls) .whole-table (w .finished .declared)
       ∙ rw (all-turned o (j .left) (j .right) (j .calls) (w .finished), w .left, w .right) (sym (map-map asWritten (wholeTable o (p .right)) (p .left)))
 
   jobs-write : (n : ℕ) {ps : List Pair} {js : List Job} → Each (Joins o) ps js → allWritten o n ps js ≡ map asWritten (appended o n ps)

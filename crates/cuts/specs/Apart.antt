@@ -11,7 +11,7 @@ use Rattle.frames.specs.Options.{badOptions}
 use Rattle.frames.specs.Order.{sorted}
 use Rattle.frames.specs.declared.Options.{Options}
 use Rattle.lists.specs.Lists.{Call, Entry}
-use Rattle.lists.specs.Demand.{all, lefts, rights, matches, Each}
+use Rattle.lists.specs.WholeTables.{all, lefts, rights, matches, Each}
 use Rattle.isolation.specs.Isolation.{Finished}
 use Rattle.cuts.specs.Cut.{Pair, cutBy, joined, appended}
 

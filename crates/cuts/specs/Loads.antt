@@ -8,7 +8,7 @@ use Rattle.frames.specs.Frame.{rowCount, valuesIn, marksIn}
 use Rattle.frames.specs.Options.{columns}
 use Rattle.frames.specs.declared.Options.{Options}
 use Rattle.answers.specs.Answers.{mostRows}
-use Rattle.lists.specs.Demand.{asWritten, Each}
+use Rattle.lists.specs.WholeTables.{asWritten, Each}
 use Rattle.plan.specs.Table.{framesBy, fullHeights}
 use Rattle.cuts.specs.Cut.{cutAt, cutBy, joined}
 use Rattle.cuts.specs.Scheduled.{Load, Fits, allScheduled}

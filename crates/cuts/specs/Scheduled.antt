@@ -9,7 +9,7 @@ use Rattle.frames.specs.Options.{columns}
 use Rattle.frames.specs.declared.Options.{Options}
 use Rattle.area.specs.Area.{capacity}
 use Rattle.lists.specs.Lists.{start, events, rowsIn, Entry, outputs, matchesIn}
-use Rattle.lists.specs.Demand.{asWritten, Each}
+use Rattle.lists.specs.WholeTables.{asWritten, Each}
 use Rattle.plan.specs.Schedule.{schedule}
 use Rattle.plan.specs.Plan.{Planned, figures}
 use Rattle.cuts.specs.Cut.{Pair, cutBy, joined}

@@ -38,7 +38,7 @@ use Rattle.lists.specs.Runs.{turnsOf, answersOf, wordsOf, lentBy, writtenWords}
 use Rattle.lists.proofs.ListLaws.{events-append, left-append, right-append, outputs-append, matches-append, take-more, drop-more}
 use Rattle.lists.proofs.Invariant.{Inv}
 use Rattle.lists.proofs.Steps.{inv-list, inv-start}
-use Rattle.lists.proofs.Demand3.{demand3}
+use Rattle.lists.proofs.WholeTableTheorem.{whole-table-theorem}
 use Rattle.hostlists.specs.HostLists.{HostCall, left, right, end, ports, turn, run, HostEvent, onPorts, HostWorld, hostEvents, hostFinal, callsFor, nodeCalls, eventFor, nodeEvents, Agree}
 use Rattle.hostlists.specs.HostTable.{hostStart, hostLeftIn, hostRightIn, hostOutputIn, runOutputs, hostLefts, hostRights, hostOutputs, returned, has, hostFurther, HostTable, HostTables}
 use Rattle.hostlists.proofs.Follow.{host-lists}
@@ -246,7 +246,7 @@ host-tables h z l r calls =
     let es = events w₀ cs in
     let s = says-all calls w₀ in
     let i : Inv o l r es w = inv-list o l r allowed cs [] w₀ (inv-start o l r allowed) in
-    let D = demand3 o allowed l r cs in
+    let D = whole-table-theorem o allowed l r cs in
     let is = decoded (has h l r calls .join) (w .join) (F .leaves .join) in
     record {
       whole-table = λ d. rw (F .events, s .lefts, s .rights, s .count, s .matches) (D .whole-table (rw (F .events, s .lefts) at (d .0), rw (F .events, s .rights) at (d .1)));

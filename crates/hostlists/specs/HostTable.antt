@@ -16,7 +16,7 @@ use Rattle.convert.specs.Convert.{optionsOf}
 use Rattle.convert.specs.declared.HostOptions.{HostOptions}
 use Rattle.hostcalls.specs.Calls.{openHost}
 use Rattle.lists.specs.Lists.{Entry, rowsIn, matchesIn}
-use Rattle.lists.specs.Demand.{asWritten, Each}
+use Rattle.lists.specs.WholeTables.{asWritten, Each}
 use Rattle.hostlists.specs.HostLists.{HostCall, turn, HostEvent, onLeft, onRight, onEnd, onPorts, onTurn, onRun, HostWorld, hostEvents, hostFinal}
 
 -- The host opens a join and lends two areas of any words.

@@ -23,8 +23,8 @@ use Rattle.matching.specs.declared.Choice.the-variants.{Row, Nothing}
 use Rattle.matching.proofs.MayLaws.{may, may-out, is-false}
 use Rattle.matching.proofs.PickedLaw.{picked-row}
 use Rattle.lists.specs.Lists.{Call, Entry, leftFrames, rowsIn}
-use Rattle.lists.specs.Demand.{asWritten, all, lefts, rights, turnedRows}
-use Rattle.lists.proofs.Demand3.{demand3}
+use Rattle.lists.specs.WholeTables.{asWritten, all, lefts, rights, turnedRows}
+use Rattle.lists.proofs.WholeTableTheorem.{whole-table-theorem}
 use Rattle.isolation.specs.Isolation.{inGroup, ofGroup, writtenFor, Own, place, ownBefore, ownAt, own, ownChoice, Alone, Finished, Isolation}
 use Rattle.isolation.proofs.PlaceLaws.{choiceBy, those, choose-those, tolerate-by}
 
@@ -98,7 +98,7 @@ own-all o g R s (x ∷ xs) = by (inGroup o g x) refl (own-all o g R s xs)
 -- What is written is the whole table's, by the whole-table theorem.
 pub alone : (o : Options) → badOptions o ≡ false → (g : List Cell) (l r : Words) (calls : List Call) → Alone o g l r calls
 alone o allowed g l r calls d =
-    ap (λ (m : List Entry). map (own o g (rights o l r calls)) (writtenFor o g (turnedRows o l r calls) m)) (demand3 o allowed l r calls .whole-table d)
+    ap (λ (m : List Entry). map (own o g (rights o l r calls)) (writtenFor o g (turnedRows o l r calls) m)) (whole-table-theorem o allowed l r calls .whole-table d)
     ∙ own-all o g (rights o l r calls) (d .1) (turnedRows o l r calls)
 
 -- All frames turned: the rows turned are those accepted.

@@ -9,7 +9,7 @@ use Rattle.frames.specs.Order.{cmpFirst}
 use Rattle.frames.proofs.Samples.{options, row, frameOf}
 use Rattle.frames.specs.declared.Options.{Options}
 use Rattle.lists.specs.Lists.{Call, left, right, end, turn, events, final, leftFrames, rightFrames, rowsIn, outputs, Entry, pairUp, writtenIn, matchesIn}
-use Rattle.lists.specs.Demand.{matches}
+use Rattle.lists.specs.WholeTables.{matches}
 use Rattle.lists.proofs.Script.{leftArea, rightArea, space, speakAll}
 use Rattle.isolation.specs.Isolation.{ofGroup, writtenFor, none, place, foreign, ownAt, own, ownMatches}
 

@@ -14,7 +14,7 @@ use Rattle.matching.specs.Match.{wholeTable}
 use Rattle.matching.specs.declared.Choice.{Choice}
 use Rattle.matching.specs.declared.Choice.the-variants.{Row, Nothing}
 use Rattle.lists.specs.Lists.{Call, Entry, leftFrames, outputs, rightEnded}
-use Rattle.lists.specs.Demand.{all, lefts, rights, turnedRows, matches, Declared}
+use Rattle.lists.specs.WholeTables.{all, lefts, rights, turnedRows, matches, Declared}
 
 -- A group is told by any row g of it. A row is of that group if its by-values are equal.
 abbrev pub inGroup : Options → List Cell → List Cell → Bool

@@ -12,7 +12,7 @@ use Rattle.frames.specs.declared.Options.{Options}
 use Rattle.matching.specs.Match.{choose, takesOver, fits, tolerate, matchTable, wholeTable}
 use Rattle.answers.specs.declared.PortState.the-variants.{Ready, Done as PortDone}
 use Rattle.lists.specs.Lists.{Call, left, right, end, ports, turn, start, events, final, leftFrames, rightFrames, rowsIn, outputs, Entry, pairUp, writtenIn, matchesIn}
-use Rattle.lists.specs.Demand.{asWritten, lefts, rights, turnedRows, matches}
+use Rattle.lists.specs.WholeTables.{asWritten, lefts, rights, turnedRows, matches}
 use Rattle.lists.proofs.Script.{Said, ok, refused, wrote, wants, idle, ports as said-ports, leftArea, rightArea, space, says, speakAll}
 
 abbrev pub o : Options

@@ -11,7 +11,7 @@ pub mod SplitKeeps
 pub mod SplitAlone
 pub mod Sound
 pub mod Steps
-pub mod Demand3
+pub mod WholeTableTheorem
 pub mod Example
 pub mod RunTurns
 pub mod RestWitness

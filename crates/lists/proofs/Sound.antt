@@ -37,7 +37,7 @@ use Rattle.node.specs.declared.Join.{Join}
 use Rattle.node.specs.Calls.{dropped, dequeued}
 use Rattle.prunes.specs.Prunes.{badLeft, badRight, firstPrune, remembered, keptRows, lastPrune}
 use Rattle.lists.specs.Lists.{rowsIn, Entry, writtenIn, matchesIn}
-use Rattle.lists.specs.Demand.{asWritten}
+use Rattle.lists.specs.WholeTables.{asWritten}
 use Rattle.lists.proofs.ListLaws.{rows-in-append, matches-append, take-next, take-more}
 use Rattle.lists.proofs.Stock.{Frames, written-back}
 use Rattle.prunes.proofs.PruneLaws.{first-within, prune-within}

@@ -25,7 +25,7 @@ use Rattle.node.specs.State.{queueAt, heldAt, nextTurn, widthOf, heldOf, heldVa
 use Rattle.answers.specs.Answers.{mostRows}
 use Rattle.node.specs.Calls.{dropped, dequeued, queued, pushedRight}
 use Rattle.lists.specs.Lists.{World, rowsIn, Entry, pairUp, writtenIn, matchesIn, backToBack}
-use Rattle.lists.specs.Demand.{asWritten}
+use Rattle.lists.specs.WholeTables.{asWritten}
 use Rattle.lists.proofs.ListLaws.{words-append, rows-in-append, matches-append, drop-more, take-more, take-next, drop-next}
 
 -- Each is a frame of c columns.

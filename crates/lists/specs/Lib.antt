@@ -1,5 +1,5 @@
 pub mod Lists
-pub mod Demand
+pub mod WholeTables
 pub mod Runs
 pub mod Unread
 pub mod SplitAlone

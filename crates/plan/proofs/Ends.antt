@@ -17,7 +17,7 @@ use Rattle.answers.specs.declared.Answer.the-variants.{Wrote, WantsRight}
 use Rattle.answers.specs.declared.Took.the-variants.{Accepted}
 use Rattle.node.specs.Calls.{rightAnswer, turnAnswer}
 use Rattle.lists.specs.Lists.{Call, left, right, end, turn, Event, onEnd, World, start, step, events, final, leftFrames, rightFrames, rowsIn, outputs, matchesIn}
-use Rattle.lists.specs.Demand.{asWritten}
+use Rattle.lists.specs.WholeTables.{asWritten}
 use Rattle.lists.proofs.ListLaws.{events-append, final-append, rows-in-append}
 use Rattle.lists.proofs.Sound.{turnedOf}
 use Rattle.plan.specs.Schedule.{endIf, rounds, schedule}

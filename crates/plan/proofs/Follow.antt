@@ -26,7 +26,7 @@ use Rattle.answers.specs.Answers.{isDone, lastSequence, mostRows}
 use Rattle.node.specs.Calls.{rightAnswer, rightCall, pushedRight, endAnswer, endCall, turnAnswer, turnCall, turned, dropped, dequeued}
 use Rattle.prunes.specs.Prunes.{badLeft, badRight, firstPrune, lastPrune}
 use Rattle.lists.specs.Lists.{Call, left, right, end, turn, Event, onRight, onEnd, onTurn, World, step, events, leftFrames, rightFrames, rowsIn, outputs, rightEnded, nodeDone, doneBy}
-use Rattle.lists.specs.Demand.{Each, pairs}
+use Rattle.lists.specs.WholeTables.{Each, pairs}
 use Rattle.lists.proofs.ListLaws.{rows-in-append, drop-more, drop-next}
 use Rattle.lists.proofs.Stock.{Frames}
 use Rattle.lists.proofs.Invariant.{Inv, good}

@@ -19,7 +19,7 @@ use Rattle.answers.specs.declared.Answer.the-variants.{Wrote, WantsRight}
 use Rattle.answers.specs.declared.Took.the-variants.{Accepted, Refused}
 use Rattle.node.specs.Calls.{rightAnswer, turnAnswer, turned}
 use Rattle.lists.specs.Lists.{Call, right, end, turn, Event, onRight, onEnd, onTurn, World, step, events, final, rightIn, rightFrames, outputIn, outputs, turnIn, turnsIn}
-use Rattle.lists.specs.Demand.{Each, ends, pairs}
+use Rattle.lists.specs.WholeTables.{Each, ends, pairs}
 use Rattle.plan.specs.Schedule.{endIf, rounds, mostHeld, noRoomRight, meetsNoRoom}
 use Rattle.plan.specs.Plan.{Figures, rest, afterTurn, afterTaking, keptAfter, planFrom}
 use Rattle.plan.proofs.EventLaws.{most-least}

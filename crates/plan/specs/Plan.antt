@@ -14,7 +14,7 @@ use Rattle.buffer.specs.Reach.{needMore}
 use Rattle.answers.specs.Answers.{mostRows}
 use Rattle.prunes.specs.Prunes.{firstPrune, lastPrune}
 use Rattle.lists.specs.Lists.{start, events, rowsIn, outputs, backToBack}
-use Rattle.lists.specs.Demand.{Each}
+use Rattle.lists.specs.WholeTables.{Each}
 use Rattle.plan.specs.Schedule.{schedule, mostHeld, turnCalls, rightsTaken, meetsNoRoom}
 
 -- Three figures of a schedule: the right rows that have to find room at once, the turns that it makes, those that want right rows among them, and the right frames that it hands over.

@@ -13,7 +13,7 @@ use Rattle.area.specs.Area.{capacity}
 use Rattle.matching.specs.Match.{wholeTable}
 use Rattle.answers.specs.Answers.{mostRows}
 use Rattle.lists.specs.Lists.{start, events, outputs, matchesIn, backToBack}
-use Rattle.lists.specs.Demand.{asWritten, Each}
+use Rattle.lists.specs.WholeTables.{asWritten, Each}
 use Rattle.plan.specs.Schedule.{schedule}
 use Rattle.plan.specs.Plan.{Figures, figures, Holds, Short}
 use Rattle.plan.specs.Table.{isTable, framesBy, heightsOf, badHeights}

@@ -9,7 +9,7 @@ use Rattle.frames.specs.declared.Options.{Options}
 use Rattle.area.specs.Area.{capacity}
 use Rattle.matching.specs.Match.{wholeTable}
 use Rattle.lists.specs.Lists.{start, events, rowsIn, outputs, matchesIn}
-use Rattle.lists.specs.Demand.{asWritten}
+use Rattle.lists.specs.WholeTables.{asWritten}
 use Rattle.plan.specs.Schedule.{schedule}
 use Rattle.plan.specs.Plan.{Planned, figures}
 

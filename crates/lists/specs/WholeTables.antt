@@ -119,7 +119,7 @@ module _ (o : Options) (l r : Words) (calls : List Call) where
       × (length (w .right) ≡ length r)
 
 -- The theorem for one list.
-pub record Demand3 (o : Options) (l r : Words) (calls : List Call) : Type 0 where
+pub record ListHolds (o : Options) (l r : Words) (calls : List Call) : Type 0 where
   pub whole-table : WholeTable o l r calls
   pub none-exactly : NoneExactly o l r calls
   pub rest-written : RestWritten o l r calls
@@ -129,5 +129,5 @@ pub record Demand3 (o : Options) (l r : Words) (calls : List Call) : Type 0 wher
   pub words-kept : WordsKept o l r calls
 
 -- For all valid options, all areas and all lists of calls.
-abbrev pub Demand : Type 0
-Demand = (o : Options) → badOptions o ≡ false → (l r : Words) (calls : List Call) → Demand3 o l r calls
+abbrev pub WholeTableTheorem : Type 0
+WholeTableTheorem = (o : Options) → badOptions o ≡ false → (l r : Words) (calls : List Call) → ListHolds o l r calls

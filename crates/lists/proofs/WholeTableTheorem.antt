@@ -1,4 +1,4 @@
--- The whole-table theorem, proved: the statement of specs/Demand.antt, for all options that are not refused, areas and lists of calls. Assumes nothing.
+-- The whole-table theorem, proved: the statement of specs/WholeTables.antt, for all options that are not refused, areas and lists of calls. Assumes nothing.
 use mathlib.Core.Path.{_≡_, refl, sym, ap, _∙_}
 use mathlib.Core.Bool.{Bool, true, false, cond, not, _&&_, _||_, or-false}
 use mathlib.Core.List.{List, [], _∷_, _++_, append-nil, append-assoc, map}
@@ -28,7 +28,7 @@ use Rattle.answers.specs.Answers.{lastSequence, isDone}
 use Rattle.node.specs.Calls.{turnAnswer, turnCall, turned}
 use Rattle.prunes.specs.Prunes.{badLeft, badRight}
 use Rattle.lists.specs.Lists.{Call, turn, Event, onTurn, World, start, step, events, final, leftFrames, rightFrames, rowsIn, outputIn, outputs, Entry, matchesIn, rightEnded, nodeDone, doneBy, refusedWith, backToBack, framesIn, queueRows}
-use Rattle.lists.specs.Demand.{asWritten, Correct, isNone, isRow, Each, ends, pairs, Demand3, Demand}
+use Rattle.lists.specs.WholeTables.{asWritten, Correct, isNone, isRow, Each, ends, pairs, ListHolds, WholeTableTheorem}
 use Rattle.lists.proofs.ListLaws.{rows-in-append, matches-append, drop-next, left-append, right-append, outputs-append, ended-append, done-snoc}
 use Rattle.lists.proofs.Stock.{Frames, frames-drop, front-is}
 use Rattle.lists.proofs.Invariant.{Inv}
@@ -210,9 +210,9 @@ each-map f [] [] ends = ends
 each-map f (a ∷ xs) (b ∷ ys) (pairs p e) = pairs (f a b p) (each-map f xs ys e)
 
 -- The whole-table theorem.
-pub demand3 : Demand
+pub whole-table-theorem : WholeTableTheorem
 unfolding turnedOf
-demand3 o allowed l r calls =
+whole-table-theorem o allowed l r calls =
     let es = events (start o l r) calls in
     let w = final (start o l r) calls in
     let i : Inv o l r es w = inv-list o l r allowed calls [] (start o l r) (inv-start o l r allowed) in
