@@ -2,7 +2,7 @@
 import argparse
 
 from .cells import MOST, number
-from .library import MOST_BY, STRATEGIES
+from .interface import MOST_BY, STRATEGIES
 from .page import PAGE, SHORT
 from .problem import BAD_USAGE, Problem
 
