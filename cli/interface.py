@@ -4,6 +4,7 @@ from ctypes import c_int64, c_size_t, c_uint64, c_void_p
 
 # The version of the library that these declarations are of.
 VERSION = '0.1.0'
+VERSION_NUMBER = 1000
 
 # The rows that a frame can have at most.
 MOST_ROWS = 4096

@@ -38,7 +38,7 @@ def module(d):
     """The whole module."""
     lines = ['"""The C interface: numbers, texts, structs and calls. Written by tools/interface from interface/rowkeeper.txt."""',
              'import ctypes', 'from ctypes import c_int64, c_size_t, c_uint64, c_void_p', '',
-             '# The version of the library that these declarations are of.', f"VERSION = '{d.version.text}'"]
+             '# The version of the library that these declarations are of.', f"VERSION = '{d.version.text}'", f'VERSION_NUMBER = {d.version.number}']
     for each in d.constants:
         lines += ['', f'# {" ".join(each.comment)}', f'{each.name} = {each.number}']
     for enum in d.enums:

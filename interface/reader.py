@@ -84,7 +84,7 @@ class Description:
     """All that is described."""
 
     def __init__(self, text):
-        self.version = None
+        self.version = self.abi = None
         self.constants, self.enums, self.refusal_sets, self.refusals, self.structs, self.calls = [], [], [], [], [], []
         for entry in entries(text):
             reader = getattr(self, f'read_{entry.kind}', None)
@@ -99,6 +99,10 @@ class Description:
     def read_version(self, entry):
         """version MAJOR.MINOR.PATCH"""
         self.version, = map(version_of, entry.words)
+
+    def read_abi(self, entry):
+        """abi NUMBER"""
+        self.abi, = map(int, entry.words)
 
     def read_constant(self, entry):
         """constant NAME NUMBER"""
@@ -158,8 +162,8 @@ class Description:
     def judge(self):
         """Stops at facts that do not go together."""
         order = [refusal.number for refusal in self.refusals]
-        if self.version is None:
-            raise Fault('rowkeeper.txt: there is no version')
+        if self.version is None or self.abi is None:
+            raise Fault('rowkeeper.txt: there is no version or no abi')
         for names in ([refusal.c for refusal in self.refusals], [call.name for call in self.calls], order,
                       [struct.name for struct in self.structs]):
             twice = [name for name in names if names.count(name) > 1]
