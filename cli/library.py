@@ -1,7 +1,7 @@
 """The library: its shared object loaded, and what its calls take. interface.py has their numbers, structs and types."""
 import ctypes
 
-from .interface import CALLS, NO_TOLERANCE, STRATEGIES, Options
+from .interface import CALLS, NO_TOLERANCE, STRATEGIES, VERSION, VERSION_NUMBER, Options
 from .problem import NO_LIBRARY, Problem
 
 
@@ -14,6 +14,8 @@ def load(path):
             call.argtypes, call.restype = takes, gives
     except (OSError, AttributeError) as error:
         raise Problem(f'the library cannot be loaded: {error}', NO_LIBRARY) from None
+    if 'rowkeeper_version' in CALLS and library.rowkeeper_version() != VERSION_NUMBER:
+        raise Problem(f'{path}: the library has the number {library.rowkeeper_version()}, and this command is {VERSION}', NO_LIBRARY)
     return library
 
 
