@@ -121,8 +121,9 @@
  * Header, library, Rust crate and command have one version, ROWKEEPER_VERSION. Compile a host with the header of the library
  * that it is linked with. While the first number of the version is 0, a new second number may change calls, structs and the
  * meaning of words in a file; a new third number changes none of them, and the new library can be put in the place of the old
- * one. CHANGES.md lists every change by what it asks of a host. Refusals may be added in any version, so a host that
- * switches over them needs a case for numbers that it does not know.
+ * one. The number in librowkeeper.so.0 grows with every version for which a host must be compiled anew. CHANGES.md lists every
+ * change by what it asks of a host. Refusals may be added in any version, so a host that switches over them needs a case for
+ * numbers that it does not know.
  */
 #ifndef ROWKEEPER_H
 #define ROWKEEPER_H

@@ -1,3 +1,4 @@
+# shellcheck shell=bash disable=SC2154
 # Sourced by the scripts of this repository: the one way to end with a reason, to ask for what is needed, to run a step of a
 # check, and to report what cannot be tested here.
 
