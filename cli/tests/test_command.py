@@ -72,9 +72,9 @@ class Help(Case):
         """The man page has every line of the page, in order; its headings are sections."""
         plain = man().replace('\\-', '-').replace('\\(aq', "'").replace('\\e', '\\').replace('\n\\&', '\n').split('\n')
         rest = iter(plain)
-        for line in PAGE.splitlines()[1:]:
-            heading = f'.SH {line}' if line and line == line.upper() and not line.startswith(' ') else line.strip()
-            self.assertTrue(any(each.strip() == heading for each in rest), line)
+        for line in filter(None, PAGE.splitlines()[1:]):
+            wanted = line.strip() if line.startswith(' ') else f'.SH {line}'
+            self.assertTrue(any(each.strip() == wanted for each in rest), line)
 
 
 class Usage(Case):
