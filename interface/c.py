@@ -18,14 +18,20 @@ def comment(lines, indent=''):
     return [f'{indent}/* {lines[0]}'] + rest[:-1] + [f'{rest[-1]} */'] if rest else [f'{indent}/* {lines[0]} */']
 
 
+def c_number(constant):
+    """A constant's number in C; one of more than 32 bits is a uint64_t."""
+    if constant.number >= 1 << 31:
+        return f'((uint64_t){constant.text}u)'
+    return constant.text if constant.number >= 0 else f'({constant.text})'
+
+
 def constants(d):
     """The version, the limits, the words of a join."""
     lines = comment(['The version that this header is of: as text, and as a number that grows from version to version',
                      '(1,000,000 × major + 1,000 × minor + patch).'])
     lines += [f'#define ROWKEEPER_VERSION "{d.version.text}"', f'#define ROWKEEPER_VERSION_NUMBER {d.version.number}']
     for each in d.constants:
-        number = each.number if each.number >= 0 else f'({each.number})'
-        lines += ['', *comment(each.comment), f'#define ROWKEEPER_{each.name} {number}']
+        lines += ['', *comment(each.comment), f'#define ROWKEEPER_{each.name} {c_number(each)}']
     lines += ['', *comment(['The words of a join.']), f'#define ROWKEEPER_JOIN_WORDS {d.words("join")}']
     return lines
 

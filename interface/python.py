@@ -40,7 +40,7 @@ def module(d):
              'import ctypes', 'from ctypes import c_int64, c_size_t, c_uint64, c_void_p', '',
              '# The version of the library that these declarations are of.', f"VERSION = '{d.version.text}'", f'VERSION_NUMBER = {d.version.number}']
     for each in d.constants:
-        lines += ['', f'# {" ".join(each.comment)}', f'{each.name} = {each.number}']
+        lines += ['', f'# {" ".join(each.comment)}', f'{each.name} = {each.text}']
     for enum in d.enums:
         lines += ['', f'# {" ".join(enum.comment).replace("ROWKEEPER_", "")}']
         lines += [f'{value.c} = {value.number}' for value in enum.values if not value.defined]

@@ -69,21 +69,30 @@ def compare_enums(crates, d):
             found = clauses(crates.read(path), name, form[0] if form else '')
             compare_numbers(crates, path, name, {value.rattle: value.number for value in enum.values}, found)
     for each in d.constants:
-        if 'rattle' in each.more:
-            path, name, form = each.more['rattle'].split(' ', 2)
-            wanted = form.replace('{}', str(each.number))
-            if not any(wanted in clause for clause in definition(crates.read(path), name)):
-                crates.differs(path, f'{name}: it does not say {wanted!r}, described as {each.name}')
+        compare_text(crates, each, each.name, {'{}': each.text})
+    numbers = zip(('{major}', '{minor}', '{patch}'), d.version.text.split('.'))
+    compare_text(crates, d.version, 'version', {'{}': str(d.version.number), **dict(numbers)})
+
+
+def compare_text(crates, entry, what, values):
+    """A definition that must have a text in it, with these values; lines in the middle of numbers do not count."""
+    if 'rattle' in entry.more:
+        path, name, wanted = entry.more['rattle'].split(' ', 2)
+        for place, value in values.items():
+            wanted = wanted.replace(place, value)
+        clauses = [clause.replace('_', '') for clause in definition(crates.read(path), name)]
+        if not any(re.search(rf'(?<!\w){re.escape(wanted.replace("_", ""))}(?!\w)', clause) for clause in clauses):
+            crates.differs(path, f'{name}: it does not say {wanted!r}, described as {what}')
 
 
 def compare_refusals(crates, d):
-    """The refusals of each enumeration: their checking order and their numbers."""
+    """The refusals of each enumeration: their names and their numbers."""
     for each in d.refusal_sets:
-        described = {r.more[each.name]: r.number for r in d.refusals if each.name in r.more}
+        described = d.refusals_in(each)
         listed = re.search(r'pub enum Refusal \{([^}]*)\}', crates.read(each.source))
         found = re.findall(r'\w+', listed.group(1)) if listed else []
-        if found != list(described):
-            crates.differs(each.source, f'Refusal: {", ".join(found)}; described, in checking order: {", ".join(described)}')
+        for name in sorted(set(found) ^ set(described)):
+            crates.differs(each.source, f'Refusal: {name} is {"not described" if name in found else "described, and not there"}')
         compare_numbers(crates, each.numbers, each.function, described,
                         clauses(crates.read(each.numbers), each.function, ''))
 

@@ -5,8 +5,8 @@ import re
 
 PATH = os.path.join(os.path.dirname(os.path.abspath(__file__)), 'rowkeeper.txt')
 
-Version = collections.namedtuple('Version', 'text number')
-Constant = collections.namedtuple('Constant', 'name number comment more')
+Version = collections.namedtuple('Version', 'text number more')
+Constant = collections.namedtuple('Constant', 'name text number comment more')
 Value = collections.namedtuple('Value', 'number c name rattle comment defined')
 Enum = collections.namedtuple('Enum', 'name values comment more')
 Refusal = collections.namedtuple('Refusal', 'number c name comment more')
@@ -25,13 +25,13 @@ class Fault(Exception):
     """What is wrong with the description, or with the mirror that is being written."""
 
 
-def version_of(text):
+def version_of(text, more):
     """The version and its number: three digits each for minor and patch."""
     parts = re.fullmatch(r'(\d+)\.(\d{1,3})\.(\d{1,3})', text)
     if not parts:
         raise Fault(f'version {text}: three numbers with dots are wanted')
     major, minor, patch = map(int, parts.groups())
-    return Version(text, major * 1000000 + minor * 1000 + patch)
+    return Version(text, major * 1000000 + minor * 1000 + patch, more)
 
 
 class Entry:
@@ -98,7 +98,8 @@ class Description:
 
     def read_version(self, entry):
         """version MAJOR.MINOR.PATCH"""
-        self.version, = map(version_of, entry.words)
+        text, = entry.words
+        self.version = version_of(text, entry.more)
 
     def read_abi(self, entry):
         """abi NUMBER"""
@@ -106,8 +107,8 @@ class Description:
 
     def read_constant(self, entry):
         """constant NAME NUMBER"""
-        name, number = entry.words
-        self.constants.append(Constant(name, int(number), entry.comment, entry.more))
+        name, text = entry.words
+        self.constants.append(Constant(name, text, int(text, 0), entry.comment, entry.more))
 
     def read_enum(self, entry):
         """enum NAME, with its values"""
@@ -177,6 +178,13 @@ class Description:
                 raise Fault(f'rowkeeper.txt: call {call.name}: its refusals do not stand in checking order')
             if 'brief' not in call.more:
                 raise Fault(f'rowkeeper.txt: call {call.name}: it has no brief')
+
+    def refusals_in(self, each):
+        """The refusals of an enumeration of Rattle, by their names there, with their numbers. If there is one enumeration alone, it
+        has them all, by their own names."""
+        if len(self.refusal_sets) == 1:
+            return {refusal.more.get(each.name, refusal.name): refusal.number for refusal in self.refusals}
+        return {refusal.more[each.name]: refusal.number for refusal in self.refusals if each.name in refusal.more}
 
     def given_refusals(self):
         """The refusals that a call gives, by number."""

@@ -27,8 +27,8 @@ def structs(d):
              '/// The same as a number: 1,000,000 × major + 1,000 × minor + patch.',
              f'pub const VERSION_NUMBER: u64 = {d.version.number};']
     for each in d.constants:
-        kind = 'usize' if each.number >= 0 else 'i64'
-        lines += [*doc(' '.join(each.comment)), f'pub const {each.name}: {kind} = {each.number};']
+        kind = 'u64' if each.number >= 1 << 31 else 'usize' if each.number >= 0 else 'i64'
+        lines += [*doc(' '.join(each.comment)), f'pub const {each.name}: {kind} = {each.text};']
     for enum in d.enums:
         for value in enum.values:
             if not value.defined:
