@@ -142,6 +142,9 @@ class Description:
             if not comment:
                 raise entry.fault(f'field {name} has no comment')
             fields.append(Field(name, kind, int(length) if length else None, comment))
+        names = [field.name for field in fields]
+        if len(set(names)) < len(names):
+            raise entry.fault('two fields have one name')
         name, = entry.words
         self.structs.append(Struct(name, fields, entry.comment, entry.more))
 
