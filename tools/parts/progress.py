@@ -13,11 +13,16 @@ def clock(seconds):
 
 
 class Progress:
-    """Counts the lines that rt prints on crates and on edits."""
+    """Counts the lines that rt prints on crates, in the order in which it proves them, and on edits."""
 
     def __init__(self, crates, edits=0):
         self.crates, self.edits = crates, edits
         self.proved, self.tried, self.start = [], 0, time.monotonic()
+
+    def next(self):
+        """Which crate of how many comes now, and how long so far; nothing if all are proved."""
+        left = [crate for crate in self.crates if crate not in self.proved]
+        return f'crate {len(self.proved) + 1} of {len(self.crates)}: {left[0]}, {self.clock()} so far' if left else ''
 
     def clock(self):
         """How long so far."""
@@ -28,7 +33,9 @@ class Progress:
         crate, edit = PROVED.match(line), EDIT.match(line)
         if crate and crate.group(1) in self.crates and crate.group(1) not in self.proved:
             self.proved.append(crate.group(1))
-            return f'crate {len(self.proved)} of {len(self.crates)}, {self.clock()} so far'
+            left = [name for name in self.crates if name not in self.proved]
+            after = f'; next {left[0]}' if left else ''
+            return f'crate {len(self.proved)} of {len(self.crates)}, {self.clock()} so far{after}'
         if edit:
             self.tried += 1
             return f'edit {self.tried} of {self.edits}, {self.clock()} so far'
