@@ -1,26 +1,12 @@
--- The refusals' numbers, the codes of states and ports, and tests of states and answers. Assumes nothing.
+-- The codes of states and ports, and tests of states and answers. Assumes nothing.
 use mathlib.Core.Bool.{Bool, true, false}
 use Prim.Native.Nat.{ℕ, _-_, _^_}
 use Rattle.answers.specs.declared.NodeState.{NodeState}
 use Rattle.answers.specs.declared.NodeState.the-variants.{Running, Flush, Done}
 use Rattle.answers.specs.declared.PortState.{PortState}
 use Rattle.answers.specs.declared.PortState.the-variants.{Blocked, Ready, Done as PortDone}
-use Rattle.answers.specs.declared.Refusal.{Refusal}
-use Rattle.answers.specs.declared.Refusal.the-variants.{BadOptions, BadJoin, Failed, Closed, BadFrame, NoRoom, UsedUp, LeftOrder, RightOrder}
 use Rattle.answers.specs.declared.Answer.{Answer}
 use Rattle.answers.specs.declared.Answer.the-variants.{Wrote, WantsRight, Idle, Refused}
-
--- The refusals' numbers, in checking order.
-abbrev pub number : Refusal → ℕ
-number BadOptions = 1
-number BadJoin = 2
-number Failed = 3
-number Closed = 4
-number BadFrame = 5
-number NoRoom = 6
-number UsedUp = 7
-number LeftOrder = 8
-number RightOrder = 9
 
 -- The node's states by number: 0 Running, 1 Flush, 2 Done.
 abbrev pub stateCode : NodeState → ℕ

@@ -1,4 +1,5 @@
-// What the join's calls speak in: states of the node, what ports say, refusals and answers; and tests of these.
+// What the join's calls speak in: states of the node, what ports say, and answers; and tests of these.
+use refusals::Refusal;
 ghost use mathlib.Core.Path.{_≡_};
 ghost use Prim.Native.Nat.{_+_};
 ghost use lib.Dec.{ltb};
@@ -15,19 +16,6 @@ pub enum PortState {
     Blocked,
     Ready,
     Done,
-}
-
-// Why a call is refused, in checking order; specs/ gives each its number.
-pub enum Refusal {
-    BadOptions,
-    BadJoin,
-    Failed,
-    Closed,
-    BadFrame,
-    NoRoom,
-    UsedUp,
-    LeftOrder,
-    RightOrder,
 }
 
 // The answer of a turn.

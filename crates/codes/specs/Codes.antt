@@ -5,7 +5,7 @@ use Prim.Native.Nat.{ℕ}
 use lib.Dec.{ltb, eqb}
 use Rattle.frames.specs.declared.Check.{Check}
 use Rattle.frames.specs.declared.Check.the-variants.{Off, On}
-use Rattle.answers.specs.Answers.{number}
+use Rattle.refusals.specs.Refusals.{number}
 use Rattle.answers.specs.declared.NodeState.{NodeState}
 use Rattle.answers.specs.declared.NodeState.the-variants.{Running, Flush, Done}
 use Rattle.answers.specs.declared.PortState.{PortState}

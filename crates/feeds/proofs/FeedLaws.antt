@@ -16,8 +16,8 @@ use Rattle.frames.proofs.FrontLaws.{frame-parts}
 use Rattle.area.specs.Area.{capacity, newBase, pushed, moved, written}
 use Rattle.answers.specs.Answers.{isRunning, isDone, mostRows}
 use Rattle.answers.specs.declared.NodeState.{NodeState}
-use Rattle.answers.specs.declared.Refusal.{Refusal}
-use Rattle.answers.specs.declared.Refusal.the-variants.{BadJoin, Failed, Closed, BadFrame, NoRoom, UsedUp}
+use Rattle.refusals.specs.declared.Refusal.{Refusal}
+use Rattle.refusals.specs.declared.Refusal.the-variants.{BadJoin, Failed, Closed, BadFrame, NoRoom, UsedUp}
 use Rattle.answers.specs.declared.Took.{Took}
 use Rattle.answers.specs.declared.Took.the-variants.{Accepted, Refused}
 use Rattle.feeds.specs.Judged.{leftJudged, endJudged, rightJudged, LeftFed, RightFed}

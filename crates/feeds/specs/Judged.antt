@@ -11,7 +11,7 @@ use Rattle.frames.specs.declared.Options.{Options}
 use Rattle.area.specs.Area.{capacity, newBase, pushed, moved, written}
 use Rattle.answers.specs.Answers.{isRunning, isDone, mostRows}
 use Rattle.answers.specs.declared.NodeState.{NodeState}
-use Rattle.answers.specs.declared.Refusal.the-variants.{BadOptions, BadJoin, Failed, Closed, BadFrame, NoRoom, UsedUp}
+use Rattle.refusals.specs.declared.Refusal.the-variants.{BadOptions, BadJoin, Failed, Closed, BadFrame, NoRoom, UsedUp}
 use Rattle.answers.specs.declared.Took.{Took}
 use Rattle.answers.specs.declared.Took.the-variants.{Accepted, Refused}
 use Rattle.answers.specs.declared.Answer.{Answer}

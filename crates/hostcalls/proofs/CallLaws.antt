@@ -17,7 +17,7 @@ use Rattle.node.specs.declared.TookJoin.{TookJoin}
 use Rattle.node.specs.declared.PortedJoin.{PortedJoin}
 use Rattle.node.specs.declared.TurnedJoin.{TurnedJoin}
 use Rattle.runs.specs.declared.RanJoin.{RanJoin}
-use Rattle.answers.specs.declared.Refusal.the-variants.{BadOptions, BadJoin}
+use Rattle.refusals.specs.declared.Refusal.the-variants.{BadOptions, BadJoin}
 use Rattle.answers.specs.declared.Took.{Took}
 use Rattle.answers.specs.declared.Took.the-variants.{Refused}
 use Rattle.answers.specs.declared.Ported.the-variants.{Refused as PortsRefused}

@@ -16,8 +16,10 @@ use Rattle.node.specs.Calls.{After, after, leftAnswer, leftCall, queued, rightA
 use Rattle.feeds.specs.Judged.{openAnswer}
 use Rattle.node.specs.declared.Join.{Join}
 use Rattle.answers.specs.declared.PortState.{PortState}
-use Rattle.answers.specs.declared.Refusal.{Refusal}
-use Rattle.answers.specs.declared.Refusal.the-variants.{BadOptions, BadJoin, Failed, Closed, BadFrame, NoRoom, UsedUp, LeftOrder, RightOrder}
+use Rattle.refusals.specs.Refusals.{marksFailed}
+use Rattle.refusals.specs.declared.Refusal.{Refusal}
+use Rattle.refusals.proofs.RefusalLaws.{marked-ind}
+use Rattle.refusals.specs.declared.Refusal.the-variants.{BadOptions, BadJoin}
 use Rattle.answers.specs.declared.Took.{Took}
 use Rattle.answers.specs.declared.Took.the-variants.{Accepted, Refused}
 use Rattle.answers.specs.declared.Ported.{Ported}
@@ -31,7 +33,7 @@ use Rattle.codes.specs.Codes.{isCode, portOf, tookCode}
 use Rattle.convert.specs.Convert.{isOptions, optionsOf, decodeOptions, isJoin, joinOf, decode}
 use Rattle.told.specs.Told.{freshHost, Made, refusedRun}
 use Rattle.hostcalls.specs.Calls.{HostAfter, afterHost, encodeAfter, byJoin, openHost, leftHost, rightHost, endHost, portsHost, turnHost, ranAfter, runHost}
-use Rattle.hostcalls.specs.Promises.{spoils, stays, staysAt, noTurn, Shut, Same, Follows, Promises}
+use Rattle.hostcalls.specs.Promises.{stays, staysAt, noTurn, Shut, Same, Follows, Promises}
 use Rattle.convert.specs.declared.HostOptions.{HostOptions}
 use Rattle.convert.specs.declared.HostJoin.{HostJoin}
 use Rattle.told.specs.declared.HostTook.{HostTook}
@@ -66,16 +68,8 @@ byTurn a done j left right out =
       | TurnRefused n ↦ after (TurnRefused n) (spoiled n j) left right out
     ]
 
-unspoiled : (n : Refusal) (j : Join) → spoils n ≡ false → spoiled n j ≡ j
-unspoiled BadOptions j e = refl
-unspoiled BadJoin j e = refl
-unspoiled Failed j e = refl
-unspoiled Closed j e = refl
-unspoiled BadFrame j e = refl
-unspoiled NoRoom j e = refl
-unspoiled UsedUp j e = refl
-unspoiled LeftOrder j e = let z : _≡_ {A = ℕ} 0 1 = cc in absurd (omega arith)
-unspoiled RightOrder j e = let z : _≡_ {A = ℕ} 0 1 = cc in absurd (omega arith)
+unspoiled : (n : Refusal) (j : Join) → marksFailed n ≡ false → spoiled n j ≡ j
+unspoiled n j e = rw e refl
 
 turn-keeps : (a : Answer) (done : After Answer) (s : ℕ) (j : Join) (left right out : Words) (b : Answer) → done .answer ≡ Wrote s → stays b ≡ true → byTurn a done j left right out .answer ≡ b
     → byTurn a done j left right out ≡ after b j left right out
@@ -87,7 +81,7 @@ turn-keeps WantsRight done s j left right out b d k x = ap (λ (p : Answer). aft
 turn-keeps Idle done s j left right out b d k x = ap (λ (p : Answer). after p j left right out) x
 turn-keeps (TurnRefused n) done s j left right out b d k x =
     let f = subst (λ (y : Answer). stays y ≡ true) (sym x) k in
-    ap (λ (y : Join). after (TurnRefused n) y left right out) (unspoiled n j (not-true (spoils n) f)) ∙ ap (λ (y : Answer). after y j left right out) x
+    ap (λ (y : Join). after (TurnRefused n) y left right out) (unspoiled n j (not-true (marksFailed n) f)) ∙ ap (λ (y : Answer). after y j left right out) x
 
 -- A run that made no turn.
 stays-same : (a : Answer) → wrote a ≡ false → stays a ≡ staysAt (stopOf a)
@@ -274,15 +268,7 @@ ports-options (Ports a b d) k j left right e = e
 ports-options (PortsRefused n) k j left right e = refl
 
 spoiled-options : (n : Refusal) (j : Join) → spoiled n j .options ≡ j .options
-spoiled-options BadOptions j = refl
-spoiled-options BadJoin j = refl
-spoiled-options Failed j = refl
-spoiled-options Closed j = refl
-spoiled-options BadFrame j = refl
-spoiled-options NoRoom j = refl
-spoiled-options UsedUp j = refl
-spoiled-options LeftOrder j = refl
-spoiled-options RightOrder j = refl
+spoiled-options n j = marked-ind (λ (k : Join). k .options ≡ j .options) n (λ t. refl) (λ a b. refl)
 
 turn-options : (a : Answer) (done : After Answer) (j : Join) (left right out : Words) → done .join .options ≡ j .options → byTurn a done j left right out .join .options ≡ j .options
 turn-options (Wrote s) done j left right out e = e

@@ -9,7 +9,7 @@ use Rattle.node.specs.Calls.{After, after, leftCall, rightCall, endCall, portsC
 use Rattle.feeds.specs.Judged.{openAnswer}
 use Rattle.runs.specs.Run.{Ran, runCall}
 use Rattle.node.specs.declared.Join.{Join}
-use Rattle.answers.specs.declared.Refusal.the-variants.{BadOptions, BadJoin}
+use Rattle.refusals.specs.declared.Refusal.the-variants.{BadOptions, BadJoin}
 use Rattle.answers.specs.declared.Took.{Took}
 use Rattle.answers.specs.declared.Took.the-variants.{Refused}
 use Rattle.answers.specs.declared.Ported.{Ported}

@@ -11,8 +11,8 @@ use Rattle.answers.specs.Answers.{portCode}
 use Rattle.node.specs.Calls.{After, leftCall, rightCall, endCall, portsCall, turnCall}
 use Rattle.node.specs.declared.Join.{Join}
 use Rattle.answers.specs.declared.PortState.{PortState}
-use Rattle.answers.specs.declared.Refusal.{Refusal}
-use Rattle.answers.specs.declared.Refusal.the-variants.{BadOptions, BadJoin, Failed, Closed, BadFrame, NoRoom, UsedUp, LeftOrder, RightOrder}
+use Rattle.refusals.specs.Refusals.{marksFailed}
+use Rattle.refusals.specs.declared.Refusal.{Refusal}
 use Rattle.answers.specs.declared.Took.the-variants.{Refused}
 use Rattle.answers.specs.declared.Ported.the-variants.{Refused as PortsRefused}
 use Rattle.answers.specs.declared.Answer.{Answer}
@@ -26,31 +26,19 @@ use Rattle.hostcalls.specs.Calls.{HostAfter, afterHost, encodeAfter, ope
 use Rattle.convert.specs.declared.HostOptions.{HostOptions}
 use Rattle.convert.specs.declared.HostJoin.{HostJoin}
 
--- Refusals 8 and 9 mark the join failed; the others change nothing.
-abbrev pub spoils : Refusal → Bool
-spoils BadOptions = false
-spoils BadJoin = false
-spoils Failed = false
-spoils Closed = false
-spoils BadFrame = false
-spoils NoRoom = false
-spoils UsedUp = false
-spoils LeftOrder = true
-spoils RightOrder = true
-
 -- The answers of a turn that changes nothing: Wants right, Idle, and any refusal but 8 and 9.
 abbrev pub stays : Answer → Bool
 stays (Wrote s) = false
 stays WantsRight = true
 stays Idle = true
-stays (TurnRefused n) = not (spoils n)
+stays (TurnRefused n) = not (marksFailed n)
 
 -- What ends a run without a change: its turns are used, Wants right, Idle, and any refusal but 8 and 9.
 abbrev pub staysAt : Stop → Bool
 staysAt Used = true
 staysAt StopWants = true
 staysAt StopIdle = true
-staysAt (StopRefused n) = not (spoils n)
+staysAt (StopRefused n) = not (marksFailed n)
 
 -- What a run tells that made no turn.
 abbrev pub noTurn : Stop → Made

@@ -19,7 +19,7 @@ use Rattle.answers.specs.declared.Took.the-variants.{Accepted, Refused}
 use Rattle.answers.specs.declared.Ported.{Ported}
 use Rattle.answers.specs.declared.Ported.the-variants.{Ports, Refused as PortsRefused}
 use Rattle.answers.specs.declared.Answer.{Answer}
-use Rattle.answers.specs.declared.Refusal.the-variants.{BadJoin}
+use Rattle.refusals.specs.declared.Refusal.the-variants.{BadJoin}
 use Rattle.codes.specs.Codes.{isCode, portOf}
 use Rattle.codes.proofs.CodeLaws.{and-both}
 use Rattle.convert.specs.Convert.{encode, decode}

@@ -20,7 +20,6 @@ use Rattle.runs.proofs.RunLaws.{turn-fits, turn-length}
 use Rattle.answers.specs.Answers.{wrote, isDone}
 use Rattle.answers.specs.declared.Answer.{Answer}
 use Rattle.answers.specs.declared.Answer.the-variants.{Wrote, WantsRight, Idle, Refused as TurnRefused}
-use Rattle.answers.specs.declared.Refusal.the-variants.{BadOptions, BadJoin, Failed, Closed, BadFrame, NoRoom, UsedUp, LeftOrder, RightOrder}
 use Rattle.answers.specs.declared.Took.{Took}
 use Rattle.answers.specs.declared.Took.the-variants.{Accepted, Refused}
 use Rattle.codes.specs.Codes.{isCode, portOf, tookCode, stateOf}
@@ -33,6 +32,7 @@ use Rattle.told.specs.declared.HostTook.{HostTook}
 use Rattle.hostcalls.specs.Calls.{openHost}
 use Rattle.hostcalls.proofs.CallLaws.{open-bad, open-through}
 use Rattle.hostcalls.proofs.PromiseLaws.{promises}
+use Rattle.refusals.proofs.RefusalLaws.{number-above}
 use Rattle.lists.specs.Lists.{Call, left as nodeLeft, right as nodeRight, end as nodeEnd, ports as nodePorts, turn as nodeTurn, Event, onLeft as nodeOnLeft, onRight as nodeOnRight, onEnd as nodeOnEnd, onPorts as nodeOnPorts, onTurn as nodeOnTurn, World, start, step, events, final, when, leftFrames, rightFrames, whenWrote, outputIn, outputs, pairUp, writtenIn, matchesIn, rightEnded, nodeDone, backToBack}
 use Rattle.lists.specs.Runs.{turnsOf, answersOf, wordsOf, lentBy, writtenWords}
 use Rattle.lists.proofs.ListLaws.{events-append, left-append, right-append, outputs-append, matches-append, take-more, drop-more}
@@ -46,15 +46,7 @@ use Rattle.hostlists.proofs.Follow.{host-lists}
 -- ---- refusal 0 is acceptance, answer 0 is Wrote
 taken : (a : Took) (xs : List Words) → cond (eqb (tookCode a) 0) xs [] ≡ when a xs
 taken Accepted xs = refl
-taken (Refused BadOptions) xs = refl
-taken (Refused BadJoin) xs = refl
-taken (Refused Failed) xs = refl
-taken (Refused Closed) xs = refl
-taken (Refused BadFrame) xs = refl
-taken (Refused NoRoom) xs = refl
-taken (Refused UsedUp) xs = refl
-taken (Refused LeftOrder) xs = refl
-taken (Refused RightOrder) xs = refl
+taken (Refused n) xs = rw (number-above n) refl
 
 written-by : (a : Answer) (h : HostJoin) (xs : List Words) → cond (eqb (turnedHost a h .answer) 0) xs [] ≡ whenWrote a xs
 written-by (Wrote s) h xs = refl

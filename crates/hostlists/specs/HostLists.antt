@@ -7,7 +7,7 @@ use Prim.Native.Nat.{ℕ}
 use lib.ListN.{length, drop}
 use Rattle.frames.specs.Cells.{Words}
 use Rattle.answers.specs.Answers.{portCode}
-use Rattle.answers.specs.declared.Refusal.the-variants.{BadJoin}
+use Rattle.refusals.specs.declared.Refusal.the-variants.{BadJoin}
 use Rattle.answers.specs.declared.Ported.the-variants.{Refused as PortsRefused}
 use Rattle.codes.specs.Codes.{isCode, portOf}
 use Rattle.convert.specs.Convert.{encode, decode}

@@ -1,7 +1,6 @@
 // The refusals of opening, of frames, of the end of right and of the start of a turn, in checking order. Nothing is altered here.
 use answers::Answer;
 use answers::NodeState;
-use answers::Refusal;
 use answers::Took;
 use answers::above;
 use answers::is_done;
@@ -10,6 +9,7 @@ use framerule::is_frame;
 use framerule::row_count;
 use frames::Options;
 use options::bad_options;
+use refusals::Refusal;
 ghost use mathlib.Core.Path.{_≡_};
 ghost use mathlib.Core.Bool.{false};
 ghost use Prim.Native.Nat.{suc, _+_, _≤_};

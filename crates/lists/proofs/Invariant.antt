@@ -21,8 +21,8 @@ use Rattle.answers.specs.declared.NodeState.{NodeState}
 use Rattle.answers.specs.declared.NodeState.the-variants.{Running, Flush, Done}
 use Rattle.answers.specs.declared.PortState.{PortState}
 use Rattle.answers.specs.declared.PortState.the-variants.{Blocked, Ready, Done as PortDone}
-use Rattle.answers.specs.declared.Refusal.{Refusal}
-use Rattle.answers.specs.declared.Refusal.the-variants.{BadOptions, BadJoin, Failed, Closed, BadFrame, NoRoom, UsedUp, LeftOrder, RightOrder}
+use Rattle.refusals.specs.declared.Refusal.{Refusal}
+use Rattle.refusals.specs.declared.Refusal.the-variants.{BadOptions, BadJoin, Failed, Closed, BadFrame, NoRoom, UsedUp, LeftOrder, RightOrder}
 use Rattle.answers.specs.declared.Answer.{Answer}
 use Rattle.answers.specs.declared.Answer.the-variants.{Wrote, WantsRight, Idle, Refused as TurnRefused}
 use Rattle.answers.specs.declared.Took.{Took}
@@ -30,7 +30,8 @@ use Rattle.answers.specs.declared.Took.the-variants.{Accepted, Refused}
 use Rattle.answers.specs.declared.Ported.{Ported}
 use Rattle.answers.specs.declared.Ported.the-variants.{Ports, Refused as PortsRefused}
 use Rattle.node.specs.State.{fresh, endedRight, stateAt, widthOf, badJoin, overRight, overLeft, overRows, oddSequence, heldOf, waiting}
-use Rattle.answers.specs.Answers.{number, isRunning, isDone, mostRows}
+use Rattle.answers.specs.Answers.{isRunning, isDone, mostRows}
+use Rattle.refusals.specs.Refusals.{number}
 use Rattle.node.specs.Calls.{After, leftAnswer, leftCall, queued, rightAnswer, rightCall, pushedRight, endAnswer, endCall, portsAnswer, portsCall, portsState}
 use Rattle.ports.specs.Ports.{portsIn, toFlush, toDone, portDone}
 use Rattle.lists.specs.Lists.{Call, left, right, end, ports, turn, Event, onLeft, onRight, onEnd, onPorts, onTurn, World, start, step, leftIn, rightIn, leftFrames, rightFrames, rowsIn, outputIn, outputs, endsRight, rightEnded, leftDone, leftEnded, framesWaiting, backToBack, doneBy, nodeDone, refusalIn, tookRefusal, portsRefusal, refusedWith, turnIn, turnsIn}

@@ -18,7 +18,8 @@ use Rattle.matching.specs.Match.{fits, takesOver, choose, tolerate, matchIn}
 use Rattle.matching.specs.Groups.{joinRun, runs, passes, pass, used, byRuns, matchFrame}
 use Rattle.matching.specs.Answer.{answerWords, answered}
 use Rattle.node.specs.State.{badJoin, heldOf, waiting, widthOf}
-use Rattle.answers.specs.Answers.{number, stateCode, portCode}
+use Rattle.answers.specs.Answers.{stateCode, portCode}
+use Rattle.refusals.specs.Refusals.{number}
 use Rattle.node.specs.Calls.{leftAnswer, queued, leftCall, rightAnswer, pushedRight, rightCall, endAnswer, endCall, portsAnswer, portsCall, turnAnswer, dropped, dequeued, turned, turnCall}
 use Rattle.feeds.specs.Judged.{openAnswer}
 use Rattle.prunes.specs.Prunes.{badLeft, badRight, firstPrune, remembered}

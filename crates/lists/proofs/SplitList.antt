@@ -18,8 +18,9 @@ use Rattle.frames.proofs.SortedLaws.{All, all-cut}
 use Rattle.buffer.specs.Reach.{needMore, pruneBy, badSplit}
 use Rattle.node.specs.declared.Join.{Join}
 use Rattle.answers.specs.declared.PortState.{PortState}
-use Rattle.answers.specs.declared.Refusal.{Refusal}
-use Rattle.answers.specs.declared.Refusal.the-variants.{BadOptions, BadJoin, Failed, Closed, BadFrame, NoRoom, UsedUp, LeftOrder, RightOrder}
+use Rattle.refusals.proofs.RefusalLaws.{marked-ind}
+use Rattle.refusals.specs.declared.Refusal.{Refusal}
+use Rattle.refusals.specs.declared.Refusal.the-variants.{Failed, Closed, NoRoom, UsedUp, LeftOrder, RightOrder}
 use Rattle.answers.specs.declared.Answer.{Answer}
 use Rattle.answers.specs.declared.Answer.the-variants.{Wrote, WantsRight, Idle, Refused as TurnRefused}
 use Rattle.answers.specs.declared.Took.{Took}
@@ -173,15 +174,10 @@ module _ (o : Options) (l r : Words) (allowed : badOptions o ≡ false) (es : Li
       (λ t. p .need (i .flags .ended ∙ t))))
 
   refuses : (n : Refusal) (out : Words) → LowAt o (es ++ (onTurn (TurnRefused n) out ∷ [])) (record { join = spoiled n j; left = w .left; right = w .right })
-  refuses BadOptions out = quiet (onTurn (TurnRefused BadOptions) out) j (w .left) (w .right) refl refl refl
-  refuses BadJoin out = quiet (onTurn (TurnRefused BadJoin) out) j (w .left) (w .right) refl refl refl
-  refuses Failed out = quiet (onTurn (TurnRefused Failed) out) j (w .left) (w .right) refl refl refl
-  refuses Closed out = quiet (onTurn (TurnRefused Closed) out) j (w .left) (w .right) refl refl refl
-  refuses BadFrame out = quiet (onTurn (TurnRefused BadFrame) out) j (w .left) (w .right) refl refl refl
-  refuses NoRoom out = quiet (onTurn (TurnRefused NoRoom) out) j (w .left) (w .right) refl refl refl
-  refuses UsedUp out = quiet (onTurn (TurnRefused UsedUp) out) j (w .left) (w .right) refl refl refl
-  refuses LeftOrder out = quiet (onTurn (TurnRefused LeftOrder) out) (markedFailed j) (w .left) (w .right) refl refl refl
-  refuses RightOrder out = quiet (onTurn (TurnRefused RightOrder) out) (markedFailed j) (w .left) (w .right) refl refl refl
+  refuses n out =
+      marked-ind (λ (k : Join). LowAt o (es ++ (onTurn (TurnRefused n) out ∷ [])) (record { join = k; left = w .left; right = w .right })) n
+      (λ t. quiet (onTurn (TurnRefused n) out) (markedFailed j) (w .left) (w .right) refl refl refl)
+      (λ not8 not9. quiet (onTurn (TurnRefused n) out) j (w .left) (w .right) refl refl refl)
 
   low-on-turn : (out : Words) → LowAt o (es ++ (step w (turn out) .event ∷ [])) (step w (turn out) .world)
   unfolding step turnCall

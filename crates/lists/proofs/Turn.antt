@@ -22,12 +22,14 @@ use Rattle.matching.specs.Answer.{answered}
 use Rattle.matching.proofs.ChoiceLaws.{cond-ind}
 use Rattle.matching.proofs.GroupLaws.{frame-length as match-length}
 use Rattle.node.specs.declared.Join.{Join}
-use Rattle.answers.specs.declared.Refusal.{Refusal}
-use Rattle.answers.specs.declared.Refusal.the-variants.{BadOptions, BadJoin, Failed, Closed, BadFrame, NoRoom, UsedUp, LeftOrder, RightOrder}
+use Rattle.refusals.specs.Refusals.{marksFailed}
+use Rattle.refusals.proofs.RefusalLaws.{marked-ind}
+use Rattle.refusals.specs.declared.Refusal.{Refusal}
+use Rattle.refusals.specs.declared.Refusal.the-variants.{Failed, Closed, NoRoom, UsedUp, LeftOrder, RightOrder}
 use Rattle.answers.specs.declared.Answer.{Answer}
 use Rattle.answers.specs.declared.Answer.the-variants.{Wrote, WantsRight, Idle, Refused as TurnRefused}
 use Rattle.node.specs.State.{nextTurn, markedFailed, widthOf, badJoin, heldOf, waiting}
-use Rattle.answers.specs.Answers.{number, isRunning, isDone, lastSequence}
+use Rattle.answers.specs.Answers.{isRunning, isDone, lastSequence}
 use Rattle.node.specs.Calls.{After, after, turnAnswer, turnCall, turned, dropped, dequeued, spoiled}
 use Rattle.prunes.specs.Prunes.{badLeft, badRight, firstPrune, remembered, keptRows, lastPrune}
 use Rattle.prunes.proofs.PruneLaws.{drops-within}
@@ -224,7 +226,7 @@ module _ (o : Options) (l r : Words) (allowed : badOptions o ≡ false) (es : Li
   pub no-write : (out : Words) (q : ℕ) → drop (length (outputs es)) (leftFrames es) ≡ [] → turnAnswer j (w .left) (w .right) out ≡ Wrote q → ⊥
   no-write out q e h = idle-writes (j .failed) (isDone (j .state)) q (sym (idle-is out e) ∙ h)
 
-  spoils : (n : Refusal) (out : Words) → Fine (TurnRefused n) → (eqb (number n) 8 || eqb (number n) 9) ≡ true → Adds es j (onTurn (TurnRefused n) out) (markedFailed j)
+  spoils : (n : Refusal) (out : Words) → Fine (TurnRefused n) → marksFailed n ≡ true → Adds es j (onTurn (TurnRefused n) out) (markedFailed j)
   unfolding doneBy refusedWith
   spoils n out p t = record {
     ended = sym (or-false (j .«right_ended»));
@@ -239,22 +241,16 @@ module _ (o : Options) (l r : Words) (allowed : badOptions o ≡ false) (es : Li
       → Inv o l r (es ++ (onTurn a out ∷ [])) (record { join = j; left = w .left; right = w .right })
   stays a out p n8 n9 eo = keep o l r allowed es w i (onTurn a out) j refl refl eo s (quiet-turn a out p n8 n9)
 
-  marks : (n : Refusal) (out : Words) → Fine (TurnRefused n) → (eqb (number n) 8 || eqb (number n) 9) ≡ true
+  marks : (n : Refusal) (out : Words) → Fine (TurnRefused n) → marksFailed n ≡ true
       → Inv o l r (es ++ (onTurn (TurnRefused n) out ∷ [])) (record { join = markedFailed j; left = w .left; right = w .right })
   marks n out p t =
       keep o l r allowed es w i (onTurn (TurnRefused n) out) (markedFailed j) refl refl refl
       (stock-same o l r (leftFrames es) (rightFrames es) (outputs es) j (w .left) (w .right) s (markedFailed j) refl refl refl refl refl refl refl) (spoils n out p t)
 
   inv-refused : (n : Refusal) (out : Words) → Fine (TurnRefused n) → Inv o l r (es ++ (onTurn (TurnRefused n) out ∷ [])) (record { join = spoiled n j; left = w .left; right = w .right })
-  inv-refused BadOptions out p = stays (TurnRefused BadOptions) out p refl refl refl
-  inv-refused BadJoin out p = stays (TurnRefused BadJoin) out p refl refl refl
-  inv-refused Failed out p = stays (TurnRefused Failed) out p refl refl refl
-  inv-refused Closed out p = stays (TurnRefused Closed) out p refl refl refl
-  inv-refused BadFrame out p = stays (TurnRefused BadFrame) out p refl refl refl
-  inv-refused NoRoom out p = stays (TurnRefused NoRoom) out p refl refl refl
-  inv-refused UsedUp out p = stays (TurnRefused UsedUp) out p refl refl refl
-  inv-refused LeftOrder out p = marks LeftOrder out p refl
-  inv-refused RightOrder out p = marks RightOrder out p refl
+  inv-refused n out p =
+      marked-ind (λ (k : Join). Inv o l r (es ++ (onTurn (TurnRefused n) out ∷ [])) (record { join = k; left = w .left; right = w .right })) n
+      (marks n out p) (λ not8 not9. stays (TurnRefused n) out p not8 not9 refl)
 
   pub inv-turn : (out : Words) → Inv o l r (es ++ (step w (turn out) .event ∷ [])) (step w (turn out) .world)
   unfolding step turnCall

@@ -16,8 +16,8 @@ use Rattle.node.specs.declared.Join.{Join}
 use Rattle.answers.specs.declared.PortState.{PortState}
 use Rattle.answers.specs.declared.Answer.{Answer}
 use Rattle.answers.specs.declared.Answer.the-variants.{Wrote, WantsRight, Idle, Refused as TurnRefused}
-use Rattle.answers.specs.declared.Refusal.{Refusal}
-use Rattle.answers.specs.declared.Refusal.the-variants.{BadOptions, BadJoin, Failed, Closed, BadFrame, NoRoom, UsedUp, LeftOrder, RightOrder}
+use Rattle.refusals.proofs.RefusalLaws.{marked-ind}
+use Rattle.refusals.specs.declared.Refusal.{Refusal}
 use Rattle.answers.specs.declared.Took.{Took}
 use Rattle.answers.specs.declared.Took.the-variants.{Accepted, Refused}
 use Rattle.answers.specs.declared.Ported.{Ported}
@@ -105,15 +105,9 @@ module _ (j : Join) (l r l′ r′ : Words) (a : Alike j l r l′ r′) where
   -- What changes nothing, or marks the join failed.
   failed-alike : (n : Refusal) → Alike (spoiled n j) l r l′ r′
   unfolding waiting heldValues heldMarks
-  failed-alike BadOptions = a
-  failed-alike BadJoin = a
-  failed-alike Failed = a
-  failed-alike Closed = a
-  failed-alike BadFrame = a
-  failed-alike NoRoom = a
-  failed-alike UsedUp = a
-  failed-alike LeftOrder = record { left-length = a .left-length; right-length = a .right-length; waits = a .waits; values = a .values; marks = a .marks }
-  failed-alike RightOrder = record { left-length = a .left-length; right-length = a .right-length; waits = a .waits; values = a .values; marks = a .marks }
+  failed-alike n =
+      marked-ind (λ (k : Join). Alike k l r l′ r′) n
+      (λ t. record { left-length = a .left-length; right-length = a .right-length; waits = a .waits; values = a .values; marks = a .marks }) (λ not8 not9. a)
 
   pub turn-unread : (out : Words) → Same (turnCall j l′ r′ out) (turnCall j l r out)
   unfolding turnCall

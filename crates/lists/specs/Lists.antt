@@ -9,7 +9,7 @@ use Rattle.frames.specs.Cells.{Rows, Words}
 use Rattle.frames.specs.Frame.{rowCount, frameRows, frameWords, front}
 use Rattle.frames.specs.declared.Options.{Options}
 use Rattle.node.specs.State.{fresh, waiting, widthOf}
-use Rattle.answers.specs.Answers.{number}
+use Rattle.refusals.specs.Refusals.{number}
 use Rattle.node.specs.Calls.{After, leftCall, rightCall, endCall, portsCall, turnCall}
 use Rattle.ports.specs.Ports.{portDone}
 use Rattle.node.specs.declared.Join.{Join}

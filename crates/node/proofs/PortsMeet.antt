@@ -10,8 +10,8 @@ use Rattle.node.specs.declared.Join.{Join}
 use Rattle.node.specs.declared.PortedJoin.{PortedJoin}
 use Rattle.answers.specs.declared.NodeState.{NodeState}
 use Rattle.answers.specs.declared.PortState.{PortState}
-use Rattle.answers.specs.declared.Refusal.{Refusal}
-use Rattle.answers.specs.declared.Refusal.the-variants.{BadJoin, Failed}
+use Rattle.refusals.specs.declared.Refusal.{Refusal}
+use Rattle.refusals.specs.declared.Refusal.the-variants.{BadJoin, Failed}
 use Rattle.answers.specs.declared.Ported.{Ported}
 use Rattle.answers.specs.declared.Ported.the-variants.{Ports, Refused}
 use Rattle.answers.proofs.Tests.{past}

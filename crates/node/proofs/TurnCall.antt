@@ -19,7 +19,7 @@ use Rattle.area.proofs.AreaLaws.{rows-words}
 use Rattle.matching.specs.Groups.{matchFrame}
 use Rattle.matching.specs.Answer.{answered}
 use Rattle.matching.proofs.ChoiceLaws.{cond-ind}
-use Rattle.node.specs.State.{widthOf, badJoin, heldOf, waiting}
+use Rattle.node.specs.State.{markedFailed, widthOf, badJoin, heldOf, waiting}
 use Rattle.answers.specs.Answers.{isDone, lastSequence, wrote}
 use Rattle.node.specs.Calls.{after, turnAnswer, dropped, dequeued, turned, spoiled, turnCall}
 use Rattle.prunes.specs.Prunes.{firstPrune, badLeft, badRight, keptRows, lastPrune}
@@ -29,12 +29,13 @@ use Rattle.node.proofs.Good.{Good, good}
 use Rattle.answers.proofs.Tests.{past}
 use Rattle.prunes.proofs.PruneLaws.{split-known}
 use Rattle.node.specs.declared.Join.{Join}
-use Rattle.answers.specs.declared.Refusal.{Refusal}
-use Rattle.answers.specs.declared.Refusal.the-variants.{BadOptions, BadJoin, Failed, Closed, BadFrame, NoRoom, UsedUp, LeftOrder, RightOrder}
+use Rattle.refusals.specs.Refusals.{marksFailed}
+use Rattle.refusals.specs.declared.Refusal.{Refusal}
+use Rattle.refusals.specs.declared.Refusal.the-variants.{BadJoin, Failed, Closed, BadFrame, NoRoom, UsedUp, LeftOrder, RightOrder}
 use Rattle.answers.specs.declared.Answer.{Answer}
 use Rattle.answers.specs.declared.Answer.the-variants.{Wrote, WantsRight, Idle, Refused}
 use Rattle.feeds.specs.Judged.{readyJudged}
-use Rattle.parts.specs.Part.{roomAnswer, orderAnswer, leftPart}
+use Rattle.parts.specs.Part.{roomAnswer, orderAnswer, leftPart, failedPart}
 use Rattle.parts.specs.declared.Part.{Part}
 use Rattle.turns.specs.Turns.{left as unmoved, rowsAnswer, rowsTurn, spoiledPart, RowsTurned}
 use Rattle.queue.specs.Queue.{waitingIn, frontTurn, queueTurn, QueueTurned}
@@ -93,15 +94,11 @@ stopped j (Refused n) = spoiled n j
 
 -- The part of a join that a refusal spoils is the join that it spoils.
 part-spoiled : (j : Join) (n : Refusal) → joinWith j (spoiledPart n (partOf j)) ≡ spoiled n j
-part-spoiled j BadOptions = refl
-part-spoiled j BadJoin = refl
-part-spoiled j Failed = refl
-part-spoiled j Closed = refl
-part-spoiled j BadFrame = refl
-part-spoiled j NoRoom = refl
-part-spoiled j UsedUp = refl
-part-spoiled j LeftOrder = refl
-part-spoiled j RightOrder = refl
+part-spoiled j n = go (marksFailed n)
+  where
+    go : (b : Bool) → joinWith j (cond b (failedPart (partOf j)) (partOf j)) ≡ cond b (markedFailed j) j
+    go true = refl
+    go false = refl
 
 module _ (j : Join) (left right out : Words) where
   -- ---- ready

@@ -17,8 +17,9 @@ use Rattle.answers.specs.Answers.{isRunning, isDone, mostRows, lastSequence}
 use Rattle.node.specs.declared.Join.{Join}
 use Rattle.answers.specs.declared.NodeState.{NodeState}
 use Rattle.answers.specs.declared.PortState.{PortState}
-use Rattle.answers.specs.declared.Refusal.{Refusal}
-use Rattle.answers.specs.declared.Refusal.the-variants.{BadOptions, BadJoin, Failed, Closed, BadFrame, NoRoom, UsedUp, LeftOrder, RightOrder}
+use Rattle.refusals.specs.Refusals.{marksFailed}
+use Rattle.refusals.specs.declared.Refusal.{Refusal}
+use Rattle.refusals.specs.declared.Refusal.the-variants.{BadJoin, Failed, Closed, BadFrame, NoRoom, UsedUp, LeftOrder, RightOrder}
 use Rattle.answers.specs.declared.Answer.{Answer}
 use Rattle.answers.specs.declared.Answer.the-variants.{Wrote, WantsRight, Idle, Refused as TurnRefused}
 use Rattle.answers.specs.declared.Took.{Took}
@@ -170,15 +171,7 @@ turned j left right out =
 
 -- SCOPE 16.2: what a refusal changes in the join.
 abbrev pub spoiled : Refusal → Join → Join
-spoiled BadOptions j = j
-spoiled BadJoin j = j
-spoiled Failed j = j
-spoiled Closed j = j
-spoiled BadFrame j = j
-spoiled NoRoom j = j
-spoiled UsedUp j = j
-spoiled LeftOrder j = markedFailed j
-spoiled RightOrder j = markedFailed j
+spoiled n j = cond (marksFailed n) (markedFailed j) j
 
 -- SCOPE 12.2, 12.3: a turn.
 unfoldable pub turnCall : Join → Words → Words → Words → After Answer

@@ -13,7 +13,7 @@ use Rattle.buffer.specs.Reach.{needMore}
 use Rattle.matching.specs.Groups.{matchFrame}
 use Rattle.matching.specs.Answer.{answered}
 use Rattle.answers.specs.Answers.{mostRows, lastSequence}
-use Rattle.answers.specs.declared.Refusal.the-variants.{NoRoom, UsedUp, LeftOrder, RightOrder}
+use Rattle.refusals.specs.declared.Refusal.the-variants.{NoRoom, UsedUp, LeftOrder, RightOrder}
 use Rattle.answers.specs.declared.Answer.{Answer}
 use Rattle.answers.specs.declared.Answer.the-variants.{Wrote, WantsRight, Refused}
 use Rattle.prunes.specs.Prunes.{badLeft, badRightAt, remembered}

@@ -1,13 +1,13 @@
 // What a turn works on: the join without its state, which no turn reads or moves; what the turn has and needs, and what it writes and leaves.
 use answer::match_frame;
 use answers::Answer;
-use answers::Refusal;
 use frames::Options;
 use frames::Row;
 use prunes::bad_left;
 use prunes::bad_right;
 use prunes::remembered;
 use reach::need_more;
+use refusals::Refusal;
 ghost use mathlib.Core.Path.{_≡_};
 ghost use mathlib.Core.Bool.{not, _&&_};
 ghost use Prim.Native.Nat.{_+_, _-_, _^_, _≤_, _<_};

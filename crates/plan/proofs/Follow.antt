@@ -18,7 +18,7 @@ use Rattle.frames.proofs.SortedLaws.{sorted-cut}
 use Rattle.area.specs.Area.{capacity}
 use Rattle.buffer.specs.Reach.{needMore}
 use Rattle.node.specs.declared.Join.{Join}
-use Rattle.answers.specs.declared.Refusal.the-variants.{NoRoom}
+use Rattle.refusals.specs.declared.Refusal.the-variants.{NoRoom}
 use Rattle.answers.specs.declared.Answer.the-variants.{Wrote, WantsRight}
 use Rattle.answers.specs.declared.Took.the-variants.{Accepted, Refused}
 use Rattle.node.specs.State.{endedRight}

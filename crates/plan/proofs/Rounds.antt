@@ -14,7 +14,7 @@ use Rattle.frames.specs.declared.Options.{Options}
 use Rattle.frames.proofs.FrameLaws.{frame-rows}
 use Rattle.area.specs.Area.{capacity}
 use Rattle.buffer.specs.Reach.{needMore}
-use Rattle.answers.specs.declared.Refusal.the-variants.{NoRoom}
+use Rattle.refusals.specs.declared.Refusal.the-variants.{NoRoom}
 use Rattle.answers.specs.declared.Answer.the-variants.{Wrote, WantsRight}
 use Rattle.answers.specs.declared.Took.the-variants.{Accepted, Refused}
 use Rattle.node.specs.Calls.{rightAnswer, turnAnswer, turned}

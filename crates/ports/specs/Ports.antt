@@ -10,7 +10,7 @@ use Rattle.answers.specs.declared.PortState.{PortState}
 use Rattle.answers.specs.declared.PortState.the-variants.{Blocked, Ready, Done as PortDone}
 use Rattle.answers.specs.declared.Ported.{Ported}
 use Rattle.answers.specs.declared.Ported.the-variants.{Ports, Refused}
-use Rattle.answers.specs.declared.Refusal.the-variants.{BadJoin, Failed}
+use Rattle.refusals.specs.declared.Refusal.the-variants.{BadJoin, Failed}
 use Rattle.ports.specs.declared.PortsMoved.{PortsMoved}
 
 -- A port that came Done.

@@ -2,7 +2,7 @@
 use answers::NodeState;
 use answers::PortState;
 use answers::Ported;
-use answers::Refusal;
+use refusals::Refusal;
 ghost use mathlib.Core.Path.{_≡_};
 ghost use mathlib.Core.Bool.{_||_};
 ghost use Rattle.answers.specs.declared.NodeState.the-variants.{Flush};

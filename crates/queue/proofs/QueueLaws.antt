@@ -18,8 +18,8 @@ use Rattle.area.proofs.AreaLaws.{rows-words}
 use Rattle.matching.proofs.ChoiceLaws.{cond-ind}
 use Rattle.answers.specs.Answers.{isDone, wrote}
 use Rattle.answers.specs.declared.NodeState.{NodeState}
-use Rattle.answers.specs.declared.Refusal.{Refusal}
-use Rattle.answers.specs.declared.Refusal.the-variants.{BadJoin, Failed, Closed, BadFrame}
+use Rattle.refusals.specs.declared.Refusal.{Refusal}
+use Rattle.refusals.specs.declared.Refusal.the-variants.{BadJoin, Failed, Closed, BadFrame}
 use Rattle.answers.specs.declared.Answer.{Answer}
 use Rattle.answers.specs.declared.Answer.the-variants.{Wrote, WantsRight, Idle, Refused}
 use Rattle.answers.proofs.Tests.{past}

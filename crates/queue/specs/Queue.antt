@@ -12,7 +12,7 @@ use Rattle.frames.specs.declared.Front.the-variants.{Words as Long, Nothing}
 use Rattle.area.specs.Area.{capacity, heldRows}
 use Rattle.answers.specs.Answers.{mostRows}
 use Rattle.answers.specs.declared.NodeState.{NodeState}
-use Rattle.answers.specs.declared.Refusal.the-variants.{BadFrame}
+use Rattle.refusals.specs.declared.Refusal.the-variants.{BadFrame}
 use Rattle.answers.specs.declared.Answer.the-variants.{Wrote, WantsRight, Idle, Refused}
 use Rattle.feeds.specs.Judged.{readyJudged}
 use Rattle.parts.specs.declared.Part.{Part}

@@ -1,12 +1,12 @@
 // A turn from its first test on: whether it may look at the queue, the frame at the front, and the turn over it.
 use answers::Answer;
 use answers::NodeState;
-use answers::Refusal;
 use answers::goes_on;
 use framerule::front_words;
 use frames::Front;
 use judges::judge_ready;
 use parts::Part;
+use refusals::Refusal;
 use turns::TurnedPart;
 use turns::turn_frame;
 ghost use mathlib.Core.Path.{_≡_};

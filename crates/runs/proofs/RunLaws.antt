@@ -28,8 +28,8 @@ use Rattle.node.specs.Leaves.{TurnLeaves}
 use Rattle.runs.specs.RunLeaves.{RunLeaves}
 use Rattle.answers.proofs.Tests.{past}
 use Rattle.node.specs.declared.Join.{Join}
-use Rattle.answers.specs.declared.Refusal.{Refusal}
-use Rattle.answers.specs.declared.Refusal.the-variants.{BadJoin, Failed, Closed, BadFrame, NoRoom}
+use Rattle.refusals.specs.declared.Refusal.{Refusal}
+use Rattle.refusals.specs.declared.Refusal.the-variants.{BadJoin, Failed, Closed, BadFrame, NoRoom}
 use Rattle.answers.specs.declared.Answer.{Answer}
 use Rattle.answers.specs.declared.Answer.the-variants.{Wrote, WantsRight, Idle, Refused}
 use Rattle.answers.specs.declared.Stop.{Stop}

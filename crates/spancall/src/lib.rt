@@ -4,8 +4,8 @@ use framerule::row_count;
 use pairing::count_pairs;
 use pairing::put_pairs;
 use pointsearch::ascending_points;
+use refusals::Refusal;
 use spans::Bounds;
-use tables::Refusal;
 use tables::Written;
 use tables::put_head;
 ghost use Rattle.spans.specs.Inner.{CoverLeaves};
@@ -43,10 +43,10 @@ pub fn spans(points: &[i64], intervals: &[i64], b: Bounds, out: &mut [i64]) -> W
     ensures { λ r. ⌜ SpanLeaves b (now (points .entry)) (now (intervals .entry)) (now (out .entry)) r (now (out .exit)) ⌝ }
 {
     if !is_frame(points, 1) {
-        return Written::Refused(Refusal::BadTable);
+        return Written::Refused(Refusal::BadFrame);
     }
     if !is_frame(intervals, 2) {
-        return Written::Refused(Refusal::BadTable);
+        return Written::Refused(Refusal::BadFrame);
     }
     let n = row_count(points);
     let m = row_count(intervals);

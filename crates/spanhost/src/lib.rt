@@ -2,9 +2,9 @@
 use codes::both;
 use codes::flag_of;
 use codes::is_flag;
+use refusals::Refusal;
 use spancall::spans;
 use spans::Bounds;
-use tables::Refusal;
 use tables::Written;
 use written::HostWritten;
 use written::written_host;

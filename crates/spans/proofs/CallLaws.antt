@@ -13,7 +13,7 @@ use Rattle.frames.proofs.FrameLaws.{values-length, marks-length, frame-length}
 use Rattle.frames.proofs.FrontLaws.{frame-few}
 use Rattle.tables.specs.Table.{After, leave, laid, tableOf}
 use Rattle.tables.specs.Lay.{flat, layCells}
-use Rattle.tables.specs.declared.Refusal.the-variants.{BadTable, BadPoints, NoRoom}
+use Rattle.refusals.specs.declared.Refusal.the-variants.{BadFrame, BadPoints, NoRoom}
 use Rattle.tables.specs.declared.Written.{Written}
 use Rattle.tables.specs.declared.Written.the-variants.{Rows as Wrote, Refused}
 use Rattle.tables.proofs.LayLaws.{lay-table}
@@ -73,18 +73,18 @@ module _ (b : Bounds) (n : ℕ) (pv pm : Words) (m : ℕ) (iv im out : Words) wh
 
 -- ---- the frames
 module _ (b : Bounds) (points intervals out : Words) where
-  bad : (isFrame 1 points && isFrame 2 intervals) ≡ false → spanAnswer b points intervals out ≡ Refused BadTable
+  bad : (isFrame 1 points && isFrame 2 intervals) ≡ false → spanAnswer b points intervals out ≡ Refused BadFrame
   unfolding spanAnswer
   bad e = rw e
 
-  pub span-bad : (isFrame 1 points && isFrame 2 intervals) ≡ false → SpanLeaves b points intervals out (Refused BadTable) out
+  pub span-bad : (isFrame 1 points && isFrame 2 intervals) ≡ false → SpanLeaves b points intervals out (Refused BadFrame) out
   unfolding spanCall
   span-bad e = record {
     answer = by (spanAnswer b points intervals out) (bad e);
     words = ap (λ (z : Written). leave 2 (pairsIn b points intervals) z out .out) (sym (bad e));
   }
     where
-      by : (w : Written) → w ≡ Refused BadTable → Refused BadTable ≡ leave 2 (pairsIn b points intervals) w out .answer
+      by : (w : Written) → w ≡ Refused BadFrame → Refused BadFrame ≡ leave 2 (pairsIn b points intervals) w out .answer
       by (Wrote n) d = sym d
       by (Refused r) d = sym d
 

@@ -9,7 +9,7 @@ use Rattle.frames.specs.Frame.{isFrame, frameRows, pairsFine}
 use Rattle.frames.proofs.Samples.{row, keys, frameOf}
 use Rattle.buffer.specs.Search.{find, search, searchFor}
 use Rattle.tables.specs.Table.{wordsOf, tableOf, laid, After}
-use Rattle.tables.specs.declared.Refusal.the-variants.{BadTable, BadPoints, NoRoom}
+use Rattle.refusals.specs.declared.Refusal.the-variants.{BadFrame, BadPoints, NoRoom}
 use Rattle.tables.specs.declared.Written.{Written}
 use Rattle.tables.specs.declared.Written.the-variants.{Rows as Wrote, Refused}
 use Rattle.spans.specs.Span.{covered, pairRow, pairsFrom, pairs, ascendingPoints}
@@ -61,6 +61,6 @@ pub refusals :
     spanAnswer (bounds true true) (frameOf 1 (keys (20 ∷ 10 ∷ []))) (frameOf 1 []) [] ∷ spanAnswer (bounds true true) (frameOf 1 ((value (pos 10) ∷ []) ∷ (null ∷ []) ∷ [])) (frameOf 2 []) []
     ∷ spanAnswer (bounds true true) (frameOf 1 (keys (20 ∷ 10 ∷ []))) (frameOf 2 []) [] ∷ spanAnswer (bounds true true) (frameOf 1 (keys (10 ∷ []))) (frameOf 2 (row (10 ∷ 10 ∷ []) ∷ [])) (pos 0 ∷ pos 0 ∷ [])
     ∷ spanAnswer (bounds true false) (frameOf 1 (keys (10 ∷ []))) (frameOf 2 (row (10 ∷ 10 ∷ []) ∷ [])) (pos 0 ∷ pos 0 ∷ []) ∷ []
-    ≡ Refused BadTable ∷ Refused BadPoints ∷ Refused BadPoints ∷ Refused NoRoom ∷ Wrote 0 ∷ []
+    ≡ Refused BadFrame ∷ Refused BadPoints ∷ Refused BadPoints ∷ Refused NoRoom ∷ Wrote 0 ∷ []
 unfolding spanAnswer pairsIn isFrame pairsFine frameRows rowsOf cellsOf ascendingPoints pairsFrom covered
 refusals = refl

@@ -20,7 +20,7 @@ use Rattle.frames.proofs.RowLaws.{row-cell}
 use Rattle.buffer.specs.declared.Stretch.{Stretch}
 use Rattle.tables.specs.Table.{laid, tableOf, leave}
 use Rattle.tables.specs.Lay.{flat, layCells}
-use Rattle.tables.specs.declared.Refusal.the-variants.{BadPoints, NoRoom}
+use Rattle.refusals.specs.declared.Refusal.the-variants.{BadPoints, NoRoom}
 use Rattle.tables.specs.declared.Written.the-variants.{Rows as Wrote, Refused}
 use Rattle.tables.proofs.LayLaws.{flat-append, lay-none, lay-append, lay-table}
 use Rattle.spans.specs.Span.{pairRow, pairs, ascendingPoints}

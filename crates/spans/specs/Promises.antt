@@ -6,8 +6,8 @@ use lib.ListN.{length, take, drop}
 use Rattle.frames.specs.Cells.{Words}
 use Rattle.frames.specs.Frame.{isFrame, rowCount, frameWords}
 use Rattle.tables.specs.Table.{isTable, tableRows}
-use Rattle.tables.specs.declared.Refusal.{Refusal}
-use Rattle.tables.specs.declared.Refusal.the-variants.{NoRoom}
+use Rattle.refusals.specs.declared.Refusal.{Refusal}
+use Rattle.refusals.specs.declared.Refusal.the-variants.{NoRoom}
 use Rattle.tables.specs.declared.Written.the-variants.{Rows as Wrote, Refused}
 use Rattle.spans.specs.Calls.{pairsIn, spanCall}
 use Rattle.spans.specs.declared.Bounds.{Bounds}

@@ -20,8 +20,8 @@ use Rattle.frames.proofs.FrameLaws.{frame-rows, frame-wide}
 use Rattle.tables.specs.Setting.{Setting, leftWidth, allKnown}
 use Rattle.tables.specs.Table.{isTable, tableOf, laid}
 use Rattle.tables.proofs.TableLaws.{Wide, table-rows, table-is, laid-take}
-use Rattle.tables.specs.declared.Refusal.{Refusal}
-use Rattle.tables.specs.declared.Refusal.the-variants.{BadOptions, TooManyCarried, BadRanks, BadTable, UnknownCode, BadColumns, Unsorted, Beyond, NoRoom}
+use Rattle.refusals.specs.declared.Refusal.{Refusal}
+use Rattle.refusals.specs.declared.Refusal.the-variants.{BadOptions, TooManyCarried, BadRanks, BadFrame, UnknownCode, BadColumns, Unsorted, Beyond, NoRoom}
 use Rattle.takings.specs.Subtotals.{Subtotal, addAll, totalFor, countFor, rowOf, subtotalsOf, hasNull, anyNull, mostAmount, mostSales, beyondRow, beyondRows, salesIn, beyondNumber, Tells}
 use Rattle.takings.specs.Sales.{Sale, salesOf, withAmount, amountsOf, nullsOf, beyondAmounts, matched}
 use Rattle.takings.specs.Calls.{After, tableWidth, tableWords, columnsIn, anyFrame, answerColumns, rowsIn, subtotalsIn, fineSubtotals, salesBy, unless, result, leave, addAnswer, addCall, joinAnswer, joinCall}
@@ -272,7 +272,7 @@ module _ (s : Setting) where
   unfolding addAnswer
   add-told table k left answer out e =
       let five = isTable (tableWidth s) table && isFrame (leftWidth s) left && anyFrame answer && eqb (rowCount left) (rowCount answer) in
-      let p = passed (not five) BadTable _ (past _ e) in
+      let p = passed (not five) BadFrame _ (past _ e) in
       let q = passed (not (allKnown s (rowsIn s table) && allKnown s (frameRows (leftWidth s) left))) UnknownCode _ (p .1) in
       let r = passed (not (answerColumns s (columnsIn answer))) BadColumns _ (q .1) in
       let u = passed (not (fineSubtotals s table)) Unsorted _ (r .1) in
@@ -286,7 +286,7 @@ module _ (s : Setting) where
       → Result (addAll (s .options) (subtotalsIn s table) (subtotalsIn s other)) (natAbs k + natAbs l) out n m
   unfolding joinAnswer
   join-told table k other l out e =
-      let p = passed (not (isTable (tableWidth s) table && isTable (tableWidth s) other)) BadTable _ (past _ e) in
+      let p = passed (not (isTable (tableWidth s) table && isTable (tableWidth s) other)) BadFrame _ (past _ e) in
       let q = passed (not (allKnown s (rowsIn s table) && allKnown s (rowsIn s other))) UnknownCode _ (p .1) in
       let r = passed (eqb (s .carried) 0) BadColumns _ (q .1) in
       let u = passed (not (fineSubtotals s table && fineSubtotals s other)) Unsorted _ (r .1) in

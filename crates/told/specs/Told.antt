@@ -1,9 +1,10 @@
 -- What the calls answer, in numbers. Assumes nothing.
 use Prim.Native.Nat.{ℕ}
 use Rattle.frames.specs.Keyed.{noRow}
-use Rattle.answers.specs.Answers.{number, stateCode, portCode}
+use Rattle.answers.specs.Answers.{stateCode, portCode}
+use Rattle.refusals.specs.Refusals.{number}
 use Rattle.answers.specs.declared.NodeState.the-variants.{Running}
-use Rattle.answers.specs.declared.Refusal.the-variants.{BadJoin}
+use Rattle.refusals.specs.declared.Refusal.the-variants.{BadJoin}
 use Rattle.answers.specs.declared.Stop.{Stop}
 use Rattle.answers.specs.declared.Stop.the-variants.{Refused as StopRefused}
 use Rattle.answers.specs.declared.Took.{Took}

@@ -1,7 +1,6 @@
 // What the calls answer, in numbers.
 use answers::Answer;
 use answers::Ported;
-use codes::number_of;
 use codes::port_code;
 use codes::stop_code;
 use codes::stop_refusal;
@@ -14,9 +13,10 @@ use keyed::no_row;
 use node::PortedJoin;
 use node::TookJoin;
 use node::TurnedJoin;
+use refusals::number_of;
 use runs::RanJoin;
 ghost use mathlib.Core.Path.{_≡_};
-ghost use Rattle.answers.specs.declared.Refusal.the-variants.{BadJoin};
+ghost use Rattle.refusals.specs.declared.Refusal.the-variants.{BadJoin};
 ghost use Rattle.answers.specs.declared.Took.the-variants.{Refused};
 ghost use Rattle.answers.specs.declared.Ported.the-variants.{Refused as PortsRefused};
 ghost use Rattle.answers.specs.declared.Answer.the-variants.{Refused as TurnRefused};

@@ -20,7 +20,7 @@ use Rattle.area.proofs.AreaLaws.{held-in}
 use Rattle.buffer.specs.Reach.{needMore, pruneBy}
 use Rattle.matching.proofs.ChoiceLaws.{cond-ind}
 use Rattle.answers.specs.Answers.{wrote, lastSequence}
-use Rattle.answers.specs.declared.Refusal.the-variants.{NoRoom, UsedUp, LeftOrder, RightOrder}
+use Rattle.refusals.specs.declared.Refusal.the-variants.{NoRoom, UsedUp, LeftOrder, RightOrder}
 use Rattle.answers.specs.declared.Answer.{Answer}
 use Rattle.answers.specs.declared.Answer.the-variants.{Wrote, WantsRight, Idle, Refused}
 use Rattle.answers.proofs.Tests.{past}

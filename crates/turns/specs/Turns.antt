@@ -1,6 +1,6 @@
 -- A turn by the rows of the frame at the front and the held rows. Assumes nothing.
 use mathlib.Core.Path.{_≡_}
-use mathlib.Core.Bool.{true}
+use mathlib.Core.Bool.{true, cond}
 use Prim.Native.Nat.{ℕ, _+_, _≤_}
 use lib.ListN.{length}
 use Rattle.frames.specs.Cells.{Rows, Words}
@@ -9,8 +9,8 @@ use Rattle.frames.specs.Options.{columns}
 use Rattle.area.specs.Area.{capacity}
 use Rattle.matching.specs.Groups.{matchFrame}
 use Rattle.matching.specs.Answer.{answered}
-use Rattle.answers.specs.declared.Refusal.{Refusal}
-use Rattle.answers.specs.declared.Refusal.the-variants.{BadOptions, BadJoin, Failed, Closed, BadFrame, NoRoom, UsedUp, LeftOrder, RightOrder}
+use Rattle.refusals.specs.Refusals.{marksFailed}
+use Rattle.refusals.specs.declared.Refusal.{Refusal}
 use Rattle.answers.specs.declared.Answer.{Answer}
 use Rattle.answers.specs.declared.Answer.the-variants.{Wrote, WantsRight, Idle, Refused}
 use Rattle.prunes.specs.Prunes.{firstPrune, keptRows, lastPrune}
@@ -30,15 +30,7 @@ rowsAnswer j rows held room =
 
 -- Refusals 8 and 9 mark the join failed and change nothing else; the others change nothing.
 abbrev pub spoiledPart : Refusal → Part → Part
-spoiledPart BadOptions j = j
-spoiledPart BadJoin j = j
-spoiledPart Failed j = j
-spoiledPart Closed j = j
-spoiledPart BadFrame j = j
-spoiledPart NoRoom j = j
-spoiledPart UsedUp j = j
-spoiledPart LeftOrder j = failedPart j
-spoiledPart RightOrder j = failedPart j
+spoiledPart n j = cond (marksFailed n) (failedPart j) j
 
 -- What a turn leaves: its answer, its part of the join, and the output.
 pub record Left : Type 0 where

@@ -1,5 +1,5 @@
 -- What the functions over tables answer, in numbers. Assumes nothing.
-use Rattle.tables.specs.Setting.{number}
+use Rattle.refusals.specs.Refusals.{number}
 use Rattle.tables.specs.declared.Written.{Written}
 use Rattle.tables.specs.declared.Written.the-variants.{Rows as Wrote, Refused}
 use Rattle.written.specs.declared.HostWritten.{HostWritten}

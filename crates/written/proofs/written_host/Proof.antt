@@ -3,7 +3,7 @@ use Rattle.written.proofs.written_host.Statement.{statement}
 use Rattle.written.proofs.written_host.Tie as tie
 use Rattle.written.proofs.written_host.Reads as reads
 use Rattle.written.proofs.written_host.Lts as lts
-use Rattle.written.proofs.number_of.Reads as number-of-reads
+use Rattle.refusals.proofs.number_of.Reads as number-of-reads
 
 enum-known-w : tie.Need-enum-known-w
 enum-known-w c = search needs
