@@ -6,7 +6,7 @@ use Prim.Native.Nat.{ℕ}
 use lib.Dec.{ltb}
 use lib.IntN.{pos, negsuc}
 use Rattle.frames.specs.Cells.{Cell, null, value, cell, Rows, Words, rowsOf, cellsOf}
-use Rattle.frames.specs.Frame.{frameRows, pairsFine}
+use Rattle.frames.specs.Frame.{frameRows, pairsFine, isTable}
 use Rattle.frames.specs.Options.{badOptions}
 use Rattle.frames.specs.Order.{cmpRow, cmpFirst, nullIn, sorted}
 use Rattle.frames.specs.declared.Options.{Options}
@@ -15,7 +15,7 @@ use Rattle.matching.specs.Match.{wholeTable, matchTable, choose, tolerate, fits
 use Rattle.matching.specs.declared.Choice.the-variants.{Row, Nothing}
 use Rattle.tables.specs.Setting.{Setting, allKnown}
 use Rattle.refusals.specs.Refusals.{number}
-use Rattle.tables.specs.Table.{isTable, wordsOf, tableOf, laid, After}
+use Rattle.tables.specs.Table.{wordsOf, tableOf, laid, After}
 use Rattle.refusals.specs.declared.Refusal.the-variants.{BadOptions, TooManyCarried, BadRanks, BadFrame, UnknownCode, BadColumns, Unsorted, NoRoom}
 use Rattle.tables.specs.declared.Written.{Written}
 use Rattle.tables.specs.declared.Written.the-variants.{Rows as Wrote, Refused}

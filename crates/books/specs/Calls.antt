@@ -4,10 +4,10 @@ use Prim.Native.Nat.{ℕ, _+_}
 use lib.Dec.{ltb}
 use lib.ListN.{length}
 use Rattle.frames.specs.Cells.{Rows, Words}
-use Rattle.frames.specs.Frame.{frameWords}
+use Rattle.frames.specs.Frame.{frameWords, isTable}
 use Rattle.frames.specs.Order.{sorted}
 use Rattle.tables.specs.Setting.{Setting, rightWidth, unless, allKnown}
-use Rattle.tables.specs.Table.{isTable, tableRows, After, leave}
+use Rattle.tables.specs.Table.{tableRows, After, leave}
 use Rattle.refusals.specs.declared.Refusal.the-variants.{BadFrame, UnknownCode, BadColumns, Unsorted, NoRoom}
 use Rattle.tables.specs.declared.Written.{Written}
 use Rattle.tables.specs.declared.Written.the-variants.{Rows as Wrote, Refused}

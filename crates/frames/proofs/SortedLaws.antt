@@ -14,6 +14,10 @@ use Rattle.frames.specs.declared.Order.the-variants.{Less, Equal, Greate
 use Rattle.frames.proofs.OrderLaws.{AtMost, at-most, at-most-refl, cmpRow-is}
 
 -- ---- tests
+pub and-true-right : (b : Bool) → (b && true) ≡ b
+and-true-right true = refl
+and-true-right false = refl
+
 pub and-true : (a b : Bool) → (a && b) ≡ true → (a ≡ true) × (b ≡ true)
 and-true true b e = (refl, e)
 and-true false b e = let z : _≡_ {A = ℕ} 0 1 = cc in absurd (omega arith)

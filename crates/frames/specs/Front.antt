@@ -6,7 +6,7 @@ use lib.IntN.{ℤ, pos}
 use lib.Signed.{leZ}
 use lib.ListN.{length, getD}
 use Rattle.frames.specs.Cells.{Words}
-use Rattle.frames.specs.Frame.{rowCount, frameWords, isFrame, front}
+use Rattle.frames.specs.Frame.{rowCount, frameWords, frameLimit, isFrame, front}
 use Rattle.frames.specs.declared.Front.{Front}
 use Rattle.frames.specs.declared.Front.the-variants.{Words as Long, Nothing}
 
@@ -16,7 +16,7 @@ frontOf c ws = cond (isFrame c (front c ws)) (Long (length (front c ws))) Nothin
 
 -- A word is a number of rows.
 abbrev pub fewRows : ℤ → Bool
-fewRows z = leZ (pos 0) z && leZ z (pos 4096)
+fewRows z = leZ (pos 0) z && leZ z (pos frameLimit)
 
 -- The length that n and c give, where there is room for so many words.
 unfoldable pub fitting : ℕ → ℕ → ℕ → Front

@@ -9,6 +9,7 @@ use borrow.Author.Tests.{ltb-true, ltb-false, eqb-true, eqb-false, le-ltb, ne-eq
 use lib.Dec.{ltb, eqb}
 use lib.IntN.{ℤ}
 use lib.ListN.{length, take, drop, length-append, length-drop}
+use Rattle.frames.proofs.SortedLaws.{and-true-right}
 use Rattle.frames.specs.Cells.{Rows, Words}
 use Rattle.frames.specs.Frame.{rowCount, isFrame, frameRows, front}
 use Rattle.frames.specs.Options.{columns, badOptions}
@@ -227,10 +228,6 @@ module _ (o : Options) (l r : Words) (allowed : badOptions o ≡ false) (es : Li
     unbroken = p .not2;
     front = refl;
   }
-    where
-      and-true-right : (b : Bool) → (b && true) ≡ b
-      and-true-right true = refl
-      and-true-right false = refl
 
   quiet-right : (f : Words) (a : Took) → Plain (tookRefusal a) → Adds es j (onRight f a) j
   unfolding doneBy refusedWith

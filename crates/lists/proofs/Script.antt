@@ -6,7 +6,7 @@ use Prim.Native.Nat.{ℕ, zero, suc, _+_, _*_, _%_}
 use lib.IntN.{negsuc, subℕ}
 use lib.ListN.{take, replicate}
 use Rattle.frames.specs.Cells.{Cell, cellsOf, rowsOf, Words}
-use Rattle.frames.specs.Frame.{rowCount, pairsFine, isFrame, frameRows, front}
+use Rattle.frames.specs.Frame.{rowCount, pairsFine, isFrame, frameRows, front, isTable}
 use Rattle.frames.specs.Options.{badOptions}
 use Rattle.frames.specs.Order.{cmpFirst, cmpRow, sorted, nullIn}
 use Rattle.frames.specs.Keyed.{firstFrom, lastBelow, recall, remember, rememberLast}
@@ -114,7 +114,7 @@ speak none dump = record { said = noJoin; next = none }
 speak (some w) dump = record { said = areas (w .left) (w .right); next = some w }
 
 unfoldable pub speakAll : Option World → List Line → List Said
-unfolding speak look openAnswer step leftCall leftAnswer queued rightCall rightAnswer pushedRight endCall endAnswer portsCall portsAnswer turnCall turnAnswer turned badLeft badRight firstPrune remembered dropped dequeued badJoin heldOf waiting front answered answerWords matchFrame byRuns used pass passes runs joinRun matchIn tolerate choose takesOver fits needMore rowNeedsMore keyNeedsMore narrow narrowBy splitAt pruneBy rowBefore badSplit find search searchFor heldRows movedRows pushed rememberLast remember recall lastBelow firstFrom sorted cmpRow cmpFirst nullIn badOptions isFrame pairsFine frameRows rowsOf cellsOf
+unfolding speak look openAnswer step leftCall leftAnswer queued rightCall rightAnswer pushedRight endCall endAnswer portsCall portsAnswer turnCall turnAnswer turned badLeft badRight firstPrune remembered dropped dequeued badJoin heldOf waiting front answered answerWords matchFrame byRuns used pass passes runs joinRun matchIn tolerate choose takesOver fits needMore rowNeedsMore keyNeedsMore narrow narrowBy splitAt pruneBy rowBefore badSplit find search searchFor heldRows movedRows pushed rememberLast remember recall lastBelow firstFrom sorted cmpRow cmpFirst nullIn badOptions isFrame isTable pairsFine frameRows rowsOf cellsOf
 speakAll w [] = []
 speakAll w (l ∷ ls) = let s = speak w l in s .said ∷ speakAll (s .next) ls
 

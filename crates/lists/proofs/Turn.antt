@@ -9,6 +9,7 @@ use borrow.Author.Tests.{ltb-false, ne-eqb, eq-eqb, not-true}
 use lib.Dec.{ltb, eqb}
 use lib.IntN.{ℤ}
 use lib.ListN.{length, take, drop, length-append, length-drop}
+use Rattle.frames.proofs.SortedLaws.{and-true-right}
 use Rattle.frames.specs.Cells.{Cell, Rows, Words}
 use Rattle.frames.specs.Frame.{rowCount, isFrame, frameRows, front}
 use Rattle.frames.specs.Options.{columns, badOptions, isOn}
@@ -109,10 +110,6 @@ fine-judged : (o : Options) (j : Join) (rows held : Rows) (out : Words) → Fine
 fine-judged o j rows held out =
     judged-all Fine o j rows held out (record { not2 = refl; not5 = refl }) (record { not2 = refl; not5 = refl }) (record { not2 = refl; not5 = refl }) (record { not2 = refl; not5 = refl })
     (record { not2 = refl; not5 = refl }) (λ t. record { not2 = refl; not5 = refl }) (λ t. record { not2 = refl; not5 = refl }) (record { not2 = refl; not5 = refl })
-
-and-true-right : (b : Bool) → (b && true) ≡ b
-and-true-right true = refl
-and-true-right false = refl
 
 -- The flags that a turn that writes leaves as they were.
 by-fields : (o : Options) (j : Join) (rows held : Rows) (n : ℕ) → SameFlags j (leftBy o j rows held n)

@@ -44,7 +44,7 @@ module _ (c n : ℕ) (vs ms : Words) (lv : length vs ≡ n * c) (lm : length ms 
   rows-from = rw (values-from, marks-from) refl
 
   pub frame-from : n ≤ 4096 → pairsFine vs ms ≡ true → isFrame c (frameFrom c n vs ms) ≡ true
-  unfolding isFrame
+  unfolding isFrame isTable
   frame-from h p =
       let k = length-append vs ms in
       let e₁ : leb 2 (suc (suc (length (vs ++ ms)))) ≡ true = le-leb 2 (suc (suc (length (vs ++ ms)))) (omega arith) in

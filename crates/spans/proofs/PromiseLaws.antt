@@ -8,10 +8,10 @@ use borrow.Author.Tests.{ltb-true, ltb-false}
 use lib.Dec.{ltb}
 use lib.ListN.{length, take, drop, length-append, length-map}
 use Rattle.frames.specs.Cells.{Cell, Rows, Words}
-use Rattle.frames.specs.Frame.{isFrame, rowCount, frameRows, frameWords, valuesIn, marksIn}
+use Rattle.frames.specs.Frame.{isFrame, rowCount, frameRows, frameWords, valuesIn, marksIn, isTable}
 use Rattle.frames.proofs.SortedLaws.{All, all-join}
 use Rattle.frames.proofs.WordLaws.{rows-length, part-behind}
-use Rattle.tables.specs.Table.{isTable, tableRows, tableOf, laid, leave}
+use Rattle.tables.specs.Table.{tableRows, tableOf, laid, leave}
 use Rattle.refusals.specs.declared.Refusal.{Refusal}
 use Rattle.refusals.specs.declared.Refusal.the-variants.{BadFrame, BadPoints, NoRoom}
 use Rattle.tables.specs.declared.Written.{Written}

@@ -4,8 +4,8 @@ use mathlib.Core.Bool.{true}
 use Prim.Native.Nat.{ℕ, _*_, _≤_}
 use lib.ListN.{length, take, drop}
 use Rattle.frames.specs.Cells.{Words}
-use Rattle.frames.specs.Frame.{isFrame, rowCount, frameWords}
-use Rattle.tables.specs.Table.{isTable, tableRows}
+use Rattle.frames.specs.Frame.{isFrame, rowCount, frameWords, isTable}
+use Rattle.tables.specs.Table.{tableRows}
 use Rattle.refusals.specs.declared.Refusal.{Refusal}
 use Rattle.refusals.specs.declared.Refusal.the-variants.{NoRoom}
 use Rattle.tables.specs.declared.Written.the-variants.{Rows as Wrote, Refused}

@@ -12,13 +12,13 @@ use lib.IntN.{ℤ, pos, natAbs, _+ℤ_, +ℤ-assoc, +ℤ-comm, +ℤ-idl, +ℤ-id
 use lib.ListN.{length, take, getD, length-append, length-map, List·getD-append}
 use lib.Seq.{take-at, getD-at, getD-append-add, getD-take, length-take-le}
 use Rattle.frames.specs.Cells.{Cell, null, value, cell, isNull, Rows, Words}
-use Rattle.frames.specs.Frame.{rowCount, frameWords, isFrame, frameRows}
+use Rattle.frames.specs.Frame.{rowCount, frameWords, isFrame, frameRows, isTable}
 use Rattle.frames.specs.Options.{badOptions}
 use Rattle.frames.specs.declared.Options.{Options}
 use Rattle.frames.proofs.SortedLaws.{and-true, all-by}
 use Rattle.frames.proofs.FrameLaws.{frame-rows, frame-wide}
 use Rattle.tables.specs.Setting.{Setting, leftWidth, allKnown}
-use Rattle.tables.specs.Table.{isTable, tableOf, laid}
+use Rattle.tables.specs.Table.{tableOf, laid}
 use Rattle.tables.proofs.TableLaws.{Wide, table-rows, table-is, laid-take}
 use Rattle.refusals.specs.declared.Refusal.{Refusal}
 use Rattle.refusals.specs.declared.Refusal.the-variants.{BadOptions, TooManyCarried, BadRanks, BadFrame, UnknownCode, BadColumns, Unsorted, Beyond, NoRoom}

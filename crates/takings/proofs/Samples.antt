@@ -8,12 +8,12 @@ use lib.Dec.{ltb}
 use lib.IntN.{pos, negsuc}
 use lib.ListN.{replicate}
 use Rattle.frames.specs.Cells.{Cell, null, value, cell, Rows, Words, rowsOf, cellsOf}
-use Rattle.frames.specs.Frame.{isFrame, frameRows, pairsFine}
+use Rattle.frames.specs.Frame.{isFrame, frameRows, pairsFine, isTable}
 use Rattle.frames.specs.Options.{badOptions}
 use Rattle.frames.specs.Order.{cmpFirst, nullIn}
 use Rattle.frames.proofs.Samples.{options, row, frameOf}
 use Rattle.tables.specs.Setting.{Setting, allKnown}
-use Rattle.tables.specs.Table.{isTable, wordsOf, tableOf, laid}
+use Rattle.tables.specs.Table.{wordsOf, tableOf, laid}
 use Rattle.refusals.specs.declared.Refusal.the-variants.{BadFrame, UnknownCode, BadColumns, Unsorted, Beyond, NoRoom}
 use Rattle.takings.specs.Subtotals.{insert, addAll, ascending, subtotalsOf, hasNull, anyNull, beyondRow, beyondRows, salesIn}
 use Rattle.takings.specs.Sales.{salesOf, amountsOf, nullsOf, beyondAmounts}

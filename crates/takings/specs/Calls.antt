@@ -6,11 +6,11 @@ use lib.Dec.{ltb, eqb}
 use lib.IntN.{ℤ, pos, natAbs}
 use lib.ListN.{length, getD}
 use Rattle.frames.specs.Cells.{Rows, Words}
-use Rattle.frames.specs.Frame.{rowCount, frameWords, isFrame, frameRows}
+use Rattle.frames.specs.Frame.{rowCount, frameWords, isFrame, frameRows, isTable}
 use Rattle.frames.specs.Options.{badOptions}
 use Rattle.frames.specs.declared.Options.{Options}
 use Rattle.tables.specs.Setting.{Setting, leftWidth, allKnown}
-use Rattle.tables.specs.Table.{isTable, tableRows, tableOf, laid}
+use Rattle.tables.specs.Table.{tableRows, tableOf, laid}
 use Rattle.refusals.specs.declared.Refusal.the-variants.{BadOptions, TooManyCarried, BadRanks, BadFrame, UnknownCode, BadColumns, Unsorted, Beyond, NoRoom}
 use Rattle.takings.specs.Subtotals.{Subtotal, addAll, ascending, rowOf, subtotalsOf, anyNull, mostSales, beyondRows, salesIn, beyondNumber}
 use Rattle.takings.specs.Sales.{Sale, salesOf, amountsOf, nullsOf, beyondAmounts}
