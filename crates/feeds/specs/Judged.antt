@@ -1,12 +1,12 @@
 -- What opening, a left or right frame, the end of right and the start of a turn are answered, by the numbers of a join; and what a frame that is taken leaves. Assumes nothing.
 use mathlib.Core.Path.{_≡_}
 use mathlib.Core.Bool.{Bool, true, cond, not, _||_}
-use Prim.Native.Nat.{ℕ, suc, _+_, _%_, _≤_}
+use Prim.Native.Nat.{ℕ, _+_, _%_, _≤_}
 use lib.Dec.{ltb, eqb}
 use lib.ListN.{length}
 use Rattle.frames.specs.Cells.{Words}
 use Rattle.frames.specs.Frame.{rowCount, isFrame}
-use Rattle.frames.specs.Options.{badOptions, columns}
+use Rattle.frames.specs.Options.{badOptions, rightColumns}
 use Rattle.frames.specs.declared.Options.{Options}
 use Rattle.area.specs.Area.{capacity, newBase, pushed, moved, written}
 use Rattle.answers.specs.Answers.{isRunning, isDone, mostRows}
@@ -23,7 +23,7 @@ use Rattle.feeds.specs.declared.FedEnd.{FedEnd}
 -- SCOPE 16, number 2, by the numbers of a join.
 unfoldable pub badNumbers : Options → ℕ → ℕ → ℕ → ℕ → ℕ → ℕ → Words → Words → Bool
 badNumbers o base held pruned start words sequence left right =
-    badOptions o || ltb (capacity (columns o) right) (base + held) || ltb (length left) (start + words) || ltb mostRows (pruned + held) || eqb (sequence % 2) 1
+    badOptions o || ltb (capacity (rightColumns o) right) (base + held) || ltb (length left) (start + words) || ltb mostRows (pruned + held) || eqb (sequence % 2) 1
 
 -- Opening: refusal 1, or a fresh join.
 unfoldable pub openAnswer : Options → Took
@@ -73,8 +73,8 @@ taken Accepted x y = x
 taken (Refused n) x y = y
 
 -- A join that is not bad holds together: few columns, and the waiting words are there.
-pub record LeftHolds (by start words : ℕ) (left : Words) : Type 0 where
-  pub few : by ≤ 4
+pub record LeftHolds (o : Options) (start words : ℕ) (left : Words) : Type 0 where
+  pub few : o .by ≤ 4
   pub room : start + words ≤ length left
 
 -- A left frame: the answer, where the queue starts, how many words wait, and the left area's words as they are afterwards.
@@ -90,9 +90,9 @@ pub record EndFed (bad failed ended : Bool) (state : NodeState) (r : FedEnd) : T
   pub ended-is : r .ended ≡ taken (endJudged bad failed ended state) true ended
 
 -- The same on the right: the held rows are there, and are few enough.
-pub record RightHolds (by base held pruned : ℕ) (right : Words) : Type 0 where
-  pub few : by ≤ 4
-  pub room : base + held ≤ capacity (suc by) right
+pub record RightHolds (o : Options) (base held pruned : ℕ) (right : Words) : Type 0 where
+  pub few : o .by ≤ 4
+  pub room : base + held ≤ capacity (rightColumns o) right
   pub rows : pruned + held ≤ mostRows
 
 -- A right frame: the answer, where the held rows start, how many are held, and the right area's words as they are afterwards.

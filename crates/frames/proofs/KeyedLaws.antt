@@ -5,10 +5,12 @@ use mathlib.Core.List.{List, [], _∷_, _++_}
 use mathlib.Core.Option.{Option, none, some}
 use Prim.Native.Nat.{ℕ, zero, suc, _+_, _≤_, _<_}
 use native.Mathlib.Omega.{arith}
-use lib.ListN.{length, getD}
-use Rattle.frames.specs.Cells.{Cell, Rows}
-use Rattle.frames.specs.Order.{cmpRow, nullKey}
-use Rattle.frames.specs.Keyed.{firstFrom, firstKeyed, lastBelow, lastKeyed, rowAt, recall, remember, rememberLast, rememberAt, outOfOrder}
+use lib.ListN.{length, take, getD}
+use lib.Seq.{getD-take, length-take-le}
+use Rattle.frames.specs.Cells.{Cell, null, Rows}
+use Rattle.frames.specs.Options.{columns}
+use Rattle.frames.specs.Order.{cmpFirst, cmpRow, nullKey}
+use Rattle.frames.specs.Keyed.{firstFrom, firstKeyed, lastBelow, lastKeyed, rowAt, recall, remember, rememberAt, compared, outOfOrder}
 use Rattle.frames.specs.declared.Options.{Options}
 use Rattle.frames.specs.declared.Row.{Row}
 use Rattle.frames.specs.declared.Keyed.{Keyed}
@@ -66,14 +68,21 @@ module _ (o : Options) where
       go (At i) f = greater-not (cmpRow o m (getD rs i [])) (h i (omega arith))
       go Nothing f = refl
 
-  -- The last row with a key is remembered: it, or what was remembered, is below x.
-  pub remember-below : (w : ℕ) (m : Row) (rs : Rows) → All (λ r. length r ≡ w) rs → (x : List Cell) → All (λ r. AtMost (cmpRow o) r x) rs
-      → Below (recall w m) x → Below (recall w (rememberLast o m rs)) x
-  unfolding rememberLast
-  remember-below w m rs wide x h b = go (lastKeyed o rs) (last-found rs (length rs))
-    where
-      go : (k : Keyed) → Found 0 (length rs) k → Below (recall w (rememberAt m rs k)) x
-      go (At i) f =
-          rw (recall-remember (getD rs i []) w (all-at (λ r. length r ≡ w) rs wide i (omega arith)))
-          (all-at (λ r. AtMost (cmpRow o) r x) rs h i (omega arith))
-      go Nothing f = b
+  -- Order ignores what stands behind the key: a row's first b + 1 cells compare as the row does.
+  first-take : (n : ℕ) (r s : List Cell) (j : ℕ) → j ≤ n → cmpFirst o j (take n r) s ≡ cmpFirst o j r s
+  unfolding cmpFirst
+  first-take n r s zero h = refl
+  first-take n r s (suc j) h = rw (first-take n r s j (omega arith), getD-take n r j null (omega arith))
+
+  pub compared-alike : (r s : List Cell) → cmpRow o (compared o r) s ≡ cmpRow o r s
+  unfolding cmpRow
+  compared-alike r s = rw (first-take (columns o) r s (o .by) (omega arith), getD-take (columns o) r (o .by) null (omega arith))
+
+  -- A row of a stretch is remembered: it, or what was remembered, is below x.
+  pub remember-below : (m : Row) (rs : Rows) → All (λ r. columns o ≤ length r) rs → (x : List Cell) → All (λ r. AtMost (cmpRow o) r x) rs
+      → (k : Keyed) → Found 0 (length rs) k → Below (recall (columns o) m) x → Below (recall (columns o) (rememberAt o m rs k)) x
+  remember-below m rs wide x h (At i) f b =
+      let w : columns o ≤ length (getD rs i []) = all-at (λ r. columns o ≤ length r) rs wide i (omega arith) in
+      rw (recall-remember (compared o (getD rs i [])) (columns o) (length-take-le (columns o) (getD rs i []) w), compared-alike (getD rs i []) x)
+      (all-at (λ r. AtMost (cmpRow o) r x) rs h i (omega arith))
+  remember-below m rs wide x h Nothing f b = b

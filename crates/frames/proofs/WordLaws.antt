@@ -105,6 +105,14 @@ rows-drop w (suc n) (suc k) vs ms h =
     let z : suc n - suc k ≡ n - k = omega arith in
     rw (e, z, ← drop-drop (k * w) w vs, ← drop-drop (k * w) w ms) (rows-drop w n k (drop w vs) (drop w ms) (omega arith))
 
+-- The first cells of a row are those of its first words.
+pub cells-take : (k : ℕ) (vs ms : Words) → take k (cellsOf vs ms) ≡ cellsOf (take k vs) (take k ms)
+unfolding cellsOf
+cells-take zero vs ms = refl
+cells-take (suc k) [] ms = refl
+cells-take (suc k) (v ∷ vs) [] = refl
+cells-take (suc k) (v ∷ vs) (m ∷ ms) = ap (λ (r : List Cell). cellOf v m ∷ r) (cells-take k vs ms)
+
 -- Row i is decoded from its own words: those of a part of the values and of the marks.
 pub rows-at : (w n i : ℕ) (vs ms : Words) → i < n → getD (rowsOf w n vs ms) i [] ≡ cellsOf (take w (drop (i * w) vs)) (take w (drop (i * w) ms))
 unfolding rowsOf

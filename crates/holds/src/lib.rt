@@ -2,6 +2,7 @@
 use answers::above;
 use frames::Options;
 use options::bad_options;
+use options::right_columns;
 ghost use mathlib.Core.Path.{_≡_};
 ghost use Rattle.feeds.specs.Judged.{badNumbers};
 
@@ -25,7 +26,7 @@ pub fn bad_numbers(
     if bad_options(o) {
         return true;
     }
-    let c = o.by + 1;
+    let c = right_columns(o);
     if above(base, held, right.len() / (2 * c)) {
         return true;
     }

@@ -30,7 +30,7 @@ use Rattle.answers.specs.declared.Took.{Took}
 use Rattle.answers.specs.declared.Took.the-variants.{Accepted, Refused}
 use Rattle.answers.specs.declared.Ported.{Ported}
 use Rattle.answers.specs.declared.Ported.the-variants.{Ports, Refused as PortsRefused}
-use Rattle.node.specs.State.{fresh, endedRight, stateAt, widthOf, badJoin, overRight, overLeft, overRows, oddSequence, heldOf, waiting}
+use Rattle.node.specs.State.{fresh, endedRight, stateAt, leftWidth, rightWidth, badJoin, overRight, overLeft, overRows, oddSequence, heldOf, waiting}
 use Rattle.answers.specs.Answers.{isRunning, isDone, mostRows}
 use Rattle.refusals.specs.Refusals.{number}
 use Rattle.node.specs.Calls.{After, leftAnswer, leftCall, queued, rightAnswer, rightCall, pushedRight, endAnswer, endCall, portsAnswer, portsCall, portsState}
@@ -240,7 +240,7 @@ module _ (o : Options) (l r : Words) (allowed : badOptions o ≡ false) (es : Li
       rw good
       (plain-took (j .failed) (Refused Failed) _ plain3
       (plain-took (not (isRunning (j .state))) (Refused Closed) _ plain4
-      (plain-took (not (isFrame (widthOf j) f)) (Refused BadFrame) _ plain5
+      (plain-took (not (isFrame (leftWidth j) f)) (Refused BadFrame) _ plain5
       (plain-took (ltb (length (w .left)) (j .«queue_words» + length f)) (Refused NoRoom) Accepted plain6 plain0))))
 
   -- What an accepted left frame passed.
@@ -277,8 +277,8 @@ module _ (o : Options) (l r : Words) (allowed : badOptions o ≡ false) (es : Li
       rw good
       (plain-took (j .failed) (Refused Failed) _ plain3
       (plain-took (j .«right_ended» || isDone (j .state)) (Refused Closed) _ plain4
-      (plain-took (not (isFrame (widthOf j) f)) (Refused BadFrame) _ plain5
-      (plain-took (ltb (capacity (widthOf j) (w .right)) (j .held + rowCount f)) (Refused NoRoom) _ plain6
+      (plain-took (not (isFrame (rightWidth j) f)) (Refused BadFrame) _ plain5
+      (plain-took (ltb (capacity (rightWidth j) (w .right)) (j .held + rowCount f)) (Refused NoRoom) _ plain6
       (plain-took (ltb mostRows (j .pruned + j .held + rowCount f)) (Refused UsedUp) Accepted plain7 plain0)))))
 
   -- What an accepted right frame passed.

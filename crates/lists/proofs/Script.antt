@@ -17,7 +17,7 @@ use Rattle.buffer.specs.Reach.{narrowBy, narrow, keyNeedsMore, rowNeedsMore, ne
 use Rattle.matching.specs.Match.{fits, takesOver, choose, tolerate, matchIn}
 use Rattle.matching.specs.Groups.{joinRun, runs, passes, pass, used, byRuns, matchFrame}
 use Rattle.matching.specs.Answer.{answerWords, answered}
-use Rattle.node.specs.State.{badJoin, heldOf, waiting, widthOf}
+use Rattle.node.specs.State.{badJoin, heldOf, waiting, leftWidth}
 use Rattle.answers.specs.Answers.{stateCode, portCode}
 use Rattle.refusals.specs.Refusals.{number}
 use Rattle.node.specs.Calls.{leftAnswer, queued, leftCall, rightAnswer, pushedRight, rightCall, endAnswer, endCall, portsAnswer, portsCall, turnAnswer, dropped, dequeued, turned, turnCall}
@@ -89,8 +89,8 @@ unfoldable pub look : Join → Said
 look j =
     looks
     (j .base ∷ j .held ∷ j .pruned ∷ j .«queue_start» ∷ j .«queue_words» ∷ stateCode (j .state) ∷ flag (j .«right_ended») ∷ flag (j .failed) ∷ j .sequence ∷ [])
-    (recall (widthOf j) (j .«last_left»))
-    (recall (widthOf j) (j .«last_right»))
+    (recall (leftWidth j) (j .«last_left»))
+    (recall (leftWidth j) (j .«last_right»))
 
 -- A line of a script: open with options and areas of so many words; a call; state; the areas' words.
 pub data Line : Type 0 where

@@ -21,7 +21,7 @@ use Rattle.matching.specs.declared.Choice.{Choice}
 use Rattle.matching.specs.Answer.{answered, numberWord, choiceMark}
 use Rattle.matching.proofs.AnswerLaws.{answered-count, answered-numbers, answered-marks}
 use Rattle.node.specs.declared.Join.{Join}
-use Rattle.node.specs.State.{queueAt, heldAt, nextTurn, widthOf, heldOf, heldValues, heldMarks, waiting}
+use Rattle.node.specs.State.{queueAt, heldAt, nextTurn, heldOf, heldValues, heldMarks, waiting}
 use Rattle.answers.specs.Answers.{mostRows}
 use Rattle.node.specs.Calls.{dropped, dequeued, queued, pushedRight}
 use Rattle.lists.specs.Lists.{World, rowsIn, Entry, pairUp, writtenIn, matchesIn, backToBack}

@@ -29,7 +29,7 @@ use Rattle.refusals.specs.declared.Refusal.{Refusal}
 use Rattle.refusals.specs.declared.Refusal.the-variants.{Failed, Closed, NoRoom, UsedUp, LeftOrder, RightOrder}
 use Rattle.answers.specs.declared.Answer.{Answer}
 use Rattle.answers.specs.declared.Answer.the-variants.{Wrote, WantsRight, Idle, Refused as TurnRefused}
-use Rattle.node.specs.State.{nextTurn, markedFailed, widthOf, badJoin, heldOf, waiting}
+use Rattle.node.specs.State.{nextTurn, markedFailed, badJoin, heldOf, waiting}
 use Rattle.answers.specs.Answers.{isRunning, isDone, lastSequence}
 use Rattle.node.specs.Calls.{After, after, turnAnswer, turnCall, turned, dropped, dequeued, spoiled}
 use Rattle.prunes.specs.Prunes.{badLeft, badRight, firstPrune, remembered, keptRows, lastPrune}

@@ -23,7 +23,7 @@ use Rattle.answers.specs.declared.Took.the-variants.{Accepted, Refused}
 use Rattle.answers.specs.declared.Ported.{Ported}
 use Rattle.answers.specs.declared.Ported.the-variants.{Ports, Refused as PortsRefused}
 use Rattle.answers.specs.declared.NodeState.{NodeState}
-use Rattle.node.specs.State.{nextTurn, endedRight, stateAt, widthOf, badJoin, heldOf, heldValues, heldMarks, waiting}
+use Rattle.node.specs.State.{nextTurn, endedRight, stateAt, leftWidth, rightWidth, badJoin, heldOf, heldValues, heldMarks, waiting}
 use Rattle.node.specs.Calls.{After, leftAnswer, leftCall, queued, rightAnswer, rightCall, pushedRight, endAnswer, endCall, portsAnswer, portsCall, portsState, turnAnswer, turnCall, turned, dropped, dequeued, spoiled}
 use Rattle.prunes.specs.Prunes.{firstPrune, keptRows, lastPrune}
 use Rattle.node.proofs.Good.{LeftTaken, left-taken, RightTaken, right-taken}
@@ -38,13 +38,13 @@ pub record Same {A : Type 0} (x y : After A) : Type 0 where
   pub out : x .out ≡ y .out
   pub alike : Alike (y .join) (y .left) (y .right) (x .left) (x .right)
 
-held-read : (j : Join) (r : Words) → heldOf j r ≡ rowsOf (widthOf j) (j .held) (heldValues j r) (heldMarks j r)
+held-read : (j : Join) (r : Words) → heldOf j r ≡ rowsOf (rightWidth j) (j .held) (heldValues j r) (heldMarks j r)
 unfolding heldOf heldRows heldValues heldMarks
-held-read j r = sym (rows-read (widthOf j) (j .held) (j .held * widthOf j) (drop (j .base * widthOf j) r) (drop ((capacity (widthOf j) r + j .base) * widthOf j) r) (omega arith))
+held-read j r = sym (rows-read (rightWidth j) (j .held) (j .held * rightWidth j) (drop (j .base * rightWidth j) r) (drop ((capacity (rightWidth j) r + j .base) * rightWidth j) r) (omega arith))
 
 held-count : (j : Join) (r : Words) → length (heldOf j r) ≡ j .held
 unfolding heldOf heldRows
-held-count j r = rows-length (widthOf j) (j .held) (drop (j .base * widthOf j) r) (drop ((capacity (widthOf j) r + j .base) * widthOf j) r)
+held-count j r = rows-length (rightWidth j) (j .held) (drop (j .base * rightWidth j) r) (drop ((capacity (rightWidth j) r + j .base) * rightWidth j) r)
 
 -- Of n words from p on, all but the first m.
 part-less : (p n m : ℕ) (ws vs : Words) → take n (drop p ws) ≡ take n (drop p vs) → take (n - m) (drop (p + m) ws) ≡ take (n - m) (drop (p + m) vs)
@@ -54,8 +54,8 @@ module _ (j : Join) (l r l′ r′ : Words) (a : Alike j l r l′ r′) where
   holds : heldOf j r′ ≡ heldOf j r
   holds = held-read j r′ ∙ rw (a .values, a .marks) (sym (held-read j r))
 
-  room : capacity (widthOf j) r′ ≡ capacity (widthOf j) r
-  room = ap (λ (n : ℕ). n / (2 * widthOf j)) (a .right-length)
+  room : capacity (rightWidth j) r′ ≡ capacity (rightWidth j) r
+  room = ap (λ (n : ℕ). n / (2 * rightWidth j)) (a .right-length)
 
   -- ---- a turn
   turn-answer : (out : Words) → turnAnswer j l′ r′ out ≡ turnAnswer j l r out
@@ -65,7 +65,7 @@ module _ (j : Join) (l r l′ r′ : Words) (a : Alike j l r l′ r′) where
   dropped-alike : (d n : ℕ) → d ≤ j .held → Alike (dequeued (dropped j d) n) l r l′ r′
   unfolding dequeued dropped waiting heldValues heldMarks
   dropped-alike d n h =
-      let c = widthOf j in
+      let c = rightWidth j in
       let x : ℕ = j .held - d in
       let hx : j .held ≡ x + d = omega arith in
       let hc : (j .held - d) * c ≡ j .held * c - d * c = omega (arith, ap (λ (k : ℕ). k * c) hx) in
@@ -93,8 +93,8 @@ module _ (j : Join) (l r l′ r′ : Words) (a : Alike j l r l′ r′) where
   turned-alike : (out : Words) → Same (turned j l′ r′ out) (turned j l r out)
   unfolding turned
   turned-alike out =
-      let f = front (widthOf j) (waiting j l) in
-      let rows = frameRows (widthOf j) f in
+      let f = front (leftWidth j) (waiting j l) in
+      let rows = frameRows (leftWidth j) f in
       record {
         answer = refl;
         join = rw (a .waits, holds);
@@ -163,7 +163,7 @@ module _ (j : Join) (l r l′ r′ : Words) (a : Alike j l r l′ r′) where
   pushed-alike : (f : Words) → RightTaken j l r f → Same (pushedRight j l′ r′ f) (pushedRight j l r f)
   unfolding pushedRight waiting heldValues heldMarks
   pushed-alike f t =
-      let c = widthOf j in
+      let c = rightWidth j in
       let in′ : j .base + j .held ≤ capacity c r′ = rw room (t .good .right-room) in
       let rm′ : j .held + rowCount f ≤ capacity c r′ = rw room (t .room) in
       let n = pushed-length c (j .base) (j .held) f r (t .frame) (t .good .right-room) (t .room) in

@@ -23,7 +23,7 @@ use Rattle.matching.proofs.PickedLaw.{picked-none, picked-row}
 use Rattle.node.specs.declared.Join.{Join}
 use Rattle.answers.specs.declared.Answer.{Answer}
 use Rattle.answers.specs.declared.Answer.the-variants.{Wrote, WantsRight, Idle, Refused as TurnRefused}
-use Rattle.node.specs.State.{waiting, widthOf}
+use Rattle.node.specs.State.{waiting}
 use Rattle.answers.specs.Answers.{lastSequence, isDone}
 use Rattle.node.specs.Calls.{turnAnswer, turnCall, turned}
 use Rattle.prunes.specs.Prunes.{badLeft, badRight}

@@ -8,7 +8,7 @@ use lib.ListN.{length, take, drop}
 use Rattle.frames.specs.Cells.{Rows, Words}
 use Rattle.frames.specs.Frame.{rowCount, frameRows, frameWords, front}
 use Rattle.frames.specs.declared.Options.{Options}
-use Rattle.node.specs.State.{fresh, waiting, widthOf}
+use Rattle.node.specs.State.{fresh, waiting, leftWidth}
 use Rattle.refusals.specs.Refusals.{number}
 use Rattle.node.specs.Calls.{After, leftCall, rightCall, endCall, portsCall, turnCall}
 use Rattle.ports.specs.Ports.{portDone}
@@ -264,4 +264,4 @@ framesIn (suc fuel) c (w ∷ ws) = front c (w ∷ ws) ∷ framesIn fuel c (drop 
 
 -- The rows in the queue.
 unfoldable pub queueRows : World → Rows
-queueRows w = let ws = waiting (w .join) (w .left) in rowsIn (widthOf (w .join)) (framesIn (length ws) (widthOf (w .join)) ws)
+queueRows w = let ws = waiting (w .join) (w .left) in rowsIn (leftWidth (w .join)) (framesIn (length ws) (leftWidth (w .join)) ws)

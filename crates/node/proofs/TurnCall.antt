@@ -19,7 +19,7 @@ use Rattle.area.proofs.AreaLaws.{rows-words}
 use Rattle.matching.specs.Groups.{matchFrame}
 use Rattle.matching.specs.Answer.{answered}
 use Rattle.matching.proofs.ChoiceLaws.{cond-ind}
-use Rattle.node.specs.State.{markedFailed, widthOf, badJoin, heldOf, waiting}
+use Rattle.node.specs.State.{markedFailed, leftWidth, rightWidth, badJoin, heldOf, waiting}
 use Rattle.answers.specs.Answers.{isDone, lastSequence, wrote}
 use Rattle.node.specs.Calls.{after, turnAnswer, dropped, dequeued, turned, spoiled, turnCall}
 use Rattle.prunes.specs.Prunes.{firstPrune, badLeft, badRight, keptRows, lastPrune}
@@ -158,26 +158,26 @@ module _ (j : Join) (left right out : Words) where
     kept-good : Good j left right
     kept-good = good j left right (r .unbroken)
 
-    module _ (f : Words) (fronted : front (widthOf j) (waiting j left) ≡ f) where
-      front-answer : isFrame (widthOf j) f ≡ false → turnAnswer j left right out ≡ Refused BadFrame
+    module _ (f : Words) (fronted : front (leftWidth j) (waiting j left) ≡ f) where
+      front-answer : isFrame (leftWidth j) f ≡ false → turnAnswer j left right out ≡ Refused BadFrame
       unfolding turnAnswer
       front-answer e = rw (r .unbroken, fronted, r .unfailed, r .undone, r .some, e)
 
-      answer-rows : isFrame (widthOf j) f ≡ true → turnAnswer j left right out ≡ rowsAnswer (partOf j) (frameRows (widthOf j) f) (heldOf j right) (length out)
+      answer-rows : isFrame (leftWidth j) f ≡ true → turnAnswer j left right out ≡ rowsAnswer (partOf j) (frameRows (leftWidth j) f) (heldOf j right) (length out)
       unfolding turnAnswer
       answer-rows e =
           rw fronted
-          (comes-to (badJoin j left right) (j .failed) (isDone (j .state)) (eqb (j .«queue_words») 0) (isFrame (widthOf j) f) _ (r .unbroken) (r .unfailed) (r .undone) (r .some) e
-          ∙ sym (chain (partOf j) (frameRows (widthOf j) f) (heldOf j right) (length out)))
+          (comes-to (badJoin j left right) (j .failed) (isDone (j .state)) (eqb (j .«queue_words») 0) (isFrame (leftWidth j) f) _ (r .unbroken) (r .unfailed) (r .undone) (r .some) e
+          ∙ sym (chain (partOf j) (frameRows (leftWidth j) f) (heldOf j right) (length out)))
 
       turned-rows : turned j left right out ≡ after (Wrote (j .sequence))
-          (joinWith j (leftPart (partOf j) (frameRows (widthOf j) f) (keptRows (j .options) (frameRows (widthOf j) f) (heldOf j right)) (firstPrune (j .options) (frameRows (widthOf j) f) (heldOf j right)) (lastPrune (j .options) (frameRows (widthOf j) f) (heldOf j right)) (length f)))
-          left right (answered (matchFrame (j .options) (j .pruned + firstPrune (j .options) (frameRows (widthOf j) f) (heldOf j right)) (keptRows (j .options) (frameRows (widthOf j) f) (heldOf j right)) (frameRows (widthOf j) f)) out)
+          (joinWith j (leftPart (partOf j) (frameRows (leftWidth j) f) (keptRows (j .options) (frameRows (leftWidth j) f) (heldOf j right)) (firstPrune (j .options) (frameRows (leftWidth j) f) (heldOf j right)) (lastPrune (j .options) (frameRows (leftWidth j) f) (heldOf j right)) (length f)))
+          left right (answered (matchFrame (j .options) (j .pruned + firstPrune (j .options) (frameRows (leftWidth j) f) (heldOf j right)) (keptRows (j .options) (frameRows (leftWidth j) f) (heldOf j right)) (frameRows (leftWidth j) f)) out)
       unfolding turned dropped dequeued leftPart keptRows lastPrune
       turned-rows = rw fronted
 
-      turns : isFrame (widthOf j) f ≡ true → (a : Answer) → rowsAnswer (partOf j) (frameRows (widthOf j) f) (heldOf j right) (length out) ≡ a → (x : TurnedPart) (out′ : Words)
-          → RowsTurned (partOf j) (frameRows (widthOf j) f) (heldOf j right) (length f) out x out′ → TurnLeaves j left right out (record { answer = x .answer; join = joinWith j (x .part) }) out′
+      turns : isFrame (leftWidth j) f ≡ true → (a : Answer) → rowsAnswer (partOf j) (frameRows (leftWidth j) f) (heldOf j right) (length out) ≡ a → (x : TurnedPart) (out′ : Words)
+          → RowsTurned (partOf j) (frameRows (leftWidth j) f) (heldOf j right) (length f) out x out′ → TurnLeaves j left right out (record { answer = x .answer; join = joinWith j (x .part) }) out′
       unfolding turnCall rowsTurn
       turns frame (Wrote q) e x out′ h =
           let t = answer-rows frame ∙ e in
@@ -192,11 +192,11 @@ module _ (j : Join) (left right out : Words) where
           let t = answer-rows frame ∙ e in
           record { answer = rw (t, turnCall) (rw (e, rowsTurn) at (h .answer)); join = rw (t, turnCall) (ap (joinWith j) (rw (e, rowsTurn) at (h .part)) ∙ part-spoiled j n); words = rw (t, turnCall) (rw (e, rowsTurn) at (h .words)) }
 
-    front-stops : frontOf (widthOf j) (waiting j left) ≡ Nothing → TurnLeaves j left right out (record { answer = Refused BadFrame; join = j }) out
-    front-stops e = stops (Refused BadFrame) (front-answer (front (widthOf j) (waiting j left)) refl (front-broken (widthOf j) (waiting j left) e)) refl
+    front-stops : frontOf (leftWidth j) (waiting j left) ≡ Nothing → TurnLeaves j left right out (record { answer = Refused BadFrame; join = j }) out
+    front-stops e = stops (Refused BadFrame) (front-answer (front (leftWidth j) (waiting j left)) refl (front-broken (leftWidth j) (waiting j left) e)) refl
 
-    frame-turns : (k : ℕ) → frontOf (widthOf j) (waiting j left) ≡ Long k → (x : TurnedPart) (out′ : Words)
-        → RowsTurned (partOf j) (frameRows (widthOf j) (take k (drop (j .«queue_start») left))) (heldRows (widthOf j) (j .base) (j .held) right) (length (take k (drop (j .«queue_start») left))) out x out′
+    frame-turns : (k : ℕ) → frontOf (leftWidth j) (waiting j left) ≡ Long k → (x : TurnedPart) (out′ : Words)
+        → RowsTurned (partOf j) (frameRows (leftWidth j) (take k (drop (j .«queue_start») left))) (heldRows (rightWidth j) (j .base) (j .held) right) (length (take k (drop (j .«queue_start») left))) out x out′
         → TurnLeaves j left right out (record { answer = x .answer; join = joinWith j (x .part) }) out′
     unfolding heldOf waiting
     frame-turns k told x out′ h =
@@ -214,7 +214,7 @@ module _ (j : Join) (left right out : Words) where
     unchanged : (a : Answer) → queueTurn (badJoin j left right) (j .state) (partOf j) left right out ≡ unmoved a (partOf j) out → TurnLeaves j left right out (record { answer = a; join = j }) out → Goal
     unchanged a e z = record { answer = rw e at (known .answer) ∙ z .answer; join = ap (joinWith j) (rw e at (known .part)) ∙ z .join; words = rw e at (known .words) ∙ z .words }
 
-    fronted : Ready → (s : ℕ) → readyAnswer j left right ≡ Wrote s → (f : Front) → frontOf (widthOf j) (waiting j left) ≡ f → Goal
+    fronted : Ready → (s : ℕ) → readyAnswer j left right ≡ Wrote s → (f : Front) → frontOf (leftWidth j) (waiting j left) ≡ f → Goal
     unfolding queueTurn frontTurn waiting
     fronted r s e Nothing n = unchanged (Refused BadFrame) (rw (e, queueTurn, n, frontTurn)) (front-stops r n)
     fronted r s e (Long k) n =
@@ -225,7 +225,7 @@ module _ (j : Join) (left right out : Words) where
     queue-turns = go (readyAnswer j left right) refl
       where
         go : (a : Answer) → readyAnswer j left right ≡ a → Goal
-        go (Wrote s) e = fronted (ready-goes (readyAnswer j left right) refl (ap wrote e)) s e (frontOf (widthOf j) (waiting j left)) refl
+        go (Wrote s) e = fronted (ready-goes (readyAnswer j left right) refl (ap wrote e)) s e (frontOf (leftWidth j) (waiting j left)) refl
         go WantsRight e = unchanged WantsRight (rw (e, queueTurn)) (ready-stops WantsRight (sym e) refl)
         go Idle e = unchanged Idle (rw (e, queueTurn)) (ready-stops Idle (sym e) refl)
         go (Refused n) e = unchanged (Refused n) (rw (e, queueTurn)) (ready-stops (Refused n) (sym e) refl)

@@ -12,7 +12,7 @@ use Rattle.matching.specs.Groups.{matchFrame}
 use Rattle.matching.specs.Answer.{answered}
 use Rattle.ports.specs.Ports.{toFlush, toDone, portsIn}
 use Rattle.prunes.specs.Prunes.{badLeft, badRight, firstPrune, remembered}
-use Rattle.node.specs.State.{queueAt, heldAt, stateAt, endedRight, markedFailed, nextTurn, widthOf, badJoin, heldOf, waiting}
+use Rattle.node.specs.State.{queueAt, heldAt, stateAt, endedRight, markedFailed, nextTurn, leftWidth, rightWidth, badJoin, heldOf, waiting}
 use Rattle.answers.specs.Answers.{isRunning, isDone, mostRows, lastSequence}
 use Rattle.node.specs.declared.Join.{Join}
 use Rattle.answers.specs.declared.NodeState.{NodeState}
@@ -46,7 +46,7 @@ leftAnswer j left right f =
     cond (badJoin j left right) (Refused BadJoin)
     (cond (j .failed) (Refused Failed)
     (cond (not (isRunning (j .state))) (Refused Closed)
-    (cond (not (isFrame (widthOf j) f)) (Refused BadFrame)
+    (cond (not (isFrame (leftWidth j) f)) (Refused BadFrame)
     (cond (ltb (length left) (j .«queue_words» + length f)) (Refused NoRoom)
     Accepted))))
 
@@ -72,16 +72,16 @@ rightAnswer j left right f =
     cond (badJoin j left right) (Refused BadJoin)
     (cond (j .failed) (Refused Failed)
     (cond (j .«right_ended» || isDone (j .state)) (Refused Closed)
-    (cond (not (isFrame (widthOf j) f)) (Refused BadFrame)
-    (cond (ltb (capacity (widthOf j) right) (j .held + rowCount f)) (Refused NoRoom)
+    (cond (not (isFrame (rightWidth j) f)) (Refused BadFrame)
+    (cond (ltb (capacity (rightWidth j) right) (j .held + rowCount f)) (Refused NoRoom)
     (cond (ltb mostRows (j .pruned + j .held + rowCount f)) (Refused UsedUp)
     Accepted)))))
 
 -- SCOPE 5.8, 5.9: an accepted right frame.
 unfoldable pub pushedRight : Join → Words → Words → Words → After Took
 pushedRight j left right f =
-    let base = newBase (j .base) (j .held) (rowCount f) (capacity (widthOf j) right) in
-    after Accepted (heldAt j base (j .held + rowCount f) (j .pruned)) left (pushed (widthOf j) (j .base) (j .held) f right) []
+    let base = newBase (j .base) (j .held) (rowCount f) (capacity (rightWidth j) right) in
+    after Accepted (heldAt j base (j .held + rowCount f) (j .pruned)) left (pushed (rightWidth j) (j .base) (j .held) f right) []
 
 -- A right call: refused, it changes nothing.
 unfoldable pub rightCall : Join → Words → Words → Words → After Took
@@ -133,14 +133,14 @@ portsCall j left right l r s =
 -- them the answer is Wrote, with the sequence from before the turn.
 unfoldable pub turnAnswer : Join → Words → Words → Words → Answer
 turnAnswer j left right out =
-    let f = front (widthOf j) (waiting j left) in
-    let rows = frameRows (widthOf j) f in
+    let f = front (leftWidth j) (waiting j left) in
+    let rows = frameRows (leftWidth j) f in
     let held = heldOf j right in
     cond (badJoin j left right) (TurnRefused BadJoin)
     (cond (j .failed) (TurnRefused Failed)
     (cond (isDone (j .state)) (TurnRefused Closed)
     (cond (eqb (j .«queue_words») 0) Idle
-    (cond (not (isFrame (widthOf j) f)) (TurnRefused BadFrame)
+    (cond (not (isFrame (leftWidth j) f)) (TurnRefused BadFrame)
     (cond (not (j .«right_ended») && needMore (j .options) rows held) WantsRight
     (cond (ltb (length out) (2 + 2 * length rows)) (TurnRefused NoRoom)
     (cond (eqb (j .sequence) lastSequence) (TurnRefused UsedUp)
@@ -159,8 +159,8 @@ dequeued j n = queueAt j (j .«queue_start» + n) (j .«queue_words» - n)
 -- SCOPE 12.4, 12.5: a turn that writes.
 unfoldable pub turned : Join → Words → Words → Words → After Answer
 turned j left right out =
-    let f = front (widthOf j) (waiting j left) in
-    let rows = frameRows (widthOf j) f in
+    let f = front (leftWidth j) (waiting j left) in
+    let rows = frameRows (leftWidth j) f in
     let held = heldOf j right in
     let first = firstPrune (j .options) rows held in
     let kept = drop first held in

@@ -3,7 +3,8 @@ use frames::Check;
 use frames::Options;
 use frames::Strategy;
 ghost use mathlib.Core.Path.{_≡_};
-ghost use Rattle.frames.specs.Options.{badOptions, strategyOf, isOn};
+ghost use Prim.Native.Nat.{_≤_};
+ghost use Rattle.frames.specs.Options.{badOptions, strategyOf, isOn, columns, rightColumns};
 
 // Whether the options are invalid (SCOPE 3.6).
 pub fn bad_options(o: Options) -> bool
@@ -45,4 +46,20 @@ pub fn is_on(check: Check) -> bool
         Check::Off => false,
         Check::On => true,
     }
+}
+
+// The columns of a left frame: by-columns and key.
+pub fn left_columns(o: Options) -> usize
+    requires { ⌜ o .by ≤ 4 ⌝ }
+    ensures { λ r. ⌜ r ≡ columns o ⌝ }
+{
+    o.by + 1
+}
+
+// The columns of a right frame, and of a held row.
+pub fn right_columns(o: Options) -> usize
+    requires { ⌜ o .by ≤ 4 ⌝ }
+    ensures { λ r. ⌜ r ≡ rightColumns o ⌝ }
+{
+    o.by + 1
 }

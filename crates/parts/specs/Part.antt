@@ -6,7 +6,7 @@ use lib.Dec.{ltb, eqb}
 use lib.ListN.{length, take}
 use Rattle.frames.specs.Cells.{Rows, Words}
 use Rattle.frames.specs.Frame.{frameWords}
-use Rattle.frames.specs.Options.{columns}
+use Rattle.frames.specs.Options.{columns, rightColumns}
 use Rattle.frames.specs.Room.{RowsIn}
 use Rattle.frames.specs.declared.Row.{Row}
 use Rattle.buffer.specs.Reach.{needMore}
@@ -88,18 +88,20 @@ pub record Counts (j : Part) (k : ℕ) : Type 0 where
   pub even : j .sequence % 2 ≡ 0
   pub sequence : j .sequence < 2 ^ 64
 
--- The frame's n rows and the held rows are there, each c wide.
-pub record TurnIn (j : Part) (c n : ℕ) (lv lm rv rm : Words) : Type 0 where
+-- The frame's n rows are there, each c wide, and the held rows, each w wide.
+pub record TurnIn (j : Part) (c w n : ℕ) (lv lm rv rm : Words) : Type 0 where
   pub columns : c ≡ columns (j .options)
+  pub wide : w ≡ rightColumns (j .options)
   pub left : RowsIn (j .options) c n lv lm
-  pub right : RowsIn (j .options) c (j .held) rv rm
+  pub right : RowsIn (j .options) w (j .held) rv rm
   pub counts : Counts j (frameWords n c)
 
--- The frame's n rows and the kept rows are there, each c wide, and so is the room for the answer; the counters take the new join.
-pub record WriteIn (j : Part) (c n : ℕ) (lv lm : Words) (first last : ℕ) (kv km out : Words) : Type 0 where
+-- The frame's n rows are there, each c wide, and the kept rows, each w wide, and so is the room for the answer; the counters take the new join.
+pub record WriteIn (j : Part) (c w n : ℕ) (lv lm : Words) (first last : ℕ) (kv km out : Words) : Type 0 where
   pub columns : c ≡ columns (j .options)
+  pub wide : w ≡ rightColumns (j .options)
   pub left : RowsIn (j .options) c n lv lm
-  pub kept : RowsIn (j .options) c (j .held - first) kv km
+  pub kept : RowsIn (j .options) w (j .held - first) kv km
   pub within : first + last ≤ j .held
   pub counts : Counts j (frameWords n c)
   pub room : 2 + 2 * n ≤ length out

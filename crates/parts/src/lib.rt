@@ -35,20 +35,30 @@ pub struct Part {
 const LAST_SEQUENCE: u64 = 18446744073709551614;
 
 // Whether a turn with these n left rows waits for right rows: it never does once right has ended.
-fn wants_right(j: Part, c: usize, n: usize, lv: &[i64], lm: &[i64], rv: &[i64], rm: &[i64]) -> bool
-    requires { ⌜ TurnIn j c n (now lv) (now lm) (now rv) (now rm) ⌝ }
-    ensures { λ r. ⌜ r ≡ (not (j .«right_ended») && needMore (j .options) (rowsOf c n (now (lv .entry)) (now (lm .entry))) (rowsOf c (j .held) (now (rv .entry)) (now (rm .entry)))) ⌝ }
+fn wants_right(
+    j: Part,
+    c: usize,
+    w: usize,
+    n: usize,
+    lv: &[i64],
+    lm: &[i64],
+    rv: &[i64],
+    rm: &[i64],
+) -> bool
+    requires { ⌜ TurnIn j c w n (now lv) (now lm) (now rv) (now rm) ⌝ }
+    ensures { λ r. ⌜ r ≡ (not (j .«right_ended») && needMore (j .options) (rowsOf c n (now (lv .entry)) (now (lm .entry))) (rowsOf w (j .held) (now (rv .entry)) (now (rm .entry)))) ⌝ }
 {
     if j.right_ended {
         return false;
     }
-    need_more(lv, lm, n, c, rv, rm, j.held, c, j.options)
+    need_more(lv, lm, n, c, rv, rm, j.held, w, j.options)
 }
 
 // Whether a turn with these n left rows has what it needs: right rows, room in the output, a sequence.
 pub fn judge_room(
     j: Part,
     c: usize,
+    w: usize,
     n: usize,
     lv: &[i64],
     lm: &[i64],
@@ -56,10 +66,10 @@ pub fn judge_room(
     rm: &[i64],
     room: usize,
 ) -> Answer
-    requires { ⌜ TurnIn j c n (now lv) (now lm) (now rv) (now rm) ⌝ }
-    ensures { λ r. ⌜ r ≡ roomAnswer j (rowsOf c n (now (lv .entry)) (now (lm .entry))) (rowsOf c (j .held) (now (rv .entry)) (now (rm .entry))) room ⌝ }
+    requires { ⌜ TurnIn j c w n (now lv) (now lm) (now rv) (now rm) ⌝ }
+    ensures { λ r. ⌜ r ≡ roomAnswer j (rowsOf c n (now (lv .entry)) (now (lm .entry))) (rowsOf w (j .held) (now (rv .entry)) (now (rm .entry))) room ⌝ }
 {
-    if wants_right(j, c, n, lv, lm, rv, rm) {
+    if wants_right(j, c, w, n, lv, lm, rv, rm) {
         return Answer::WantsRight;
     }
     if room < 2 + 2 * n {
@@ -75,6 +85,7 @@ pub fn judge_room(
 pub fn judge_order(
     j: Part,
     c: usize,
+    w: usize,
     n: usize,
     s: usize,
     lv: &[i64],
@@ -82,14 +93,14 @@ pub fn judge_order(
     rv: &[i64],
     rm: &[i64],
 ) -> Answer
-    requires { ⌜ TurnIn j c n (now lv) (now lm) (now rv) (now rm) × (s ≤ j .held) ⌝ }
-    ensures { λ r. ⌜ r ≡ orderAnswer j (rowsOf c n (now (lv .entry)) (now (lm .entry))) (rowsOf c (j .held) (now (rv .entry)) (now (rm .entry))) s ⌝ }
+    requires { ⌜ TurnIn j c w n (now lv) (now lm) (now rv) (now rm) × (s ≤ j .held) ⌝ }
+    ensures { λ r. ⌜ r ≡ orderAnswer j (rowsOf c n (now (lv .entry)) (now (lm .entry))) (rowsOf w (j .held) (now (rv .entry)) (now (rm .entry))) s ⌝ }
 {
     let o = j.options;
     if bad_left(j.last_left, lv, lm, n, c, o) {
         return Answer::Refused(Refusal::LeftOrder);
     }
-    if bad_right(j.last_right, n, s, rv, rm, j.held, c, o) {
+    if bad_right(j.last_right, n, s, rv, rm, j.held, w, o) {
         return Answer::Refused(Refusal::RightOrder);
     }
     Answer::Wrote(j.sequence)
@@ -123,6 +134,7 @@ pub fn fail(mut j: Part) -> Part
 pub fn write_turn(
     j: Part,
     c: usize,
+    w: usize,
     n: usize,
     lv: &[i64],
     lm: &[i64],
@@ -132,14 +144,14 @@ pub fn write_turn(
     km: &[i64],
     out: &mut [i64],
 ) -> Part
-    requires { ⌜ WriteIn j c n (now lv) (now lm) first last (now kv) (now km) (now out) ⌝ }
-    ensures { λ r. ⌜ Written j (rowsOf c n (now (lv .entry)) (now (lm .entry))) (rowsOf c (j .held - first) (now (kv .entry)) (now (km .entry))) first last (frameWords n c) (now (out .entry)) r (now (out .exit)) ⌝ }
+    requires { ⌜ WriteIn j c w n (now lv) (now lm) first last (now kv) (now km) (now out) ⌝ }
+    ensures { λ r. ⌜ Written j (rowsOf c n (now (lv .entry)) (now (lm .entry))) (rowsOf w (j .held - first) (now (kv .entry)) (now (km .entry))) first last (frameWords n c) (now (out .entry)) r (now (out .exit)) ⌝ }
 {
     let o = j.options;
     let kept = j.held - first;
     let number = j.pruned + first;
-    match_frame(lv, lm, n, c, kv, km, kept, c, number, o, out);
+    match_frame(lv, lm, n, c, kv, km, kept, w, number, o, out);
     let l = remembered(j.last_left, lv, lm, n, c, o);
-    let r = remembered(j.last_right, kv, km, last, c, o);
+    let r = remembered(j.last_right, kv, km, last, w, o);
     leave(j, first + last, 2 + 2 * (n * c), l, r)
 }

@@ -11,10 +11,10 @@ ghost use mathlib.Core.Path.{_≡_};
 ghost use Prim.Native.Nat.{_-_, _*_, _≤_};
 ghost use lib.ListN.{length, drop};
 ghost use Rattle.frames.specs.Cells.{rowsOf};
-ghost use Rattle.frames.specs.Options.{columns, isOn};
+ghost use Rattle.frames.specs.Options.{isOn};
 ghost use Rattle.frames.specs.Room.{RowsIn};
 ghost use Rattle.buffer.specs.Reach.{pruneBy};
-ghost use Rattle.splits.specs.Room.{LastIn, SplitIn};
+ghost use Rattle.splits.specs.Room.{SplitIn};
 ghost use Rattle.prunes.specs.Prunes.{badLeft, badRightAt, firstPrune, remembered};
 
 // Whether the order of the rows is checked.
@@ -27,7 +27,7 @@ fn checks(o: Options) -> bool
 
 // Whether the left rows are out of order, with the check on: behind the remembered row, or among themselves.
 pub fn bad_left(m: Row, lv: &[i64], lm: &[i64], n: usize, c: usize, o: Options) -> bool
-    requires { ⌜ RowsIn o c n (now lv) (now lm) × (c ≡ columns o) ⌝ }
+    requires { ⌜ RowsIn o c n (now lv) (now lm) ⌝ }
     ensures { λ r. ⌜ r ≡ badLeft o m (rowsOf c n (now (lv .entry)) (now (lm .entry))) ⌝ }
 {
     if !checks(o) {
@@ -47,16 +47,16 @@ pub fn bad_right(
     rv: &[i64],
     rm: &[i64],
     held: usize,
-    c: usize,
+    w: usize,
     o: Options,
 ) -> bool
-    requires { ⌜ SplitIn o s c held (now rv) (now rm) ⌝ }
-    ensures { λ r. ⌜ r ≡ badRightAt o m n s (rowsOf c held (now (rv .entry)) (now (rm .entry))) ⌝ }
+    requires { ⌜ SplitIn o s w held (now rv) (now rm) ⌝ }
+    ensures { λ r. ⌜ r ≡ badRightAt o m n s (rowsOf w held (now (rv .entry)) (now (rm .entry))) ⌝ }
 {
     if !checks(o) {
         return false;
     }
-    if !is_sorted(rv, rm, held, c, o) {
+    if !is_sorted(rv, rm, held, w, o) {
         return true;
     }
     if n == 0 {
@@ -65,7 +65,7 @@ pub fn bad_right(
     if held == 0 {
         return false;
     }
-    bad_split(m, s, rv, rm, held, c, o)
+    bad_split(m, s, rv, rm, held, w, o)
 }
 
 // How many held rows the prune by row 0 drops, which is made only with the check off.
@@ -77,15 +77,16 @@ pub fn first_prune(
     rm: &[i64],
     held: usize,
     c: usize,
+    w: usize,
     o: Options,
 ) -> usize
-    requires { ⌜ RowsIn o c n (now lv) (now lm) × RowsIn o c held (now rv) (now rm) ⌝ }
-    ensures { λ r. ⌜ r ≡ firstPrune o (rowsOf c n (now (lv .entry)) (now (lm .entry))) (rowsOf c held (now (rv .entry)) (now (rm .entry))) ⌝ }
+    requires { ⌜ RowsIn o c n (now lv) (now lm) × RowsIn o w held (now rv) (now rm) ⌝ }
+    ensures { λ r. ⌜ r ≡ firstPrune o (rowsOf c n (now (lv .entry)) (now (lm .entry))) (rowsOf w held (now (rv .entry)) (now (rm .entry))) ⌝ }
 {
     if checks(o) {
         return 0;
     }
-    prune_by(0, lv, lm, n, c, rv, rm, held, c, o)
+    prune_by(0, lv, lm, n, c, rv, rm, held, w, o)
 }
 
 // How many held rows the prune by the last row drops; no row, no prune.
@@ -97,26 +98,27 @@ pub fn last_prune(
     rm: &[i64],
     held: usize,
     c: usize,
+    w: usize,
     o: Options,
 ) -> usize
-    requires { ⌜ RowsIn o c n (now lv) (now lm) × RowsIn o c held (now rv) (now rm) ⌝ }
-    ensures { λ r. ⌜ r ≡ pruneBy o (n - 1) (rowsOf c n (now (lv .entry)) (now (lm .entry))) (rowsOf c held (now (rv .entry)) (now (rm .entry))) ⌝ }
+    requires { ⌜ RowsIn o c n (now lv) (now lm) × RowsIn o w held (now rv) (now rm) ⌝ }
+    ensures { λ r. ⌜ r ≡ pruneBy o (n - 1) (rowsOf c n (now (lv .entry)) (now (lm .entry))) (rowsOf w held (now (rv .entry)) (now (rm .entry))) ⌝ }
 {
     if n == 0 {
         return 0;
     }
-    prune_by(n - 1, lv, lm, n, c, rv, rm, held, c, o)
+    prune_by(n - 1, lv, lm, n, c, rv, rm, held, w, o)
 }
 
 // The row that a side remembers after n rows went by, which it does only with the check on.
-pub fn remembered(m: Row, values: &[i64], marks: &[i64], n: usize, c: usize, o: Options) -> Row
-    requires { ⌜ LastIn o c n (now values) (now marks) ⌝ }
-    ensures { λ r. ⌜ r ≡ remembered o m (rowsOf c n (now (values .entry)) (now (marks .entry))) ⌝ }
+pub fn remembered(m: Row, values: &[i64], marks: &[i64], n: usize, w: usize, o: Options) -> Row
+    requires { ⌜ RowsIn o w n (now values) (now marks) ⌝ }
+    ensures { λ r. ⌜ r ≡ remembered o m (rowsOf w n (now (values .entry)) (now (marks .entry))) ⌝ }
 {
     if !checks(o) {
         return m;
     }
-    remember_last(m, values, marks, n, c, o)
+    remember_last(m, values, marks, n, w, o)
 }
 
 // The words from row i on, of rows that are each w wide.

@@ -9,7 +9,7 @@ use lib.Seq.{take-take}
 use Rattle.frames.specs.Cells.{Words}
 use Rattle.frames.specs.Frame.{isFrame, frameRows, front}
 use Rattle.frames.specs.Front.{frontOf}
-use Rattle.frames.specs.Options.{columns}
+use Rattle.frames.specs.Options.{columns, rightColumns}
 use Rattle.frames.specs.declared.Front.the-variants.{Words as Long, Nothing}
 use Rattle.frames.proofs.FrontLaws.{Fronted, front-told}
 use Rattle.area.specs.Area.{capacity, heldRows}
@@ -71,7 +71,7 @@ module _ (bad : Bool) (state : NodeState) (j : Part) (area right out : Words) wh
 
   -- A frame of k words at the front.
   pub front-turns : starts ≡ Wrote (j .sequence) → (k : ℕ) → frontOf (columns (j .options)) (waitingIn j area) ≡ Long k → (x : TurnedPart) (out′ : Words)
-      → RowsTurned j (frameRows (columns (j .options)) (take k (drop (j .«queue_start») area))) (heldRows (columns (j .options)) (j .base) (j .held) right) (length (take k (drop (j .«queue_start») area))) out x out′
+      → RowsTurned j (frameRows (columns (j .options)) (take k (drop (j .«queue_start») area))) (heldRows (rightColumns (j .options)) (j .base) (j .held) right) (length (take k (drop (j .«queue_start») area))) out x out′
       → QueueTurned bad state j area right out x out′
   unfolding queueTurn frontTurn
   front-turns e k t x out′ h = record { answer = rw (e, queueTurn, t, frontTurn) (h .answer); part = rw (e, queueTurn, t, frontTurn) (h .part); words = rw (e, queueTurn, t, frontTurn) (h .words) }
@@ -98,7 +98,7 @@ module _ (j : Part) (area right : Words) (k : ℕ) (told : frontOf (columns (j .
         frame = front-frame;
         held = g .right-room;
         counts = record {
-          base = omega (arith, g .right-room, capacity-room (columns (j .options)) right, rows-words (capacity (columns (j .options)) right) (columns (j .options)) (omega arith));
+          base = omega (arith, g .right-room, capacity-room (rightColumns (j .options)) right, rows-words (capacity (rightColumns (j .options)) right) (rightColumns (j .options)) (omega arith));
           rows = g .rows;
           start = omega (arith, g .left-room);
           words = rw (length-take k (drop (j .«queue_start») area)) (omega (arith, front-within));

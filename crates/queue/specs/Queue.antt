@@ -6,7 +6,7 @@ use lib.ListN.{length, take, drop}
 use Rattle.frames.specs.Cells.{Words}
 use Rattle.frames.specs.Frame.{frameRows}
 use Rattle.frames.specs.Front.{frontOf}
-use Rattle.frames.specs.Options.{columns}
+use Rattle.frames.specs.Options.{columns, rightColumns}
 use Rattle.frames.specs.declared.Front.{Front}
 use Rattle.frames.specs.declared.Front.the-variants.{Words as Long, Nothing}
 use Rattle.area.specs.Area.{capacity, heldRows}
@@ -28,7 +28,7 @@ unfoldable pub frontTurn : Part → Front → Words → Words → Words → Left
 frontTurn j Nothing area right out = left (Refused BadFrame) j out
 frontTurn j (Long k) area right out =
     let f = take k (drop (j .«queue_start») area) in
-    rowsTurn j (frameRows (columns (j .options)) f) (heldRows (columns (j .options)) (j .base) (j .held) right) (length f) out
+    rowsTurn j (frameRows (columns (j .options)) f) (heldRows (rightColumns (j .options)) (j .base) (j .held) right) (length f) out
 
 -- All of it: 2, 3, in Done 4, Idle, or the front's turn.
 unfoldable pub queueTurn : Bool → NodeState → Part → Words → Words → Words → Left
@@ -48,7 +48,7 @@ pub record QueueTurned (bad : Bool) (state : NodeState) (j : Part) (area right o
 -- What a join that is not bad has: few columns, the held rows and the waiting words are there, its counters hold together.
 pub record QueueIn (j : Part) (area right : Words) : Type 0 where
   pub few : j .options .by ≤ 4
-  pub right-room : j .base + j .held ≤ capacity (columns (j .options)) right
+  pub right-room : j .base + j .held ≤ capacity (rightColumns (j .options)) right
   pub left-room : j .«queue_start» + j .«queue_words» ≤ length area
   pub rows : j .pruned + j .held ≤ mostRows
   pub even : j .sequence % 2 ≡ 0

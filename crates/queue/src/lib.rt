@@ -5,6 +5,7 @@ use answers::goes_on;
 use framerule::front_words;
 use frames::Front;
 use judges::judge_ready;
+use options::left_columns;
 use parts::Part;
 use refusals::Refusal;
 use turns::TurnedPart;
@@ -39,7 +40,7 @@ pub fn turn_queue(
     if !goes_on(starts) {
         return unturned(starts, j);
     }
-    let c = j.options.by + 1;
+    let c = left_columns(j.options);
     let start = j.queue_start;
     let end = start + j.queue_words;
     let front = front_words(&left[start..end], c);

@@ -19,7 +19,7 @@ use Rattle.matching.specs.Answer.{answerWords, answered}
 use Rattle.matching.specs.declared.Choice.{Choice}
 use Rattle.matching.proofs.AnswerLaws.{answered-is, answered-rest, answered-count, answer-length}
 use Rattle.matching.proofs.GroupLaws.{frame-length}
-use Rattle.node.specs.State.{widthOf, badJoin, heldOf, waiting}
+use Rattle.node.specs.State.{leftWidth, badJoin, heldOf, waiting}
 use Rattle.answers.specs.Answers.{isDone, wrote}
 use Rattle.node.specs.Calls.{After, turnAnswer, turned, turnCall}
 use Rattle.prunes.specs.Prunes.{firstPrune}
@@ -59,11 +59,11 @@ apart n s e = let z : _≡_ {A = ℕ} 0 1 = cc in omega arith
 
 module _ (j : Join) (left right out : Words) where
   abbrev rows : Rows
-  rows = frameRows (widthOf j) (front (widthOf j) (waiting j left))
+  rows = frameRows (leftWidth j) (front (leftWidth j) (waiting j left))
 
   -- A turn that answers Wrote had a frame and room.
   pub record Passed : Type 0 where
-    pub frame : isFrame (widthOf j) (front (widthOf j) (waiting j left)) ≡ true
+    pub frame : isFrame (leftWidth j) (front (leftWidth j) (waiting j left)) ≡ true
     pub room : 2 + 2 * length rows ≤ length out
 
   passed : (s : ℕ) → turnAnswer j left right out ≡ Wrote s → Passed
@@ -73,10 +73,10 @@ module _ (j : Join) (left right out : Words) where
       let p3 = past (j .failed) (Refused Failed) _ (Wrote s) (apart Failed s) (p2 .1) in
       let p4 = past (isDone (j .state)) (Refused Closed) _ (Wrote s) (apart Closed s) (p3 .1) in
       let pi = past (eqb (j .«queue_words») 0) Idle _ (Wrote s) (λ x. let z : _≡_ {A = ℕ} 0 1 = cc in omega arith) (p4 .1) in
-      let p5 = past (not (isFrame (widthOf j) (front (widthOf j) (waiting j left)))) (Refused BadFrame) _ (Wrote s) (apart BadFrame s) (pi .1) in
+      let p5 = past (not (isFrame (leftWidth j) (front (leftWidth j) (waiting j left)))) (Refused BadFrame) _ (Wrote s) (apart BadFrame s) (pi .1) in
       let pw = past (not (j .«right_ended») && needMore (j .options) rows (heldOf j right)) WantsRight _ (Wrote s) (λ x. let z : _≡_ {A = ℕ} 0 1 = cc in omega arith) (p5 .1) in
       let p6 = past (ltb (length out) (2 + 2 * length rows)) (Refused NoRoom) _ (Wrote s) (apart NoRoom s) (pw .1) in
-      record { frame = not-false (isFrame (widthOf j) (front (widthOf j) (waiting j left))) (p5 .0); room = ltb-false (length out) (2 + 2 * length rows) (p6 .0) }
+      record { frame = not-false (isFrame (leftWidth j) (front (leftWidth j) (waiting j left))) (p5 .0); room = ltb-false (length out) (2 + 2 * length rows) (p6 .0) }
 
   -- The answer that is written has as many rows as the frame.
   matches : List Choice
@@ -98,7 +98,7 @@ module _ (j : Join) (left right out : Words) where
       go : (a : Answer) → turnAnswer j left right out ≡ a → wrote (turnCall j left right out .answer) ≡ true → Fits out (turnCall j left right out .out)
       go (Wrote s) e = rw (e, turnCall) (λ g.
           let p = passed s e in
-          rw turned-out (answered-fits matches out (omega (arith, matches-length, frame-rows (widthOf j) _ (p .frame), frame-few (widthOf j) _ (p .frame))) (omega (arith, matches-length, p .room))))
+          rw turned-out (answered-fits matches out (omega (arith, matches-length, frame-rows (leftWidth j) _ (p .frame), frame-few (leftWidth j) _ (p .frame))) (omega (arith, matches-length, p .room))))
       go WantsRight e = rw (e, turnCall) (λ g. let z : _≡_ {A = ℕ} 0 1 = cc in absurd (omega arith))
       go Idle e = rw (e, turnCall) (λ g. let z : _≡_ {A = ℕ} 0 1 = cc in absurd (omega arith))
       go (Refused n) e = rw (e, turnCall) (λ g. let z : _≡_ {A = ℕ} 0 1 = cc in absurd (omega arith))

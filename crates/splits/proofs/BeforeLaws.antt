@@ -10,7 +10,7 @@ use lib.Seq.{take-take, length-take-le}
 use Rattle.frames.specs.Cells.{Cell, cellsOf, rowsOf, rowFrom, Rows, Words}
 use Rattle.frames.specs.Options.{columns}
 use Rattle.frames.specs.Order.{cmpRow, isGreater}
-use Rattle.frames.specs.Keyed.{firstKeyed, lastKeyed, rowAt, recall, remember, rememberLast, outOfOrder}
+use Rattle.frames.specs.Keyed.{firstKeyed, lastKeyed, rowAt, recall, remember, rememberLast, compared, outOfOrder}
 use Rattle.frames.specs.Room.{RowAt, RowsIn, KeysIn}
 use Rattle.frames.specs.declared.Options.{Options}
 use Rattle.frames.specs.declared.Row.{Row}
@@ -18,7 +18,7 @@ use Rattle.frames.specs.declared.Order.{Order}
 use Rattle.frames.specs.declared.Keyed.{Keyed}
 use Rattle.frames.specs.declared.Keyed.the-variants.{At, Nothing}
 use Rattle.frames.proofs.RowLaws.{row-room}
-use Rattle.frames.proofs.WordLaws.{rows-length, rows-at, rows-drop}
+use Rattle.frames.proofs.WordLaws.{rows-length, rows-at, rows-drop, cells-take}
 use Rattle.frames.proofs.KeyedLaws.{first-found, last-found}
 use Rattle.buffer.specs.Reach.{noPrune, pruneBy, rowBefore, badSplit}
 use Rattle.splits.specs.Split.{wordsBefore, hasBefore, outOfOrderAt}
@@ -61,31 +61,37 @@ module _ (o : Options) (m : Row) (rows : Rows) where
   unfolding rememberLast
   remember-nothing e = rw e
 
-  pub remember-at : (i : ℕ) (x : List Cell) → lastKeyed o rows ≡ At i → getD rows i [] ≡ x → remember x ≡ rememberLast o m rows
+  pub remember-at : (i : ℕ) (x : List Cell) → lastKeyed o rows ≡ At i → compared o (getD rows i []) ≡ x → remember x ≡ rememberLast o m rows
   unfolding rememberLast
   remember-at i x e g = rw (e, g)
 
+-- What is compared of a row, by its words.
+pub compared-from : (o : Options) (w p : ℕ) (vs ms : Words) → o .by < w → compared o (rowFrom w p vs ms) ≡ rowFrom (columns o) p vs ms
+unfolding rowFrom
+compared-from o w p vs ms h =
+    cells-take (columns o) (take w (drop p vs)) (take w (drop p ms)) ∙ rw (take-take (columns o) w (drop p vs) (omega arith), take-take (columns o) w (drop p ms) (omega arith))
+
 -- ---- the row before the split
-pub words-long : (w : ℕ) (k : Keyed) (held remembered : Words) → BeforeIn w k held remembered → length (wordsBefore w held remembered k) ≡ w
-words-long w (At i) held remembered p = length-take-le w (drop (i * w) held) (rw (length-drop (i * w) held) (omega (arith, p .inside i refl)))
-words-long w Nothing held remembered p = length-take-le w remembered (p .other)
+pub words-long : (c w : ℕ) (k : Keyed) (held remembered : Words) → c ≤ w → BeforeIn c w k held remembered → c ≤ length (wordsBefore c w held remembered k)
+words-long c w (At i) held remembered l p = rw (length-take-le w (drop (i * w) held) (rw (length-drop (i * w) held) (omega (arith, p .inside i refl)))) l
+words-long c w Nothing held remembered l p = rw (length-take-le c remembered (p .other)) (omega arith)
 
 module _ (w s : ℕ) (vs ms : Words) (m : Row) where
-  -- Its cells: of the row that was found, or of the one that is remembered, at any width up to w.
+  -- Its cells: of the row that was found, or of the one that is remembered.
   found-row : (i : ℕ) → i < s → rowFrom w 0 (take w (drop (i * w) vs)) (take w (drop (i * w) ms)) ≡ getD (rowsOf w s vs ms) i []
   unfolding rowFrom
   found-row i h = rw (take-take w w (drop (i * w) vs) (omega arith), take-take w w (drop (i * w) ms) (omega arith)) (sym (rows-at w s i vs ms h))
 
-  other-row : (c : ℕ) → c ≤ w → m .some ≡ true → some (rowFrom c 0 (take w (m .values)) (take w (m .marks))) ≡ recall c m
+  other-row : (c : ℕ) → m .some ≡ true → some (rowFrom c 0 (take c (m .values)) (take c (m .marks))) ≡ recall c m
   unfolding rowFrom recall
-  other-row c h e = rw (take-take c w (m .values) h, take-take c w (m .marks) h, e)
+  other-row c e = rw (take-take c c (m .values) (omega arith), take-take c c (m .marks) (omega arith), e)
 
   -- The row before the split, by the words of its values and of its marks.
-  pub row-before : (o : Options) (k : Keyed) → w ≡ columns o → lastKeyed o (rowsOf w s vs ms) ≡ k
-      → rowBefore o m (rowsOf w s vs ms) ≡ cond (hasBefore k (m .some)) (some (cellsOf (wordsBefore w vs (m .values) k) (wordsBefore w ms (m .marks) k))) none
+  pub row-before : (o : Options) (k : Keyed) → lastKeyed o (rowsOf w s vs ms) ≡ k
+      → rowBefore o m (rowsOf w s vs ms) ≡ cond (hasBefore k (m .some)) (some (cellsOf (wordsBefore (columns o) w vs (m .values) k) (wordsBefore (columns o) w ms (m .marks) k))) none
   unfolding rowBefore recall
-  row-before o (At i) c e = rw (e, rows-at w s i vs ms (last-in o w s i vs ms e))
-  row-before o Nothing c e = rw (e, c)
+  row-before o (At i) e = rw (e, rows-at w s i vs ms (last-in o w s i vs ms e))
+  row-before o Nothing e = rw e
 
 -- ---- the check at the split
 -- With the split at hand it is the check of a prune that is one.
@@ -101,9 +107,9 @@ module _ {o : Options} {s w n : ℕ} {vs ms : Words} (p : SplitIn o s w n vs ms)
       (omega arith, omega arith)
 
   pub keys-in : KeysIn o w s ms
-  keys-in = record { few = p .last .rows .few; wide = p .last .rows .wide; marks = long ms (p .last .rows .marks) .0 }
+  keys-in = record { few = p .rows .few; wide = p .rows .wide; marks = long ms (p .rows .marks) .0 }
 
-  pub before-in : (k : Keyed) (xs remembered : Words) → lastKeyed o (rowsOf w s vs ms) ≡ k → n * w ≤ length xs → w ≤ length remembered → BeforeIn w k xs remembered
+  pub before-in : (k : Keyed) (xs remembered : Words) → lastKeyed o (rowsOf w s vs ms) ≡ k → n * w ≤ length xs → columns o ≤ length remembered → BeforeIn (columns o) w k xs remembered
   before-in k xs remembered e h l = record {
     inside = λ i g. omega (arith, row-room i s w (last-in o w s i vs ms (e ∙ g)), long xs h .0);
     other = l;
@@ -115,11 +121,11 @@ module _ {o : Options} {s w n : ℕ} {vs ms : Words} (p : SplitIn o s w n vs ms)
 
   pub behind-in : RowsIn o w (n - s) (lent vs) (lent ms)
   behind-in =
-      let a = long vs (p .last .rows .values) in
-      let b = long ms (p .last .rows .marks) in
+      let a = long vs (p .rows .values) in
+      let b = long ms (p .rows .marks) in
       record {
-        few = p .last .rows .few;
-        wide = p .last .rows .wide;
+        few = p .rows .few;
+        wide = p .rows .wide;
         values = rw (to-end (s * w) vs, length-drop (s * w) vs) (a .1);
         marks = rw (to-end (s * w) ms, length-drop (s * w) ms) (b .1);
       }
@@ -127,12 +133,14 @@ module _ {o : Options} {s w n : ℕ} {vs ms : Words} (p : SplitIn o s w n vs ms)
   behind-rows : rowsOf w (n - s) (lent vs) (lent ms) ≡ drop s (rowsOf w n vs ms)
   behind-rows = rw (to-end (s * w) vs, to-end (s * w) ms) (rows-drop w n s vs ms (p .place))
 
-  pub front-in : (m : Row) (k : Keyed) (v x : Words) → lastKeyed o (rowsOf w s vs ms) ≡ k → w ≤ length (m .values) → w ≤ length (m .marks)
-      → v ≡ wordsBefore w vs (m .values) k → x ≡ wordsBefore w ms (m .marks) k → RowAt o 0 v x
+  pub front-in : (m : Row) (k : Keyed) (v x : Words) → lastKeyed o (rowsOf w s vs ms) ≡ k → columns o ≤ length (m .values) → columns o ≤ length (m .marks)
+      → v ≡ wordsBefore (columns o) w vs (m .values) k → x ≡ wordsBefore (columns o) w ms (m .marks) k → RowAt o 0 v x
   front-in m k v x e hv hm ev em =
-      let a = ap length ev ∙ words-long w k vs (m .values) (before-in k vs (m .values) e (p .last .rows .values) hv) in
-      let b = ap length em ∙ words-long w k ms (m .marks) (before-in k ms (m .marks) e (p .last .rows .marks) hm) in
-      record { few = p .last .rows .few; values = omega (arith, p .last .rows .wide, a); marks = omega (arith, p .last .rows .wide, b) }
+      let a = words-long (columns o) w k vs (m .values) (p .rows .wide) (before-in k vs (m .values) e (p .rows .values) hv) in
+      let b = words-long (columns o) w k ms (m .marks) (p .rows .wide) (before-in k ms (m .marks) e (p .rows .marks) hm) in
+      let c : columns o ≤ length v = rw ev a in
+      let d : columns o ≤ length x = rw em b in
+      record { few = p .rows .few; values = omega arith; marks = omega arith }
 
   pub split-none : (m : Row) (k : Keyed) → lastKeyed o (rowsOf w s vs ms) ≡ k → hasBefore k (m .some) ≡ false → false ≡ outOfOrderAt o m s (rowsOf w n vs ms)
   unfolding outOfOrderAt rowBefore
@@ -141,11 +149,11 @@ module _ {o : Options} {s w n : ℕ} {vs ms : Words} (p : SplitIn o s w n vs ms)
 
   -- What the row of those words is to the rows behind the split decides.
   pub split-says : (m : Row) (k : Keyed) (v x : Words) (b : Bool) → lastKeyed o (rowsOf w s vs ms) ≡ k → hasBefore k (m .some) ≡ true
-      → v ≡ wordsBefore w vs (m .values) k → x ≡ wordsBefore w ms (m .marks) k
+      → v ≡ wordsBefore (columns o) w vs (m .values) k → x ≡ wordsBefore (columns o) w ms (m .marks) k
       → ((wp : ℕ) → o .by < wp → b ≡ outOfOrder o (some (rowFrom wp 0 v x)) (rowAt (rowsOf w (n - s) (lent vs) (lent ms)) (firstKeyed o (rowsOf w (n - s) (lent vs) (lent ms)))))
       → b ≡ outOfOrderAt o m s (rowsOf w n vs ms)
   unfolding outOfOrderAt rowBefore
   split-says m (At i) v x b e h ev em f =
-      rw (rows-take w n s vs ms (p .place), e, ← behind-rows, ← found-row w s vs ms m i (last-in o w s i vs ms e), ← ev, ← em) (f w (p .last .rows .wide))
+      rw (rows-take w n s vs ms (p .place), e, ← behind-rows, ← found-row w s vs ms m i (last-in o w s i vs ms e), ← ev, ← em) (f w (p .rows .wide))
   split-says m Nothing v x b e h ev em f =
-      rw (rows-take w n s vs ms (p .place), e, ← behind-rows, ← other-row w s vs ms m (columns o) (p .last .rows .wide) h, ← ev, ← em) (f (columns o) (omega arith))
+      rw (rows-take w n s vs ms (p .place), e, ← behind-rows, ← other-row w s vs ms m (columns o) h, ← ev, ← em) (f (columns o) (omega arith))

@@ -8,17 +8,12 @@ use Rattle.frames.specs.declared.Options.{Options}
 use Rattle.frames.specs.declared.Keyed.{Keyed}
 use Rattle.frames.specs.declared.Keyed.the-variants.{At}
 
--- Of what is found, a row that is there; w words are remembered.
-pub record BeforeIn (w : ℕ) (found : Keyed) (held remembered : Words) : Type 0 where
+-- Of what is found, a row of w words that is there; c words are remembered.
+pub record BeforeIn (c w : ℕ) (found : Keyed) (held remembered : Words) : Type 0 where
   pub inside : (i : ℕ) → found ≡ At i → i * w + w ≤ length held
-  pub other : w ≤ length remembered
+  pub other : c ≤ length remembered
 
--- n rows are there that can be remembered: at most five words wide, with the key among their columns.
-pub record LastIn (o : Options) (w n : ℕ) (vs ms : Words) : Type 0 where
-  pub rows : RowsIn o w n vs ms
-  pub narrow : w ≤ 5
-
--- The same, and s is a place among them or their end.
+-- n rows are there, and s is a place among them or their end.
 pub record SplitIn (o : Options) (s w n : ℕ) (vs ms : Words) : Type 0 where
-  pub last : LastIn o w n vs ms
+  pub rows : RowsIn o w n vs ms
   pub place : s ≤ n

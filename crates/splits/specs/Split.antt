@@ -10,10 +10,10 @@ use Rattle.frames.specs.declared.Keyed.{Keyed}
 use Rattle.frames.specs.declared.Keyed.the-variants.{At, Nothing}
 use Rattle.buffer.specs.Reach.{rowBefore}
 
--- SCOPE 11.4: the w words of the row that is compared at the split, of the held rows or remembered; for values and again for marks.
-abbrev pub wordsBefore : ℕ → Words → Words → Keyed → Words
-wordsBefore w held remembered (At i) = take w (drop (i * w) held)
-wordsBefore w held remembered Nothing = take w remembered
+-- SCOPE 11.4: the words of the row that is compared at the split, w of a held row or the c that are remembered; for values and again for marks.
+abbrev pub wordsBefore : ℕ → ℕ → Words → Words → Keyed → Words
+wordsBefore c w held remembered (At i) = take w (drop (i * w) held)
+wordsBefore c w held remembered Nothing = take c remembered
 
 -- There is a row before the split: one with a key was found, or one is remembered.
 abbrev pub hasBefore : Keyed → Bool → Bool

@@ -6,29 +6,32 @@ use frames::Row;
 use keyed::copy_row;
 use keyed::first_keyed;
 use keyed::last_keyed;
+use options::left_columns;
 use order::cmp_row;
 ghost use mathlib.Core.Path.{_≡_};
 ghost use mathlib.Core.Option.{some};
 ghost use Prim.Native.Nat.{ℕ, _<_};
 ghost use Rattle.frames.specs.Cells.{rowFrom, rowsOf};
+ghost use Rattle.frames.specs.Options.{columns};
 ghost use Rattle.frames.specs.Order.{isGreater};
 ghost use Rattle.frames.specs.Keyed.{firstKeyed, rowAt, recall, rememberLast, outOfOrder};
 ghost use Rattle.frames.specs.Room.{RowAt, RowsIn};
 ghost use Rattle.splits.specs.Split.{wordsBefore, hasBefore, outOfOrderAt};
-ghost use Rattle.splits.specs.Room.{BeforeIn, SplitIn, LastIn};
+ghost use Rattle.splits.specs.Room.{BeforeIn, SplitIn};
 
 // The row that the first kept one is compared with (SCOPE 11.4), its values or its marks.
 pub(crate) fn before_split<'a>(
     held: &'a [i64],
     remembered: &'a [i64],
     found: Keyed,
+    c: usize,
     w: usize,
 ) -> &'a [i64]
-    requires { ⌜ BeforeIn w found (now held) (now remembered) ⌝ }
-    ensures { λ r. ⌜ now r ≡ wordsBefore w (now (held .entry)) (now (remembered .entry)) found ⌝ }
+    requires { ⌜ BeforeIn c w found (now held) (now remembered) ⌝ }
+    ensures { λ r. ⌜ now r ≡ wordsBefore c w (now (held .entry)) (now (remembered .entry)) found ⌝ }
 {
     let Keyed::At(i) = found else {
-        return &remembered[..w];
+        return &remembered[..c];
     };
     let p = i * w;
     let e = p + w;
@@ -78,7 +81,7 @@ fn above_first(
 // Whether the remembered row is greater than the first row with a key, of n rows that are each w wide.
 pub fn out_of_order(m: Row, values: &[i64], marks: &[i64], n: usize, w: usize, o: Options) -> bool
     requires { ⌜ RowsIn o w n (now values) (now marks) ⌝ }
-    ensures { λ r. ⌜ r ≡ outOfOrder o (recall w m) (rowAt (rowsOf w n (now (values .entry)) (now (marks .entry))) (firstKeyed o (rowsOf w n (now (values .entry)) (now (marks .entry))))) ⌝ }
+    ensures { λ r. ⌜ r ≡ outOfOrder o (recall (columns o) m) (rowAt (rowsOf w n (now (values .entry)) (now (marks .entry))) (firstKeyed o (rowsOf w n (now (values .entry)) (now (marks .entry))))) ⌝ }
 {
     if !m.some {
         return false;
@@ -99,19 +102,21 @@ pub fn bad_split(m: Row, s: usize, rv: &[i64], rm: &[i64], n: usize, w: usize, o
     }
     let lv = m.values;
     let lm = m.marks;
-    let values = before_split(rv, &lv, found, w);
-    let marks = before_split(rm, &lm, found, w);
+    let c = left_columns(o);
+    let values = before_split(rv, &lv, found, c, w);
+    let marks = before_split(rm, &lm, found, c, w);
     let p = s * w;
     above_first(values, marks, &rv[p..], &rm[p..], n - s, w, o)
 }
 
 // What is remembered after n rows, each w wide: the last of them with a key, or the row m where they have none.
 pub fn remember_last(m: Row, values: &[i64], marks: &[i64], n: usize, w: usize, o: Options) -> Row
-    requires { ⌜ LastIn o w n (now values) (now marks) ⌝ }
+    requires { ⌜ RowsIn o w n (now values) (now marks) ⌝ }
     ensures { λ r. ⌜ r ≡ rememberLast o m (rowsOf w n (now (values .entry)) (now (marks .entry))) ⌝ }
 {
     let Keyed::At(i) = last_keyed(marks, n, w, o) else {
         return m;
     };
-    copy_row(values, marks, i * w, w)
+    let c = left_columns(o);
+    copy_row(values, marks, i * w, c)
 }

@@ -9,7 +9,7 @@ use lib.Dec.{ltb, eqb}
 use lib.ListN.{length, take, drop, length-take, length-drop}
 use Rattle.frames.specs.Cells.{Rows, Words, rowsOf}
 use Rattle.frames.specs.Frame.{rowCount, frameWords, valuesIn, marksIn, isFrame, frameRows}
-use Rattle.frames.specs.Options.{columns}
+use Rattle.frames.specs.Options.{columns, rightColumns}
 use Rattle.frames.specs.Room.{RowsIn, HasCount}
 use Rattle.frames.specs.declared.Options.{Options}
 use Rattle.frames.proofs.WordLaws.{rows-length, rows-drop}
@@ -118,7 +118,7 @@ module _ (j : Part) (rows held : Rows) where
           record { answer = rw (e, rowsTurn) (judged ∙ order-writes s t judged g); part = rw (e, rowsTurn, ← ek, ← ef, ← at) (w .part); words = rw (e, rowsTurn, ← ek, ← ef) (w .words) }
 
 -- ---- the words
-module _ {j : Part} {c n : ℕ} {lv lm rv rm : Words} (t : TurnIn j c n lv lm rv rm) where
+module _ {j : Part} {c w n : ℕ} {lv lm rv rm : Words} (t : TurnIn j c w n lv lm rv rm) where
   abbrev o : Options
   o = j .options
 
@@ -126,45 +126,46 @@ module _ {j : Part} {c n : ℕ} {lv lm rv rm : Words} (t : TurnIn j c n lv lm rv
   rows = rowsOf c n lv lm
 
   abbrev held : Rows
-  held = rowsOf c (j .held) rv rm
+  held = rowsOf w (j .held) rv rm
 
   -- What the first prune leaves.
   module _ (first : ℕ) (is : first ≡ firstPrune o rows held) where
     pub first-in : first ≤ j .held
-    first-in = omega (arith, is, first-within o rows held, rows-length c (j .held) rv rm)
+    first-in = omega (arith, is, first-within o rows held, rows-length w (j .held) rv rm)
 
-    pub first-words : (xs : Words) → j .held * c ≤ length xs → first * c ≤ length xs
-    first-words xs h = omega (arith, mul-le-mul-right {m = first} {n = j .held} c first-in)
+    pub first-words : (xs : Words) → j .held * w ≤ length xs → first * w ≤ length xs
+    first-words xs h = omega (arith, mul-le-mul-right {m = first} {n = j .held} w first-in)
 
-    module _ (kv km : Words) (ev : kv ≡ drop (first * c) rv) (em : km ≡ drop (first * c) rm) where
-      pub kept-in : RowsIn o c (j .held - first) kv km
+    module _ (kv km : Words) (ev : kv ≡ drop (first * w) rv) (em : km ≡ drop (first * w) rm) where
+      pub kept-in : RowsIn o w (j .held - first) kv km
       kept-in =
           let e : j .held ≡ first + (j .held - first) = omega (arith, first-in) in
-          let f : j .held * c ≡ (first + (j .held - first)) * c = ap (λ (z : ℕ). z * c) e in
+          let f : j .held * w ≡ (first + (j .held - first)) * w = ap (λ (z : ℕ). z * w) e in
           record {
             few = t .right .few;
             wide = t .right .wide;
-            values = rw (ev, length-drop (first * c) rv) (omega (arith, t .right .values));
-            marks = rw (em, length-drop (first * c) rm) (omega (arith, t .right .marks));
+            values = rw (ev, length-drop (first * w) rv) (omega (arith, t .right .values));
+            marks = rw (em, length-drop (first * w) rm) (omega (arith, t .right .marks));
           }
 
-      pub kept-are : rowsOf c (j .held - first) kv km ≡ keptRows o rows held
+      pub kept-are : rowsOf w (j .held - first) kv km ≡ keptRows o rows held
       unfolding keptRows
-      kept-are = rw (ev, em, ← is) (rows-drop c (j .held) first rv rm first-in)
+      kept-are = rw (ev, em, ← is) (rows-drop w (j .held) first rv rm first-in)
 
-      module _ (s : ℕ) (at : s ≡ pruneBy o (n - 1) rows (rowsOf c (j .held - first) kv km)) where
+      module _ (s : ℕ) (at : s ≡ pruneBy o (n - 1) rows (rowsOf w (j .held - first) kv km)) where
         pub last-is : s ≡ lastPrune o rows held
         unfolding lastPrune
         last-is = rw (← kept-are, rows-length c n lv lm) at
 
         pub both-in : first + s ≤ j .held
-        both-in = omega (arith, is, last-is, drops-within o rows held, rows-length c (j .held) rv rm)
+        both-in = omega (arith, is, last-is, drops-within o rows held, rows-length w (j .held) rv rm)
 
-        pub write-in : (out : Words) → roomAnswer j rows held (length out) ≡ Wrote (j .sequence) → WriteIn j c n lv lm first s kv km out
+        pub write-in : (out : Words) → roomAnswer j rows held (length out) ≡ Wrote (j .sequence) → WriteIn j c w n lv lm first s kv km out
         write-in out needs =
             let p = room-there j rows held (length out) needs in
             record {
               columns = t .columns;
+              wide = t .wide;
               left = t .left;
               kept = kept-in;
               within = both-in;
@@ -174,43 +175,44 @@ module _ {j : Part} {c n : ℕ} {lv lm rv rm : Words} (t : TurnIn j c n lv lm rv
             }
 
 -- ---- the frame at the front
-module _ {j : Part} {f right : Words} (p : FrameIn j f right) (c n e : ℕ) (wide : c ≡ columns (j .options)) (count : n ≡ rowCount f) (at : e ≡ 2 + n * c) where
+module _ {j : Part} {f right : Words} (p : FrameIn j f right) (c w n e : ℕ) (narrow : c ≡ columns (j .options)) (wide : w ≡ rightColumns (j .options)) (count : n ≡ rowCount f) (at : e ≡ 2 + n * c) where
   exact : length f ≡ frameWords n c
-  exact = rw (wide, count) (frame-parts (columns (j .options)) f (p .frame) .exact)
+  exact = rw (narrow, count) (frame-parts (columns (j .options)) f (p .frame) .exact)
 
   pub parts-fit : 2 + 2 * (n * c) ≡ length f
   parts-fit = sym exact
 
   left-values : take (e - 2) (drop 2 f) ≡ valuesIn (columns (j .options)) f
-  left-values = values-part (columns (j .options)) f e (rw (at, count, wide))
+  left-values = values-part (columns (j .options)) f e (rw (at, count, narrow))
 
   left-marks : take (length f - e) (drop e f) ≡ marksIn (columns (j .options)) f
-  left-marks = marks-part (columns (j .options)) f e (rw (at, count, wide))
+  left-marks = marks-part (columns (j .options)) f e (rw (at, count, narrow))
 
-  pub frame-in : TurnIn j c n (take (e - 2) (drop 2 f)) (take (length f - e) (drop e f)) (drop (j .base * c) right) (drop ((capacity c right + j .base) * c) right)
+  pub frame-in : TurnIn j c w n (take (e - 2) (drop 2 f)) (take (length f - e) (drop e f)) (drop (j .base * w) right) (drop ((capacity w right + j .base) * w) right)
   frame-in =
       let x = exact in
       record {
-        columns = wide;
+        columns = narrow;
+        wide = wide;
         left = record {
           few = p .few;
-          wide = omega (arith, wide);
+          wide = omega (arith, narrow);
           values = rw (length-take (e - 2) (drop 2 f), length-drop 2 f) (omega arith);
           marks = rw (length-take (length f - e) (drop e f), length-drop e f) (omega arith);
         };
-        right = held-in (j .options) c (j .base) (j .held) right (p .few) (omega (arith, wide)) (rw wide (p .held));
+        right = held-in (j .options) w (j .base) (j .held) right (p .few) (omega (arith, wide)) (rw wide (p .held));
         counts = rw x at (p .counts);
       }
 
   pub frame-turned : (out : Words) (r : TurnedPart) (out′ : Words)
-      → RowsTurned j (rowsOf c n (take (e - 2) (drop 2 f)) (take (length f - e) (drop e f))) (rowsOf c (j .held) (drop (j .base * c) right) (drop ((capacity c right + j .base) * c) right)) (frameWords n c) out r out′
-      → RowsTurned j (frameRows (columns (j .options)) f) (heldRows (columns (j .options)) (j .base) (j .held) right) (length f) out r out′
+      → RowsTurned j (rowsOf c n (take (e - 2) (drop 2 f)) (take (length f - e) (drop e f))) (rowsOf w (j .held) (drop (j .base * w) right) (drop ((capacity w right + j .base) * w) right)) (frameWords n c) out r out′
+      → RowsTurned j (frameRows (columns (j .options)) f) (heldRows (rightColumns (j .options)) (j .base) (j .held) right) (length f) out r out′
   unfolding frameRows heldRows
-  frame-turned out r out′ h = rw (exact, ← left-values, ← left-marks, ← wide, ← count) h
+  frame-turned out r out′ h = rw (exact, narrow, ← left-values, ← left-marks, ← count) (rw (narrow, wide) at h)
 
 -- The held rows start within the capacity.
-pub base-in : {j : Part} {f right : Words} → FrameIn j f right → (c : ℕ) → c ≡ columns (j .options) → BaseIn c (j .base) right
-base-in p c wide = record {
+pub base-in : {j : Part} {f right : Words} → FrameIn j f right → (w : ℕ) → w ≡ rightColumns (j .options) → BaseIn w (j .base) right
+base-in p w wide = record {
   columns = record { some = omega (arith, wide); few = omega (arith, wide, p .few) };
   within = rw wide (omega (arith, p .held));
 }

@@ -5,7 +5,7 @@ use Prim.Native.Nat.{ℕ, _+_, _≤_}
 use lib.ListN.{length}
 use Rattle.frames.specs.Cells.{Rows, Words}
 use Rattle.frames.specs.Frame.{isFrame}
-use Rattle.frames.specs.Options.{columns}
+use Rattle.frames.specs.Options.{columns, rightColumns}
 use Rattle.area.specs.Area.{capacity}
 use Rattle.matching.specs.Groups.{matchFrame}
 use Rattle.matching.specs.Answer.{answered}
@@ -62,5 +62,5 @@ pub record RowsTurned (j : Part) (rows held : Rows) (k : ℕ) (out : Words) (r :
 pub record FrameIn (j : Part) (f right : Words) : Type 0 where
   pub few : j .options .by ≤ 4
   pub frame : isFrame (columns (j .options)) f ≡ true
-  pub held : j .base + j .held ≤ capacity (columns (j .options)) right
+  pub held : j .base + j .held ≤ capacity (rightColumns (j .options)) right
   pub counts : Counts j (length f)

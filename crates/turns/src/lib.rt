@@ -4,6 +4,8 @@ use answers::goes_on;
 use area::held_marks;
 use area::held_values;
 use framerule::row_count;
+use options::left_columns;
+use options::right_columns;
 use parts::Part;
 use parts::fail;
 use parts::judge_order;
@@ -16,7 +18,7 @@ ghost use mathlib.Core.Path.{_≡_};
 ghost use lib.ListN.{length};
 ghost use Rattle.frames.specs.Cells.{rowsOf};
 ghost use Rattle.frames.specs.Frame.{frameRows, frameWords};
-ghost use Rattle.frames.specs.Options.{columns};
+ghost use Rattle.frames.specs.Options.{columns, rightColumns};
 ghost use Rattle.area.specs.Area.{heldRows};
 ghost use Rattle.answers.specs.declared.Answer.the-variants.{Wrote};
 ghost use Rattle.parts.specs.Part.{roomAnswer, TurnIn};
@@ -42,6 +44,7 @@ fn unturned(answer: Answer, j: Part) -> TurnedPart
 fn turn_pruned(
     j: Part,
     c: usize,
+    w: usize,
     n: usize,
     lv: &[i64],
     lm: &[i64],
@@ -49,21 +52,21 @@ fn turn_pruned(
     rm: &[i64],
     out: &mut [i64],
 ) -> TurnedPart
-    requires { ⌜ TurnIn j c n (now lv) (now lm) (now rv) (now rm) × (roomAnswer j (rowsOf c n (now lv) (now lm)) (rowsOf c (j .held) (now rv) (now rm)) (length (now out)) ≡ Wrote (j .sequence)) ⌝ }
-    ensures { λ r. ⌜ RowsTurned j (rowsOf c n (now (lv .entry)) (now (lm .entry))) (rowsOf c (j .held) (now (rv .entry)) (now (rm .entry))) (frameWords n c) (now (out .entry)) r (now (out .exit)) ⌝ }
+    requires { ⌜ TurnIn j c w n (now lv) (now lm) (now rv) (now rm) × (roomAnswer j (rowsOf c n (now lv) (now lm)) (rowsOf w (j .held) (now rv) (now rm)) (length (now out)) ≡ Wrote (j .sequence)) ⌝ }
+    ensures { λ r. ⌜ RowsTurned j (rowsOf c n (now (lv .entry)) (now (lm .entry))) (rowsOf w (j .held) (now (rv .entry)) (now (rm .entry))) (frameWords n c) (now (out .entry)) r (now (out .exit)) ⌝ }
 {
     let o = j.options;
-    let first = first_prune(lv, lm, n, rv, rm, j.held, c, o);
-    let kv = from_row(rv, first, c);
-    let km = from_row(rm, first, c);
-    let last = last_prune(lv, lm, n, kv, km, j.held - first, c, o);
-    let order = judge_order(j, c, n, last, lv, lm, rv, rm);
+    let first = first_prune(lv, lm, n, rv, rm, j.held, c, w, o);
+    let kv = from_row(rv, first, w);
+    let km = from_row(rm, first, w);
+    let last = last_prune(lv, lm, n, kv, km, j.held - first, c, w, o);
+    let order = judge_order(j, c, w, n, last, lv, lm, rv, rm);
     if !goes_on(order) {
         return unturned(order, fail(j));
     }
     TurnedPart {
         answer: order,
-        part: write_turn(j, c, n, lv, lm, first, last, kv, km, out),
+        part: write_turn(j, c, w, n, lv, lm, first, last, kv, km, out),
     }
 }
 
@@ -71,6 +74,7 @@ fn turn_pruned(
 fn turn_rows(
     j: Part,
     c: usize,
+    w: usize,
     n: usize,
     lv: &[i64],
     lm: &[i64],
@@ -78,25 +82,26 @@ fn turn_rows(
     rm: &[i64],
     out: &mut [i64],
 ) -> TurnedPart
-    requires { ⌜ TurnIn j c n (now lv) (now lm) (now rv) (now rm) ⌝ }
-    ensures { λ r. ⌜ RowsTurned j (rowsOf c n (now (lv .entry)) (now (lm .entry))) (rowsOf c (j .held) (now (rv .entry)) (now (rm .entry))) (frameWords n c) (now (out .entry)) r (now (out .exit)) ⌝ }
+    requires { ⌜ TurnIn j c w n (now lv) (now lm) (now rv) (now rm) ⌝ }
+    ensures { λ r. ⌜ RowsTurned j (rowsOf c n (now (lv .entry)) (now (lm .entry))) (rowsOf w (j .held) (now (rv .entry)) (now (rm .entry))) (frameWords n c) (now (out .entry)) r (now (out .exit)) ⌝ }
 {
-    let room = judge_room(j, c, n, lv, lm, rv, rm, out.len());
+    let room = judge_room(j, c, w, n, lv, lm, rv, rm, out.len());
     if !goes_on(room) {
         return unturned(room, j);
     }
-    turn_pruned(j, c, n, lv, lm, rv, rm, out)
+    turn_pruned(j, c, w, n, lv, lm, rv, rm, out)
 }
 
 // A turn over the frame at the front of the queue.
 pub fn turn_frame(j: Part, frame: &[i64], right: &[i64], out: &mut [i64]) -> TurnedPart
     requires { ⌜ FrameIn j (now frame) (now right) ⌝ }
-    ensures { λ r. ⌜ RowsTurned j (frameRows (columns (j .options)) (now (frame .entry))) (heldRows (columns (j .options)) (j .base) (j .held) (now (right .entry))) (length (now (frame .entry))) (now (out .entry)) r (now (out .exit)) ⌝ }
+    ensures { λ r. ⌜ RowsTurned j (frameRows (columns (j .options)) (now (frame .entry))) (heldRows (rightColumns (j .options)) (j .base) (j .held) (now (right .entry))) (length (now (frame .entry))) (now (out .entry)) r (now (out .exit)) ⌝ }
 {
-    let c = j.options.by + 1;
+    let c = left_columns(j.options);
+    let w = right_columns(j.options);
     let n = row_count(frame);
     let e = 2 + n * c;
-    let rv = held_values(right, j.base, c);
-    let rm = held_marks(right, j.base, c);
-    turn_rows(j, c, n, &frame[2..e], &frame[e..], rv, rm, out)
+    let rv = held_values(right, j.base, w);
+    let rm = held_marks(right, j.base, w);
+    turn_rows(j, c, w, n, &frame[2..e], &frame[e..], rv, rm, out)
 }

@@ -1,11 +1,10 @@
 use mathlib.Core.Path.{_≡_, sym, _∙_}
 use mathlib.Core.Bool.{false}
-use native.Mathlib.Numerals.{add-one}
 use native.Mathlib.Omega.{arith}
 use Prim.Native.Nat.{_+_, _≤_}
 use denote.Ref.{now}
 use lib.Dec.{ltb}
-use Rattle.frames.specs.Options.{badOptions, columns}
+use Rattle.frames.specs.Options.{badOptions, rightColumns}
 use Rattle.area.specs.Area.{capacity}
 use Rattle.feeds.specs.Judged.{badNumbers}
 use Rattle.feeds.proofs.FeedLaws.{few-columns}
@@ -15,6 +14,7 @@ use Rattle.holds.proofs.bad_numbers.Tie as tie
 use Rattle.holds.proofs.bad_numbers.Reads as reads
 use Rattle.holds.proofs.bad_numbers.Lts as lts
 use Rattle.options.proofs.bad_options.Reads as bad-options-reads
+use Rattle.options.proofs.right_columns.Reads as right-columns-reads
 use Rattle.answers.proofs.above.Reads as above-reads
 
 bad-options-requires : tie.Need-bad-options-requires
@@ -28,18 +28,18 @@ returns c = simp (← c .before .bad-options .ensures, c .if1 .taken)
 fine : (c : tie.Else1) → badOptions (c .before .before .args .o) ≡ false
 fine c = sym (c .before .bad-options .ensures) ∙ c .if1 .left
 
-few : (c : tie.After-struct-known) → c .before .before .before .args .o .by ≤ 4
-few c = few-columns _ (fine (c .before))
+few : (c : tie.Else1) → c .before .before .args .o .by ≤ 4
+few c = few-columns _ (fine c)
 
 -- The first sum that is tested is that of the held rows.
-rows : (c : tie.After-above) → let a = c .before .before .before .before .args in c .above .result ≡ ltb (capacity (columns (a .o)) (now (a .right))) (a .base + a .held)
-rows c = rw add-one at (c .above .ensures)
+rows : (c : tie.After-above) → let a = c .before .before .before .before .args in c .above .result ≡ ltb (capacity (rightColumns (a .o)) (now (a .right))) (a .base + a .held)
+rows c = rw (c .before .right-columns .ensures) at (c .above .ensures)
 
-add-c : tie.Need-add-c
-add-c c = omega (arith, few c)
+right-columns-requires : tie.Need-right-columns-requires
+right-columns-requires c κs = few c
 
 mul-above : tie.Need-mul-above
-mul-above c = omega (arith, few c)
+mul-above c = omega (arith, c .right-columns .ensures, few (c .before))
 
 div-above : tie.Need-div-above
 div-above c = search needs
@@ -84,7 +84,7 @@ bad-numbers-spec =
     (tie.spec
     bad-options-requires
     returns
-    add-c
+    right-columns-requires
     mul-above
     div-above
     above-requires

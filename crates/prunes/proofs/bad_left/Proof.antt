@@ -21,14 +21,14 @@ out-of-order-requires c κs = search needs
 
 returns-2 : tie.Need-returns-2
 unfolding badLeft
-returns-2 c = let e = c .before .before in let p = e .before .before .pre .1 in simp (← e .before .checks .ensures, not-false (e .before .checks .result) (e .if1 .left), ← p, ← c .before .out-of-order .ensures, c .if2 .taken)
+returns-2 c = let e = c .before .before in simp (← e .before .checks .ensures, not-false (e .before .checks .result) (e .if1 .left), ← c .before .out-of-order .ensures, c .if2 .taken)
 
 is-sorted-requires : tie.Need-is-sorted-requires
 is-sorted-requires c κs = search needs
 
 returns-3 : tie.Need-returns-3
 unfolding badLeft
-returns-3 c = let d = c .before in let e = d .before .before in let p = e .before .before .pre .1 in simp (← e .before .checks .ensures, not-false (e .before .checks .result) (e .if1 .left), ← p, ← d .before .out-of-order .ensures, d .if2 .left, ← c .is-sorted .ensures)
+returns-3 c = let d = c .before in let e = d .before .before in simp (← e .before .checks .ensures, not-false (e .before .checks .result) (e .if1 .left), ← d .before .out-of-order .ensures, d .if2 .left, ← c .is-sorted .ensures)
 
 pub bad-left-spec : {M : Type 1} → statement M
 bad-left-spec =

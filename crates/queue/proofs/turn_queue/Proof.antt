@@ -1,6 +1,5 @@
 use mathlib.Core.Path.{_≡_, sym, _∙_}
 use Prim.Native.Nat.{_+_, _-_, _≤_}
-use native.Mathlib.Numerals.{add-one}
 use native.Mathlib.Omega.{arith}
 use borrow.Author.Tests.{not-true, not-false}
 use denote.Ref.{now}
@@ -16,6 +15,7 @@ use Rattle.queue.proofs.turn_queue.Tie as tie
 use Rattle.queue.proofs.turn_queue.Reads as reads
 use Rattle.queue.proofs.turn_queue.Lts as lts
 use Rattle.answers.proofs.goes_on.Reads as goes-on-reads
+use Rattle.options.proofs.left_columns.Reads as left-columns-reads
 use Rattle.framerule.proofs.front_words.Reads as front-words-reads
 use Rattle.judges.proofs.judge_ready.Reads as judge-ready-reads
 use Rattle.queue.proofs.unturned.Reads as unturned-reads
@@ -40,8 +40,8 @@ went c = let a = c .before .before .before .args in goes (a .bad) (a .state) (a 
 sound : (c : tie.Else1) → let a = c .before .before .before .args in QueueIn (a .j) (now (a .left)) (now (a .right))
 sound c = let a = c .before .before .before .args in c .before .before .before .pre (unbroken (a .bad) (a .state) (a .j) (now (a .left)) (now (a .right)) (now (a .out)) (went c))
 
-add-c : tie.Need-add-c
-add-c c = omega (arith, sound (c .before) .few)
+left-columns-requires : tie.Need-left-columns-requires
+left-columns-requires c κs = sound c .few
 
 add-end : tie.Need-add-end
 add-end c = let i = c .before .before in let x = i .before .before .before in omega (arith, sound i .left-room, x .good .1 .1 .1 .0 .0)
@@ -75,7 +75,7 @@ told : (c : tie.After-front-words) → let a = c .before .before .before .before
 told c =
     let a = c .before .before .before .before .before .before .before .args in
     let z : a .j .«queue_start» + a .j .«queue_words» - a .j .«queue_start» ≡ a .j .«queue_words» = omega arith in
-    rw (add-one, z) at (c .front-words .ensures)
+    rw (c .before .before .before .left-columns .ensures, z) at (c .front-words .ensures)
 
 returns-2 : tie.Need-returns-2
 returns-2 c =
@@ -111,7 +111,7 @@ turn-frame-requires c κs =
     let i = q .before .before .before .before in
     let x = i .before .before .before in
     let z : x .args .j .«queue_start» + t .before .front .given .0 .0 - x .args .j .«queue_start» ≡ t .before .front .given .0 .0 = omega arith in
-    let s = q .before .before .struct-known2 .given .1 .1 .1 .1 .1 .1 .1 .1 .0 in
+    let s = q .before .before .struct-known .given .1 .1 .1 .1 .1 .1 .1 .1 .0 in
     let a = x .args in
     rw z (frame-in (a .j) (now (a .left)) (now (a .right)) _ (sym (told q) ∙ t .before .front .given .1) (sound i) (omega (arith, s)) (x .good .1 .1 .1 .0 .0) (x .good .1 .1 .1 .1 .0 .0))
 
@@ -136,7 +136,7 @@ turn-queue-spec =
     goes-on-requires
     unturned-requires
     returns
-    add-c
+    left-columns-requires
     add-end
     mul-front-words
     sub-front-words

@@ -37,7 +37,7 @@ last-prune-requires c κs = let f = c .before .before .before in let p = f .befo
 
 -- The split is that of the prune by the last row, and is among the held rows.
 split : (c : tie.After-last-prune) → let a = c .before .before .before .before .before .before .args in
-    c .last-prune .result ≡ lastPrune (a .j .options) (rowsOf (a .c) (a .n) (now (a .lv)) (now (a .lm))) (rowsOf (a .c) (a .j .held) (now (a .rv)) (now (a .rm)))
+    c .last-prune .result ≡ lastPrune (a .j .options) (rowsOf (a .c) (a .n) (now (a .lv)) (now (a .lm))) (rowsOf (a .w) (a .j .held) (now (a .rv)) (now (a .rm)))
 split c =
     let f = c .before .before .before .before in
     last-is (f .before .before .pre .0) _ (f .first-prune .ensures) _ _ (c .before .before .before .from-row .ensures) (c .before .before .from-row2 .ensures) _ (c .last-prune .ensures)

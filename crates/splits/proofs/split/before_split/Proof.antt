@@ -15,7 +15,7 @@ enum-told : tie.Need-enum-told
 enum-told c = search needs
 
 slice-aggregate-result : tie.Need-slice-aggregate-result
-slice-aggregate-result c = let s = c .before .before .before in sym (length-take-le (s .args .w) (now (s .args .remembered)) (s .pre .other))
+slice-aggregate-result c = let s = c .before .before .before in sym (length-take-le (s .args .c) (now (s .args .remembered)) (s .pre .other))
 
 returns : tie.Need-returns
 returns c = rw (c .before .enum-told .given .1)

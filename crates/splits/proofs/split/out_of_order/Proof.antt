@@ -2,13 +2,14 @@ use mathlib.Core.Path.{_≡_}
 use native.Mathlib.Omega.{arith}
 use borrow.Author.Tests.{not-true, not-false}
 use lib.ListN.{length}
+use Rattle.frames.specs.Options.{columns}
 use Rattle.splits.proofs.BeforeLaws.{recall-none, recall-some}
 use borrow.Author.Needs.{needs}
 use Rattle.splits.proofs.split.out_of_order.Statement.{statement}
 use Rattle.splits.proofs.split.out_of_order.Tie as tie
 
 returns : tie.Need-returns
-returns c = let a = c .before .before .args in rw (recall-none (a .w) (a .m) (not-true _ (c .if1 .taken)))
+returns c = let a = c .before .before .args in rw (recall-none (columns (a .o)) (a .m) (not-true _ (c .if1 .taken)))
 
 slice-aggregate-above-first : tie.Need-slice-aggregate-above-first
 slice-aggregate-above-first c = search needs
@@ -30,7 +31,7 @@ returns-2 : tie.Need-returns-2
 returns-2 c =
     let s = c .before .before .before .before .before .before .before in
     let a = s .args in
-    rw (recall-some (a .w) (a .m) (not-false _ (c .before .before .before .before .before .if1 .left))) (c .above-first .ensures (a .w) (s .pre .wide))
+    rw (recall-some (columns (a .o)) (a .m) (not-false _ (c .before .before .before .before .before .if1 .left))) (c .above-first .ensures (columns (a .o)) (omega arith))
 
 pub out-of-order-spec : {M : Type 1} → statement M
 out-of-order-spec =
