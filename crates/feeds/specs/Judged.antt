@@ -1,6 +1,7 @@
 -- What opening, a left or right frame, the end of right and the start of a turn are answered, by the numbers of a join; and what a frame that is taken leaves. Assumes nothing.
 use mathlib.Core.Path.{_≡_}
-use mathlib.Core.Bool.{Bool, true, cond, not, _||_}
+use mathlib.Core.Bool.{Bool, true, not, _||_}
+use mathlib.Core.List.{List, [], _∷_, _++_}
 use Prim.Native.Nat.{ℕ, _+_, _%_, _≤_}
 use lib.Dec.{ltb, eqb}
 use lib.ListN.{length}
@@ -11,6 +12,7 @@ use Rattle.frames.specs.declared.Options.{Options}
 use Rattle.area.specs.Area.{capacity, newBase, pushed, moved, written}
 use Rattle.answers.specs.Answers.{isRunning, isDone, mostRows}
 use Rattle.answers.specs.declared.NodeState.{NodeState}
+use Rattle.refusals.specs.Tests.{Test, test, firstOf}
 use Rattle.refusals.specs.declared.Refusal.the-variants.{BadOptions, BadJoin, Failed, Closed, BadFrame, NoRoom, UsedUp}
 use Rattle.answers.specs.declared.Took.{Took}
 use Rattle.answers.specs.declared.Took.the-variants.{Accepted, Refused}
@@ -27,45 +29,49 @@ badNumbers o base held pruned start words sequence left right =
 
 -- Opening: refusal 1, or a fresh join.
 unfoldable pub openAnswer : Options → Took
-openAnswer o = cond (badOptions o) (Refused BadOptions) Accepted
+openAnswer o = firstOf (test (badOptions o) (Refused BadOptions) ∷ []) Accepted
 
 -- SCOPE 16.3: the answer to a left frame, by the numbers of a join.
 unfoldable pub leftJudged : Bool → Bool → NodeState → ℕ → ℕ → Words → Words → Took
 leftJudged bad failed state c words left f =
-    cond bad (Refused BadJoin)
-    (cond failed (Refused Failed)
-    (cond (not (isRunning state)) (Refused Closed)
-    (cond (not (isFrame c f)) (Refused BadFrame)
-    (cond (ltb (length left) (words + length f)) (Refused NoRoom)
-    Accepted))))
+    firstOf (
+    test bad (Refused BadJoin)
+    ∷ test failed (Refused Failed)
+    ∷ test (not (isRunning state)) (Refused Closed)
+    ∷ test (not (isFrame c f)) (Refused BadFrame)
+    ∷ test (ltb (length left) (words + length f)) (Refused NoRoom)
+    ∷ []
+    )
+    Accepted
 
--- SCOPE 16.3: the answer to an end of right.
+-- SCOPE 16.3: the tests of an end of right, which a right frame has to pass too.
+abbrev pub endTests : Bool → Bool → Bool → NodeState → List (Test Took)
+endTests bad failed ended state = test bad (Refused BadJoin) ∷ test failed (Refused Failed) ∷ test (ended || isDone state) (Refused Closed) ∷ []
+
+-- The answer to an end of right.
 unfoldable pub endJudged : Bool → Bool → Bool → NodeState → Took
-endJudged bad failed ended state =
-    cond bad (Refused BadJoin)
-    (cond failed (Refused Failed)
-    (cond (ended || isDone state) (Refused Closed)
-    Accepted))
+endJudged bad failed ended state = firstOf (endTests bad failed ended state) Accepted
 
 -- SCOPE 16.3: the answer to a right frame.
 unfoldable pub rightJudged : Bool → Bool → Bool → NodeState → ℕ → ℕ → ℕ → Words → Words → Took
 rightJudged bad failed ended state c held pruned right f =
-    cond bad (Refused BadJoin)
-    (cond failed (Refused Failed)
-    (cond (ended || isDone state) (Refused Closed)
-    (cond (not (isFrame c f)) (Refused BadFrame)
-    (cond (ltb (capacity c right) (held + rowCount f)) (Refused NoRoom)
-    (cond (ltb mostRows (pruned + held + rowCount f)) (Refused UsedUp)
-    Accepted)))))
+    firstOf (
+    endTests bad failed ended state
+    ++ test (not (isFrame c f)) (Refused BadFrame)
+    ∷ test (ltb (capacity c right) (held + rowCount f)) (Refused NoRoom)
+    ∷ test (ltb mostRows (pruned + held + rowCount f)) (Refused UsedUp)
+    ∷ []
+    )
+    Accepted
 
--- A turn before it looks at the queue: 2, 3, in Done 4; no waiting frame: Idle. Wrote is that of a turn that goes on.
+-- A turn before it looks at the queue: 2, 3, in Done 4; no waiting frame: Idle.
+abbrev pub readyTests : Bool → Bool → NodeState → ℕ → List (Test Answer)
+readyTests bad failed state words =
+    test bad (TurnRefused BadJoin) ∷ test failed (TurnRefused Failed) ∷ test (isDone state) (TurnRefused Closed) ∷ test (eqb words 0) Idle ∷ []
+
+-- The answer of these; Wrote is that of a turn that goes on.
 unfoldable pub readyJudged : Bool → Bool → NodeState → ℕ → ℕ → Answer
-readyJudged bad failed state words sequence =
-    cond bad (TurnRefused BadJoin)
-    (cond failed (TurnRefused Failed)
-    (cond (isDone state) (TurnRefused Closed)
-    (cond (eqb words 0) Idle
-    (Wrote sequence))))
+readyJudged bad failed state words sequence = firstOf (readyTests bad failed state words) (Wrote sequence)
 
 -- What is there once a frame was accepted, or else as it was.
 abbrev pub taken : {A : Type 0} → Took → A → A → A

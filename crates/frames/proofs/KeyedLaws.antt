@@ -10,13 +10,13 @@ use lib.Seq.{getD-take, length-take-le}
 use Rattle.frames.specs.Cells.{Cell, null, Rows}
 use Rattle.frames.specs.Options.{columns}
 use Rattle.frames.specs.Order.{cmpFirst, cmpRow, nullKey}
-use Rattle.frames.specs.Keyed.{firstFrom, firstKeyed, lastBelow, lastKeyed, rowAt, recall, remember, rememberAt, compared, outOfOrder}
+use Rattle.frames.specs.Keyed.{firstFrom, firstKeyed, lastBelow, lastKeyed, rowAt, recall, remember, rememberLast, rememberAt, compared, outOfOrder}
 use Rattle.frames.specs.declared.Options.{Options}
 use Rattle.frames.specs.declared.Row.{Row}
 use Rattle.frames.specs.declared.Keyed.{Keyed}
 use Rattle.frames.specs.declared.Keyed.the-variants.{At, Nothing}
 use Rattle.frames.proofs.OrderLaws.{AtMost}
-use Rattle.frames.proofs.SortedLaws.{All, all-at, greater-not}
+use Rattle.frames.proofs.SortedLaws.{All, all-at, all-map, greater-not}
 use Rattle.frames.proofs.WordLaws.{recall-remember}
 
 -- A place that was found is from a place on, and below another.
@@ -86,3 +86,13 @@ module _ (o : Options) where
       rw (recall-remember (compared o (getD rs i [])) (columns o) (length-take-le (columns o) (getD rs i []) w), compared-alike (getD rs i []) x)
       (all-at (λ r. AtMost (cmpRow o) r x) rs h i (omega arith))
   remember-below m rs wide x h Nothing f b = b
+
+  -- So the last row with a key, if there is one.
+  pub remember-last-below : (m : Row) (rs : Rows) → All (λ r. columns o ≤ length r) rs → (x : List Cell) → All (λ r. AtMost (cmpRow o) r x) rs
+      → Below (recall (columns o) m) x → Below (recall (columns o) (rememberLast o m rs)) x
+  unfolding rememberLast
+  remember-last-below m rs wide x h b = remember-below m rs wide x h (lastKeyed o rs) (last-found rs (length rs)) b
+
+  -- Rows of a width have what is compared of them.
+  pub wide-enough : (w : ℕ) → columns o ≤ w → (rs : Rows) → All (λ r. length r ≡ w) rs → All (λ r. columns o ≤ length r) rs
+  wide-enough w l rs h = all-map (λ r. length r ≡ w) (λ r. columns o ≤ length r) (λ r e. omega arith) rs h

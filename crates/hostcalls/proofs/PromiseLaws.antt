@@ -7,13 +7,14 @@ use Prim.Native.Nat.{ℕ, zero, suc, _<_}
 use native.Mathlib.Omega.{arith}
 use borrow.Author.Tests.{not-true}
 use lib.ListN.{take, drop}
+use Rattle.ports.specs.Ports.{portsJudged}
 use Rattle.frames.specs.Cells.{Words}
 use Rattle.frames.specs.Options.{badOptions}
 use Rattle.frames.specs.declared.Options.{Options}
 use Rattle.node.specs.State.{fresh, badJoin, stateAt, endedRight}
 use Rattle.answers.specs.Answers.{portCode, wrote}
 use Rattle.node.specs.Calls.{After, after, leftAnswer, leftCall, queued, rightAnswer, rightCall, pushedRight, endAnswer, endCall, portsAnswer, portsState, portsCall, turnAnswer, turnCall, turned, dequeued, dropped, spoiled}
-use Rattle.feeds.specs.Judged.{openAnswer}
+use Rattle.feeds.specs.Judged.{openAnswer, leftJudged, endJudged, rightJudged}
 use Rattle.node.specs.declared.Join.{Join}
 use Rattle.answers.specs.declared.PortState.{PortState}
 use Rattle.refusals.specs.Refusals.{marksFailed}
@@ -179,19 +180,19 @@ module _ (h : HostJoin) (left right : Words) where
 -- The node's calls of a bad join.
 module _ (j : Join) (left right : Words) (e : badJoin j left right ≡ true) where
   left-bad : (f : Words) → leftCall j left right f .answer ≡ Refused BadJoin
-  unfolding leftCall leftAnswer
+  unfolding leftCall leftJudged
   left-bad f = rw (e, leftCall)
 
   right-bad : (f : Words) → rightCall j left right f .answer ≡ Refused BadJoin
-  unfolding rightCall rightAnswer
+  unfolding rightCall rightJudged
   right-bad f = rw (e, rightCall)
 
   end-bad : endCall j left right .answer ≡ Refused BadJoin
-  unfolding endCall endAnswer
+  unfolding endCall endJudged
   end-bad = rw (e, endCall)
 
   ports-bad : (l r s : PortState) → portsCall j left right l r s .answer ≡ PortsRefused BadJoin
-  unfolding portsCall portsAnswer
+  unfolding portsCall portsJudged
   ports-bad l r s = rw (e, portsCall)
 
   turn-bad : (out : Words) → turnCall j left right out .answer ≡ TurnRefused BadJoin

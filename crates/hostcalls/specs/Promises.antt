@@ -13,6 +13,7 @@ use Rattle.node.specs.declared.Join.{Join}
 use Rattle.answers.specs.declared.PortState.{PortState}
 use Rattle.refusals.specs.Refusals.{marksFailed}
 use Rattle.refusals.specs.declared.Refusal.{Refusal}
+use Rattle.refusals.specs.declared.Refusal.the-variants.{BadJoin}
 use Rattle.answers.specs.declared.Took.the-variants.{Refused}
 use Rattle.answers.specs.declared.Ported.the-variants.{Refused as PortsRefused}
 use Rattle.answers.specs.declared.Answer.{Answer}

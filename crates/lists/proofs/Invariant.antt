@@ -9,6 +9,7 @@ use borrow.Author.Tests.{ltb-true, ltb-false, eqb-true, eqb-false, le-ltb, ne-eq
 use lib.Dec.{ltb, eqb}
 use lib.IntN.{ℤ}
 use lib.ListN.{length, take, drop, length-append, length-drop}
+use Rattle.feeds.specs.Judged.{leftJudged, endJudged, rightJudged}
 use Rattle.frames.proofs.SortedLaws.{and-true-right}
 use Rattle.frames.specs.Cells.{Rows, Words}
 use Rattle.frames.specs.Frame.{rowCount, isFrame, frameRows, front}
@@ -34,7 +35,7 @@ use Rattle.node.specs.State.{fresh, endedRight, stateAt, leftWidth, rightWidth,
 use Rattle.answers.specs.Answers.{isRunning, isDone, mostRows}
 use Rattle.refusals.specs.Refusals.{number}
 use Rattle.node.specs.Calls.{After, leftAnswer, leftCall, queued, rightAnswer, rightCall, pushedRight, endAnswer, endCall, portsAnswer, portsCall, portsState}
-use Rattle.ports.specs.Ports.{portsIn, toFlush, toDone, portDone}
+use Rattle.ports.specs.Ports.{portsIn, toFlush, toDone, portDone, portsJudged}
 use Rattle.lists.specs.Lists.{Call, left, right, end, ports, turn, Event, onLeft, onRight, onEnd, onPorts, onTurn, World, start, step, leftIn, rightIn, leftFrames, rightFrames, rowsIn, outputIn, outputs, endsRight, rightEnded, leftDone, leftEnded, framesWaiting, backToBack, doneBy, nodeDone, refusalIn, tookRefusal, portsRefusal, refusedWith, turnIn, turnsIn}
 use Rattle.lists.proofs.ListLaws.{left-append, right-append, outputs-append, turns-append, ended-append, left-ended-append, refused-append, done-snoc}
 use Rattle.lists.proofs.Stock.{Frames, frames-drop, Stock, stock-same, stock-left, stock-right, waiting-length}
@@ -235,7 +236,7 @@ module _ (o : Options) (l r : Words) (allowed : badOptions o ≡ false) (es : Li
 
   -- ---- a left frame
   left-plain : (f : Words) → Plain (tookRefusal (leftAnswer j (w .left) (w .right) f))
-  unfolding leftAnswer
+  unfolding leftJudged
   left-plain f =
       rw good
       (plain-took (j .failed) (Refused Failed) _ plain3
@@ -272,7 +273,7 @@ module _ (o : Options) (l r : Words) (allowed : badOptions o ≡ false) (es : Li
 
   -- ---- a right frame
   right-plain : (f : Words) → Plain (tookRefusal (rightAnswer j (w .left) (w .right) f))
-  unfolding rightAnswer
+  unfolding rightJudged
   right-plain f =
       rw good
       (plain-took (j .failed) (Refused Failed) _ plain3
@@ -314,7 +315,7 @@ module _ (o : Options) (l r : Words) (allowed : badOptions o ≡ false) (es : Li
 
   -- ---- the end of right
   end-plain : Plain (tookRefusal (endAnswer j (w .left) (w .right)))
-  unfolding endAnswer
+  unfolding endJudged
   end-plain =
       rw good
       (plain-took (j .failed) (Refused Failed) _ plain3
@@ -382,7 +383,7 @@ module _ (o : Options) (l r : Words) (allowed : badOptions o ≡ false) (es : Li
       }
 
   ports-plain : (l′ r′ s′ : PortState) → Plain (portsRefusal (portsAnswer j (w .left) (w .right) l′ r′ s′))
-  unfolding portsAnswer
+  unfolding portsJudged
   ports-plain l′ r′ s′ = rw good (go (j .failed) (portsState j l′ s′))
     where
       go : (b : Bool) (t : NodeState) → Plain (portsRefusal (cond b (PortsRefused Failed) (portsIn t l′ r′ s′)))

@@ -5,6 +5,7 @@ use mathlib.Core.Option.{Option, none, some}
 use Prim.Native.Nat.{ℕ, zero, suc, _+_, _*_, _%_}
 use lib.IntN.{negsuc, subℕ}
 use lib.ListN.{take, replicate}
+use Rattle.ports.specs.Ports.{portsJudged}
 use Rattle.frames.specs.Cells.{Cell, cellsOf, rowsOf, Words}
 use Rattle.frames.specs.Frame.{rowCount, pairsFine, isFrame, frameRows, front, isTable}
 use Rattle.frames.specs.Options.{badOptions}
@@ -21,7 +22,7 @@ use Rattle.node.specs.State.{badJoin, heldOf, waiting, leftWidth}
 use Rattle.answers.specs.Answers.{stateCode, portCode}
 use Rattle.refusals.specs.Refusals.{number}
 use Rattle.node.specs.Calls.{leftAnswer, queued, leftCall, rightAnswer, pushedRight, rightCall, endAnswer, endCall, portsAnswer, portsCall, turnAnswer, dropped, dequeued, turned, turnCall}
-use Rattle.feeds.specs.Judged.{openAnswer}
+use Rattle.feeds.specs.Judged.{openAnswer, leftJudged, endJudged, rightJudged}
 use Rattle.prunes.specs.Prunes.{badLeft, badRight, firstPrune, remembered}
 use Rattle.lists.specs.Lists.{Call, Event, onLeft, onRight, onEnd, onPorts, onTurn, World, start, step}
 use Rattle.node.specs.declared.Join.{Join}
@@ -114,7 +115,7 @@ speak none dump = record { said = noJoin; next = none }
 speak (some w) dump = record { said = areas (w .left) (w .right); next = some w }
 
 unfoldable pub speakAll : Option World → List Line → List Said
-unfolding speak look openAnswer step leftCall leftAnswer queued rightCall rightAnswer pushedRight endCall endAnswer portsCall portsAnswer turnCall turnAnswer turned badLeft badRight firstPrune remembered dropped dequeued badJoin heldOf waiting front answered answerWords matchFrame byRuns used pass passes runs joinRun matchIn tolerate choose takesOver fits needMore rowNeedsMore keyNeedsMore narrow narrowBy splitAt pruneBy rowBefore badSplit find search searchFor heldRows movedRows pushed rememberLast remember recall lastBelow firstFrom sorted cmpRow cmpFirst nullIn badOptions isFrame isTable pairsFine frameRows rowsOf cellsOf
+unfolding speak look openAnswer step leftCall leftJudged queued rightCall rightJudged pushedRight endCall endJudged portsCall portsJudged turnCall turnAnswer turned badLeft badRight firstPrune remembered dropped dequeued badJoin heldOf waiting front answered answerWords matchFrame byRuns used pass passes runs joinRun matchIn tolerate choose takesOver fits needMore rowNeedsMore keyNeedsMore narrow narrowBy splitAt pruneBy rowBefore badSplit find search searchFor heldRows movedRows pushed rememberLast remember recall lastBelow firstFrom sorted cmpRow cmpFirst nullIn badOptions isFrame isTable pairsFine frameRows rowsOf cellsOf
 speakAll w [] = []
 speakAll w (l ∷ ls) = let s = speak w l in s .said ∷ speakAll (s .next) ls
 

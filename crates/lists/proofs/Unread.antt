@@ -5,6 +5,8 @@ use Prim.Native.Nat.{ℕ, _+_, _-_, _*_, _/_, _≤_}
 use native.Mathlib.Omega.{arith}
 use lib.ListN.{length, take, drop}
 use lib.Seq.{drop-drop}
+use Rattle.ports.specs.Ports.{portsJudged}
+use Rattle.feeds.specs.Judged.{leftJudged, endJudged, rightJudged}
 use Rattle.frames.specs.Cells.{Rows, Words, rowsOf}
 use Rattle.frames.specs.declared.Row.{Row}
 use Rattle.frames.specs.Frame.{rowCount, valuesIn, marksIn, frameRows, front}
@@ -121,7 +123,7 @@ module _ (j : Join) (l r l′ r′ : Words) (a : Alike j l r l′ r′) where
 
   -- ---- a left frame
   left-answer : (f : Words) → leftAnswer j l′ r′ f ≡ leftAnswer j l r f
-  unfolding leftAnswer badJoin
+  unfolding leftJudged badJoin
   left-answer f = rw (a .left-length, a .right-length)
 
   queued-alike : (f : Words) → LeftTaken j l r f → Same (queued j l′ r′ f) (queued j l r f)
@@ -157,7 +159,7 @@ module _ (j : Join) (l r l′ r′ : Words) (a : Alike j l r l′ r′) where
 
   -- ---- a right frame
   right-answer : (f : Words) → rightAnswer j l′ r′ f ≡ rightAnswer j l r f
-  unfolding rightAnswer badJoin
+  unfolding rightJudged badJoin
   right-answer f = rw (a .left-length, a .right-length)
 
   pushed-alike : (f : Words) → RightTaken j l r f → Same (pushedRight j l′ r′ f) (pushedRight j l r f)
@@ -198,7 +200,7 @@ module _ (j : Join) (l r l′ r′ : Words) (a : Alike j l r l′ r′) where
 
   -- ---- the end of right, and ports
   end-answer : endAnswer j l′ r′ ≡ endAnswer j l r
-  unfolding endAnswer badJoin
+  unfolding endJudged badJoin
   end-answer = rw (a .left-length, a .right-length)
 
   ended-alike : Alike (endedRight j) l r l′ r′
@@ -214,7 +216,7 @@ module _ (j : Join) (l r l′ r′ : Words) (a : Alike j l r l′ r′) where
       go (Refused n) e = rw (end-answer ∙ e, e, endCall) (record { answer = refl; join = refl; out = refl; alike = a })
 
   ports-answer : (x y z : PortState) → portsAnswer j l′ r′ x y z ≡ portsAnswer j l r x y z
-  unfolding portsAnswer badJoin
+  unfolding portsJudged badJoin
   ports-answer x y z = rw (a .left-length, a .right-length)
 
   state-alike : (s : NodeState) → Alike (stateAt j s) l r l′ r′

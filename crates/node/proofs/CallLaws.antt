@@ -34,7 +34,7 @@ module _ (j : Join) (left right : Words) where
     end-known = rw is at fed
 
     end-same : endJudged (badJoin j left right) (j .failed) (j .«right_ended») (j .state) ≡ endAnswer j left right
-    unfolding endJudged endAnswer
+    unfolding endJudged
     end-same = refl
 
     pub end-leaves : EndLeaves j left right (record { answer = r .answer; join = endedAt j (r .ended) })
@@ -52,7 +52,7 @@ module _ (j : Join) (left right : Words) where
     left-known = rw is at fed
 
     left-same : leftJudged (badJoin j left right) (j .failed) (j .state) (leftWidth j) (j .«queue_words») left f ≡ leftAnswer j left right f
-    unfolding leftJudged leftAnswer
+    unfolding leftJudged
     left-same = refl
 
     pub left-leaves : LeftLeaves j left right f (record { answer = r .answer; join = queueAt j (r .start) (r .words) }) left′
@@ -74,7 +74,7 @@ module _ (j : Join) (left right : Words) where
     right-known = rw is at fed
 
     right-same : rightJudged (badJoin j left right) (j .failed) (j .«right_ended») (j .state) (rightWidth j) (j .held) (j .pruned) right f ≡ rightAnswer j left right f
-    unfolding rightJudged rightAnswer
+    unfolding rightJudged
     right-same = refl
 
     pub right-leaves : RightLeaves j left right f (record { answer = r .answer; join = heldAt j (r .base) (r .held) (j .pruned) }) right′
@@ -108,7 +108,7 @@ module _ (j : Join) (left right : Words) where
       known = rw is at h
 
       pub ports-leaves : PortsLeaves j left right l r s (record { answer = x .answer; join = stateAt j (x .state) })
-      unfolding portsAnswer portsJudged movedState
+      unfolding portsJudged movedState
       ports-leaves = go (badJoin j left right) (j .failed) refl refl
         where
           go : (p q : Bool) → badJoin j left right ≡ p → j .failed ≡ q → PortsLeaves j left right l r s (record { answer = x .answer; join = stateAt j (x .state) })

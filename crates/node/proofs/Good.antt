@@ -7,6 +7,7 @@ use borrow.Author.Tests.{ltb-false, eqb-false, not-false}
 use lib.Dec.{ltb}
 use lib.Signed.{ltZ}
 use lib.ListN.{length}
+use Rattle.feeds.specs.Judged.{leftJudged, endJudged, rightJudged}
 use Rattle.frames.specs.Cells.{Words}
 use Rattle.frames.specs.Frame.{rowCount, isFrame}
 use Rattle.frames.specs.Options.{badOptions}
@@ -76,7 +77,7 @@ module _ (j : Join) (left right : Words) where
     pub unended : (j .«right_ended» || isDone (j .state)) ≡ false
 
   pub end-taken : endAnswer j left right ≡ Accepted → EndTaken
-  unfolding endAnswer
+  unfolding endJudged
   end-taken e =
       let p2 = passed (badJoin j left right) BadJoin _ e in
       let p3 = passed (j .failed) Failed _ (p2 .1) in
@@ -91,7 +92,7 @@ module _ (j : Join) (left right : Words) where
     pub room : j .«queue_words» + length f ≤ length left
 
   pub left-taken : (f : Words) → leftAnswer j left right f ≡ Accepted → LeftTaken f
-  unfolding leftAnswer
+  unfolding leftJudged
   left-taken f e =
       let p2 = passed (badJoin j left right) BadJoin _ e in
       let p3 = passed (j .failed) Failed _ (p2 .1) in
@@ -115,7 +116,7 @@ module _ (j : Join) (left right : Words) where
     pub rows : j .pruned + j .held + rowCount f ≤ mostRows
 
   pub right-taken : (f : Words) → rightAnswer j left right f ≡ Accepted → RightTaken f
-  unfolding rightAnswer
+  unfolding rightJudged
   right-taken f e =
       let p2 = passed (badJoin j left right) BadJoin _ e in
       let p3 = passed (j .failed) Failed _ (p2 .1) in

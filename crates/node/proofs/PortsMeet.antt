@@ -2,6 +2,7 @@
 use mathlib.Core.Path.{_≡_, refl, sym, ap, _∙_}
 use Prim.Native.Nat.{ℕ}
 use native.Mathlib.Omega.{arith}
+use Rattle.ports.specs.Ports.{portsJudged}
 use Rattle.frames.specs.Cells.{Words}
 use Rattle.node.specs.State.{badJoin}
 use Rattle.node.specs.Calls.{portsState, portsAnswer, portsCall}
@@ -24,7 +25,7 @@ pub record PortsMeet (j : Join) (l r s : PortState) (u : NodeState) (a b d : Por
 -- Every port call that is not refused meets the rule.
 pub ports-meet : (j : Join) (areaL areaR : Words) (l r s : PortState) (x : PortedJoin) → PortsLeaves j areaL areaR l r s x
     → (a b d : PortState) → x .answer ≡ Ports a b d → PortsMeet j l r s (x .join .state) a b d
-unfolding portsCall portsAnswer
+unfolding portsCall portsJudged
 ports-meet j areaL areaR l r s x h a b d is = go (portsAnswer j areaL areaR l r s) refl
   where
     apart : (n : Refusal) (a b d : PortState) → Refused n ≡ Ports a b d → ⊥

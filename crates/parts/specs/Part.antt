@@ -1,6 +1,7 @@
 -- What a turn works on, the join without its state: what the turn has and needs, what it writes and leaves. Assumes nothing.
 use mathlib.Core.Path.{_≡_}
-use mathlib.Core.Bool.{cond, not, _&&_, true}
+use mathlib.Core.Bool.{Bool, not, _&&_, true}
+use mathlib.Core.List.{List, [], _∷_}
 use Prim.Native.Nat.{ℕ, _+_, _-_, _*_, _%_, _^_, _≤_, _<_}
 use lib.Dec.{ltb, eqb}
 use lib.ListN.{length, take}
@@ -8,11 +9,13 @@ use Rattle.frames.specs.Cells.{Rows, Words}
 use Rattle.frames.specs.Frame.{frameWords}
 use Rattle.frames.specs.Options.{columns, rightColumns}
 use Rattle.frames.specs.Room.{RowsIn}
+use Rattle.frames.specs.declared.Options.{Options}
 use Rattle.frames.specs.declared.Row.{Row}
 use Rattle.buffer.specs.Reach.{needMore}
 use Rattle.matching.specs.Groups.{matchFrame}
 use Rattle.matching.specs.Answer.{answered}
 use Rattle.answers.specs.Answers.{mostRows, lastSequence}
+use Rattle.refusals.specs.Tests.{Test, test, firstOf}
 use Rattle.refusals.specs.declared.Refusal.the-variants.{NoRoom, UsedUp, LeftOrder, RightOrder}
 use Rattle.answers.specs.declared.Answer.{Answer}
 use Rattle.answers.specs.declared.Answer.the-variants.{Wrote, WantsRight, Refused}
@@ -20,20 +23,24 @@ use Rattle.prunes.specs.Prunes.{badLeft, badRightAt, remembered}
 use Rattle.parts.specs.declared.Part.{Part}
 
 -- ---- answers; Wrote is that of a turn that goes on
--- SCOPE 16.3, a turn from Wants right on: 6 and 7.
-unfoldable pub roomAnswer : Part → Rows → Rows → ℕ → Answer
-roomAnswer j rows held room =
-    cond (not (j .«right_ended») && needMore (j .options) rows held) WantsRight
-    (cond (ltb room (2 + 2 * length rows)) (Refused NoRoom)
-    (cond (eqb (j .sequence) lastSequence) (Refused UsedUp)
-    (Wrote (j .sequence))))
+-- SCOPE 16.3, a turn from Wants right on: right rows, 6 and 7.
+abbrev pub roomTests : Options → Bool → ℕ → Rows → Rows → ℕ → List (Test Answer)
+roomTests o ended sequence rows held room =
+    test (not ended && needMore o rows held) WantsRight
+    ∷ test (ltb room (2 + 2 * length rows)) (Refused NoRoom)
+    ∷ test (eqb sequence lastSequence) (Refused UsedUp)
+    ∷ []
 
 -- Left out of order 8, right out of order 9.
+abbrev pub orderTests : Bool → Bool → List (Test Answer)
+orderTests left right = test left (Refused LeftOrder) ∷ test right (Refused RightOrder) ∷ []
+
+unfoldable pub roomAnswer : Part → Rows → Rows → ℕ → Answer
+roomAnswer j rows held room = firstOf (roomTests (j .options) (j .«right_ended») (j .sequence) rows held room) (Wrote (j .sequence))
+
 unfoldable pub orderAnswer : Part → Rows → Rows → ℕ → Answer
 orderAnswer j rows held s =
-    cond (badLeft (j .options) (j .«last_left») rows) (Refused LeftOrder)
-    (cond (badRightAt (j .options) (j .«last_right») (length rows) s held) (Refused RightOrder)
-    (Wrote (j .sequence)))
+    firstOf (orderTests (badLeft (j .options) (j .«last_left») rows) (badRightAt (j .options) (j .«last_right») (length rows) s held)) (Wrote (j .sequence))
 
 -- ---- what a turn leaves
 -- The join without d held rows and without a waiting frame of k words, at the next sequence, with the rows that are remembered now.

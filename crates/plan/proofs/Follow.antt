@@ -8,6 +8,7 @@ use borrow.Author.Tests.{le-ltb, ne-eqb}
 use lib.Dec.{ltb, eqb}
 use lib.ListN.{length, drop, length-append, length-drop}
 use lib.Seq.{drop-drop}
+use Rattle.feeds.specs.Judged.{endJudged, rightJudged}
 use Rattle.frames.specs.Cells.{Rows, Words}
 use Rattle.frames.specs.Frame.{rowCount, frameRows}
 use Rattle.frames.specs.Options.{columns, badOptions}
@@ -204,7 +205,7 @@ module _ (o : Options) (l r : Words) (allowed : badOptions o ≡ false) where
 
     -- It is judged by its room alone.
     pub right-answers : rightAnswer (w .join) (w .left) (w .right) f ≡ cond (ltb (capacity (columns o) r) (w .join .held + rowCount f)) (Refused NoRoom) Accepted
-    unfolding rightAnswer
+    unfolding rightJudged
     right-answers =
         let i = a .inv in
         let en : w .join .«right_ended» ≡ false = i .flags .ended ∙ a .ended in
@@ -250,7 +251,7 @@ module _ (o : Options) (l r : Words) (allowed : badOptions o ≡ false) where
   -- ---- the end of right
   module _ (es : List Event) (w : World) (ls outs : List Words) (a : At es w false [] ls outs) where
     end-answers : endAnswer (w .join) (w .left) (w .right) ≡ Accepted
-    unfolding endAnswer
+    unfolding endJudged
     end-answers =
         let i = a .inv in
         let en : w .join .«right_ended» ≡ false = i .flags .ended ∙ a .ended in

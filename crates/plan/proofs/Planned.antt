@@ -6,6 +6,7 @@ use Prim.Native.Nat.{ℕ, zero, suc, _+_, _≤_}
 use native.Mathlib.Omega.{arith}
 use borrow.Author.Tests.{le-ltb}
 use lib.ListN.{length, drop, length-append, length-map}
+use Rattle.feeds.specs.Judged.{leftJudged}
 use Rattle.frames.specs.Cells.{Rows, Words}
 use Rattle.frames.specs.Frame.{isFrame, frameRows}
 use Rattle.frames.specs.Options.{columns, badOptions}
@@ -76,7 +77,7 @@ module _ (o : Options) (l r : Words) (allowed : badOptions o ≡ false) where
           ∙ rw (a .outs, a .lefts) refl
 
       left-answers : leftAnswer (w .join) (w .left) (w .right) f ≡ Accepted
-      unfolding leftAnswer
+      unfolding leftJudged
       left-answers =
           rw (good o l r allowed es w (a .inv), unfailed, running, a .inv .stock .options, frame, le-ltb (length (w .left)) (w .join .«queue_words» + length f) (omega (arith, a .inv .stock .left-length, waiting-words))) refl
 

@@ -9,7 +9,7 @@ use lib.Dec.{leb, eqb}
 use lib.ListN.{length, take, drop, length-append, length-drop, take-append-drop, replicate}
 use lib.Seq.{length-take-le, take-at, drop-at}
 use Rattle.frames.specs.Cells.{Words, rowsOf}
-use Rattle.frames.specs.Frame.{frameWords, pairFine, pairsFine, valuesIn, marksIn, isFrame, frameRows}
+use Rattle.frames.specs.Frame.{frameWords, pairFine, pairsFine, valuesIn, marksIn, isFrame, frameRows, isTable}
 use Rattle.frames.proofs.SortedLaws.{and-true}
 use Rattle.frames.proofs.WordLaws.{rows-append}
 use Rattle.lists.specs.Lists.{rowsIn}
@@ -52,7 +52,7 @@ module _ (c n : ℕ) (vs ms : Words) (lv : length vs ≡ n * c) (lm : length ms 
       let e₃ : leb n 4096 ≡ true = le-leb n 4096 h in
       let e₄ : eqb c c ≡ true = eq-eqb c c refl in
       let e₅ : eqb (suc (suc (length (vs ++ ms)))) (frameWords n c) ≡ true = eq-eqb (suc (suc (length (vs ++ ms)))) (frameWords n c) (omega (arith, k, lv, lm)) in
-      rw (values-from, marks-from, e₁, e₂, e₃, e₄, e₅) p
+      rw (values-from, marks-from, e₁, e₂, e₃, e₄, e₅) (rw p refl)
 
 -- Each height is at most 4,096.
 abbrev pub AllFew : List ℕ → Type 0

@@ -3,7 +3,7 @@ use Rattle.told.proofs.turned_host.Statement.{statement}
 use Rattle.told.proofs.turned_host.Tie as tie
 use Rattle.told.proofs.turned_host.Reads as reads
 use Rattle.told.proofs.turned_host.Lts as lts
-use Rattle.codes.proofs.number_of.Reads as number-of-reads
+use Rattle.refusals.proofs.number_of.Reads as number-of-reads
 use Rattle.convert.proofs.encode_join.Reads as encode-join-reads
 
 encode-join-requires : tie.Need-encode-join-requires
