@@ -32,6 +32,7 @@ use Rattle.told.specs.declared.HostTook.{HostTook}
 use Rattle.hostcalls.specs.Calls.{openHost}
 use Rattle.hostcalls.proofs.CallLaws.{open-bad, open-through}
 use Rattle.hostcalls.proofs.PromiseLaws.{promises}
+use Rattle.refusals.specs.declared.Refusal.the-variants.{BadOptions}
 use Rattle.refusals.proofs.RefusalLaws.{number-above}
 use Rattle.lists.specs.Lists.{Call, left as nodeLeft, right as nodeRight, end as nodeEnd, ports as nodePorts, turn as nodeTurn, Event, onLeft as nodeOnLeft, onRight as nodeOnRight, onEnd as nodeOnEnd, onPorts as nodeOnPorts, onTurn as nodeOnTurn, World, start, step, events, final, when, leftFrames, rightFrames, whenWrote, outputIn, outputs, pairUp, writtenIn, matchesIn, rightEnded, nodeDone, backToBack}
 use Rattle.lists.specs.Runs.{turnsOf, answersOf, wordsOf, lentBy, writtenWords}
