@@ -87,7 +87,7 @@ fn plain(points: &[i64], bounds: &[i64], out: &mut [i64]) -> usize {
 
 /// The call, both bounds inclusive, which must be accepted. The words that it wrote.
 fn port(points: &[i64], intervals: &[i64], out: &mut [i64]) -> usize {
-    let said = raw::safe::spans(points, intervals, [1, 1], out);
+    let said = raw::safe::spans(points, intervals, 1, 1, out);
     if said.refusal != 0 {
         die(1, &format!("the call is refused by {}", said.refusal));
     }

@@ -2,7 +2,7 @@
 import argparse
 
 from .cells import MOST, number
-from .library import MOST_BY, STRATEGIES
+from .interface import MOST_BY, STRATEGIES, VERSION
 from .page import PAGE, SHORT
 from .problem import BAD_USAGE, Problem
 
@@ -37,6 +37,7 @@ def distance(text):
 def parser():
     """The options of `rowkeeper join`, as the page tells them."""
     top = Parser(prog='rowkeeper', allow_abbrev=False)
+    top.add_argument('--version', action='version', version=f'rowkeeper {VERSION}')
     commands = top.add_subparsers(dest='command', metavar='join', parser_class=Parser)
     join = commands.add_parser('join', allow_abbrev=False)
     join.add_argument('sales', metavar='SALES.csv')

@@ -1,5 +1,5 @@
 """What a run did, in a few lines for --explain."""
-from .library import IDLE, WANTS_RIGHT, WROTE
+from .interface import IDLE, WANTS_RIGHT, WROTE
 
 
 def count(number, what):

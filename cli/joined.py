@@ -1,7 +1,8 @@
 """A join with the areas that it is lent."""
 from array import array
 
-from .library import IDLE, MOST_ROWS, NO_ROOM, REFUSALS, REFUSED, WANTS_RIGHT, WROTE, lent
+from .interface import IDLE, MOST_ROWS, NO_ROOM, REFUSALS, REFUSED, WANTS_RIGHT, WROTE
+from .library import lent
 from .problem import Problem
 
 # The right rows that the area has room for at first.
@@ -16,7 +17,7 @@ def zeros(words):
 def expect(refusal, call):
     """Stops where the library refused a call that this program should not have made."""
     if refusal:
-        raise Problem(f'the library refused {call} by {refusal}: {REFUSALS.get(refusal, "a number that there is not")}')
+        raise Problem(f'the library refused {call} by {refusal}: {REFUSALS.get(refusal, "no refusal of this version")}')
 
 
 class Join:

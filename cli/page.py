@@ -1,18 +1,21 @@
-"""The help pages."""
+"""The help pages: what `--help` prints, and the same text as a man page.
+
+python3 -m cli.page   prints the man page"""
+from .interface import VERSION
 
 SHORT = '''usage: rowkeeper join SALES.csv NOTICES.csv --on KEY [--by COLUMN] [options]
-       rowkeeper --help
+       rowkeeper --help | --version
 '''
 
 PAGE = '''rowkeeper: gives every sale of a season the price notice that was in force
 
-  ./rowkeeper join SALES.csv NOTICES.csv --on minute --by performance
+  rowkeeper join SALES.csv NOTICES.csv --on minute --by performance
 
   Both files are CSV with a header line that names the columns. Each sale takes,
   among the notices of its performance, the last one that is not later than the
   sale. The sales come out in their order, each with its notice, as CSV.
 
-  Try it:
+  Try it, in the repository:
 
     ./rowkeeper join examples/season/sales.csv examples/season/notices.csv \\
         --on minute --by performance
@@ -65,6 +68,36 @@ WHEN SOMETHING IS WRONG
   editor counts them: the header is line 1. What was printed on the screen
   before that line is not to be used; a file of --output is not written at all.
 
-  The first run makes the library that does the join, from its proved source. It
-  needs the Rattle kit and a C compiler, and takes some minutes, once.
+THE LIBRARY
+  The library that does the join is compiled from proved source, for 64-bit x86
+  Linux. An installed command has it beside it. In the repository the first run
+  makes it from dist/ with the C compiler (cc, or what CC names), which takes
+  about a second.
+  --version            print the version, and nothing else
+  ROWKEEPER_ARCHIVE    in the environment: the path of another archive of the
+                       library, to be used in the repository in its place
 '''
+
+
+def roff(line):
+    """A line of text as a man page has it: no character of it is taken for a command."""
+    text = line.replace('\\', '\\e').replace('-', '\\-').replace("'", '\\(aq')
+    return '\\&' + text if text.startswith('.') else text
+
+
+def man():
+    """The page as a man page: its headings are sections, its lines stay as they are."""
+    title, _, rest = PAGE.partition('\n')
+    name, _, what = title.partition(': ')
+    lines = [f'.TH ROWKEEPER 1 "" "rowkeeper {VERSION}"', '.SH NAME', f'{name} \\- {roff(what)}', '.SH SYNOPSIS', '.nf']
+    lines += [roff(line.replace('usage: ', '').strip()) for line in SHORT.splitlines()] + ['.fi', '.SH DESCRIPTION', '.nf']
+    for line in rest.strip('\n').split('\n'):
+        if line and line == line.upper() and not line.startswith(' '):
+            lines += ['.fi', f'.SH {line}', '.nf']
+        else:
+            lines.append(roff(line[2:]))
+    return '\n'.join(lines + ['.fi']) + '\n'
+
+
+if __name__ == '__main__':
+    print(man(), end='')

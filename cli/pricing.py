@@ -1,6 +1,6 @@
 """The main job: sales and notices go through the join in frames, and each sale is written with its notice."""
 from .cells import frame_words
-from .library import IDLE, MOST_ROWS, WANTS_RIGHT
+from .interface import IDLE, MOST_ROWS, WANTS_RIGHT
 
 
 # The rows of a frame: as many as the library takes. A turn costs the frame's sales and the notices held, so a full frame

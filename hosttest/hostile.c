@@ -18,16 +18,25 @@
 #include "lend.h"
 
 static const char *const CALL_NAMES[CALLS] = {"open", "left", "right", "end_right", "ports", "turn", "run"};
-static const char *const ANSWER_NAMES[ANSWERS] = {"done", "1", "2", "3", "4", "5", "6", "7", "8", "9", "wants", "idle"};
 
-/* Which answers each call can give. The run fails where one was never met. */
-static const char *const POSSIBLE[CALLS] = {"110000000000", "101111100000", "101111110000",
-                                            "101110000000", "101100000000", "101111111111",
-                                            "101111111111"};
+/* The answers that each call can give, and at the end no answer. The run fails if one was never met. */
+enum { MOST_ANSWERS = 12, NO_ANSWER = -1 };
+static const int POSSIBLE[CALLS][MOST_ANSWERS] = {
+    {0, 1, NO_ANSWER},
+    {0, 2, 3, 4, 5, 6, NO_ANSWER},
+    {0, 2, 3, 4, 5, 6, 7, NO_ANSWER},
+    {0, 2, 3, 4, NO_ANSWER},
+    {0, 2, 3, NO_ANSWER},
+    {0, 2, 3, 4, 5, 6, 7, 8, 9, ANSWER_WANTS, ANSWER_IDLE, NO_ANSWER},
+    {0, 2, 3, 4, 5, 6, 7, 8, 9, ANSWER_WANTS, ANSWER_IDLE, NO_ANSWER},
+};
 
-/* Which answers must have stopped a run after a turn that wrote: those that a turn can change. 9 can too, where the host
+/* The answers that must have stopped a run after a turn that wrote: those that a turn can change. 9 can too, if the host
    itself has altered the remembered row and the frame before had no row; it is not waited for. */
-static const char POSSIBLE_AFTER[] = "100001111011";
+static const int POSSIBLE_AFTER[MOST_ANSWERS] = {0, 5, 6, 7, 8, ANSWER_WANTS, ANSWER_IDLE, NO_ANSWER};
+
+/* The counts of a call: one for each answer, known or not. */
+enum { ANSWERS = ANSWER_UNKNOWN + 1 };
 
 /* How many words a join is. */
 enum { JOIN_WORDS = sizeof(rowkeeper_join) / sizeof(int64_t) };
@@ -245,35 +254,43 @@ static int64_t *lent(lend *a, const int64_t *words, size_t len) {
     return lend_words(a, words, len, (int)below(LEND_PLACES), percent(30));
 }
 
+/* A refusal's answer: its number, if it is one. */
+static int refusal_answer(uint64_t refusal) {
+    return refusal > ROWKEEPER_LAST_REFUSAL ? ANSWER_UNKNOWN : (int)refusal;
+}
+
 /* Reads the answer of opening, left, right and the end of right. */
 static void took(outcome *o, rowkeeper_took t) {
-    o->answer = t.refusal > 9 ? ANSWERS : (int)t.refusal;
+    o->answer = refusal_answer(t.refusal);
     o->join = t.join;
 }
 
 /* Reads the answer of a port call. */
 static void ported(outcome *o, rowkeeper_ported p) {
-    o->answer = p.refusal > 9 ? ANSWERS : (int)p.refusal;
+    o->answer = refusal_answer(p.refusal);
     o->told[0] = p.left;
     o->told[1] = p.right;
     o->told[2] = p.send;
     o->join = p.join;
 }
 
-/* Reads the answer of a turn; one that there is not becomes none of those known. */
-static void turned(outcome *o, rowkeeper_turned t) {
+/* The answer of a turn or of a run's last turn; one that does not exist becomes none of those known. */
+static int turn_answer(uint64_t answer, uint64_t refusal) {
     static const int PLAIN[3] = {0, ANSWER_WANTS, ANSWER_IDLE};
-    int strange = t.answer > 3 || t.refusal > 9 || (t.answer == ROWKEEPER_REFUSED) != (t.refusal != 0);
-    o->answer = strange ? ANSWERS : t.answer == ROWKEEPER_REFUSED ? (int)t.refusal : PLAIN[t.answer];
+    if (answer > ROWKEEPER_REFUSED || (answer == ROWKEEPER_REFUSED) != (refusal != 0)) return ANSWER_UNKNOWN;
+    return answer == ROWKEEPER_REFUSED ? refusal_answer(refusal) : PLAIN[answer];
+}
+
+/* Reads the answer of a turn. */
+static void turned(outcome *o, rowkeeper_turned t) {
+    o->answer = turn_answer(t.answer, t.refusal);
     o->sequence = t.sequence;
     o->join = t.join;
 }
 
 /* Reads the answer of a run. */
 static void ran(outcome *o, rowkeeper_ran r) {
-    static const int PLAIN[3] = {0, ANSWER_WANTS, ANSWER_IDLE};
-    int strange = r.stop > 3 || r.refusal > 9 || (r.stop == ROWKEEPER_REFUSED) != (r.refusal != 0);
-    o->answer = strange ? ANSWERS : r.stop == ROWKEEPER_REFUSED ? (int)r.refusal : PLAIN[r.stop];
+    o->answer = turn_answer(r.stop, r.refusal);
     o->turns = r.turns;
     o->words = r.words;
     o->join = r.join;
@@ -349,7 +366,7 @@ static int try_call(attempt *a) {
     made++;
     make(a, &o);
     why = untouched(a);
-    if (why == NULL) why = o.answer >= ANSWERS ? "an answer that there is not" : judge(a, &o);
+    if (why == NULL) why = o.answer == ANSWER_UNKNOWN ? "an answer that does not exist" : judge(a, &o);
     if (why == NULL && a->call == CALL_RUN) why = same_by_turns(a, &o);
     if (why != NULL) fault(a, why);
     count(a, &o);
@@ -456,24 +473,38 @@ static int open_host(void) {
     return try_call(&a) == 0;
 }
 
-/* Prints one line of counts; whether none is missing that can be there. */
-static int report_line(const char *name, const uint64_t *counts, const char *possible) {
+/* Whether an answer is among those of a list. */
+static int is_among(const int *answers, int answer) {
+    while (*answers != NO_ANSWER && *answers != answer) answers++;
+    return *answers == answer;
+}
+
+/* Prints one line of counts, a column for each answer that a turn or an opening can give; whether none is missing that can be
+   there. */
+static int report_line(const char *name, const uint64_t *counts, const int *possible) {
     int answer, all = 1;
     printf("%-10s", name);
     for (answer = 0; answer < ANSWERS; answer++) {
-        printf(" %9" PRIu64, counts[answer]);
-        all &= possible[answer] == '0' || counts[answer] > 0;
+        if (is_among(POSSIBLE[CALL_OPEN], answer) || is_among(POSSIBLE[CALL_TURN], answer)) printf(" %9" PRIu64, counts[answer]);
+        all &= !is_among(possible, answer) || counts[answer] > 0;
     }
     printf("\n");
     return all;
 }
 
+/* Prints the names of the columns. */
+static void report_head(void) {
+    int answer;
+    printf("%-10s %9s", "call", "done");
+    for (answer = 1; answer <= ROWKEEPER_LAST_REFUSAL; answer++)
+        if (is_among(POSSIBLE[CALL_OPEN], answer) || is_among(POSSIBLE[CALL_TURN], answer)) printf(" %9d", answer);
+    printf(" %9s %9s\n", "wants", "idle");
+}
+
 /* Prints the counts; whether every answer that a call can give was met. */
 static int report(void) {
-    int call, answer, all = 1;
-    printf("%-10s", "call");
-    for (answer = 0; answer < ANSWERS; answer++) printf(" %9s", ANSWER_NAMES[answer]);
-    printf("\n");
+    int call, all = 1;
+    report_head();
     for (call = 0; call < CALLS; call++) all &= report_line(CALL_NAMES[call], met[call], POSSIBLE[call]);
     all &= report_line("run, later", met_after, POSSIBLE_AFTER);
     printf("runs made %" PRIu64 " turns, %" PRIu64 " runs more than one; 'later' are runs in which a turn wrote\n", run_turns,

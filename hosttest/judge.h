@@ -7,8 +7,10 @@
 /* The calls. */
 enum { CALL_OPEN, CALL_LEFT, CALL_RIGHT, CALL_END, CALL_PORTS, CALL_TURN, CALL_RUN, CALLS };
 
-/* Answers: 0 accepted, written or all turns of a run used, 1 to 9 refused, and two more. */
-enum { ANSWER_WANTS = 10, ANSWER_IDLE = 11, ANSWERS = 12 };
+/* Answers: 0 accepted, written or all turns of a run used; a refusal is its number; other answers are from 100 on, beyond all
+   refusals. */
+enum { ANSWER_WANTS = 100, ANSWER_IDLE = 101, ANSWER_UNKNOWN = 102 };
+typedef char judge_answers_are_apart[(int)ROWKEEPER_LAST_REFUSAL < (int)ANSWER_WANTS ? 1 : -1];
 
 /* A call with all that is lent to it. */
 typedef struct attempt {

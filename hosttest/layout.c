@@ -12,56 +12,89 @@
 /* A member's place in words. */
 #define AT(type, member) (offsetof(type, member) / 8)
 
+/* ---- tools/interface writes: layout */
 HOLDS(options_size, sizeof(rowkeeper_options) == 104);
+HOLDS(options_by_at, AT(rowkeeper_options, by) == 0);
+HOLDS(options_strategy_at, AT(rowkeeper_options, strategy) == 1);
+HOLDS(options_allow_eq_at, AT(rowkeeper_options, allow_eq) == 2);
+HOLDS(options_tolerance_at, AT(rowkeeper_options, tolerance) == 3);
+HOLDS(options_check_at, AT(rowkeeper_options, check) == 4);
+HOLDS(options_descending_at, AT(rowkeeper_options, descending) == 5);
+HOLDS(options_nulls_last_at, AT(rowkeeper_options, nulls_last) == 9);
 HOLDS(row_size, sizeof(rowkeeper_row) == 88);
+HOLDS(row_some_at, AT(rowkeeper_row, some) == 0);
+HOLDS(row_values_at, AT(rowkeeper_row, values) == 1);
+HOLDS(row_marks_at, AT(rowkeeper_row, marks) == 6);
 HOLDS(join_size, sizeof(rowkeeper_join) == 352);
+HOLDS(join_options_at, AT(rowkeeper_join, options) == 0);
+HOLDS(join_base_at, AT(rowkeeper_join, base) == 13);
+HOLDS(join_held_at, AT(rowkeeper_join, held) == 14);
+HOLDS(join_pruned_at, AT(rowkeeper_join, pruned) == 15);
+HOLDS(join_queue_start_at, AT(rowkeeper_join, queue_start) == 16);
+HOLDS(join_queue_words_at, AT(rowkeeper_join, queue_words) == 17);
+HOLDS(join_state_at, AT(rowkeeper_join, state) == 18);
+HOLDS(join_right_ended_at, AT(rowkeeper_join, right_ended) == 19);
+HOLDS(join_failed_at, AT(rowkeeper_join, failed) == 20);
+HOLDS(join_sequence_at, AT(rowkeeper_join, sequence) == 21);
+HOLDS(join_last_left_at, AT(rowkeeper_join, last_left) == 22);
+HOLDS(join_last_right_at, AT(rowkeeper_join, last_right) == 33);
 HOLDS(took_size, sizeof(rowkeeper_took) == 360);
+HOLDS(took_refusal_at, AT(rowkeeper_took, refusal) == 0);
+HOLDS(took_join_at, AT(rowkeeper_took, join) == 1);
 HOLDS(ported_size, sizeof(rowkeeper_ported) == 384);
+HOLDS(ported_refusal_at, AT(rowkeeper_ported, refusal) == 0);
+HOLDS(ported_left_at, AT(rowkeeper_ported, left) == 1);
+HOLDS(ported_right_at, AT(rowkeeper_ported, right) == 2);
+HOLDS(ported_send_at, AT(rowkeeper_ported, send) == 3);
+HOLDS(ported_join_at, AT(rowkeeper_ported, join) == 4);
 HOLDS(turned_size, sizeof(rowkeeper_turned) == 376);
+HOLDS(turned_answer_at, AT(rowkeeper_turned, answer) == 0);
+HOLDS(turned_refusal_at, AT(rowkeeper_turned, refusal) == 1);
+HOLDS(turned_sequence_at, AT(rowkeeper_turned, sequence) == 2);
+HOLDS(turned_join_at, AT(rowkeeper_turned, join) == 3);
 HOLDS(ran_size, sizeof(rowkeeper_ran) == 384);
+HOLDS(ran_turns_at, AT(rowkeeper_ran, turns) == 0);
+HOLDS(ran_words_at, AT(rowkeeper_ran, words) == 1);
+HOLDS(ran_stop_at, AT(rowkeeper_ran, stop) == 2);
+HOLDS(ran_refusal_at, AT(rowkeeper_ran, refusal) == 3);
+HOLDS(ran_join_at, AT(rowkeeper_ran, join) == 4);
 HOLDS(written_size, sizeof(rowkeeper_written) == 16);
-HOLDS(options_at, AT(rowkeeper_options, by) == 0 && AT(rowkeeper_options, strategy) == 1 &&
-                      AT(rowkeeper_options, allow_eq) == 2 && AT(rowkeeper_options, tolerance) == 3 &&
-                      AT(rowkeeper_options, check) == 4 && AT(rowkeeper_options, descending) == 5 &&
-                      AT(rowkeeper_options, nulls_last) == 9);
-HOLDS(row_at, AT(rowkeeper_row, some) == 0 && AT(rowkeeper_row, values) == 1 && AT(rowkeeper_row, marks) == 6);
-HOLDS(counters_at, AT(rowkeeper_join, options) == 0 && AT(rowkeeper_join, base) == 13 && AT(rowkeeper_join, held) == 14 &&
-                       AT(rowkeeper_join, pruned) == 15 && AT(rowkeeper_join, queue_start) == 16 &&
-                       AT(rowkeeper_join, queue_words) == 17);
-HOLDS(flags_at, AT(rowkeeper_join, state) == 18 && AT(rowkeeper_join, right_ended) == 19 &&
-                    AT(rowkeeper_join, failed) == 20 && AT(rowkeeper_join, sequence) == 21 &&
-                    AT(rowkeeper_join, last_left) == 22 && AT(rowkeeper_join, last_right) == 33);
-HOLDS(answers_at, AT(rowkeeper_took, refusal) == 0 && AT(rowkeeper_took, join) == 1 && AT(rowkeeper_ported, refusal) == 0 &&
-                      AT(rowkeeper_ported, left) == 1 && AT(rowkeeper_ported, right) == 2 &&
-                      AT(rowkeeper_ported, send) == 3 && AT(rowkeeper_ported, join) == 4 &&
-                      AT(rowkeeper_turned, answer) == 0 && AT(rowkeeper_turned, refusal) == 1 &&
-                      AT(rowkeeper_turned, sequence) == 2 && AT(rowkeeper_turned, join) == 3);
-HOLDS(ran_at, AT(rowkeeper_ran, turns) == 0 && AT(rowkeeper_ran, words) == 1 && AT(rowkeeper_ran, stop) == 2 &&
-                  AT(rowkeeper_ran, refusal) == 3 && AT(rowkeeper_ran, join) == 4);
-HOLDS(written_at, AT(rowkeeper_written, refusal) == 0 && AT(rowkeeper_written, rows) == 1);
+HOLDS(written_refusal_at, AT(rowkeeper_written, refusal) == 0);
+HOLDS(written_rows_at, AT(rowkeeper_written, rows) == 1);
+/* ---- tools/interface: end of layout */
 
-enum { WORDS = sizeof(rowkeeper_join) / 8, LEFT = 20, RIGHT = 24, NO_WORD = -1 };
+enum { WORDS = ROWKEEPER_JOIN_WORDS, LEFT = 20, RIGHT = 24, NO_WORD = WORDS };
 static int64_t left[LEFT], right[RIGHT];
 static int failed;
 
-/* For each word of a join a value that is refused by 2, or 0 for words that may say anything. */
-static const uint64_t BAD[WORDS] = {
-    5, 3, 2, (uint64_t)-2, 2, 2, 2, 2, 2, 2, 2, 2, 2,                    /* options */
-    7, 7, (uint64_t)1 << 63, LEFT + 1, LEFT + 1, 3, 2, 2, 1,             /* counters, state, flags, sequence */
-    2, 0, 0, 0, 0, 0, 0, 0, 0, 0, 0, 2, 0, 0, 0, 0, 0, 0, 0, 0, 0, 0     /* remembered rows */
+/* A field of a join: its first word, how many words it has, a value of each that is refused by 2 (0: they may be anything). */
+typedef struct field {
+    size_t first, words;
+    uint64_t bad;
+} field;
+#define FIELD(member, bad) {AT(rowkeeper_join, member), sizeof(((rowkeeper_join *)0)->member) / 8, bad}
+
+/* All fields. A word that no line is about fails the test. */
+static const field FIELDS[] = {
+    FIELD(options.by, 5), FIELD(options.strategy, 3), FIELD(options.allow_eq, 2), FIELD(options.tolerance, (uint64_t)-2),
+    FIELD(options.check, 2), FIELD(options.descending, 2), FIELD(options.nulls_last, 2),
+    FIELD(base, 7), FIELD(held, 7), FIELD(pruned, (uint64_t)1 << 63), FIELD(queue_start, LEFT + 1), FIELD(queue_words, LEFT + 1),
+    FIELD(state, 3), FIELD(right_ended, 2), FIELD(failed, 2), FIELD(sequence, 1),
+    FIELD(last_left.some, 2), FIELD(last_left.values, 0), FIELD(last_left.marks, 0),
+    FIELD(last_right.some, 2), FIELD(last_right.values, 0), FIELD(last_right.marks, 0),
 };
 
 /* Says what does not hold; word is NO_WORD where no word of a join is to blame. */
-static void want(int holds, const char *what, int word) {
+static void want(int holds, const char *what, size_t word) {
     if (holds) return;
     printf("FAIL layout: %s", what);
-    if (word != NO_WORD) printf(" (word %d of the join)", word);
+    if (word != NO_WORD) printf(" (word %lu of the join)", (unsigned long)word);
     printf("\n");
     failed = 1;
 }
 
 /* The answer to an end of right on this join with one word altered; the join must come back with that word. */
-static uint64_t end_with(rowkeeper_join join, int word, uint64_t value) {
+static uint64_t end_with(rowkeeper_join join, size_t word, uint64_t value) {
     uint64_t words[WORDS];
     rowkeeper_took took;
     memcpy(words, &join, sizeof words);
@@ -73,6 +106,20 @@ static uint64_t end_with(rowkeeper_join join, int word, uint64_t value) {
     return took.refusal;
 }
 
+/* Alters each word of a join in turn: the answer must be what its field gives. */
+static void alter_words(rowkeeper_join join) {
+    unsigned char seen[WORDS] = {0};
+    size_t i, word;
+    for (i = 0; i < sizeof FIELDS / sizeof *FIELDS; i++) {
+        uint64_t bad = FIELDS[i].bad;
+        for (word = FIELDS[i].first; word < FIELDS[i].first + FIELDS[i].words; word++) {
+            want(end_with(join, word, bad != 0 ? bad : 77) == (bad != 0 ? 2u : 0u), "another answer than the field gives", word);
+            seen[word] = 1;
+        }
+    }
+    for (word = 0; word < WORDS; word++) want(seen[word], "no field has this word", word);
+}
+
 /* What each answer brings at its place, from one small join: a right row 4, a left row 5, a match, ports. */
 static void answers(rowkeeper_join join) {
     static const int64_t FOUR[] = {1, 2, 9, 4, 1, 1}, FIVE[] = {1, 2, 9, 5, 1, 1};
@@ -80,21 +127,21 @@ static void answers(rowkeeper_join join) {
     rowkeeper_took took = rowkeeper_right(join, left, LEFT, right, RIGHT, FOUR, 6);
     rowkeeper_turned turned;
     rowkeeper_ported ported;
-    want(took.refusal == 0 && took.join.held == 1, "right", 14);
+    want(took.refusal == 0 && took.join.held == 1, "right", AT(rowkeeper_join, held));
     took = rowkeeper_left(took.join, left, LEFT, right, RIGHT, FIVE, 6);
-    want(took.refusal == 0 && took.join.queue_words == 6, "left", 17);
+    want(took.refusal == 0 && took.join.queue_words == 6, "left", AT(rowkeeper_join, queue_words));
     turned = rowkeeper_turn(took.join, left, LEFT, right, RIGHT, out, 4);
-    want(turned.answer == ROWKEEPER_WANTS_RIGHT && turned.refusal == 0, "wants right", 19);
+    want(turned.answer == ROWKEEPER_WANTS_RIGHT && turned.refusal == 0, "wants right", AT(rowkeeper_join, right_ended));
     took = rowkeeper_end_right(took.join, left, LEFT, right, RIGHT);
     turned = rowkeeper_turn(took.join, left, LEFT, right, RIGHT, out, 4);
-    want(turned.answer == ROWKEEPER_WROTE && turned.sequence == 0 && turned.join.sequence == 2, "wrote", 21);
-    want(out[0] == 1 && out[1] == 1 && out[2] == 0 && out[3] == 1, "the output", 0);
+    want(turned.answer == ROWKEEPER_WROTE && turned.sequence == 0 && turned.join.sequence == 2, "wrote", AT(rowkeeper_join, sequence));
+    want(out[0] == 1 && out[1] == 1 && out[2] == 0 && out[3] == 1, "the output", NO_WORD);
     ported = rowkeeper_ports(turned.join, left, LEFT, right, RIGHT, ROWKEEPER_PORT_READY, ROWKEEPER_PORT_BLOCKED,
                              ROWKEEPER_PORT_READY);
     want(ported.refusal == 0 && ported.left == ROWKEEPER_PORT_BLOCKED && ported.right == ROWKEEPER_PORT_READY &&
-             ported.send == ROWKEEPER_PORT_BLOCKED && ported.join.state == ROWKEEPER_RUNNING, "ports", 18);
+             ported.send == ROWKEEPER_PORT_BLOCKED && ported.join.state == ROWKEEPER_RUNNING, "ports", AT(rowkeeper_join, state));
     turned = rowkeeper_turn(turned.join, left, LEFT, right, RIGHT, out, 4);
-    want(turned.answer == ROWKEEPER_IDLE && turned.sequence == 0, "idle", 17);
+    want(turned.answer == ROWKEEPER_IDLE && turned.sequence == 0, "idle", AT(rowkeeper_join, queue_words));
 }
 
 /* Whether a run says this, and leaves so many words waiting. */
@@ -113,17 +160,17 @@ static void runs(rowkeeper_join join) {
     join = rowkeeper_left(join, left, LEFT, right, RIGHT, FIVE, 6).join;
     join = rowkeeper_left(join, left, LEFT, right, RIGHT, SIX, 6).join;
     ran = rowkeeper_run(join, 9, left, LEFT, right, RIGHT, out, 9);
-    want(says(ran, 0, 0, ROWKEEPER_WANTS_RIGHT, 0, 12), "a run that wants right", 19);
+    want(says(ran, 0, 0, ROWKEEPER_WANTS_RIGHT, 0, 12), "a run that wants right", AT(rowkeeper_join, right_ended));
     join = rowkeeper_end_right(join, left, LEFT, right, RIGHT).join;
     ran = rowkeeper_run(join, 0, left, LEFT, right, RIGHT, out, 9);
-    want(says(ran, 0, 0, ROWKEEPER_TURNS_USED, 0, 12), "a run of no turns", 17);
+    want(says(ran, 0, 0, ROWKEEPER_TURNS_USED, 0, 12), "a run of no turns", AT(rowkeeper_join, queue_words));
     ran = rowkeeper_run(join, 1, left, LEFT, right, RIGHT, out, ROWKEEPER_RUN_WORDS(1, 1));
-    want(says(ran, 1, 4, ROWKEEPER_TURNS_USED, 0, 6), "a run of one turn", 17);
+    want(says(ran, 1, 4, ROWKEEPER_TURNS_USED, 0, 6), "a run of one turn", AT(rowkeeper_join, queue_words));
     ran = rowkeeper_run(join, 9, left, LEFT, right, RIGHT, out, ROWKEEPER_RUN_WORDS(2, 1) - 1);
-    want(says(ran, 1, 4, ROWKEEPER_REFUSED, ROWKEEPER_NO_ROOM, 6) && out[4] == -1, "a run without room", 17);
+    want(says(ran, 1, 4, ROWKEEPER_REFUSED, ROWKEEPER_NO_ROOM, 6) && out[4] == -1, "a run without room", AT(rowkeeper_join, queue_words));
     ran = rowkeeper_run(join, 9, left, LEFT, right, RIGHT, out, 9);
-    want(says(ran, 2, 8, ROWKEEPER_IDLE, 0, 0), "a run that is idle at last", 17);
-    want(memcmp(out, BOTH, sizeof out) == 0, "a run's output", 0);
+    want(says(ran, 2, 8, ROWKEEPER_IDLE, 0, 0), "a run that is idle at last", AT(rowkeeper_join, queue_words));
+    want(memcmp(out, BOTH, sizeof out) == 0, "a run's output", NO_WORD);
 }
 
 /* Whether spans answer so, over the points 10, 20, 30 and a pass from 10 to 30; a refused call must leave the output. */
@@ -159,21 +206,17 @@ static void spans(void) {
 int main(void) {
     rowkeeper_options options;
     rowkeeper_took took;
-    int word;
     memset(&options, 0, sizeof options);
     options.by = 1;
     options.strategy = ROWKEEPER_BACKWARD;
     options.allow_eq = 1;
     options.tolerance = ROWKEEPER_NO_TOLERANCE;
     took = rowkeeper_open(options);
-    want(took.refusal == 0, "opening", 0);
-    for (word = 0; word < WORDS; word++) {
-        uint64_t refusal = end_with(took.join, word, BAD[word] != 0 ? BAD[word] : 77);
-        want(refusal == (BAD[word] != 0 ? 2u : 0u), "another answer than the field gives", word);
-    }
-    want(end_with(took.join, 20, 1) == ROWKEEPER_FAILED, "failed", 20);
-    want(end_with(took.join, 19, 1) == ROWKEEPER_CLOSED, "right_ended", 19);
-    want(end_with(took.join, 18, ROWKEEPER_DONE) == ROWKEEPER_CLOSED, "state", 18);
+    want(took.refusal == 0, "opening", NO_WORD);
+    alter_words(took.join);
+    want(end_with(took.join, AT(rowkeeper_join, failed), 1) == ROWKEEPER_FAILED, "failed", AT(rowkeeper_join, failed));
+    want(end_with(took.join, AT(rowkeeper_join, right_ended), 1) == ROWKEEPER_CLOSED, "right_ended", AT(rowkeeper_join, right_ended));
+    want(end_with(took.join, AT(rowkeeper_join, state), ROWKEEPER_DONE) == ROWKEEPER_CLOSED, "state", AT(rowkeeper_join, state));
     answers(took.join);
     runs(took.join);
     spans();

@@ -8,7 +8,8 @@ import time
 import unittest
 
 from ..build import ROOT
-from ..page import PAGE
+from ..interface import VERSION
+from ..page import PAGE, man
 from .command import PROGRAM, SEASON, Case, apart, within
 
 ON = ('--on', 'minute', '--by', 'performance')
@@ -61,6 +62,19 @@ class Help(Case):
         for words in (['--help'], ['-h'], ['join', '--help']):
             run = apart(words)
             self.assertEqual((run.status, run.out, run.err), (0, PAGE, ''))
+
+    def test_version(self):
+        """The version of the description, and nothing else."""
+        run = apart(['--version'])
+        self.assertEqual((run.status, run.out, run.err), (0, f'rowkeeper {VERSION}\n', ''))
+
+    def test_man_page(self):
+        """The man page has every line of the page, in order; its headings are sections."""
+        plain = man().replace('\\-', '-').replace('\\(aq', "'").replace('\\e', '\\').replace('\n\\&', '\n').split('\n')
+        rest = iter(plain)
+        for line in filter(None, PAGE.splitlines()[1:]):
+            wanted = line.strip() if line.startswith(' ') else f'.SH {line}'
+            self.assertTrue(any(each.strip() == wanted for each in rest), line)
 
 
 class Usage(Case):

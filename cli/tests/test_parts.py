@@ -1,15 +1,16 @@
 """The parts that need no library."""
+import ctypes
 import io
 import os
-import threading
-import time
 import unittest
 from unittest import mock
+
+from tools.parts import library
 
 from .. import build
 from ..arguments import parse, parser
 from ..cells import column_numbers, frame_words, number
-from ..library import JoinWords
+from ..interface import VERSION, Join
 from ..order import Order
 from ..page import PAGE
 from ..pricing import Heights
@@ -174,8 +175,9 @@ class Words(unittest.TestCase):
         self.assertTrue(parse(words + ['--no-check', '--check']).check)
 
     def test_layout(self):
-        """A join is 44 words without padding."""
-        self.assertEqual(8 * 44, JoinWords.last_right.offset + JoinWords.last_right.size)
+        """A join has no padding."""
+        self.assertEqual(ctypes.sizeof(Join), Join.last_right.offset + Join.last_right.size)
+        self.assertEqual(ctypes.sizeof(Join), sum(ctypes.sizeof(kind) for _, kind in Join._fields_))
 
 
 class Shown(unittest.TestCase):
@@ -209,37 +211,40 @@ class Shown(unittest.TestCase):
 class Building(Case):
     """What is made, and when."""
 
-    def test_stale(self):
-        """What is missing or older is made again."""
-        archive = self.file('a.a', b'')
-        with mock.patch.dict(os.environ, ROWKEEPER_ARCHIVE=archive):
-            self.assertEqual(build.inputs(), [archive])
-            self.assertTrue(build.stale(os.path.join(self.folder, 'none.so')))
-            made = self.file('made.so', b'')
-            os.utime(archive, (1000, 1000))
-            self.assertFalse(build.stale(made))
-            os.utime(made, (999, 999))
-            self.assertTrue(build.stale(made))
-            self.assertNotEqual(build.goal(), os.path.join(build.ROOT, 'target', 'rowkeeper', 'librowkeeper.so'))
+    def test_made_of(self):
+        """A file is made if it is missing or was made of something else; no time of a file counts."""
+        path, made = os.path.join(self.folder, 'a', 'x.so'), []
+
+        def commands(new):
+            made.append(new)
+            return [['cp', os.devnull, new]]
+
+        for total, times in (('one', 1), ('one', 1), ('two', 2), ('two', 2), ('one', 3)):
+            self.assertEqual(library.make(path, total, commands), path)
+            self.assertEqual(len(made), times)
+            os.utime(path, (1000, 1000))
+        os.remove(path)
+        library.make(path, 'one', commands)
+        self.assertEqual((len(made), sorted(os.listdir(os.path.dirname(path)))), (4, ['x.so', 'x.so.from']))
 
     def test_says_why_not(self):
-        """No archive, a broken one, no compiler: one reason, status 3."""
+        """No archive, a broken one, no compiler, no place: one reason, status 3, and nothing half made is left."""
         for name, value, said in (('ROWKEEPER_ARCHIVE', os.path.join(self.folder, 'none.a'), 'there is no file'),
-                                  ('ROWKEEPER_ARCHIVE', self.file('bad.a', b'no archive'), 'the shared object cannot be made'),
+                                  ('ROWKEEPER_ARCHIVE', self.file('bad.a', b'no archive'), 'the library cannot be made'),
                                   ('PATH', self.folder, 'there is no C compiler')):
-            with mock.patch.dict(os.environ, {name: value}), mock.patch('sys.stderr', io.StringIO()):
+            with mock.patch.dict(os.environ, {name: value}), mock.patch('sys.stderr', io.StringIO()), \
+                    mock.patch.object(library, 'BUILD', os.path.join(self.folder, 'build')):
                 with self.assertRaises(Problem) as caught:
-                    build.make(os.path.join(self.folder, 'x.so'))
+                    build.from_dist()
             self.assertIn(said, str(caught.exception))
             self.assertEqual(caught.exception.status, 3)
+        left = [file for _, _, files in os.walk(os.path.join(self.folder, 'build')) for file in files]
+        self.assertEqual(left, [])
 
-    def test_one_at_a_time(self):
-        """A second run waits, and says so."""
-        said = io.StringIO()
-        with build.alone(self.folder), mock.patch('sys.stderr', said):
-            other = threading.Thread(target=lambda: build.alone(self.folder).__enter__())
-            other.start()
-            while 'another run' not in said.getvalue():
-                self.assertTrue(other.is_alive())
-                time.sleep(0.01)
-        other.join()
+    def test_another_archive(self):
+        """An archive that ROWKEEPER_ARCHIVE names has a shared object of its own."""
+        with mock.patch.object(library, 'BUILD', os.path.join(self.folder, 'build')):
+            archive = library.static()
+            with mock.patch.dict(os.environ, ROWKEEPER_ARCHIVE=archive):
+                self.assertNotEqual(library.shared(), os.path.join(library.BUILD, library.soname()))
+                self.assertEqual(library.static(), os.path.realpath(archive))

@@ -7,6 +7,7 @@ import unittest
 
 from .. import library
 from ..build import shared_object
+from ..interface import STRATEGIES
 from ..joined import Join
 from ..order import Order
 from ..pricing import Heights, Pricing
@@ -29,7 +30,7 @@ class Tables:
         self.by = BY[:r.choice((0, 0, 1, 1, 1, 2, 3, 4))]
         self.descending = [name for name in self.by if r.random() < 0.3]
         self.nulls_last = [name for name in self.by if r.random() < 0.3]
-        self.strategy = r.choice(library.STRATEGIES)
+        self.strategy = r.choice(STRATEGIES)
         self.exact = self.strategy == 'nearest' or r.random() < 0.6
         self.tolerance = r.choice((None, None, 0, 1, 3, 2**63 - 1))
         self.check = r.random() < 0.7

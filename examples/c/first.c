@@ -1,9 +1,9 @@
 /*
  * The sample of README.md: four notices, three sales, and the notice of each sale.
  *
- *     cc -Iinclude examples/c/first.c target/staticlib/libhost.a -o first
+ *     cc -Iinclude examples/c/first.c build/librowkeeper.a -o first
  *
- * hosttest/check compiles and runs it, and compares the lines between the two marks and what is printed with README.md.
+ * examples/c/check compiles and runs it, and compares the lines between the two marks and what is printed with README.md.
  */
 #include <inttypes.h>
 #include <stdio.h>

@@ -1,7 +1,7 @@
 /*
  * Joins a theatre's season: each sale takes the last price notice of its performance that was in force at its minute.
  *
- *     cc -Iinclude examples/c/season.c target/staticlib/libhost.a -o season
+ *     cc -Iinclude examples/c/season.c build/librowkeeper.a -o season
  *     season SEASON STATE MATCHES
  *
  * SEASON has a line for each notice and each sale, both sorted by performance, then minute ('#' starts a comment):

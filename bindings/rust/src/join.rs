@@ -190,8 +190,8 @@ impl<A: AsRef<[i64]> + AsMut<[i64]>> Join<A> {
 
     /// A port call: what the ports say comes in, what they are told comes back.
     pub fn ports(&mut self, ports: Ports) -> Result<Ports, Refusal> {
-        let said = [ports.left as u64, ports.right as u64, ports.send as u64];
-        let ported = safe::ports(self.join, self.left.as_ref(), self.right.as_ref(), said);
+        let (left, right, send) = (ports.left as u64, ports.right as u64, ports.send as u64);
+        let ported = safe::ports(self.join, self.left.as_ref(), self.right.as_ref(), left, right, send);
         self.join = ported.join;
         Refusal::of(ported.refusal)?;
         Ok(Ports { left: port(ported.left), right: port(ported.right), send: port(ported.send) })
@@ -203,8 +203,8 @@ impl<A: AsRef<[i64]> + AsMut<[i64]>> Join<A> {
         self.join = turned.join;
         Refusal::of(turned.refusal)?;
         Ok(match turned.answer {
-            0 => Turn::Wrote { sequence: turned.sequence, matches: Matches::of(output) },
-            1 => Turn::WantsRight,
+            raw::WROTE => Turn::Wrote { sequence: turned.sequence, matches: Matches::of(output) },
+            raw::WANTS_RIGHT => Turn::WantsRight,
             _ => Turn::Idle,
         })
     }
@@ -216,8 +216,8 @@ impl<A: AsRef<[i64]> + AsMut<[i64]>> Join<A> {
         self.join = ran.join;
         let stop = match (Refusal::of(ran.refusal), ran.stop) {
             (Err(refusal), _) => Stop::Refused(refusal),
-            (_, 0) => Stop::TurnsUsed,
-            (_, 1) => Stop::WantsRight,
+            (_, raw::TURNS_USED) => Stop::TurnsUsed,
+            (_, raw::WANTS_RIGHT) => Stop::WantsRight,
             _ => Stop::Idle,
         };
         Run { written: Written { first, turns: ran.turns as usize, words: &output[..ran.words as usize] }, stop }
@@ -225,12 +225,7 @@ impl<A: AsRef<[i64]> + AsMut<[i64]>> Join<A> {
 
     /// The node's state. A join that was made of any words can have another number than there is: then it is none.
     pub fn state(&self) -> Option<NodeState> {
-        match self.join.state {
-            0 => Some(NodeState::Running),
-            1 => Some(NodeState::Flush),
-            2 => Some(NodeState::Done),
-            _ => None,
-        }
+        NodeState::of(self.join.state)
     }
 
     /// How many right rows are held.
@@ -259,11 +254,7 @@ impl<A: AsRef<[i64]> + AsMut<[i64]>> Join<A> {
     }
 }
 
-/// A port of its code.
+/// A port of its code. The library gives no other codes.
 fn port(code: u64) -> Port {
-    match code {
-        0 => Port::Blocked,
-        1 => Port::Ready,
-        _ => Port::Done,
-    }
+    Port::of(code).unwrap_or(Port::Done)
 }

@@ -66,23 +66,14 @@ use std::fmt;
 
 mod frame;
 mod join;
+mod numbers;
 pub mod raw;
 mod spans;
 
 pub use frame::{Frame, FrameError};
 pub use join::{Join, Matches, Run, Stop, Turn, Written};
+pub use numbers::{NodeState, Port, Refusal, Strategy};
 pub use spans::{Bounds, Pairs, spans, spans_words};
-
-/// Which right row a left row takes.
-#[derive(Clone, Copy, Debug, PartialEq, Eq)]
-pub enum Strategy {
-    /// The last with a key not greater.
-    Backward = 0,
-    /// The first with a key not smaller.
-    Forward = 1,
-    /// The nearest key; of two as near, the greater.
-    Nearest = 2,
-}
 
 /// How a by-column is sorted.
 #[derive(Clone, Copy, Debug, Default, PartialEq, Eq)]
@@ -133,52 +124,12 @@ impl Options {
     }
 }
 
-/// Why a call is refused. The calls of a join check in the order of the numbers, [`spans()`] in the order 1, 5, 16, 6.
-#[derive(Clone, Copy, Debug, PartialEq, Eq, PartialOrd, Ord)]
-pub enum Refusal {
-    /// At opening: more than four by-columns, a tolerance above 2^63 − 1, or Nearest without equality. Of raw spans: a
-    /// flag that is neither 0 nor 1.
-    BadOptions = 1,
-    /// The join does not hold together, or not with its areas.
-    BadJoin = 2,
-    /// An earlier turn found rows out of order.
-    Failed = 3,
-    /// The call comes at the wrong time.
-    Closed = 4,
-    /// The words are no frame of this join; the points or intervals none of one column or two.
-    BadFrame = 5,
-    /// There is no room in the area or in the output.
-    NoRoom = 6,
-    /// The numbers of right rows or of turns are used up.
-    UsedUp = 7,
-    /// Left rows are out of order. The join is marked failed.
-    LeftOrder = 8,
-    /// Right rows are out of order. The join is marked failed.
-    RightOrder = 9,
-    /// A point is null, or greater than the next.
-    BadPoints = 16,
-}
-
 impl Refusal {
-    /// All refusals, by number.
-    pub const ALL: [Refusal; 10] = [
-        Refusal::BadOptions,
-        Refusal::BadJoin,
-        Refusal::Failed,
-        Refusal::Closed,
-        Refusal::BadFrame,
-        Refusal::NoRoom,
-        Refusal::UsedUp,
-        Refusal::LeftOrder,
-        Refusal::RightOrder,
-        Refusal::BadPoints,
-    ];
-
-    /// The refusal of a number, or none where the call was not refused.
+    /// The refusal of a number, or none if the call was not refused.
     fn of(number: u64) -> Result<(), Refusal> {
         match Refusal::ALL.into_iter().find(|refusal| number == refusal.number().into()) {
             Some(refusal) => Err(refusal),
-            None => Ok(assert_eq!(number, 0, "refusals have the numbers 1 to 9 and 16")),
+            None => Ok(assert_eq!(number, 0, "the library has a refusal that this version does not know")),
         }
     }
 
@@ -191,42 +142,11 @@ impl Refusal {
 impl fmt::Display for Refusal {
     /// The number and what it says.
     fn fmt(&self, f: &mut fmt::Formatter<'_>) -> fmt::Result {
-        let why = match self {
-            Refusal::BadOptions => "these options cannot be",
-            Refusal::BadJoin => "the join does not hold together, or not with its areas",
-            Refusal::Failed => "rows were out of order in an earlier turn",
-            Refusal::Closed => "the call comes at the wrong time",
-            Refusal::BadFrame => "the words are no frame of these columns",
-            Refusal::NoRoom => "there is no room",
-            Refusal::UsedUp => "the numbers are used up",
-            Refusal::LeftOrder => "left rows are out of order",
-            Refusal::RightOrder => "right rows are out of order",
-            Refusal::BadPoints => "a point is null or greater than the next",
-        };
-        write!(f, "refused by {}: {why}", self.number())
+        write!(f, "refused by {}: {}", self.number(), self.text())
     }
 }
 
 impl std::error::Error for Refusal {}
-
-/// The node's state.
-#[derive(Clone, Copy, Debug, PartialEq, Eq)]
-pub enum NodeState {
-    /// Takes left frames.
-    Running,
-    /// Left is done; frames still wait.
-    Flush,
-    /// All is done.
-    Done,
-}
-
-/// What a port says, and is told.
-#[derive(Clone, Copy, Debug, PartialEq, Eq)]
-pub enum Port {
-    Blocked = 0,
-    Ready = 1,
-    Done = 2,
-}
 
 /// The three ports of the node.
 #[derive(Clone, Copy, Debug, PartialEq, Eq)]

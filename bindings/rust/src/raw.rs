@@ -1,101 +1,182 @@
 //! The C interface as it is: include/rowkeeper.h in Rust. That header says what everything means.
 
-/// What a join is opened with.
+// ---- tools/interface writes: structs
+/// The version of the library that these declarations are of.
+pub const VERSION: &str = "0.1.0";
+/// The same as a number: 1,000,000 × major + 1,000 × minor + patch.
+pub const VERSION_NUMBER: u64 = 1000;
+/// The rows that a frame can have at most.
+pub const MOST_ROWS: usize = 4096;
+/// The by-columns that a join can have at most.
+pub const MOST_BY: usize = 4;
+/// Options.tolerance if any distance will do.
+pub const NO_TOLERANCE: i64 = -1;
+/// The last row whose key is not greater.
+pub const BACKWARD: u64 = 0;
+/// The first row whose key is not smaller.
+pub const FORWARD: u64 = 1;
+/// The row whose key is nearest; of two equally near keys the greater.
+pub const NEAREST: u64 = 2;
+/// It takes left frames.
+pub const RUNNING: u64 = 0;
+/// Left is done; frames still wait.
+pub const FLUSH: u64 = 1;
+/// Everything is done.
+pub const DONE: u64 = 2;
+/// Nothing can pass it at present.
+pub const PORT_BLOCKED: u64 = 0;
+/// It can pass frames.
+pub const PORT_READY: u64 = 1;
+/// Nothing will pass it any more.
+pub const PORT_DONE: u64 = 2;
+/// The matches of a frame were written.
+pub const WROTE: u64 = 0;
+/// Right rows that are still to come might match.
+pub const WANTS_RIGHT: u64 = 1;
+/// No frame waits.
+pub const IDLE: u64 = 2;
+/// The turn was refused.
+pub const REFUSED: u64 = 3;
+/// As many turns wrote as the run was given.
+pub const TURNS_USED: u64 = 0;
+
+/// What a join is opened with. Flags are 0 or 1, also those past `by`.
 #[repr(C)]
 #[derive(Clone, Copy, Debug, Default, PartialEq, Eq)]
 pub struct Options {
+    /// By-columns, 0 to 4; rows have by + 1 columns, the key last.
     pub by: u64,
+    /// BACKWARD, FORWARD or NEAREST.
     pub strategy: u64,
+    /// Whether an equal key matches; Nearest needs it.
     pub allow_eq: u64,
+    /// The greatest distance of two keys, or NO_TOLERANCE.
     pub tolerance: i64,
+    /// Whether turns check that rows are in order.
     pub check: u64,
+    /// For each by-column: whether its numbers descend.
     pub descending: [u64; 4],
+    /// For each by-column: whether its nulls come last.
     pub nulls_last: [u64; 4],
 }
 
-/// A remembered row, or none.
+/// A row that the order check remembers, or none. A mark other than 0 means present.
 #[repr(C)]
 #[derive(Clone, Copy, Debug, Default, PartialEq, Eq)]
 pub struct Row {
+    /// Whether there is one.
     pub some: u64,
+    /// Its values, those past its columns unused.
     pub values: [i64; 5],
+    /// Its marks.
     pub marks: [i64; 5],
 }
 
-/// A join.
+/// A join: 44 words, no padding. A host may read every field and need not.
 #[repr(C)]
 #[derive(Clone, Copy, Debug, Default, PartialEq, Eq)]
 pub struct Join {
+    /// What it was opened with.
     pub options: Options,
+    /// The place of the first held row in the right area, in rows.
     pub base: u64,
+    /// Right rows held.
     pub held: u64,
+    /// Right rows dropped: held row i has the number pruned + i.
     pub pruned: u64,
+    /// The place of the first waiting frame in the left area, in words.
     pub queue_start: u64,
+    /// Words waiting there; 0: no frame waits.
     pub queue_words: u64,
+    /// RUNNING, FLUSH or DONE.
     pub state: u64,
+    /// 0 or 1.
     pub right_ended: u64,
+    /// 0 or 1.
     pub failed: u64,
+    /// Twice the number of turns that wrote.
     pub sequence: u64,
+    /// What the order check remembers of left.
     pub last_left: Row,
+    /// What the order check remembers of right.
     pub last_right: Row,
 }
 
 /// The answer of opening, left, right and the end of right.
 #[repr(C)]
-#[derive(Clone, Copy, Debug)]
+#[derive(Clone, Copy, Debug, Default, PartialEq, Eq)]
 pub struct Took {
+    /// 0 accepted, else the refusal's number.
     pub refusal: u64,
+    /// The join from here on.
     pub join: Join,
 }
 
 /// The answer of a port call.
 #[repr(C)]
-#[derive(Clone, Copy, Debug)]
+#[derive(Clone, Copy, Debug, Default, PartialEq, Eq)]
 pub struct Ported {
+    /// 0 accepted, else the refusal's number.
     pub refusal: u64,
+    /// The new state of left; 0 if refused.
     pub left: u64,
+    /// The new state of right; 0 if refused.
     pub right: u64,
+    /// The new state of send; 0 if refused.
     pub send: u64,
+    /// The join from here on.
     pub join: Join,
 }
 
 /// The answer of a turn.
 #[repr(C)]
-#[derive(Clone, Copy, Debug)]
+#[derive(Clone, Copy, Debug, Default, PartialEq, Eq)]
 pub struct Turned {
+    /// WROTE, WANTS_RIGHT, IDLE or REFUSED.
     pub answer: u64,
+    /// With REFUSED the refusal's number, else 0.
     pub refusal: u64,
+    /// With WROTE the number of the frame written (0, 2, 4 and so on), else 0.
     pub sequence: u64,
+    /// The join from here on.
     pub join: Join,
 }
 
 /// The answer of a run.
 #[repr(C)]
-#[derive(Clone, Copy, Debug)]
+#[derive(Clone, Copy, Debug, Default, PartialEq, Eq)]
 pub struct Ran {
+    /// How many turns wrote.
     pub turns: u64,
+    /// How many words they wrote, one after the other, from the output's first word on.
     pub words: u64,
+    /// TURNS_USED, or the answer of the turn that wrote nothing.
     pub stop: u64,
+    /// With REFUSED that turn's refusal, else 0.
     pub refusal: u64,
+    /// The join from here on.
     pub join: Join,
 }
 
 /// The answer of a call that writes a table.
 #[repr(C)]
-#[derive(Clone, Copy, Debug, PartialEq, Eq)]
+#[derive(Clone, Copy, Debug, Default, PartialEq, Eq)]
 pub struct Written {
+    /// 0 accepted, else the refusal's number.
     pub refusal: u64,
+    /// How many rows were written; 0 if refused.
     pub rows: u64,
 }
 
 /// How many words a join is.
-pub const JOIN_WORDS: usize = size_of::<Join>() / 8;
-const _: () = assert!(JOIN_WORDS == 44 && align_of::<Join>() == 8 && size_of::<usize>() == 8);
+pub const JOIN_WORDS: usize = 44;
+const _: () = assert!(size_of::<Join>() == 8 * JOIN_WORDS && align_of::<Join>() == 8 && size_of::<usize>() == 8);
+// ---- tools/interface: end of structs
 
 impl Join {
     /// The join's words, in the order of the fields.
     pub fn to_words(self) -> [i64; JOIN_WORDS] {
-        // SAFETY: the struct is 44 fields of 64 bits without padding, and any bits are a word.
+        // SAFETY: the struct is fields of 64 bits without padding, and any bits are a word.
         unsafe { std::mem::transmute(self) }
     }
 
@@ -106,10 +187,11 @@ impl Join {
     }
 }
 
+// ---- tools/interface writes: calls
 unsafe extern "C" {
-    /// Opens a join. Safe: it is lent nothing.
+    /// Opens a join: strategy, equality, tolerance, order check, by-columns. Safe: it is lent nothing.
     pub safe fn rowkeeper_open(options: Options) -> Took;
-    /// Hands in a left frame.
+    /// Takes a left frame, which then waits.
     pub fn rowkeeper_left(
         join: Join,
         left: *mut i64,
@@ -119,7 +201,7 @@ unsafe extern "C" {
         frame: *const i64,
         frame_len: usize,
     ) -> Took;
-    /// Hands in a right frame.
+    /// Takes a right frame, whose rows are then held.
     pub fn rowkeeper_right(
         join: Join,
         left: *const i64,
@@ -129,7 +211,7 @@ unsafe extern "C" {
         frame: *const i64,
         frame_len: usize,
     ) -> Took;
-    /// Ends right.
+    /// Ends right: no right frame will come any more.
     pub fn rowkeeper_end_right(
         join: Join,
         left: *const i64,
@@ -137,7 +219,7 @@ unsafe extern "C" {
         right: *const i64,
         right_len: usize,
     ) -> Took;
-    /// A port call.
+    /// Moves the node on, for hosts that run it in a pipeline; this is also how left ends.
     pub fn rowkeeper_ports(
         join: Join,
         left: *const i64,
@@ -148,7 +230,7 @@ unsafe extern "C" {
         right_port: u64,
         send_port: u64,
     ) -> Ported;
-    /// A turn.
+    /// Writes the matches of the frame that has waited longest, or answers Wants right or Idle.
     pub fn rowkeeper_turn(
         join: Join,
         left: *const i64,
@@ -158,7 +240,7 @@ unsafe extern "C" {
         out: *mut i64,
         out_len: usize,
     ) -> Turned;
-    /// A run of turns.
+    /// Makes turns, up to a given number, and writes their matches one after the other.
     pub fn rowkeeper_run(
         join: Join,
         turns: usize,
@@ -169,7 +251,7 @@ unsafe extern "C" {
         out: *mut i64,
         out_len: usize,
     ) -> Ran;
-    /// Lists which points each interval covers.
+    /// Without a join: lists which points lie inside the bounds of which intervals, as a pass covers performances.
     pub fn rowkeeper_spans(
         points: *const i64,
         point_words: usize,
@@ -181,6 +263,7 @@ unsafe extern "C" {
         out_words: usize,
     ) -> Written;
 }
+// ---- tools/interface: end of calls
 
 /// The calls with slices in the place of pointers and lengths. A slice of Rust is never null, is aligned and as long as it
 /// says, and what is lent to be written overlaps nothing else; that is all that the calls ask, so these are safe, for any
@@ -188,51 +271,108 @@ unsafe extern "C" {
 pub mod safe {
     use super::*;
 
-    /// Hands in a left frame.
+    // ---- tools/interface writes: slices
+    /// Takes a left frame, which then waits.
     pub fn left(join: Join, left: &mut [i64], right: &[i64], frame: &[i64]) -> Took {
-        let (l, n) = (left.as_mut_ptr(), left.len());
         // SAFETY: see the module.
-        unsafe { rowkeeper_left(join, l, n, right.as_ptr(), right.len(), frame.as_ptr(), frame.len()) }
+        unsafe {
+            rowkeeper_left(
+                join,
+                left.as_mut_ptr(),
+                left.len(),
+                right.as_ptr(),
+                right.len(),
+                frame.as_ptr(),
+                frame.len(),
+            )
+        }
     }
 
-    /// Hands in a right frame.
+    /// Takes a right frame, whose rows are then held.
     pub fn right(join: Join, left: &[i64], right: &mut [i64], frame: &[i64]) -> Took {
-        let (r, n) = (right.as_mut_ptr(), right.len());
         // SAFETY: see the module.
-        unsafe { rowkeeper_right(join, left.as_ptr(), left.len(), r, n, frame.as_ptr(), frame.len()) }
+        unsafe {
+            rowkeeper_right(
+                join,
+                left.as_ptr(),
+                left.len(),
+                right.as_mut_ptr(),
+                right.len(),
+                frame.as_ptr(),
+                frame.len(),
+            )
+        }
     }
 
-    /// Ends right.
+    /// Ends right: no right frame will come any more.
     pub fn end_right(join: Join, left: &[i64], right: &[i64]) -> Took {
         // SAFETY: see the module.
         unsafe { rowkeeper_end_right(join, left.as_ptr(), left.len(), right.as_ptr(), right.len()) }
     }
 
-    /// A port call: left, right, send.
-    pub fn ports(join: Join, left: &[i64], right: &[i64], [l, r, s]: [u64; 3]) -> Ported {
+    /// Moves the node on, for hosts that run it in a pipeline; this is also how left ends.
+    pub fn ports(join: Join, left: &[i64], right: &[i64], left_port: u64, right_port: u64, send_port: u64) -> Ported {
         // SAFETY: see the module.
-        unsafe { rowkeeper_ports(join, left.as_ptr(), left.len(), right.as_ptr(), right.len(), l, r, s) }
+        unsafe {
+            rowkeeper_ports(
+                join,
+                left.as_ptr(),
+                left.len(),
+                right.as_ptr(),
+                right.len(),
+                left_port,
+                right_port,
+                send_port,
+            )
+        }
     }
 
-    /// A turn.
+    /// Writes the matches of the frame that has waited longest, or answers Wants right or Idle.
     pub fn turn(join: Join, left: &[i64], right: &[i64], out: &mut [i64]) -> Turned {
-        let (o, n) = (out.as_mut_ptr(), out.len());
         // SAFETY: see the module.
-        unsafe { rowkeeper_turn(join, left.as_ptr(), left.len(), right.as_ptr(), right.len(), o, n) }
+        unsafe {
+            rowkeeper_turn(join, left.as_ptr(), left.len(), right.as_ptr(), right.len(), out.as_mut_ptr(), out.len())
+        }
     }
 
-    /// A run of so many turns at most.
+    /// Makes turns, up to a given number, and writes their matches one after the other.
     pub fn run(join: Join, turns: usize, left: &[i64], right: &[i64], out: &mut [i64]) -> Ran {
-        let (o, n) = (out.as_mut_ptr(), out.len());
         // SAFETY: see the module.
-        unsafe { rowkeeper_run(join, turns, left.as_ptr(), left.len(), right.as_ptr(), right.len(), o, n) }
+        unsafe {
+            rowkeeper_run(
+                join,
+                turns,
+                left.as_ptr(),
+                left.len(),
+                right.as_ptr(),
+                right.len(),
+                out.as_mut_ptr(),
+                out.len(),
+            )
+        }
     }
 
-    /// Lists which points each interval covers; the flags: lower, upper.
-    pub fn spans(points: &[i64], intervals: &[i64], [lower, upper]: [u64; 2], out: &mut [i64]) -> Written {
-        let (p, n) = (points.as_ptr(), points.len());
-        let (o, room) = (out.as_mut_ptr(), out.len());
+    /// Without a join: lists which points lie inside the bounds of which intervals, as a pass covers performances.
+    pub fn spans(
+        points: &[i64],
+        intervals: &[i64],
+        lower_inclusive: u64,
+        upper_inclusive: u64,
+        out: &mut [i64],
+    ) -> Written {
         // SAFETY: see the module.
-        unsafe { rowkeeper_spans(p, n, intervals.as_ptr(), intervals.len(), lower, upper, o, room) }
+        unsafe {
+            rowkeeper_spans(
+                points.as_ptr(),
+                points.len(),
+                intervals.as_ptr(),
+                intervals.len(),
+                lower_inclusive,
+                upper_inclusive,
+                out.as_mut_ptr(),
+                out.len(),
+            )
+        }
     }
+    // ---- tools/interface: end of slices
 }

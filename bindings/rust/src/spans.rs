@@ -54,8 +54,8 @@ pub fn spans<'o>(
     bounds: Bounds,
     output: &'o mut [i64],
 ) -> Result<Pairs<'o>, Refusal> {
-    let flags = [bounds.lower_inclusive as u64, bounds.upper_inclusive as u64];
-    let written = safe::spans(points, intervals, flags, output);
+    let (lower, upper) = (bounds.lower_inclusive as u64, bounds.upper_inclusive as u64);
+    let written = safe::spans(points, intervals, lower, upper, output);
     Refusal::of(written.refusal)?;
     Ok(Pairs { numbers: &output[2..2 + 2 * written.rows as usize] })
 }

@@ -75,8 +75,8 @@ fn refusals() {
     let falling = Frame::of_keys(&[20, 10]).unwrap();
     let null = Frame::new(1, &[[Some(10)], [None]]).unwrap();
     let mut output = [7; 10];
-    let mut refused = |points: &[i64], intervals: &[i64], flags, room| {
-        let written = raw::safe::spans(points, intervals, flags, &mut output[..room]);
+    let mut refused = |points: &[i64], intervals: &[i64], [lower, upper]: [u64; 2], room| {
+        let written = raw::safe::spans(points, intervals, lower, upper, &mut output[..room]);
         assert_eq!((written.rows, output), (0, [7; 10]));
         written.refusal
     };

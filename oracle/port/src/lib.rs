@@ -101,7 +101,8 @@ impl Host {
 
     /// A port call.
     fn ports(&mut self, ports: [u8; 3]) -> Answer {
-        let said = safe::ports(self.join, self.left.get(), self.right.get(), ports.map(u64::from));
+        let [left, right, send] = ports.map(u64::from);
+        let said = safe::ports(self.join, self.left.get(), self.right.get(), left, right, send);
         let told = [said.left, said.right, said.send];
         self.join = said.join;
         self.note(told.iter().any(|p| *p > 2), "a port was told what there is not");

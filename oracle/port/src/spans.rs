@@ -10,8 +10,8 @@ pub fn answer(spans: &Spans) -> (Answer, Option<&'static str>) {
     let guarded = |words: &[i64]| Guarded::new(words.iter().copied());
     let (points, intervals) = (guarded(&spans.points), guarded(&spans.intervals));
     let mut out = Guarded::new((0..spans.output).map(blank));
-    let flags = [spans.lower as u64, spans.upper as u64];
-    let said = safe::spans(points.get(), intervals.get(), flags, out.get_mut());
+    let (lower, upper) = (spans.lower as u64, spans.upper as u64);
+    let said = safe::spans(points.get(), intervals.get(), lower, upper, out.get_mut());
     let written = if said.refusal == 0 { said.rows.saturating_mul(4).saturating_add(2) } else { 0 };
     let end = usize::try_from(written).unwrap_or(usize::MAX).min(spans.output);
     let rest = out.get().iter().enumerate().skip(end).all(|(i, w)| *w == blank(i));

@@ -1,0 +1,130 @@
+//! The enumerations and refusals, by their numbers. Written by tools/interface from interface/rowkeeper.txt.
+
+/// Which right row a left row takes.
+#[derive(Clone, Copy, Debug, PartialEq, Eq)]
+pub enum Strategy {
+    /// The last row whose key is not greater.
+    Backward = 0,
+    /// The first row whose key is not smaller.
+    Forward = 1,
+    /// The row whose key is nearest; of two equally near keys the greater.
+    Nearest = 2,
+}
+
+impl Strategy {
+    /// The one of a number, or none if no one has it.
+    pub const fn of(number: u64) -> Option<Strategy> {
+        match number {
+            0 => Some(Strategy::Backward),
+            1 => Some(Strategy::Forward),
+            2 => Some(Strategy::Nearest),
+            _ => None,
+        }
+    }
+}
+
+/// The state of the node.
+#[derive(Clone, Copy, Debug, PartialEq, Eq)]
+pub enum NodeState {
+    /// It takes left frames.
+    Running = 0,
+    /// Left is done; frames still wait.
+    Flush = 1,
+    /// Everything is done.
+    Done = 2,
+}
+
+impl NodeState {
+    /// The one of a number, or none if no one has it.
+    pub const fn of(number: u64) -> Option<NodeState> {
+        match number {
+            0 => Some(NodeState::Running),
+            1 => Some(NodeState::Flush),
+            2 => Some(NodeState::Done),
+            _ => None,
+        }
+    }
+}
+
+/// The state of a port, as it comes in to a port call and as it is returned.
+#[derive(Clone, Copy, Debug, PartialEq, Eq)]
+pub enum Port {
+    /// Nothing can pass it at present.
+    Blocked = 0,
+    /// It can pass frames.
+    Ready = 1,
+    /// Nothing will pass it any more.
+    Done = 2,
+}
+
+impl Port {
+    /// The one of a number, or none if no one has it.
+    pub const fn of(number: u64) -> Option<Port> {
+        match number {
+            0 => Some(Port::Blocked),
+            1 => Some(Port::Ready),
+            2 => Some(Port::Done),
+            _ => None,
+        }
+    }
+}
+
+/// Why a call is refused. If several refusals apply, the first in checking order is given; the numbers say nothing
+/// about that order. Later versions may have more of them.
+#[derive(Clone, Copy, Debug, PartialEq, Eq, PartialOrd, Ord)]
+#[non_exhaustive]
+pub enum Refusal {
+    /// At opening: more than four by-columns, a tolerance above 2^63 − 1, or Nearest without equality. Raw spans: a
+    /// flag that is neither 0 nor 1.
+    BadOptions = 1,
+    /// The join is inconsistent, or does not fit its areas.
+    BadJoin = 2,
+    /// An earlier turn found rows out of order and marked the join failed.
+    Failed = 3,
+    /// The call comes at the wrong time.
+    Closed = 4,
+    /// The words are not a frame with the columns that the call expects.
+    BadFrame = 5,
+    /// There is no room in an area or in the output.
+    NoRoom = 6,
+    /// The numbers of right rows or of turns are used up.
+    UsedUp = 7,
+    /// Left rows are out of order. The join is marked failed.
+    LeftOrder = 8,
+    /// Right rows are out of order. The join is marked failed.
+    RightOrder = 9,
+    /// Spans: a point is null, or greater than the next.
+    BadPoints = 16,
+}
+
+impl Refusal {
+    /// All refusals, by number.
+    pub const ALL: [Refusal; 10] = [
+        Refusal::BadOptions,
+        Refusal::BadJoin,
+        Refusal::Failed,
+        Refusal::Closed,
+        Refusal::BadFrame,
+        Refusal::NoRoom,
+        Refusal::UsedUp,
+        Refusal::LeftOrder,
+        Refusal::RightOrder,
+        Refusal::BadPoints,
+    ];
+
+    /// What it says: the text of `rowkeeper_refusal_text`.
+    pub const fn text(self) -> &'static str {
+        match self {
+            Refusal::BadOptions => "the options are invalid",
+            Refusal::BadJoin => "the join is inconsistent, or does not fit its areas",
+            Refusal::Failed => "an earlier turn found rows out of order",
+            Refusal::Closed => "the call comes at the wrong time",
+            Refusal::BadFrame => "the words are not a frame with the columns that the call expects",
+            Refusal::NoRoom => "there is no room in an area or in the output",
+            Refusal::UsedUp => "the numbers of rows or turns are used up",
+            Refusal::LeftOrder => "left rows are out of order",
+            Refusal::RightOrder => "right rows are out of order",
+            Refusal::BadPoints => "a point is null, or greater than the next",
+        }
+    }
+}

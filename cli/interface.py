@@ -1,0 +1,124 @@
+"""The C interface: numbers, texts, structs and calls. Written by tools/interface from interface/rowkeeper.txt."""
+import ctypes
+from ctypes import c_int64, c_size_t, c_uint64, c_void_p
+
+# The version of the library that these declarations are of.
+VERSION = '0.1.0'
+VERSION_NUMBER = 1000
+
+# The rows that a frame can have at most.
+MOST_ROWS = 4096
+
+# The by-columns that a join can have at most.
+MOST_BY = 4
+
+# options.tolerance if any distance will do.
+NO_TOLERANCE = -1
+
+# options.strategy
+BACKWARD = 0
+FORWARD = 1
+NEAREST = 2
+# Their names, in the order of their numbers.
+STRATEGIES = ('backward', 'forward', 'nearest')
+
+# join.state
+RUNNING = 0
+FLUSH = 1
+DONE = 2
+
+# The state of a port, as it comes in to rowkeeper_ports and as it is returned.
+PORT_BLOCKED = 0
+PORT_READY = 1
+PORT_DONE = 2
+
+# turned.answer
+WROTE = 0
+WANTS_RIGHT = 1
+IDLE = 2
+REFUSED = 3
+
+# ran.stop: this, or the answer of the turn that wrote nothing: WANTS_RIGHT, IDLE or REFUSED
+TURNS_USED = 0
+
+# The refusals by name.
+BAD_OPTIONS = 1
+BAD_JOIN = 2
+FAILED = 3
+CLOSED = 4
+BAD_FRAME = 5
+NO_ROOM = 6
+USED_UP = 7
+LEFT_ORDER = 8
+RIGHT_ORDER = 9
+BAD_POINTS = 16
+
+# What each refusal says.
+REFUSALS = {
+    1: 'the options are invalid',
+    2: 'the join is inconsistent, or does not fit its areas',
+    3: 'an earlier turn found rows out of order',
+    4: 'the call comes at the wrong time',
+    5: 'the words are not a frame with the columns that the call expects',
+    6: 'there is no room in an area or in the output',
+    7: 'the numbers of rows or turns are used up',
+    8: 'left rows are out of order',
+    9: 'right rows are out of order',
+    16: 'a point is null, or greater than the next',
+}
+
+
+class Options(ctypes.Structure):
+    """What a join is opened with. Flags are 0 or 1, also those past `by`."""
+    _fields_ = [('by', c_uint64), ('strategy', c_uint64), ('allow_eq', c_uint64), ('tolerance', c_int64),
+                ('check', c_uint64), ('descending', c_uint64 * 4), ('nulls_last', c_uint64 * 4)]
+
+
+class Row(ctypes.Structure):
+    """A row that the order check remembers, or none. A mark other than 0 means present."""
+    _fields_ = [('some', c_uint64), ('values', c_int64 * 5), ('marks', c_int64 * 5)]
+
+
+class Join(ctypes.Structure):
+    """A join: 44 words, no padding. A host may read every field and need not."""
+    _fields_ = [('options', Options), ('base', c_uint64), ('held', c_uint64), ('pruned', c_uint64),
+                ('queue_start', c_uint64), ('queue_words', c_uint64), ('state', c_uint64), ('right_ended', c_uint64),
+                ('failed', c_uint64), ('sequence', c_uint64), ('last_left', Row), ('last_right', Row)]
+
+
+class Took(ctypes.Structure):
+    """The answer of opening, left, right and the end of right."""
+    _fields_ = [('refusal', c_uint64), ('join', Join)]
+
+
+class Ported(ctypes.Structure):
+    """The answer of a port call."""
+    _fields_ = [('refusal', c_uint64), ('left', c_uint64), ('right', c_uint64), ('send', c_uint64), ('join', Join)]
+
+
+class Turned(ctypes.Structure):
+    """The answer of a turn."""
+    _fields_ = [('answer', c_uint64), ('refusal', c_uint64), ('sequence', c_uint64), ('join', Join)]
+
+
+class Ran(ctypes.Structure):
+    """The answer of a run."""
+    _fields_ = [('turns', c_uint64), ('words', c_uint64), ('stop', c_uint64), ('refusal', c_uint64), ('join', Join)]
+
+
+class Written(ctypes.Structure):
+    """The answer of a call that writes a table."""
+    _fields_ = [('refusal', c_uint64), ('rows', c_uint64)]
+
+
+# What each call takes and gives. Words are a pointer and a length.
+CALLS = {
+    'rowkeeper_open': ([Options], Took),
+    'rowkeeper_left': ([Join, c_void_p, c_size_t, c_void_p, c_size_t, c_void_p, c_size_t], Took),
+    'rowkeeper_right': ([Join, c_void_p, c_size_t, c_void_p, c_size_t, c_void_p, c_size_t], Took),
+    'rowkeeper_end_right': ([Join, c_void_p, c_size_t, c_void_p, c_size_t], Took),
+    'rowkeeper_ports': ([Join, c_void_p, c_size_t, c_void_p, c_size_t, c_uint64, c_uint64, c_uint64], Ported),
+    'rowkeeper_turn': ([Join, c_void_p, c_size_t, c_void_p, c_size_t, c_void_p, c_size_t], Turned),
+    'rowkeeper_run': ([Join, c_size_t, c_void_p, c_size_t, c_void_p, c_size_t, c_void_p, c_size_t], Ran),
+    'rowkeeper_spans': ([c_void_p, c_size_t, c_void_p, c_size_t, c_uint64, c_uint64, c_void_p, c_size_t], Written),
+}

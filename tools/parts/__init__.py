@@ -1,0 +1,1 @@
+"""What the scripts of this repository share. say.sh is sourced by those in bash."""
