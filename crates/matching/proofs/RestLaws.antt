@@ -64,13 +64,13 @@ run-sorted o r (s ∷ g) n h =
     rw (row-by-key o r s e, run-sorted o s g m t)
 
 module _ (w : ℕ) (vs ms : Words) where
-  between-at : (from to i : ℕ) → i < to - from → getD (between w from to vs ms) i [] ≡ rowFrom w ((from + i) * w) vs ms
+  pub between-at : (from to i : ℕ) → i < to - from → getD (between w from to vs ms) i [] ≡ rowFrom w ((from + i) * w) vs ms
   unfolding between rowFrom
   between-at from to i h =
       let e : (from + i) * w ≡ from * w + i * w = omega arith in
       rows-from w (to - from) i (drop (from * w) vs) (drop (from * w) ms) h ∙ rw (e, drop-drop (i * w) (from * w) vs, drop-drop (i * w) (from * w) ms)
 
-  all-between : (P : List Cell → Type 0) (from to : ℕ) → ((k : ℕ) → from ≤ k → k < to → P (rowFrom w (k * w) vs ms)) → All P (between w from to vs ms)
+  pub all-between : (P : List Cell → Type 0) (from to : ℕ) → ((k : ℕ) → from ≤ k → k < to → P (rowFrom w (k * w) vs ms)) → All P (between w from to vs ms)
   all-between P from to f =
       all-by P (between w from to vs ms) (λ i l.
       let h : i < to - from = omega (arith, l, between-length w vs ms from to) in
