@@ -2,10 +2,8 @@
 use fits::fits_key;
 use fits::nearer_key;
 use frames::Options;
-use frames::Order;
 use frames::Strategy;
 use keyed::null_at;
-use order::cmp_cell;
 ghost use mathlib.Core.Path.{_≡_};
 ghost use mathlib.Core.Bool.{not, _&&_, _||_};
 ghost use Prim.Native.Nat.{_+_, _-_, _*_, _<_, _≤_};
@@ -18,7 +16,7 @@ ghost use Rattle.matching.specs.Match.{onSide, nearer};
 ghost use Rattle.matching.specs.Walk.{between};
 ghost use Rattle.matching.specs.Moves.{keysSorted, movesOn, fitsKey, knownFit};
 
-// Whether the key of the row at p is greater than that of the row at q.
+// Whether the key of the row at p is greater than that of the row at q. The mark at p is read only where the other words do not tell.
 fn falls(values: &[i64], marks: &[i64], p: usize, q: usize, o: Options) -> bool
     requires { ⌜ RowAt o p (now values) (now marks) × RowAt o q (now values) (now marks) ⌝ }
     ensures { λ r. ⌜ r ≡ isGreater (cmpCell keyRule (cellAt (p + o .by) (now (values .entry)) (now (marks .entry))) (cellAt (q + o .by) (now (values .entry)) (now (marks .entry)))) ⌝ }
@@ -26,11 +24,13 @@ fn falls(values: &[i64], marks: &[i64], p: usize, q: usize, o: Options) -> bool
     let by = o.by;
     let a = p + by;
     let b = q + by;
-    match cmp_cell(values[a], marks[a], values[b], marks[b], false, false) {
-        Order::Less => false,
-        Order::Equal => false,
-        Order::Greater => true,
+    if null_at(marks, b) {
+        return !null_at(marks, a);
     }
+    if values[b] < values[a] {
+        return !null_at(marks, a);
+    }
+    false
 }
 
 // Whether no key of rows from..to, each w wide, is greater than the next.

@@ -1,6 +1,6 @@
 -- The tests of the leaves: of a key's side, of two distances, of the tolerance, of two rows' runs. Assumes nothing.
 use mathlib.Core.Path.{_≡_, refl, sym}
-use mathlib.Core.Bool.{Bool, true, false, cond, _&&_, _||_, or-true, or-false}
+use mathlib.Core.Bool.{Bool, true, false, cond, not, _&&_, _||_, or-true, or-false}
 use mathlib.Core.List.{List}
 use mathlib.Core.Logic.{_⊎_}
 use Prim.Native.Nat.{ℕ, _≤_, _<_}
@@ -11,11 +11,13 @@ use lib.Dec.{ltb, eqb, leb·zero}
 use lib.IntN.{ℤ, pos, negsuc}
 use lib.Signed.{ltZ, leZ}
 use Rattle.frames.specs.Cells.{Cell, null, value, isZero, cellOf, isNull}
-use Rattle.frames.specs.Order.{cmpZ, cmpGroup, nullGroup, isLess, isEqual}
+use Rattle.frames.specs.Options.{keyRule}
+use Rattle.frames.specs.Order.{cmpZ, cmpCell, cmpGroup, nullGroup, isLess, isEqual, isGreater}
 use Rattle.frames.specs.declared.Options.{Options}
 use Rattle.frames.specs.declared.Order.{Order}
 use Rattle.frames.specs.declared.Order.the-variants.{Less, Equal, Greater}
 use Rattle.frames.proofs.Order.{the-type}
+use Rattle.frames.proofs.OrderLaws.{cmpZ-is, less-greater}
 use Rattle.frames.proofs.RowLaws.{next-stop}
 use Rattle.matching.specs.Groups.{sameRun}
 
@@ -26,6 +28,31 @@ present v m = by (isZero m)
     by : (z : Bool) → isNull (cond z null (value v)) ≡ false → cond z null (value v) ≡ value v
     by true e = cc
     by false e = refl
+
+-- ---- two neighbouring keys: whether the first is greater than the second
+pub falls-null : (x y : Cell) → isNull y ≡ true → not (isNull x) ≡ isGreater (cmpCell keyRule x y)
+falls-null null null e = refl
+falls-null (value a) null e = refl
+falls-null x (value b) e = cc
+
+module _ (va ma vb mb : ℤ) (n : isNull (cellOf vb mb) ≡ false) where
+  pub falls-less : ltZ vb va ≡ true → not (isNull (cellOf va ma)) ≡ isGreater (cmpCell keyRule (cellOf va ma) (cellOf vb mb))
+  falls-less h = rw (present vb mb n) (by (isZero ma))
+    where
+      by : (z : Bool) → not (isNull (cond z null (value va))) ≡ isGreater (cmpCell keyRule (cond z null (value va)) (value vb))
+      by true = refl
+      by false = rw (less-greater cmpZ-is vb va (rw h))
+
+  pub falls-not : ltZ vb va ≡ false → false ≡ isGreater (cmpCell keyRule (cellOf va ma) (cellOf vb mb))
+  falls-not h = rw (present vb mb n) (by (isZero ma))
+    where
+      below : (t : Bool) → false ≡ isGreater (cond t Less Equal)
+      below true = refl
+      below false = refl
+
+      by : (z : Bool) → false ≡ isGreater (cmpCell keyRule (cond z null (value va)) (value vb))
+      by true = refl
+      by false = rw h (below (ltZ va vb))
 
 -- ---- two distances, and what decides a tie
 module _ (x y : ℕ) (z : Bool) where
