@@ -82,10 +82,13 @@
  * COST
  *
  * A left or a right call costs the words of its frame, whatever is held; one that passes the area's end also moves what is
- * live to the front. A turn that writes costs the rows of its frame and the held rows of their groups, each passed a few
- * times, where both are sorted by key; where they are not (check off), every row of the frame looks at all held rows of its
- * group. With the check on all held rows are passed. So full frames are the quickest, and right rows that are handed in
- * before a turn wants them are passed by every turn in between.
+ * live to the front. A turn that writes costs the rows of its frame and, of the held rows of each of their groups, for
+ * Forward those up to the first that fits the frame's last key, for Backward those from the end back to the last that fits
+ * its first key, for Nearest all, or, if the frame has one key only there and a held row has it, those from the end back to
+ * the last that has it; each is passed a few times. That is where both sides are sorted by key; where they are not (check
+ * off), every row of the frame may look at all held rows of its group. With the check on all held rows are passed. So full
+ * frames are the quickest, and right rows that are handed in before a turn wants them are passed by every turn in between,
+ * unless the strategy is Forward and the check is off.
  *
  * REFUSALS
  *

@@ -157,8 +157,8 @@ fn nearest_part(rv: &[i64], rm: &[i64], at: usize, end: usize, w: usize, v: i64,
         return Part { from: at, to: end };
     }
     let by = o.by;
-    let k = (to - 1) * w + by;
-    if rv[k] < v {
+    let last = (to - 1) * w + by;
+    if rv[last] < v {
         return Part { from: at, to: end };
     }
     Part {

@@ -27,14 +27,14 @@ returns c =
     let a = s .args in
     whole (a .o) (a .w) (a .at) (a .end) (now (a .rv)) (now (a .rm)) (s .pre .0) (s .pre .1) (a .v) (a .v)
 
-sub-k : tie.Need-sub-k
-sub-k c = search needs
+sub-last : tie.Need-sub-last
+sub-last c = search needs
 
-mul-k : tie.Need-mul-k
-mul-k c = let r = room c in let p = c .before .before .pre .0 in omega arith
+mul-last : tie.Need-mul-last
+mul-last c = let r = room c in let p = c .before .before .pre .0 in omega arith
 
-add-k : tie.Need-add-k
-add-k c = let r = room c in let p = c .before .before .pre .0 in omega arith
+add-last : tie.Need-add-last
+add-last c = let r = room c in let p = c .before .before .pre .0 in omega arith
 
 mul-if2 : tie.Need-mul-if2
 mul-if2 c = let r = room c in let p = c .before .before .pre .0 in omega arith
@@ -62,4 +62,4 @@ returns-3 c =
     near-one (a .o) (a .w) (a .at) (a .end) (now (a .rv)) (now (a .rm)) (s .pre .0) (s .pre .1) (s .pre .2) (a .v) j b h n
 
 pub nearest-part-spec : {M : Type 1} → statement M
-nearest-part-spec = tie.close (tie.spec last-fit-requires returns sub-k mul-k add-k mul-if2 shared-slice-copy-out-if2 returns-2 sub-t13 returns-3)
+nearest-part-spec = tie.close (tie.spec last-fit-requires returns sub-last mul-last add-last mul-if2 shared-slice-copy-out-if2 returns-2 sub-t13 returns-3)
