@@ -22,13 +22,13 @@ use Rattle.frames.specs.declared.Order.the-variants.{Less, Equal, Greater}
 use Rattle.frames.specs.declared.Strategy.the-variants.{Backward, Forward, Nearest}
 use Rattle.matching.specs.Match.{onSide, matchIn}
 use Rattle.matching.specs.Walk.{between}
-use Rattle.matching.specs.Moves.{keyAt, NotAbove, fitsKey}
+use Rattle.matching.specs.Moves.{FirstKey, keyAt, NotAbove, fitsKey}
 use Rattle.matching.proofs.ScanLaws.{present}
 use Rattle.matching.proofs.MayLaws.{never, back-side}
 use Rattle.matching.proofs.GroupLaws.{map-same}
 use Rattle.matching.proofs.BestLaws.{key-at, none-null}
 use Rattle.matching.proofs.RestLaws.{all-between, sorted-rising}
-use Rattle.candidates.specs.Part.{FirstKey, LastFit, FirstFit, Cut, LeftRun, Candidates}
+use Rattle.candidates.specs.Part.{LastFit, FirstFit, Cut, LeftRun, Candidates}
 use Rattle.candidates.specs.declared.Part.{Part}
 use Rattle.candidates.proofs.CutLaws.{backward-cut, backward-whole, forward-cut, forward-whole, nearest-cut}
 

@@ -2,24 +2,17 @@
 use mathlib.Core.Path.{_≡_}
 use mathlib.Core.Bool.{Bool, true, false}
 use mathlib.Core.List.{List, map}
-use Prim.Native.Nat.{ℕ, _+_, _-_, _*_, _≤_, _<_}
+use Prim.Native.Nat.{ℕ, _+_, _-_, _≤_, _<_}
 use lib.IntN.{ℤ}
-use Rattle.frames.specs.Cells.{Cell, value, isNull, Words}
+use Rattle.frames.specs.Cells.{Cell, value, Words}
 use Rattle.frames.specs.Order.{keyOf}
-use Rattle.frames.specs.Room.{cellAt, RowsIn}
+use Rattle.frames.specs.Room.{RowsIn}
 use Rattle.frames.specs.declared.Options.{Options}
 use Rattle.frames.specs.declared.Strategy.the-variants.{Backward, Forward}
 use Rattle.matching.specs.Match.{matchIn}
 use Rattle.matching.specs.Walk.{between}
 use Rattle.matching.specs.Moves.{keysSorted, NotAbove, fitsKey}
 use Rattle.candidates.specs.declared.Part.{Part}
-
--- Row r is the first of from..to that has a key, or none has one and r is `to`.
-pub record FirstKey (o : Options) (w from to : ℕ) (ms : Words) (r : ℕ) : Type 0 where
-  pub start : from ≤ r
-  pub within : r ≤ to
-  pub before : (vs : Words) (k : ℕ) → from ≤ k → k < r → isNull (cellAt (k * w + o .by) vs ms) ≡ true
-  pub keyed : (vs : Words) → r < to → isNull (cellAt (r * w + o .by) vs ms) ≡ false
 
 -- Row r − 1 is the last of at..end that fits v for Backward, or none does and r is `at`.
 pub record LastFit (eq : Bool) (key : ℕ → Cell) (at end : ℕ) (v : Cell) (r : ℕ) : Type 0 where

@@ -1,18 +1,18 @@
 // Candidates: the part of a right run outside of which no row of a sorted left run finds its match.
+use cursor::first_key;
 use fits::fits_key;
 use frames::Options;
 use frames::Strategy;
-use keyed::null_at;
 use options::strategy_of;
 ghost use mathlib.Core.Path.{_≡_};
 ghost use mathlib.Core.Bool.{true};
 ghost use Prim.Native.Nat.{_≤_};
 ghost use Rattle.frames.specs.Cells.{value};
 ghost use Rattle.frames.specs.Options.{strategyOf};
-ghost use Rattle.frames.specs.Room.{cellAt, CellIn, KeysIn, RowsIn};
+ghost use Rattle.frames.specs.Room.{cellAt, CellIn, RowsIn};
 ghost use Rattle.frames.specs.declared.Strategy.the-variants.{Backward, Forward, Nearest};
 ghost use Rattle.matching.specs.Moves.{fitsKey, keyAt};
-ghost use Rattle.candidates.specs.Part.{FirstKey, LastFit, FirstFit, Cut, LeftRun, Candidates};
+ghost use Rattle.candidates.specs.Part.{LastFit, FirstFit, Cut, LeftRun, Candidates};
 
 // Rows from..to of a run.
 pub struct Part {
@@ -192,23 +192,6 @@ fn part_of(
             nearest_part(rv, rm, at, end, w, f, o)
         }
     }
-}
-
-// The first row of from..to that has a key; `to` where none has.
-fn first_key(marks: &[i64], from: usize, to: usize, w: usize, o: Options) -> usize
-    requires { ⌜ KeysIn o w to (now marks) × (from ≤ to) ⌝ }
-    ensures { λ r. ⌜ FirstKey o w from to (now (marks .entry)) r ⌝ }
-{
-    let by = o.by;
-    let mut i = from;
-    while i < to {
-        let k = i * w + by;
-        if !null_at(marks, k) {
-            return i;
-        }
-        i += 1;
-    }
-    i
 }
 
 // The part of right rows at..end outside of which no left row of from..to, which are sorted by key, finds its match.

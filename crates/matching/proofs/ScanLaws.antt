@@ -1,6 +1,6 @@
 -- The tests of the leaves: of a key's side, of two distances, of the tolerance, of two rows' runs. Assumes nothing.
 use mathlib.Core.Path.{_≡_, refl, sym}
-use mathlib.Core.Bool.{Bool, true, false, cond, not, _&&_, _||_, or-true, or-false}
+use mathlib.Core.Bool.{Bool, true, false, cond, _&&_, _||_, or-true, or-false}
 use mathlib.Core.List.{List}
 use mathlib.Core.Logic.{_⊎_}
 use Prim.Native.Nat.{ℕ, _≤_, _<_}
@@ -29,30 +29,25 @@ present v m = by (isZero m)
     by true e = cc
     by false e = refl
 
--- ---- two neighbouring keys: whether the first is greater than the second
-pub falls-null : (x y : Cell) → isNull y ≡ true → not (isNull x) ≡ isGreater (cmpCell keyRule x y)
-falls-null null null e = refl
-falls-null (value a) null e = refl
-falls-null x (value b) e = cc
+-- ---- two neighbouring keys, of which the first is there: whether it is greater than the second
+falls-null : (x y : Cell) → isNull x ≡ false → isNull y ≡ true → isGreater (cmpCell keyRule x y) ≡ true
+falls-null null y e f = cc
+falls-null (value a) null e f = refl
+falls-null (value a) (value b) e f = cc
 
-module _ (va ma vb mb : ℤ) (n : isNull (cellOf vb mb) ≡ false) where
-  pub falls-less : ltZ vb va ≡ true → not (isNull (cellOf va ma)) ≡ isGreater (cmpCell keyRule (cellOf va ma) (cellOf vb mb))
-  falls-less h = rw (present vb mb n) (by (isZero ma))
-    where
-      by : (z : Bool) → not (isNull (cond z null (value va))) ≡ isGreater (cmpCell keyRule (cond z null (value va)) (value vb))
-      by true = refl
-      by false = rw (less-greater cmpZ-is vb va (rw h))
+module _ (va ma vb mb : ℤ) (k : isNull (cellOf va ma) ≡ false) where
+  pub falls-end : isNull (cellOf vb mb) ≡ true → isGreater (cmpCell keyRule (cellOf va ma) (cellOf vb mb)) ≡ true
+  falls-end n = falls-null (cellOf va ma) (cellOf vb mb) k n
 
-  pub falls-not : ltZ vb va ≡ false → false ≡ isGreater (cmpCell keyRule (cellOf va ma) (cellOf vb mb))
-  falls-not h = rw (present vb mb n) (by (isZero ma))
+  pub falls-less : isNull (cellOf vb mb) ≡ false → ltZ vb va ≡ true → isGreater (cmpCell keyRule (cellOf va ma) (cellOf vb mb)) ≡ true
+  falls-less n h = rw (present va ma k, present vb mb n, less-greater cmpZ-is vb va (rw h))
+
+  pub falls-not : isNull (cellOf vb mb) ≡ false → ltZ vb va ≡ false → isGreater (cmpCell keyRule (cellOf va ma) (cellOf vb mb)) ≡ false
+  falls-not n h = rw (present va ma k, present vb mb n, h) (below (ltZ va vb))
     where
-      below : (t : Bool) → false ≡ isGreater (cond t Less Equal)
+      below : (t : Bool) → isGreater (cond t Less Equal) ≡ false
       below true = refl
       below false = refl
-
-      by : (z : Bool) → false ≡ isGreater (cmpCell keyRule (cond z null (value va)) (value vb))
-      by true = refl
-      by false = rw h (below (ltZ va vb))
 
 -- ---- two distances, and what decides a tie
 module _ (x y : ℕ) (z : Bool) where

@@ -8,8 +8,8 @@ use denote.Ref.{now}
 use Rattle.frames.specs.Cells.{isNull, Words}
 use Rattle.frames.specs.Room.{cellAt}
 use Rattle.frames.proofs.RowLaws.{row-room}
-use Rattle.candidates.proofs.first_key.Statement.{statement}
-use Rattle.candidates.proofs.first_key.Tie as tie
+use Rattle.cursor.proofs.first_key.Statement.{statement}
+use Rattle.cursor.proofs.first_key.Tie as tie
 
 abbrev Inv-loop : tie.InvT-loop
 Inv-loop marks from to w by i₀ i = (from ≤ i) × (i ≤ to) × ((vs : Words) (k : ℕ) → from ≤ k → k < i → isNull (cellAt (k * w + by) vs marks) ≡ true)
