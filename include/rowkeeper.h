@@ -93,11 +93,14 @@
  * COST
  *
  * A left or a right call costs the words of its frame, whatever is held; one that passes the area's end also moves what is
- * live to the front. A turn that writes costs the rows of its frame and the held rows of their groups, each passed a few
- * times, if both are sorted by key; if they are not (check off), every row of the frame looks at all held rows of its
- * group. With the check on, all held rows are passed. So full frames are the quickest, and right rows that are handed in
- * before a turn wants them are passed by every turn in between. docs/BENCH.md has figures: a join of a million rows a side
- * takes 21 to 51 ns a left row in frames of 4,096, all calls included.
+ * live to the front. A turn that writes costs the rows of its frame and some of the held rows of their groups, each passed
+ * a few times: for Forward those up to the first that fits the frame's last key of that group; for Backward those from the
+ * end back to the last that fits its first key; for Nearest all, or, if the frame has a single key in that group and a held
+ * row has it, those from the end back to the last that has it. That is so if both sides are sorted by key; if they are not
+ * (check off), every row of the frame may look at all held rows of its group. With the check on all held rows are passed.
+ * So full frames are the quickest, equal keys cost no more than others, and right rows that are handed in before a turn
+ * wants them are passed by every turn in between, unless the strategy is Forward and the check is off. docs/BENCH.md has
+ * the figures.
  *
  * REFUSALS
  *
