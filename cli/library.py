@@ -45,8 +45,8 @@ class RememberedRow(ctypes.Structure):
 
 
 class JoinWords(ctypes.Structure):
-    """A join: 44 words."""
-    _fields_ = [('options', Options), ('base', c_uint64), ('held', c_uint64), ('pruned', c_uint64),
+    """A join: 45 words, the first of which tells their layout."""
+    _fields_ = [('layout', c_uint64), ('options', Options), ('base', c_uint64), ('held', c_uint64), ('pruned', c_uint64),
                 ('queue_start', c_uint64), ('queue_words', c_uint64), ('state', c_uint64), ('right_ended', c_uint64),
                 ('failed', c_uint64), ('sequence', c_uint64), ('last_left', RememberedRow), ('last_right', RememberedRow)]
 

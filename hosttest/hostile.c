@@ -156,11 +156,20 @@ static size_t alter_frame(size_t len) {
     }
 }
 
+/* The first word of a join of another layout: another version, the first word of joins that had none, any word. */
+static uint64_t other_layout(void) {
+    switch (below(3)) {
+    case 0: return ROWKEEPER_LAYOUT - 1 + 2 * below(2);
+    case 1: return below(5);
+    default: return (uint64_t)any_word();
+    }
+}
+
 /* Alters a word of the join so that it may still hold together. */
 static void alter_join(void) {
     rowkeeper_join *j = &now.join;
     uint64_t capacity = now.right_len / (2 * (j->options.by % 8 + 1));
-    switch (below(14)) {
+    switch (below(15)) {
     case 0: j->base = any_count(j->base, capacity - j->held % (capacity + 1)); break;
     case 1: j->held = any_count(j->held, capacity - j->base % (capacity + 1)); break;
     case 2: j->pruned = percent(50) ? INT64_MAX - j->held - below(40) : any_count(j->pruned, INT64_MAX); break;
@@ -173,6 +182,7 @@ static void alter_join(void) {
     case 9: j->options = any_options(); break;
     case 10: ((int64_t *)&j->last_left)[below(11)] = percent(50) ? 1 : any_word(); break;
     case 11: ((int64_t *)&j->last_right)[below(11)] = percent(50) ? 1 : any_word(); break;
+    case 12: j->layout = percent(50) ? ROWKEEPER_LAYOUT : other_layout(); break;
     default: ((int64_t *)j)[below(JOIN_WORDS)] = any_word(); break;
     }
 }
@@ -200,12 +210,13 @@ static int alter_host(void) {
     return joins;
 }
 
-/* Random words for join and areas. */
+/* Random words for join and areas; most joins have the layout that is read. */
 static void random_host(void) {
     size_t i;
     now.left_len = any_length();
     now.right_len = any_length();
     for (i = 0; i < JOIN_WORDS; i++) ((int64_t *)&now.join)[i] = any_word();
+    if (percent(80)) now.join.layout = ROWKEEPER_LAYOUT;
     for (i = 0; i < now.left_len; i++) now.left[i] = any_word();
     for (i = 0; i < now.right_len; i++) now.right[i] = any_word();
 }
@@ -445,6 +456,7 @@ static int open_host(void) {
     attempt a;
     size_t i;
     memset(&now.join, 0, sizeof now.join);
+    now.join.layout = ROWKEEPER_LAYOUT;
     now.join.options = o;
     now.gathers = percent(40);
     now.left_len = now.gathers ? 60 + below(600) : any_length();

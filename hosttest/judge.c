@@ -22,7 +22,7 @@ int judge_bad_options(const rowkeeper_options *o) {
 
 /* Whether no join has these numbers. */
 static int no_join(const rowkeeper_join *j) {
-    if (strange_flags(&j->options) || j->options.strategy > 255) return 1;
+    if (j->layout != ROWKEEPER_LAYOUT || strange_flags(&j->options) || j->options.strategy > 255) return 1;
     return j->state > 2 || j->right_ended > 1 || j->failed > 1 || j->last_left.some > 1 || j->last_right.some > 1;
 }
 
@@ -186,7 +186,7 @@ static int moved_on(const rowkeeper_join *was, const rowkeeper_join *now, uint64
     if (now->queue_start != was->queue_start + frames || now->queue_words != was->queue_words - frames) return 0;
     if (now->sequence != was->sequence + 2 * turns) return 0;
     if (now->last_left.some > 1 || now->last_right.some > 1) return 0;
-    return memcmp(&was->options, &now->options, sizeof was->options) == 0 && now->state == was->state &&
+    return now->layout == was->layout && memcmp(&was->options, &now->options, sizeof was->options) == 0 && now->state == was->state &&
            now->right_ended == was->right_ended;
 }
 

@@ -14,23 +14,23 @@
 
 HOLDS(options_size, sizeof(rowkeeper_options) == 104);
 HOLDS(row_size, sizeof(rowkeeper_row) == 88);
-HOLDS(join_size, sizeof(rowkeeper_join) == 352);
-HOLDS(took_size, sizeof(rowkeeper_took) == 360);
-HOLDS(ported_size, sizeof(rowkeeper_ported) == 384);
-HOLDS(turned_size, sizeof(rowkeeper_turned) == 376);
-HOLDS(ran_size, sizeof(rowkeeper_ran) == 384);
+HOLDS(join_size, sizeof(rowkeeper_join) == 360);
+HOLDS(took_size, sizeof(rowkeeper_took) == 368);
+HOLDS(ported_size, sizeof(rowkeeper_ported) == 392);
+HOLDS(turned_size, sizeof(rowkeeper_turned) == 384);
+HOLDS(ran_size, sizeof(rowkeeper_ran) == 392);
 HOLDS(written_size, sizeof(rowkeeper_written) == 16);
 HOLDS(options_at, AT(rowkeeper_options, by) == 0 && AT(rowkeeper_options, strategy) == 1 &&
                       AT(rowkeeper_options, allow_eq) == 2 && AT(rowkeeper_options, tolerance) == 3 &&
                       AT(rowkeeper_options, check) == 4 && AT(rowkeeper_options, descending) == 5 &&
                       AT(rowkeeper_options, nulls_last) == 9);
 HOLDS(row_at, AT(rowkeeper_row, some) == 0 && AT(rowkeeper_row, values) == 1 && AT(rowkeeper_row, marks) == 6);
-HOLDS(counters_at, AT(rowkeeper_join, options) == 0 && AT(rowkeeper_join, base) == 13 && AT(rowkeeper_join, held) == 14 &&
-                       AT(rowkeeper_join, pruned) == 15 && AT(rowkeeper_join, queue_start) == 16 &&
-                       AT(rowkeeper_join, queue_words) == 17);
-HOLDS(flags_at, AT(rowkeeper_join, state) == 18 && AT(rowkeeper_join, right_ended) == 19 &&
-                    AT(rowkeeper_join, failed) == 20 && AT(rowkeeper_join, sequence) == 21 &&
-                    AT(rowkeeper_join, last_left) == 22 && AT(rowkeeper_join, last_right) == 33);
+HOLDS(counters_at, AT(rowkeeper_join, layout) == 0 && AT(rowkeeper_join, options) == 1 && AT(rowkeeper_join, base) == 14 &&
+                       AT(rowkeeper_join, held) == 15 && AT(rowkeeper_join, pruned) == 16 &&
+                       AT(rowkeeper_join, queue_start) == 17 && AT(rowkeeper_join, queue_words) == 18);
+HOLDS(flags_at, AT(rowkeeper_join, state) == 19 && AT(rowkeeper_join, right_ended) == 20 &&
+                    AT(rowkeeper_join, failed) == 21 && AT(rowkeeper_join, sequence) == 22 &&
+                    AT(rowkeeper_join, last_left) == 23 && AT(rowkeeper_join, last_right) == 34);
 HOLDS(answers_at, AT(rowkeeper_took, refusal) == 0 && AT(rowkeeper_took, join) == 1 && AT(rowkeeper_ported, refusal) == 0 &&
                       AT(rowkeeper_ported, left) == 1 && AT(rowkeeper_ported, right) == 2 &&
                       AT(rowkeeper_ported, send) == 3 && AT(rowkeeper_ported, join) == 4 &&
@@ -46,6 +46,7 @@ static int failed;
 
 /* For each word of a join a value that is refused by 2, or 0 for words that may say anything. */
 static const uint64_t BAD[WORDS] = {
+    ROWKEEPER_LAYOUT + 1,                                                /* layout */
     5, 3, 2, (uint64_t)-2, 2, 2, 2, 2, 2, 2, 2, 2, 2,                    /* options */
     7, 7, (uint64_t)1 << 63, LEFT + 1, LEFT + 1, 3, 2, 2, 1,             /* counters, state, flags, sequence */
     2, 0, 0, 0, 0, 0, 0, 0, 0, 0, 0, 2, 0, 0, 0, 0, 0, 0, 0, 0, 0, 0     /* remembered rows */
@@ -80,21 +81,21 @@ static void answers(rowkeeper_join join) {
     rowkeeper_took took = rowkeeper_right(join, left, LEFT, right, RIGHT, FOUR, 6);
     rowkeeper_turned turned;
     rowkeeper_ported ported;
-    want(took.refusal == 0 && took.join.held == 1, "right", 14);
+    want(took.refusal == 0 && took.join.held == 1, "right", 15);
     took = rowkeeper_left(took.join, left, LEFT, right, RIGHT, FIVE, 6);
-    want(took.refusal == 0 && took.join.queue_words == 6, "left", 17);
+    want(took.refusal == 0 && took.join.queue_words == 6, "left", 18);
     turned = rowkeeper_turn(took.join, left, LEFT, right, RIGHT, out, 4);
-    want(turned.answer == ROWKEEPER_WANTS_RIGHT && turned.refusal == 0, "wants right", 19);
+    want(turned.answer == ROWKEEPER_WANTS_RIGHT && turned.refusal == 0, "wants right", 20);
     took = rowkeeper_end_right(took.join, left, LEFT, right, RIGHT);
     turned = rowkeeper_turn(took.join, left, LEFT, right, RIGHT, out, 4);
-    want(turned.answer == ROWKEEPER_WROTE && turned.sequence == 0 && turned.join.sequence == 2, "wrote", 21);
-    want(out[0] == 1 && out[1] == 1 && out[2] == 0 && out[3] == 1, "the output", 0);
+    want(turned.answer == ROWKEEPER_WROTE && turned.sequence == 0 && turned.join.sequence == 2, "wrote", 22);
+    want(out[0] == 1 && out[1] == 1 && out[2] == 0 && out[3] == 1, "the output", NO_WORD);
     ported = rowkeeper_ports(turned.join, left, LEFT, right, RIGHT, ROWKEEPER_PORT_READY, ROWKEEPER_PORT_BLOCKED,
                              ROWKEEPER_PORT_READY);
     want(ported.refusal == 0 && ported.left == ROWKEEPER_PORT_BLOCKED && ported.right == ROWKEEPER_PORT_READY &&
-             ported.send == ROWKEEPER_PORT_BLOCKED && ported.join.state == ROWKEEPER_RUNNING, "ports", 18);
+             ported.send == ROWKEEPER_PORT_BLOCKED && ported.join.state == ROWKEEPER_RUNNING, "ports", 19);
     turned = rowkeeper_turn(turned.join, left, LEFT, right, RIGHT, out, 4);
-    want(turned.answer == ROWKEEPER_IDLE && turned.sequence == 0, "idle", 17);
+    want(turned.answer == ROWKEEPER_IDLE && turned.sequence == 0, "idle", 18);
 }
 
 /* Whether a run says this, and leaves so many words waiting. */
@@ -113,17 +114,17 @@ static void runs(rowkeeper_join join) {
     join = rowkeeper_left(join, left, LEFT, right, RIGHT, FIVE, 6).join;
     join = rowkeeper_left(join, left, LEFT, right, RIGHT, SIX, 6).join;
     ran = rowkeeper_run(join, 9, left, LEFT, right, RIGHT, out, 9);
-    want(says(ran, 0, 0, ROWKEEPER_WANTS_RIGHT, 0, 12), "a run that wants right", 19);
+    want(says(ran, 0, 0, ROWKEEPER_WANTS_RIGHT, 0, 12), "a run that wants right", 20);
     join = rowkeeper_end_right(join, left, LEFT, right, RIGHT).join;
     ran = rowkeeper_run(join, 0, left, LEFT, right, RIGHT, out, 9);
-    want(says(ran, 0, 0, ROWKEEPER_TURNS_USED, 0, 12), "a run of no turns", 17);
+    want(says(ran, 0, 0, ROWKEEPER_TURNS_USED, 0, 12), "a run of no turns", 18);
     ran = rowkeeper_run(join, 1, left, LEFT, right, RIGHT, out, ROWKEEPER_RUN_WORDS(1, 1));
-    want(says(ran, 1, 4, ROWKEEPER_TURNS_USED, 0, 6), "a run of one turn", 17);
+    want(says(ran, 1, 4, ROWKEEPER_TURNS_USED, 0, 6), "a run of one turn", 18);
     ran = rowkeeper_run(join, 9, left, LEFT, right, RIGHT, out, ROWKEEPER_RUN_WORDS(2, 1) - 1);
-    want(says(ran, 1, 4, ROWKEEPER_REFUSED, ROWKEEPER_NO_ROOM, 6) && out[4] == -1, "a run without room", 17);
+    want(says(ran, 1, 4, ROWKEEPER_REFUSED, ROWKEEPER_NO_ROOM, 6) && out[4] == -1, "a run without room", 18);
     ran = rowkeeper_run(join, 9, left, LEFT, right, RIGHT, out, 9);
-    want(says(ran, 2, 8, ROWKEEPER_IDLE, 0, 0), "a run that is idle at last", 17);
-    want(memcmp(out, BOTH, sizeof out) == 0, "a run's output", 0);
+    want(says(ran, 2, 8, ROWKEEPER_IDLE, 0, 0), "a run that is idle at last", 18);
+    want(memcmp(out, BOTH, sizeof out) == 0, "a run's output", NO_WORD);
 }
 
 /* Whether spans answer so, over the points 10, 20, 30 and a pass from 10 to 30; a refused call must leave the output. */
@@ -155,6 +156,35 @@ static void spans(void) {
     want(out[0] == -1 && out[1] == -1, "spans, the output of a refused call", NO_WORD);
 }
 
+/* What a join of another layout gets: 2 from every call, a run of no turns too, and itself as it came. The first word of
+   joins from before there was a layout word is `by`; the last word here has the bytes of the layout in the other order. */
+static void other_layouts(rowkeeper_join join) {
+    static const uint64_t OTHER[] = {0, 1, 4, ROWKEEPER_LAYOUT - 1, ROWKEEPER_LAYOUT + 1, UINT64_MAX, 0x017065656b776f72u};
+    static const int64_t NONE[] = {0, 2};
+    int64_t out[2] = {-1, -1};
+    size_t i;
+    for (i = 0; i < sizeof OTHER / sizeof *OTHER; i++) {
+        rowkeeper_took took;
+        rowkeeper_turned turned;
+        rowkeeper_ported ported;
+        rowkeeper_ran ran;
+        join.layout = OTHER[i];
+        took = rowkeeper_left(join, left, LEFT, right, RIGHT, NONE, 2);
+        want(took.refusal == 2 && memcmp(&took.join, &join, sizeof join) == 0, "left of another layout", 0);
+        took = rowkeeper_right(join, left, LEFT, right, RIGHT, NONE, 2);
+        want(took.refusal == 2 && memcmp(&took.join, &join, sizeof join) == 0, "right of another layout", 0);
+        took = rowkeeper_end_right(join, left, LEFT, right, RIGHT);
+        want(took.refusal == 2 && memcmp(&took.join, &join, sizeof join) == 0, "the end of another layout", 0);
+        ported = rowkeeper_ports(join, left, LEFT, right, RIGHT, 1, 1, 1);
+        want(ported.refusal == 2 && memcmp(&ported.join, &join, sizeof join) == 0, "ports of another layout", 0);
+        turned = rowkeeper_turn(join, left, LEFT, right, RIGHT, out, 2);
+        want(turned.refusal == 2 && memcmp(&turned.join, &join, sizeof join) == 0, "a turn of another layout", 0);
+        ran = rowkeeper_run(join, 0, left, LEFT, right, RIGHT, out, 2);
+        want(ran.refusal == 2 && memcmp(&ran.join, &join, sizeof join) == 0, "a run of another layout", 0);
+    }
+    want(out[0] == -1 && out[1] == -1, "the output of a refused call", NO_WORD);
+}
+
 /* Alters each word of a fresh join in turn, then looks at each kind of answer; at last at spans, which have no join. */
 int main(void) {
     rowkeeper_options options;
@@ -166,17 +196,21 @@ int main(void) {
     options.allow_eq = 1;
     options.tolerance = ROWKEEPER_NO_TOLERANCE;
     took = rowkeeper_open(options);
-    want(took.refusal == 0, "opening", 0);
+    want(took.refusal == 0 && took.join.layout == ROWKEEPER_LAYOUT, "opening", 0);
     for (word = 0; word < WORDS; word++) {
         uint64_t refusal = end_with(took.join, word, BAD[word] != 0 ? BAD[word] : 77);
         want(refusal == (BAD[word] != 0 ? 2u : 0u), "another answer than the field gives", word);
     }
-    want(end_with(took.join, 20, 1) == ROWKEEPER_FAILED, "failed", 20);
-    want(end_with(took.join, 19, 1) == ROWKEEPER_CLOSED, "right_ended", 19);
-    want(end_with(took.join, 18, ROWKEEPER_DONE) == ROWKEEPER_CLOSED, "state", 18);
+    want(end_with(took.join, 21, 1) == ROWKEEPER_FAILED, "failed", 21);
+    want(end_with(took.join, 20, 1) == ROWKEEPER_CLOSED, "right_ended", 20);
+    want(end_with(took.join, 19, ROWKEEPER_DONE) == ROWKEEPER_CLOSED, "state", 19);
+    other_layouts(took.join);
     answers(took.join);
     runs(took.join);
     spans();
+    options.by = 5;
+    took = rowkeeper_open(options);
+    want(took.refusal == 1 && took.join.layout == ROWKEEPER_LAYOUT, "a refused opening", 0);
     if (!failed) printf("sizes, offsets, each field of a join where the archive reads it, and each answer\n");
     return failed;
 }

@@ -36,6 +36,12 @@
  * can be copied, or kept in a file and read back later, by another process. Nothing in them is trusted: every call checks the
  * join that comes in, and any words whatever in joins, areas and frames are safe. Words that encode no join are refused.
  *
+ * The first word of a join tells its layout: the order and the meaning of all its words, and of those of its areas. It is
+ * ROWKEEPER_LAYOUT in every join that this library returns. Promised from version to version: a saved join is read by every
+ * release with the same layout word; a release with another one refuses it by 2 in every call, a run of no turns included,
+ * returns it as it came and alters no word. So a file of another version is never misread. Joins of releases from before
+ * there was a layout word have 44 words, and their first one is at most 4: they are refused too.
+ *
  * FRAMES
  *
  * A frame is 2 + 2nc words of 64 bits: the number of rows n (0 to 4,096), the number of columns c, then n × c values,
@@ -156,9 +162,9 @@ enum {
        1. There is no join then: every call refuses by 2 what is returned beside the refusal, except that a run of no turns
        tries nothing and so refuses nothing. Spans: a flag that is neither 0 nor 1. */
     ROWKEEPER_BAD_OPTIONS = 1,
-    /* The join does not hold together or does not fit its areas: options as in 1, base + held above R, queue_start +
-       queue_words above the left area, pruned + held above 2^63 - 1, an odd sequence, or a state, flag or port code
-       that does not exist. */
+    /* The join does not hold together or does not fit its areas: another layout word, options as in 1, base + held above R,
+       queue_start + queue_words above the left area, pruned + held above 2^63 - 1, an odd sequence, or a state, flag or port
+       code that does not exist. */
     ROWKEEPER_BAD_JOIN = 2,
     /* An earlier turn found rows out of order and marked the join failed; every later call is refused by this number. */
     ROWKEEPER_FAILED = 3,
@@ -198,8 +204,12 @@ typedef struct rowkeeper_row {
     int64_t marks[5];
 } rowkeeper_row;
 
-/* A join: 44 words, no padding. A host may read every field and need not. */
+/* join.layout: the bytes "rowkeep" from the highest down, then the layout's version, 1. */
+#define ROWKEEPER_LAYOUT ((uint64_t)0x726f776b65657001u)
+
+/* A join: 45 words, no padding. A host may read every field and need not. */
 typedef struct rowkeeper_join {
+    uint64_t layout;         /* ROWKEEPER_LAYOUT */
     rowkeeper_options options;
     uint64_t base;           /* the place of the first held row in the right area, in rows */
     uint64_t held;           /* right rows held */
@@ -300,8 +310,8 @@ rowkeeper_turned rowkeeper_turn(rowkeeper_join join, const int64_t *left, size_t
    `words` words: what each turn wrote, in order. The first word of each part is its n, so the next part begins 2 + 2n words
    further on. The words behind them are untouched. The frames' numbers are not reported: the first is the sequence of the
    join that came in, and each further one is 2 more. With `turns` 0 no turn is tried: nothing is refused and the join comes
-   back as it came, whatever it is; only numbers that no join has (a flag above 1, a state above 2, a strategy above 255) are
-   refused by 2. Both areas are only read in every case. No run goes on for ever: each turn takes a waiting frame. */
+   back as it came, whatever it is; only numbers that no join has (another layout word, a flag above 1, a state above 2, a
+   strategy above 255) are refused by 2. Both areas are only read in every case. No run goes on for ever: each turn takes a waiting frame. */
 rowkeeper_ran rowkeeper_run(rowkeeper_join join, size_t turns, const int64_t *left, size_t left_len, const int64_t *right,
                             size_t right_len, int64_t *out, size_t out_len);
 

@@ -174,8 +174,8 @@ class Words(unittest.TestCase):
         self.assertTrue(parse(words + ['--no-check', '--check']).check)
 
     def test_layout(self):
-        """A join is 44 words without padding."""
-        self.assertEqual(8 * 44, JoinWords.last_right.offset + JoinWords.last_right.size)
+        """A join is 45 words without padding."""
+        self.assertEqual(8 * 45, JoinWords.last_right.offset + JoinWords.last_right.size)
 
 
 class Shown(unittest.TestCase):

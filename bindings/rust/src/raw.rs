@@ -22,10 +22,14 @@ pub struct Row {
     pub marks: [i64; 5],
 }
 
+/// The layout of the joins of this version: their first word.
+pub const LAYOUT: u64 = 0x726f_776b_6565_7001;
+
 /// A join.
 #[repr(C)]
 #[derive(Clone, Copy, Debug, Default, PartialEq, Eq)]
 pub struct Join {
+    pub layout: u64,
     pub options: Options,
     pub base: u64,
     pub held: u64,
@@ -90,12 +94,12 @@ pub struct Written {
 
 /// How many words a join is.
 pub const JOIN_WORDS: usize = size_of::<Join>() / 8;
-const _: () = assert!(JOIN_WORDS == 44 && align_of::<Join>() == 8 && size_of::<usize>() == 8);
+const _: () = assert!(JOIN_WORDS == 45 && align_of::<Join>() == 8 && size_of::<usize>() == 8);
 
 impl Join {
     /// The join's words, in the order of the fields.
     pub fn to_words(self) -> [i64; JOIN_WORDS] {
-        // SAFETY: the struct is 44 fields of 64 bits without padding, and any bits are a word.
+        // SAFETY: the struct is 45 fields of 64 bits without padding, and any bits are a word.
         unsafe { std::mem::transmute(self) }
     }
 

@@ -2,10 +2,11 @@
 use mathlib.Core.Path.{_≡_, refl, sym, _∙_, ap, subst}
 use mathlib.Core.Bool.{Bool, true, false, cond, _&&_}
 use mathlib.Core.List.{[]}
-use mathlib.Core.Option.{some}
+use mathlib.Core.Option.{none, some}
 use Prim.Native.Nat.{ℕ, zero, suc, _<_}
 use native.Mathlib.Omega.{arith}
 use borrow.Author.Tests.{not-true}
+use lib.Dec.{eqb}
 use lib.ListN.{take, drop}
 use Rattle.frames.specs.Cells.{Words}
 use Rattle.frames.specs.Options.{badOptions}
@@ -28,10 +29,10 @@ use Rattle.answers.specs.declared.Stop.{Stop}
 use Rattle.runs.specs.Run.{Ran, ran, andThen, stopOf, turnWords, runCall}
 use Rattle.node.proofs.Good.{opened-bad}
 use Rattle.codes.specs.Codes.{isCode, portOf, tookCode}
-use Rattle.convert.specs.Convert.{isOptions, optionsOf, decodeOptions, isJoin, joinOf, decode}
+use Rattle.convert.specs.Convert.{layoutNow, isOptions, optionsOf, decodeOptions, isJoin, joinOf, decode}
 use Rattle.told.specs.Told.{freshHost, Made, refusedRun}
 use Rattle.hostcalls.specs.Calls.{HostAfter, afterHost, encodeAfter, byJoin, openHost, leftHost, rightHost, endHost, portsHost, turnHost, ranAfter, runHost}
-use Rattle.hostcalls.specs.Promises.{spoils, stays, staysAt, noTurn, Shut, Same, Follows, Promises}
+use Rattle.hostcalls.specs.Promises.{spoils, stays, staysAt, noTurn, Shut, NoJoin, Same, Follows, Promises}
 use Rattle.convert.specs.declared.HostOptions.{HostOptions}
 use Rattle.convert.specs.declared.HostJoin.{HostJoin}
 use Rattle.told.specs.declared.HostTook.{HostTook}
@@ -235,6 +236,37 @@ shut-by h left right is = record {
     unsaid true x e = e
     unsaid false x e = refl
 
+-- ---- numbers that are no join
+-- What is read as none is no join.
+none-is : (h : HostJoin) → decode h ≡ none → isJoin h ≡ false
+unfolding decode
+none-is h e = go (isJoin h) e
+  where
+    go : (b : Bool) → cond b (some (joinOf h)) none ≡ none → b ≡ false
+    go false x = refl
+    go true x = let z : _≡_ {A = ℕ} 0 1 = cc in absurd (omega arith)
+
+foreign : (h : HostJoin) (left right : Words) → isJoin h ≡ false → NoJoin h left right
+unfolding leftHost rightHost endHost portsHost turnHost runHost
+foreign h left right e = record {
+  by-left = λ f. by-none h (afterHost (Refused BadJoin) h left right []) (λ j. leftCall j left right f) e;
+  by-right = λ f. by-none h (afterHost (Refused BadJoin) h left right []) (λ j. rightCall j left right f) e;
+  by-end = by-none h (afterHost (Refused BadJoin) h left right []) (λ j. endCall j left right) e;
+  by-ports = λ l r s. either-none (isCode l && isCode r && isCode s)
+      (by-none h (afterHost (PortsRefused BadJoin) h left right []) (λ j. portsCall j left right (portOf l) (portOf r) (portOf s)) e);
+  by-turn = λ out. by-none h (afterHost (TurnRefused BadJoin) h left right out) (λ j. turnCall j left right out) e;
+  by-run = λ k out. by-none h (afterHost refusedRun h left right out) (λ j. ranAfter (runCall k j left right out) left right) e;
+}
+  where
+    either-none : {A : Type 0} (t : Bool) {x y : A} → x ≡ y → cond t x y ≡ y
+    either-none true p = p
+    either-none false p = refl
+
+-- A join of another layout is none.
+layout-none : (h : HostJoin) → eqb (h .layout) layoutNow ≡ false → decode h ≡ none
+unfolding decode isJoin
+layout-none h e = rw e
+
 -- Options that are refused meet refusal 1.
 refused-bad : (o : Options) → tookCode (openAnswer o) ≡ 1 → badOptions o ≡ true
 unfolding openAnswer
@@ -361,6 +393,8 @@ promises = record {
     by-run = run-kept h left right;
   };
   shut = λ o left right e. shut-by (openHost o .join) left right (opened o left right e);
+  no-join = λ h left right e. foreign h left right (none-is h e);
+  other-layout = layout-none;
   opens = opening;
   follows = λ h j left right e. follow h j left right (decoded h j e);
 }

@@ -507,8 +507,8 @@ fn other_word(r: &mut Random, at: usize, old: i64) -> i64 {
     const NEAR: [i64; 6] = [-2, -1, 1, 2, 3, 4];
     const ENDS: [i64; 8] = [i64::MIN, i64::MIN + 1, i64::MAX, i64::MAX - 1, i64::MAX - 3, -1, -2, -4];
     match (at, r.below(10)) {
-        (15 | 21, 0..=4) => r.pick(&ENDS),
-        (2 | 4..=12 | 18..=20 | 22 | 33, 0..=7) => r.below(2) as i64,
+        (16 | 22, 0..=4) => r.pick(&ENDS),
+        (3 | 5..=13 | 19..=21 | 23 | 34, 0..=7) => r.below(2) as i64,
         (_, 0) => r.pick(&ENDS),
         (_, 1..=6) => old.wrapping_add(r.pick(&NEAR)),
         _ => r.below(8) as i64,
@@ -519,9 +519,9 @@ fn other_word(r: &mut Random, at: usize, old: i64) -> i64 {
 fn alter_join(r: &mut Random, d: &mut Draft, c: usize) {
     let Some((words, ..)) = d.rules.all_words() else { return };
     let at = match r.below(10) {
-        0..=4 => 13 + r.below(9),
-        5 | 6 => r.below(13),
-        _ => 22 + r.below(22),
+        0..=4 => 14 + r.below(9),
+        5 | 6 => r.below(14),
+        _ => 23 + r.below(22),
     };
     d.push(Call::Put(Place::Join, at, other_word(r, at, words[at])));
     if d.rules.broken() {
@@ -534,7 +534,7 @@ fn alter_join(r: &mut Random, d: &mut Draft, c: usize) {
 
 /// The host lays down a remembered row that no turn has left there, so that the check against it decides alone.
 fn alter_row(r: &mut Random, d: &mut Draft) {
-    let first = r.pick(&[22, 33, 33]);
+    let first = r.pick(&[23, 34, 34]);
     let keys = [0, 1, 2, 5, 11, i64::MIN, i64::MAX];
     d.push(Call::Put(Place::Join, first, 1));
     for j in 0..5 {
@@ -626,11 +626,11 @@ fn run_output(r: &mut Random, rules: &Rules, k: usize, short: usize, spare: usiz
 fn alter_for_run(r: &mut Random, rules: &Rules) -> Vec<Call> {
     let Some((words, left, _)) = rules.all_words() else { return vec![] };
     let put = |at: usize, word: i64| Call::Put(Place::Join, at, word);
-    if left.get(words[16] as usize) == Some(&0) && r.percent(70) {
-        let row = (0..11).map(|j| put(33 + j, if (1..=5).contains(&j) { i64::MAX } else { 1 }));
-        return row.chain([put(4, 1), put(19, 1)]).collect();
+    if left.get(words[17] as usize) == Some(&0) && r.percent(70) {
+        let row = (0..11).map(|j| put(34 + j, if (1..=5).contains(&j) { i64::MAX } else { 1 }));
+        return row.chain([put(5, 1), put(20, 1)]).collect();
     }
-    vec![put(21, r.pick(&[-2, -4, -4, -6, -8]))]
+    vec![put(22, r.pick(&[-2, -4, -4, -6, -8]))]
 }
 
 /// A script that gets runs in it, the rules' join beside it.

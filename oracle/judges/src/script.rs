@@ -56,9 +56,9 @@ pub enum Place {
     Right,
 }
 
-/// The words of a join as the C interface lays them out (include/rowkeeper.h): 13 of options, 9 of counters and flags,
-/// and 11 for each remembered row.
-pub type JoinWords = [i64; 44];
+/// The words of a join as the C interface lays them out (include/rowkeeper.h): the layout's, 13 of options, 9 of counters
+/// and flags, and 11 for each remembered row.
+pub type JoinWords = [i64; 45];
 
 /// What `state` tells of a join.
 #[derive(Clone, Debug, PartialEq)]
