@@ -211,6 +211,7 @@ int main(void) {
     options.by = 5;
     took = rowkeeper_open(options);
     want(took.refusal == 1 && took.join.layout == ROWKEEPER_LAYOUT, "a refused opening", 0);
+    want(rowkeeper_version() == ROWKEEPER_VERSION_NUMBER, "the library has another version than the header", NO_WORD);
     if (!failed) printf("sizes, offsets, each field of a join where the archive reads it, and each answer\n");
     return failed;
 }

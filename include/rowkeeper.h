@@ -25,9 +25,10 @@
  * ROWKEEPER_WANTS_RIGHT it hands in the next right frame, or ends right if there is none; if one answers ROWKEEPER_IDLE it
  * hands in the next left frame, or is done if there is none.
  *
- * One call needs no join and no areas:
+ * Two calls need no join and no areas:
  *
  *     rowkeeper_spans       lists which points lie inside the bounds of which intervals
+ *     rowkeeper_version     the version of the library, to compare with ROWKEEPER_VERSION_NUMBER
  *
  * THE JOIN
  *
@@ -122,6 +123,9 @@ extern "C" {
 
 /* The archive is for machines with 64-bit lengths: elsewhere this line does not compile. */
 typedef char rowkeeper_lengths_have_64_bits[sizeof(size_t) == 8 ? 1 : -1];
+
+/* The version of this header as a number: major × 1,000,000 + minor × 1,000 + patch. Version 0.1.0. */
+#define ROWKEEPER_VERSION_NUMBER 1000
 
 /* The rows that a frame can have at most, and the by-columns that a join can have at most. */
 #define ROWKEEPER_MOST_ROWS 4096
@@ -264,6 +268,10 @@ typedef struct rowkeeper_written {
     uint64_t refusal;
     uint64_t rows;
 } rowkeeper_written;
+
+/* The version of the library as a number, major × 1,000,000 + minor × 1,000 + patch: ROWKEEPER_VERSION_NUMBER of the header
+   that it came with. Whether a saved join is read is not a matter of the version but of its layout word: see THE JOIN. */
+uint64_t rowkeeper_version(void);
 
 /* Opens a join: Running, right not ended, nothing held, waiting or remembered. Refused by 1 alone. */
 rowkeeper_took rowkeeper_open(rowkeeper_options options);

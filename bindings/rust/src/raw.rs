@@ -22,6 +22,9 @@ pub struct Row {
     pub marks: [i64; 5],
 }
 
+/// The version that these bindings are for: major × 1,000,000 + minor × 1,000 + patch.
+pub const VERSION_NUMBER: u64 = 1000;
+
 /// The layout of the joins of this version: their first word.
 pub const LAYOUT: u64 = 0x726f_776b_6565_7001;
 
@@ -111,6 +114,8 @@ impl Join {
 }
 
 unsafe extern "C" {
+    /// The version of the library: major × 1,000,000 + minor × 1,000 + patch.
+    pub safe fn rowkeeper_version() -> u64;
     /// Opens a join. Safe: it is lent nothing.
     pub safe fn rowkeeper_open(options: Options) -> Took;
     /// Hands in a left frame.

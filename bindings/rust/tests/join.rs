@@ -107,6 +107,13 @@ fn bad_options() {
     assert!(Join::open(&most, 0, 0).is_ok());
 }
 
+/// The library is of the version that the wrapper is for, and an opened join has its layout.
+#[test]
+fn version() {
+    assert_eq!(raw::rowkeeper_version(), raw::VERSION_NUMBER);
+    assert_eq!(Join::open(&Options::default(), 0, 0).unwrap().parts().0.layout, raw::LAYOUT);
+}
+
 /// A join as it is with one thing altered.
 fn altered(join: &Join, alter: impl Fn(&mut raw::Join)) -> Join {
     let (mut words, left, right) = join.parts();
@@ -120,6 +127,7 @@ fn refusals() {
     let mut join = Join::open(&Options::default(), 10, 4).unwrap();
     join.right(&keys(&[1, 2])).unwrap();
     let odd = altered(&join, |j| j.sequence = 1);
+    let other = altered(&join, |j| j.layout = raw::LAYOUT + 1);
     let strange = altered(&join, |j| j.state = 7);
     assert_eq!(strange.state(), None);
     let failed = altered(&join, |j| j.failed = 1);
@@ -128,6 +136,7 @@ fn refusals() {
     let frame = keys(&[3]);
     let cases = [
         (odd, Refusal::BadJoin),
+        (other, Refusal::BadJoin),
         (strange, Refusal::BadJoin),
         (failed, Refusal::Failed),
         (done, Refusal::Closed),

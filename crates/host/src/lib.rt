@@ -1,4 +1,4 @@
-// The calls for hosts in C, over structs of numbers, all of 64 bits, and words that the host lends: the exported functions alone. What each does stands in hostfeed, hostturn and spanhost.
+// The calls for hosts in C, over structs of numbers, all of 64 bits, and words that the host lends: the exported functions alone. What each does stands in hostfeed, hostturn, spanhost and version.
 use hostfeed::host_end_right;
 use hostfeed::host_left;
 use hostfeed::host_open;
@@ -7,8 +7,11 @@ use hostturn::host_ports;
 use hostturn::host_run;
 use hostturn::host_turn;
 use spanhost::spans_host;
+use version::version_now;
+ghost use mathlib.Core.Path.{_≡_};
 ghost use Rattle.hostcalls.specs.Leaves.{HostOpenLeaves, HostLeftLeaves, HostRightLeaves, HostEndLeaves, HostPortsLeaves, HostTurnLeaves, HostRunLeaves};
 ghost use Rattle.spanhost.specs.Call.{HostSpanLeaves};
+ghost use Rattle.version.specs.Version.{versionNow};
 pub use convert::HostJoin;
 pub use convert::HostOptions;
 pub use convert::HostRow;
@@ -100,6 +103,14 @@ pub extern "C" fn rowkeeper_run(
     ensures { λ r. ⌜ HostRunLeaves h k (now (left .entry)) (now (right .entry)) (now (out .entry)) r (now (out .exit)) ⌝ }
 {
     host_run(h, k, left, right, out)
+}
+
+// The version of this library as a number: major × 1,000,000 + minor × 1,000 + patch.
+#[no_mangle]
+pub extern "C" fn rowkeeper_version() -> u64
+    ensures { λ r. ⌜ r ≡ versionNow ⌝ }
+{
+    version_now()
 }
 
 // Lists which points each interval covers; lower and upper tell whether a bound is inclusive. No join has a part in it.
