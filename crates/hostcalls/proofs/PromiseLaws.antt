@@ -28,10 +28,11 @@ use Rattle.answers.specs.declared.Answer.the-variants.{Wrote, WantsRight, Idle,
 use Rattle.answers.specs.declared.Stop.{Stop}
 use Rattle.runs.specs.Run.{Ran, ran, andThen, stopOf, turnWords, runCall}
 use Rattle.node.proofs.Good.{opened-bad}
+use Rattle.moves.specs.Moves.{moveAnswer, atFront, leftMoved, rightMoved, moveCall}
 use Rattle.codes.specs.Codes.{isCode, portOf, tookCode}
 use Rattle.convert.specs.Convert.{layoutNow, isOptions, optionsOf, decodeOptions, isJoin, joinOf, decode}
 use Rattle.told.specs.Told.{freshHost, Made, refusedRun}
-use Rattle.hostcalls.specs.Calls.{HostAfter, afterHost, encodeAfter, byJoin, openHost, leftHost, rightHost, endHost, portsHost, turnHost, ranAfter, runHost}
+use Rattle.hostcalls.specs.Calls.{HostAfter, afterHost, encodeAfter, byJoin, openHost, leftHost, rightHost, endHost, moveHost, portsHost, turnHost, ranAfter, runHost}
 use Rattle.hostcalls.specs.Promises.{spoils, stays, staysAt, noTurn, Shut, NoJoin, Same, Follows, Promises}
 use Rattle.convert.specs.declared.HostOptions.{HostOptions}
 use Rattle.convert.specs.declared.HostJoin.{HostJoin}
@@ -156,6 +157,12 @@ module _ (h : HostJoin) (left right : Words) where
       keeps h left right [] (Refused BadJoin) (Refused n) (λ j. endCall j left right)
       (λ j. took-keeps (endAnswer j left right) (after Accepted (endedRight j) left right []) j left right n refl)
 
+  move-kept : (newLeft newRight : Words) (n : Refusal) → moveHost h left right newLeft newRight .answer ≡ Refused n → moveHost h left right newLeft newRight ≡ afterHost (Refused n) h newLeft newRight []
+  unfolding moveHost moveCall
+  move-kept newLeft newRight n =
+      keeps h newLeft newRight [] (Refused BadJoin) (Refused n) (λ j. moveCall j left right newLeft newRight)
+      (λ j. took-keeps (moveAnswer j left right newLeft newRight) (after Accepted (atFront j) (leftMoved j left newLeft) (rightMoved j right newRight) []) j newLeft newRight n refl)
+
   -- Where a test fails, the call is refused with everything kept.
   either : (t : Bool) (x : HostAfter Ported) (n : Refusal) → (x .answer ≡ PortsRefused n → x ≡ afterHost (PortsRefused n) h left right [])
       → cond t x (afterHost (PortsRefused BadJoin) h left right []) .answer ≡ PortsRefused n
@@ -197,6 +204,10 @@ module _ (j : Join) (left right : Words) (e : badJoin j left right ≡ true) whe
   unfolding endCall endAnswer
   end-bad = rw (e, endCall)
 
+  move-bad : (newLeft newRight : Words) → moveCall j left right newLeft newRight .answer ≡ Refused BadJoin
+  unfolding moveCall moveAnswer
+  move-bad newLeft newRight = rw (e, moveCall)
+
   ports-bad : (l r s : PortState) → portsCall j left right l r s .answer ≡ PortsRefused BadJoin
   unfolding portsCall portsAnswer
   ports-bad l r s = rw (e, portsCall)
@@ -219,11 +230,12 @@ by-bad {A} h left right out bad call is = go (isJoin h) refl
     go true e = ap (λ (y : HostAfter A). y .answer) (by-some h (afterHost bad h left right out) call e) ∙ is e
 
 shut-by : (h : HostJoin) (left right : Words) → (isJoin h ≡ true → badJoin (joinOf h) left right ≡ true) → Shut h left right
-unfolding leftHost rightHost endHost portsHost turnHost runHost
+unfolding leftHost rightHost endHost moveHost portsHost turnHost runHost
 shut-by h left right is = record {
   by-left = λ f. by-bad h left right [] (Refused BadJoin) (λ j. leftCall j left right f) (λ e. left-bad (joinOf h) left right (is e) f);
   by-right = λ f. by-bad h left right [] (Refused BadJoin) (λ j. rightCall j left right f) (λ e. right-bad (joinOf h) left right (is e) f);
   by-end = by-bad h left right [] (Refused BadJoin) (λ j. endCall j left right) (λ e. end-bad (joinOf h) left right (is e));
+  by-move = λ newLeft newRight. by-bad h newLeft newRight [] (Refused BadJoin) (λ j. moveCall j left right newLeft newRight) (λ e. move-bad (joinOf h) left right (is e) newLeft newRight);
   by-ports = λ l r s. unsaid (isCode l && isCode r && isCode s)
       (byJoin h (afterHost (PortsRefused BadJoin) h left right []) (λ j. portsCall j left right (portOf l) (portOf r) (portOf s)))
       (by-bad h left right [] (PortsRefused BadJoin) (λ j. portsCall j left right (portOf l) (portOf r) (portOf s))
@@ -247,11 +259,12 @@ none-is h e = go (isJoin h) e
     go true x = let z : _≡_ {A = ℕ} 0 1 = cc in absurd (omega arith)
 
 foreign : (h : HostJoin) (left right : Words) → isJoin h ≡ false → NoJoin h left right
-unfolding leftHost rightHost endHost portsHost turnHost runHost
+unfolding leftHost rightHost endHost moveHost portsHost turnHost runHost
 foreign h left right e = record {
   by-left = λ f. by-none h (afterHost (Refused BadJoin) h left right []) (λ j. leftCall j left right f) e;
   by-right = λ f. by-none h (afterHost (Refused BadJoin) h left right []) (λ j. rightCall j left right f) e;
   by-end = by-none h (afterHost (Refused BadJoin) h left right []) (λ j. endCall j left right) e;
+  by-move = λ newLeft newRight. by-none h (afterHost (Refused BadJoin) h newLeft newRight []) (λ j. moveCall j left right newLeft newRight) e;
   by-ports = λ l r s. either-none (isCode l && isCode r && isCode s)
       (by-none h (afterHost (PortsRefused BadJoin) h left right []) (λ j. portsCall j left right (portOf l) (portOf r) (portOf s)) e);
   by-turn = λ out. by-none h (afterHost (TurnRefused BadJoin) h left right out) (λ j. turnCall j left right out) e;
@@ -359,7 +372,7 @@ module _ (h : HostJoin) (j : Join) (left right : Words) (is : Is h j) where
   said l r s = simp (port-is, port-back)
 
   follow : Follows h j left right
-  unfolding leftHost rightHost endHost turnHost runHost leftCall queued rightCall pushedRight endCall portsCall turnCall turned dequeued dropped
+  unfolding leftHost rightHost endHost moveHost turnHost runHost leftCall queued rightCall pushedRight endCall moveCall portsCall turnCall turned dequeued dropped
   follow = record {
     by-left = λ f. followed h j (afterHost (Refused BadJoin) h left right []) (λ k. leftCall k left right f) is
         (took-options (leftAnswer j left right f) (queued j left right f) j left right refl);
@@ -367,6 +380,8 @@ module _ (h : HostJoin) (j : Join) (left right : Words) (is : Is h j) where
         (took-options (rightAnswer j left right f) (pushedRight j left right f) j left right refl);
     by-end = followed h j (afterHost (Refused BadJoin) h left right []) (λ k. endCall k left right) is
         (took-options (endAnswer j left right) (after Accepted (endedRight j) left right []) j left right refl);
+    by-move = λ newLeft newRight. followed h j (afterHost (Refused BadJoin) h newLeft newRight []) (λ k. moveCall k left right newLeft newRight) is
+        (took-options (moveAnswer j left right newLeft newRight) (after Accepted (atFront j) (leftMoved j left newLeft) (rightMoved j right newRight) []) j newLeft newRight refl);
     by-ports = λ l r s. rw (said l r s)
         (followed h j (afterHost (PortsRefused BadJoin) h left right []) (λ k. portsCall k left right l r s) is
         (ports-options (portsAnswer j left right l r s) (stateAt j (portsState j l s)) j left right refl));
@@ -388,6 +403,7 @@ promises = record {
     by-left = left-kept h left right;
     by-right = right-kept h left right;
     by-end = end-kept h left right;
+    by-move = move-kept h left right;
     by-ports = ports-kept h left right;
     by-turn = turn-kept h left right;
     by-run = run-kept h left right;

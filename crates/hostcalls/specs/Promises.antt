@@ -21,9 +21,10 @@ use Rattle.answers.specs.declared.Answer.the-variants.{Wrote, WantsRight, Idle,
 use Rattle.answers.specs.declared.Stop.{Stop}
 use Rattle.answers.specs.declared.Stop.the-variants.{Used, WantsRight as StopWants, Idle as StopIdle, Refused as StopRefused}
 use Rattle.runs.specs.Run.{runCall}
+use Rattle.moves.specs.Moves.{moveCall}
 use Rattle.convert.specs.Convert.{layoutNow, decodeOptions, decode}
 use Rattle.told.specs.Told.{Made}
-use Rattle.hostcalls.specs.Calls.{HostAfter, afterHost, encodeAfter, openHost, leftHost, rightHost, endHost, portsHost, turnHost, ranAfter, runHost}
+use Rattle.hostcalls.specs.Calls.{HostAfter, afterHost, encodeAfter, openHost, leftHost, rightHost, endHost, moveHost, portsHost, turnHost, ranAfter, runHost}
 use Rattle.convert.specs.declared.HostOptions.{HostOptions}
 use Rattle.convert.specs.declared.HostJoin.{HostJoin}
 
@@ -63,6 +64,7 @@ pub record Kept (h : HostJoin) (left right : Words) : Type 0 where
   pub by-left : (f : Words) (n : Refusal) → leftHost h left right f .answer ≡ Refused n → leftHost h left right f ≡ afterHost (Refused n) h left right []
   pub by-right : (f : Words) (n : Refusal) → rightHost h left right f .answer ≡ Refused n → rightHost h left right f ≡ afterHost (Refused n) h left right []
   pub by-end : (n : Refusal) → endHost h left right .answer ≡ Refused n → endHost h left right ≡ afterHost (Refused n) h left right []
+  pub by-move : (newLeft newRight : Words) (n : Refusal) → moveHost h left right newLeft newRight .answer ≡ Refused n → moveHost h left right newLeft newRight ≡ afterHost (Refused n) h newLeft newRight []
   pub by-ports : (l r s : ℕ) (n : Refusal) → portsHost h left right l r s .answer ≡ PortsRefused n → portsHost h left right l r s ≡ afterHost (PortsRefused n) h left right []
   pub by-turn : (out : Words) (a : Answer) → stays a ≡ true → turnHost h left right out .answer ≡ a → turnHost h left right out ≡ afterHost a h left right out
   pub by-run : (k : ℕ) (out : Words) (s : Stop) → staysAt s ≡ true → runHost h k left right out .answer ≡ noTurn s → runHost h k left right out ≡ afterHost (noTurn s) h left right out
@@ -72,6 +74,7 @@ pub record Shut (h : HostJoin) (left right : Words) : Type 0 where
   pub by-left : (f : Words) → leftHost h left right f .answer ≡ Refused BadJoin
   pub by-right : (f : Words) → rightHost h left right f .answer ≡ Refused BadJoin
   pub by-end : endHost h left right .answer ≡ Refused BadJoin
+  pub by-move : (newLeft newRight : Words) → moveHost h left right newLeft newRight .answer ≡ Refused BadJoin
   pub by-ports : (l r s : ℕ) → portsHost h left right l r s .answer ≡ PortsRefused BadJoin
   pub by-turn : (out : Words) → turnHost h left right out .answer ≡ TurnRefused BadJoin
   pub by-run : (k : ℕ) (out : Words) → runHost h (suc k) left right out .answer ≡ noTurn (StopRefused BadJoin)
@@ -82,6 +85,7 @@ pub record NoJoin (h : HostJoin) (left right : Words) : Type 0 where
   pub by-left : (f : Words) → leftHost h left right f ≡ afterHost (Refused BadJoin) h left right []
   pub by-right : (f : Words) → rightHost h left right f ≡ afterHost (Refused BadJoin) h left right []
   pub by-end : endHost h left right ≡ afterHost (Refused BadJoin) h left right []
+  pub by-move : (newLeft newRight : Words) → moveHost h left right newLeft newRight ≡ afterHost (Refused BadJoin) h newLeft newRight []
   pub by-ports : (l r s : ℕ) → portsHost h left right l r s ≡ afterHost (PortsRefused BadJoin) h left right []
   pub by-turn : (out : Words) → turnHost h left right out ≡ afterHost (TurnRefused BadJoin) h left right out
   pub by-run : (k : ℕ) (out : Words) → runHost h k left right out ≡ afterHost (noTurn (StopRefused BadJoin)) h left right out
@@ -96,6 +100,7 @@ pub record Follows (h : HostJoin) (j : Join) (left right : Words) : Type 0 where
   pub by-left : (f : Words) → Same (leftHost h left right f) (leftCall j left right f)
   pub by-right : (f : Words) → Same (rightHost h left right f) (rightCall j left right f)
   pub by-end : Same (endHost h left right) (endCall j left right)
+  pub by-move : (newLeft newRight : Words) → Same (moveHost h left right newLeft newRight) (moveCall j left right newLeft newRight)
   pub by-ports : (l r s : PortState) → Same (portsHost h left right (portCode l) (portCode r) (portCode s)) (portsCall j left right l r s)
   pub by-turn : (out : Words) → Same (turnHost h left right out) (turnCall j left right out)
   pub by-run : (k : ℕ) (out : Words) → Same (runHost h k left right out) (ranAfter (runCall k j left right out) left right)
