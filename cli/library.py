@@ -52,7 +52,7 @@ class JoinWords(ctypes.Structure):
 
 
 class Took(ctypes.Structure):
-    """The answer of opening, of a frame and of the end of right."""
+    """The answer of opening, of a frame, of the end of right and of a move."""
     _fields_ = [('refusal', c_uint64), ('join', JoinWords)]
 
 
@@ -69,6 +69,7 @@ CALLS = {
     'rowkeeper_left': ([JoinWords] + 3 * SLICE, Took),
     'rowkeeper_right': ([JoinWords] + 3 * SLICE, Took),
     'rowkeeper_end_right': ([JoinWords] + 2 * SLICE, Took),
+    'rowkeeper_move': ([JoinWords] + 4 * SLICE, Took),
     'rowkeeper_turn': ([JoinWords] + 3 * SLICE, Turned),
 }
 

@@ -127,6 +127,53 @@ static void runs(rowkeeper_join join) {
     want(memcmp(out, BOTH, sizeof out) == 0, "a run's output", NO_WORD);
 }
 
+/* Whether words of an area are -1 from one place up to another. */
+static int blank(const int64_t *words, size_t from, size_t to) {
+    while (from < to)
+        if (words[from++] != -1) return 0;
+    return 1;
+}
+
+/* What a move brings at its place: rows 4 and 5 and a waiting frame 5, both behind freed words, to areas of 7 and 15 words (R
+   is 3), after refused moves to areas that are too short and from ones that do not fit; then a match over the new areas. */
+static void moves(rowkeeper_join join) {
+    static const int64_t THREE[] = {1, 2, 9, 3, 1, 1}, ROWS[] = {2, 2, 9, 4, 9, 5, 1, 1, 1, 1}, FIVE[] = {1, 2, 9, 5, 1, 1};
+    static const int64_t HELD[] = {9, 4, 9, 5}, MARKS[] = {1, 1, 1, 1};
+    int64_t to_left[7], to_right[15], out[4];
+    rowkeeper_took took;
+    rowkeeper_turned turned;
+    memset(to_left, -1, sizeof to_left);
+    memset(to_right, -1, sizeof to_right);
+    join = rowkeeper_right(join, left, LEFT, right, RIGHT, THREE, 6).join;
+    join = rowkeeper_right(join, left, LEFT, right, RIGHT, ROWS, 10).join;
+    join = rowkeeper_left(join, left, LEFT, right, RIGHT, ROWS, 10).join;
+    join = rowkeeper_left(join, left, LEFT, right, RIGHT, FIVE, 6).join;
+    join = rowkeeper_end_right(join, left, LEFT, right, RIGHT).join;
+    want(join.held == 3 && join.queue_words == 16, "frames before a move", 15);
+    join.base = join.pruned = 1; /* as if the first row were dropped and the first frame turned */
+    join.held = 2;
+    join.queue_start = 10;
+    join.queue_words = 6;
+    took = rowkeeper_move(join, left, LEFT, right, RIGHT, to_left, 5, to_right, 15);
+    want(took.refusal == 6 && memcmp(&took.join, &join, sizeof join) == 0, "a move without room on the left", 18);
+    took = rowkeeper_move(join, left, LEFT, right, RIGHT, to_left, 7, to_right, 7);
+    want(took.refusal == 6 && memcmp(&took.join, &join, sizeof join) == 0, "a move without room on the right", 15);
+    took = rowkeeper_move(join, left, 15, right, RIGHT, to_left, 7, to_right, 15);
+    want(took.refusal == 2 && memcmp(&took.join, &join, sizeof join) == 0, "a move from areas that do not fit", 17);
+    want(blank(to_left, 0, 7) && blank(to_right, 0, 15), "the new areas of a refused move", NO_WORD);
+    took = rowkeeper_move(join, left, LEFT, right, RIGHT, to_left, 7, to_right, 15);
+    want(took.refusal == 0 && took.join.queue_start == 0 && took.join.base == 0, "a move", 14);
+    want(memcmp(to_left, FIVE, sizeof FIVE) == 0 && blank(to_left, 6, 7), "the new left area of a move", NO_WORD);
+    want(memcmp(to_right, HELD, sizeof HELD) == 0 && blank(to_right, 4, 6) && memcmp(to_right + 6, MARKS, sizeof MARKS) == 0 &&
+             blank(to_right, 10, 15), "the new right area of a move", NO_WORD);
+    turned = rowkeeper_turn(took.join, to_left, 7, to_right, 15, out, 4);
+    want(turned.answer == ROWKEEPER_WROTE && out[2] == 2 && out[3] == 1, "a turn after a move", 16);
+    took = rowkeeper_move(turned.join, NULL, 0, NULL, 0, NULL, 0, NULL, 0);
+    want(took.refusal == 2, "a move from no areas", NO_WORD);
+    took = rowkeeper_move(rowkeeper_open(join.options).join, NULL, 0, NULL, 0, NULL, 0, NULL, 0);
+    want(took.refusal == 0, "a move of nothing to nothing", NO_WORD);
+}
+
 /* Whether spans answer so, over the points 10, 20, 30 and a pass from 10 to 30; a refused call must leave the output. */
 static int covers(uint64_t lower, uint64_t upper, size_t room, uint64_t refusal, uint64_t rows) {
     static const int64_t POINTS[] = {3, 1, 10, 20, 30, 1, 1, 1}, PASS[] = {1, 2, 10, 30, 1, 1};
@@ -179,6 +226,8 @@ static void other_layouts(rowkeeper_join join) {
         want(ported.refusal == 2 && memcmp(&ported.join, &join, sizeof join) == 0, "ports of another layout", 0);
         turned = rowkeeper_turn(join, left, LEFT, right, RIGHT, out, 2);
         want(turned.refusal == 2 && memcmp(&turned.join, &join, sizeof join) == 0, "a turn of another layout", 0);
+        took = rowkeeper_move(join, left, LEFT, right, RIGHT, out, 1, out + 1, 1);
+        want(took.refusal == 2 && memcmp(&took.join, &join, sizeof join) == 0, "a move of another layout", 0);
         ran = rowkeeper_run(join, 0, left, LEFT, right, RIGHT, out, 2);
         want(ran.refusal == 2 && memcmp(&ran.join, &join, sizeof join) == 0, "a run of another layout", 0);
     }
@@ -207,6 +256,7 @@ int main(void) {
     other_layouts(took.join);
     answers(took.join);
     runs(took.join);
+    moves(took.join);
     spans();
     options.by = 5;
     took = rowkeeper_open(options);

@@ -20,6 +20,7 @@
  *     rowkeeper_turn        writes the matches of the waiting frame that came first, or reports what it waits for
  *     rowkeeper_run         makes turns, up to a given number, and writes their matches one after the other
  *     rowkeeper_ports       moves the node on, for hosts that run it in a pipeline; this is also how left ends
+ *     rowkeeper_move        takes the join to areas of other lengths
  *
  * They may come in any order. A host that only wants its matches needs no port call: it makes turns. If one answers
  * ROWKEEPER_WANTS_RIGHT it hands in the next right frame, or ends right if there is none; if one answers ROWKEEPER_IDLE it
@@ -69,8 +70,8 @@
  *
  * AREAS
  *
- * Lend each call but opening a left and a right area, the same lengths from call to call. Their words may be anything
- * before the first call. What is needed, in words:
+ * Lend each call but opening a left and a right area, the same lengths from call to call; rowkeeper_move changes them. Their
+ * words may be anything before the first call. What is needed, in words:
  *
  *     left    the frames that wait at once: ROWKEEPER_FRAME_WORDS(rows, by) for each
  *     right   the right rows that are held at once: ROWKEEPER_RIGHT_WORDS(rows, by)
@@ -80,10 +81,10 @@
  *
  * Turns free what they no longer need, and freed words are used again. A right area for all right rows is always enough.
  * If it is smaller, a frame with no room is refused by 6 and can be handed in again after turns have freed room; but if a
- * turn wants right rows and none fit, only a larger area helps. Held row i (from 0) has its values from word
- * (base + i) × c of the right area and its marks from word (R + base + i) × c, where R is the area's length ÷ 2c, rounded
- * down: so a host that changes the right area's length must move the marks. Waiting frames are stored without gaps in the
- * left area, queue_words words from word queue_start on. All other words of both areas are free: no call reads them, and the
+ * turn wants right rows and none fit, only a larger area helps: lend one by rowkeeper_move. Held row i (from 0) has its
+ * values from word (base + i) × c of the right area and its marks from word (R + base + i) × c, where R is the area's length
+ * ÷ 2c, rounded down: so the marks stand elsewhere in an area of another length. Waiting frames are stored without gaps in
+ * the left area, queue_words words from word queue_start on. All other words of both areas are free: no call reads them, and the
  * host may alter them between calls without changing any answer, match or join (proved: `free-unread` in crates/lists).
  *
  * COST
@@ -170,7 +171,8 @@ enum {
        queue_start + queue_words above the left area, pruned + held above 2^63 - 1, an odd sequence, or a state, flag or port
        code that does not exist. */
     ROWKEEPER_BAD_JOIN = 2,
-    /* An earlier turn found rows out of order and marked the join failed; every later call is refused by this number. */
+    /* An earlier turn found rows out of order and marked the join failed; every later call but a move is refused by this
+       number. */
     ROWKEEPER_FAILED = 3,
     /* At the wrong time: a left frame outside Running; a right frame or an end of right after right has ended or in Done;
        a turn in Done. */
@@ -178,7 +180,8 @@ enum {
     /* The words are no frame of this join's c. At a turn: the words that wait are none. Spans: the points are no frame of
        one column, or the intervals none of two. */
     ROWKEEPER_BAD_FRAME = 5,
-    /* No room: for the frame in the left area, for its rows in the right area, or for the matches or pairs in the output. */
+    /* No room: for the frame in the left area, for its rows in the right area, for what a move takes along in the new areas,
+       or for the matches or pairs in the output. */
     ROWKEEPER_NO_ROOM = 6,
     /* The numbers are used up: right rows past 2^63 - 1, or a turn at sequence 2^64 - 2. */
     ROWKEEPER_USED_UP = 7,
@@ -228,7 +231,7 @@ typedef struct rowkeeper_join {
     rowkeeper_row last_right;
 } rowkeeper_join;
 
-/* The answer of opening, left, right and the end of right: 0 accepted, else the refusal's number; and the join. */
+/* The answer of opening, left, right, the end of right and a move: 0 accepted, else the refusal's number; and the join. */
 typedef struct rowkeeper_took {
     uint64_t refusal;
     rowkeeper_join join;
@@ -289,6 +292,22 @@ rowkeeper_took rowkeeper_right(rowkeeper_join join, const int64_t *left, size_t 
 /* Ends right: turns want no more right rows from here on. Alters no word. Refused by 2 to 4. */
 rowkeeper_took rowkeeper_end_right(rowkeeper_join join, const int64_t *left, size_t left_len, const int64_t *right,
                                    size_t right_len);
+
+/* Moves a join to other areas, of any lengths: to longer ones if a frame finds no room, to shorter ones if they are enough.
+   The words that wait are copied to the front of the new left area. Of the held rows, the values are copied to the front of
+   the new right area and the marks to its word R × c, where R is this area's length ÷ 2c, rounded down. All other words of the
+   new areas stay as they are; they may be anything. The join comes back with queue_start 0 and base 0, and is otherwise as it
+   came. Go on with it and the new areas: the old ones are only read, and belong to nothing any more.
+   Needed, in words: queue_words on the left, ROWKEEPER_RIGHT_WORDS(held, by) on the right; less is refused by 6. Refused by 2
+   before that, if the join does not hold together or does not fit the old areas; 3 and 4 do not apply, so a join that has
+   failed or ended is moved too, and stays what it is. A refused move alters no word and returns the join as it came.
+   What a move costs is the words that it copies. No later answer or match is another one than without the move, but that a
+   frame may find room in the one pair of areas and none in the other (proved: `move-lists` in crates/movelists).
+   An area of length 0, old or new, may have any pointer, null too. The new areas must overlap neither the old ones nor each
+   other. */
+rowkeeper_took rowkeeper_move(rowkeeper_join join, const int64_t *left, size_t left_len, const int64_t *right,
+                              size_t right_len, int64_t *new_left, size_t new_left_len, int64_t *new_right,
+                              size_t new_right_len);
 
 /* A port call: the states of left, right and send come in, a new state for each is returned. Send Done makes the node Done.
    Left Done makes a Running node Flush: it takes no left frame any more. A node in Flush with nothing waiting is Done.

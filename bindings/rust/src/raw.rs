@@ -47,7 +47,7 @@ pub struct Join {
     pub last_right: Row,
 }
 
-/// The answer of opening, left, right and the end of right.
+/// The answer of opening, left, right, the end of right and a move.
 #[repr(C)]
 #[derive(Clone, Copy, Debug)]
 pub struct Took {
@@ -146,6 +146,18 @@ unsafe extern "C" {
         right: *const i64,
         right_len: usize,
     ) -> Took;
+    /// Moves a join to other areas.
+    pub fn rowkeeper_move(
+        join: Join,
+        left: *const i64,
+        left_len: usize,
+        right: *const i64,
+        right_len: usize,
+        new_left: *mut i64,
+        new_left_len: usize,
+        new_right: *mut i64,
+        new_right_len: usize,
+    ) -> Took;
     /// A port call.
     pub fn rowkeeper_ports(
         join: Join,
@@ -215,6 +227,14 @@ pub mod safe {
     pub fn end_right(join: Join, left: &[i64], right: &[i64]) -> Took {
         // SAFETY: see the module.
         unsafe { rowkeeper_end_right(join, left.as_ptr(), left.len(), right.as_ptr(), right.len()) }
+    }
+
+    /// Moves a join to other areas.
+    pub fn move_to(join: Join, left: &[i64], right: &[i64], new_left: &mut [i64], new_right: &mut [i64]) -> Took {
+        let (l, n) = (new_left.as_mut_ptr(), new_left.len());
+        let (r, m) = (new_right.as_mut_ptr(), new_right.len());
+        // SAFETY: see the module.
+        unsafe { rowkeeper_move(join, left.as_ptr(), left.len(), right.as_ptr(), right.len(), l, n, r, m) }
     }
 
     /// A port call: left, right, send.

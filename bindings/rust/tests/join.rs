@@ -235,10 +235,18 @@ fn join_cut(r: &mut Random, left: &[Row], right: &[Row]) -> Vec<Option<u64>> {
             let words = raw::Join::from_words(words.to_words());
             join = Join::from_parts(words, left.to_vec(), right.to_vec());
         }
+        if r.below(4) == 0 {
+            let (words, left, right) = join.parts();
+            let more = |r: &mut Random, area: &[i64]| vec![-1; area.len() + r.below(9) as usize];
+            let (mut new_left, mut new_right) = (more(r, left), more(r, right));
+            let took = raw::safe::move_to(words, left, right, &mut new_left, &mut new_right);
+            assert_eq!(took.refusal, 0);
+            join = Join::from_parts(took.join, new_left, new_right);
+        }
     }
 }
 
-/// No cutting into frames changes a match, and a join that was kept in words goes on.
+/// No cutting into frames changes a match; a join that was kept in words, or moved to other areas, goes on.
 #[test]
 fn any_cut() {
     let r = &mut Random(1);

@@ -1,1 +1,2 @@
 pub mod MoveLists
+pub mod Sample

@@ -690,6 +690,42 @@ fn with_runs(r: &mut Random, kind: Kind, calls: Vec<Call>) -> Vec<Call> {
     out.calls
 }
 
+/// Where a move goes in a script whose areas have room: to areas at least as long as the opened ones, for a moment to ones
+/// that are just enough, or to none, since one of the two is a word too short.
+fn move_with_room(r: &mut Random, o: &Open, rules: &Rules, short: bool) -> Vec<Call> {
+    const MORE: [usize; 6] = [0, 0, 1, 2, 7, 50];
+    let Some(look) = rules.look() else { return vec![] };
+    let full = Call::Move(o.left_words + r.pick(&MORE), o.right_words + r.pick(&MORE));
+    let (waiting, held) = (look.queue_words, 2 * (o.b + 1) * look.held);
+    match r.below(10) {
+        0 | 1 => vec![Call::Move(waiting, held), full],
+        2 if short && waiting > 0 => vec![Call::Move(waiting - 1, o.right_words)],
+        3 if short && held > 0 => vec![Call::Move(o.left_words, held - 1)],
+        _ => vec![full],
+    }
+}
+
+/// A script with moves in it. One that is to find no room moves to areas of any lengths; one for the whole-table rule makes
+/// no move that is refused.
+fn with_moves(r: &mut Random, kind: Kind, calls: Vec<Call>) -> Vec<Call> {
+    let Some(Call::Open(o)) = calls.first().cloned() else { unreachable!() };
+    let (mut out, mut rules) = (vec![], Rules::default());
+    for call in calls {
+        rules.call(&call);
+        out.push(call);
+        if !r.percent(8) {
+            continue;
+        }
+        let moves = match with_room(kind) {
+            true => move_with_room(r, &o, &rules, kind != Kind::Whole),
+            false => vec![Call::Move(r.below(o.left_words + 8), r.below(o.right_words + 8))],
+        };
+        moves.iter().for_each(|call| drop(rules.call(call)));
+        out.extend(moves);
+    }
+    out
+}
+
 /// The calls of a kind's script over areas that are large enough, save for kinds that are to find no room.
 fn calls(r: &mut Random, kind: Kind) -> Vec<Call> {
     let large = kind == Kind::Large;
@@ -723,8 +759,8 @@ pub fn script(kind: Kind, seed: u64, number: u64) -> Vec<Call> {
     calls
 }
 
-/// The same script with runs in the place of turns. One for the whole-table rule has outputs enough, and turns at its end
-/// what still waits; so does one with large tables.
+/// The same script with runs in the place of turns, and with moves in half of all. One for the whole-table rule has outputs
+/// enough, and turns at its end what still waits; so does one with large tables.
 pub fn script_with_runs(kind: Kind, seed: u64, number: u64) -> Vec<Call> {
     let r = &mut Random::new(seed, kind, number);
     let calls = calls(r, kind);
@@ -735,5 +771,5 @@ pub fn script_with_runs(kind: Kind, seed: u64, number: u64) -> Vec<Call> {
     if with_room(kind) && r.percent(50) {
         tighten(r, &mut calls);
     }
-    calls
+    if r.percent(50) { with_moves(r, kind, calls) } else { calls }
 }
