@@ -84,8 +84,8 @@
  * turn wants right rows and none fit, only a larger area helps: lend one by rowkeeper_move. Held row i (from 0) has its
  * values from word (base + i) × c of the right area and its marks from word (R + base + i) × c, where R is the area's length
  * ÷ 2c, rounded down: so the marks stand elsewhere in an area of another length. Waiting frames are stored without gaps in
- * the left area, queue_words words from word queue_start on. All other words of both areas are free: no call reads them, and the
- * host may alter them between calls without changing any answer, match or join (proved: `free-unread` in crates/lists).
+ * the left area, queue_words words from word queue_start on. All other words of both areas are free: no call reads them, and
+ * the host may alter them between calls without changing any answer, match or join (proved: `free-unread` in crates/lists).
  *
  * COST
  *
@@ -295,11 +295,11 @@ rowkeeper_took rowkeeper_end_right(rowkeeper_join join, const int64_t *left, siz
 
 /* Moves a join to other areas, of any lengths: to longer ones if a frame finds no room, to shorter ones if they are enough.
    The words that wait are copied to the front of the new left area. Of the held rows, the values are copied to the front of
-   the new right area and the marks to its word R × c, where R is this area's length ÷ 2c, rounded down. All other words of the
-   new areas stay as they are; they may be anything. The join comes back with queue_start 0 and base 0, and is otherwise as it
-   came. Go on with it and the new areas: the old ones are only read, and belong to nothing any more.
-   Needed, in words: queue_words on the left, ROWKEEPER_RIGHT_WORDS(held, by) on the right; less is refused by 6. Refused by 2
-   before that, if the join does not hold together or does not fit the old areas; 3 and 4 do not apply, so a join that has
+   the new right area and the marks to its word R × c, where R is this area's length ÷ 2c, rounded down. All other words of
+   the new areas stay as they are; they may be anything. The join comes back with queue_start 0 and base 0, and is otherwise
+   as it came. Go on with it and the new areas: the old ones are only read, and belong to nothing any more.
+   Needed, in words: queue_words on the left, ROWKEEPER_RIGHT_WORDS(held, by) on the right; less is refused by 6. Refused by
+   2 before that, if the join does not hold together or does not fit the old areas; 3 and 4 do not apply, so a join that has
    failed or ended is moved too, and stays what it is. A refused move alters no word and returns the join as it came.
    What a move costs is the words that it copies. No later answer or match is another one than without the move, but that a
    frame may find room in the one pair of areas and none in the other (proved: `move-lists` in crates/movelists).
@@ -338,7 +338,8 @@ rowkeeper_turned rowkeeper_turn(rowkeeper_join join, const int64_t *left, size_t
    further on. The words behind them are untouched. The frames' numbers are not reported: the first is the sequence of the
    join that came in, and each further one is 2 more. With `turns` 0 no turn is tried: nothing is refused and the join comes
    back as it came, whatever it is; only numbers that no join has (another layout word, a flag above 1, a state above 2, a
-   strategy above 255) are refused by 2. Both areas are only read in every case. No run goes on for ever: each turn takes a waiting frame. */
+   strategy above 255) are refused by 2. Both areas are only read in every case. No run goes on for ever: each turn takes a
+   waiting frame. */
 rowkeeper_ran rowkeeper_run(rowkeeper_join join, size_t turns, const int64_t *left, size_t left_len, const int64_t *right,
                             size_t right_len, int64_t *out, size_t out_len);
 
