@@ -75,8 +75,8 @@
  *
  * AREAS
  *
- * Lend each call but opening a left and a right area, of the same lengths from call to call. Their words may be anything
- * before the first call. What is needed, in words of 8 bytes:
+ * Lend each call but opening a left and a right area, of the same lengths from call to call; rowkeeper_move changes them.
+ * Their words may be anything before the first call. What is needed, in words of 8 bytes:
  *
  *     left    the frames that wait at once: ROWKEEPER_FRAME_WORDS(rows, by) for each
  *     right   the right rows that are held at once: ROWKEEPER_RIGHT_WORDS(rows, by)
@@ -90,11 +90,11 @@
  * Turns free what they no longer need, and freed words are used again. A right area for all right rows is always enough.
  * If it is smaller, a frame with no room is refused by 6. It can be handed in again after turns have freed room, or be cut
  * into smaller frames, of which the first may fit. But if a turn wants right rows and none fit, only a larger area helps:
- * Held row i (from 0) has its values from word (base + i) × c of the right area and its marks from word (R + base + i) × c;
- * R is the area's length ÷ 2c, rounded down. So a host that changes the right area's length must move the marks. Waiting
- * frames are stored without gaps in the left area, queue_words words from word queue_start on. All other words of both
- * areas are free: no call reads them, and the host may alter them between calls without changing any answer, match or join
- * (proved: `free-unread` in crates/lists).
+ * rowkeeper_move takes the join to one. Held row i (from 0) has its values from word (base + i) × c of the right area and
+ * its marks from word (R + base + i) × c; R is the area's length ÷ 2c, rounded down. Waiting frames are stored without gaps
+ * in the left area, queue_words words from word queue_start on. All other words of both areas are free: no call reads them,
+ * and the host may alter them between calls without changing any answer, match or join (proved: `free-unread` in
+ * crates/lists).
  *
  * COST
  *
