@@ -44,7 +44,7 @@ copy-left-requires : tie.Need-copy-left-requires
 copy-left-requires c κs = let t = fine (c .before) in record { within = t .good .left-room; room = t .left-room }
 
 right-columns-requires : tie.Need-right-columns-requires
-right-columns-requires c κs = fine (c .before .before .before .before) .good .few
+right-columns-requires c κs = fine (c .before .before .before) .good .few
 
 copy-right-requires : tie.Need-copy-right-requires
 copy-right-requires c κs =

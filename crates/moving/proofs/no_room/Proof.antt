@@ -14,7 +14,7 @@ right-columns-requires : tie.Need-right-columns-requires
 right-columns-requires c κs = search needs
 
 mul-result : tie.Need-mul-result
-mul-result c = omega (arith, c .right-columns .ensures, c .before .before .pre)
+mul-result c = omega (arith, c .right-columns .ensures, c .before .before .before .pre)
 
 div-result : tie.Need-div-result
 div-result c = search needs
