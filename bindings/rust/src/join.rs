@@ -1,4 +1,7 @@
 //! The join and its calls.
+use alloc::vec;
+use alloc::vec::Vec;
+
 use crate::raw::{self, safe};
 use crate::{NodeState, Options, Port, Ports, Refusal};
 
@@ -15,7 +18,12 @@ pub struct Join<A = Vec<i64>> {
 #[derive(Clone, Copy, Debug, PartialEq, Eq)]
 pub enum Turn<'o> {
     /// The matches of the frame that waited first; frames are numbered 0, 2, 4 and so on.
-    Wrote { sequence: u64, matches: Matches<'o> },
+    Wrote {
+        /// The number of the frame.
+        sequence: u64,
+        /// Its matches.
+        matches: Matches<'o>,
+    },
     /// Right rows that are still to come might match: hand in more, or end right.
     WantsRight,
     /// No frame waits.
@@ -27,6 +35,7 @@ pub enum Turn<'o> {
 pub struct Run<'o> {
     /// What its turns wrote. It stands whatever ended the run.
     pub written: Written<'o>,
+    /// What ended it.
     pub stop: Stop,
 }
 

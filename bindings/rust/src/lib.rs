@@ -62,7 +62,13 @@
 //! output[0] = 1;
 //! drop(turn);
 //! ```
-use std::fmt;
+#![no_std]
+#![deny(missing_docs)]
+
+extern crate alloc;
+
+use alloc::vec::Vec;
+use core::{array, fmt};
 
 mod frame;
 mod join;
@@ -70,7 +76,7 @@ mod numbers;
 pub mod raw;
 mod spans;
 
-pub use frame::{Frame, FrameError};
+pub use frame::{Column, Frame, FrameError, Frames};
 pub use join::{Join, Matches, Run, Stop, Turn, Written};
 pub use numbers::{NodeState, Port, Refusal, Strategy};
 pub use spans::{Bounds, Pairs, spans, spans_words};
@@ -78,13 +84,16 @@ pub use spans::{Bounds, Pairs, spans, spans_words};
 /// How a by-column is sorted.
 #[derive(Clone, Copy, Debug, Default, PartialEq, Eq)]
 pub struct ByColumn {
+    /// Whether its numbers descend.
     pub descending: bool,
+    /// Whether its nulls come last.
     pub nulls_last: bool,
 }
 
 /// What a join is opened with.
 #[derive(Clone, Debug, PartialEq, Eq)]
 pub struct Options {
+    /// Which right row a left row takes.
     pub strategy: Strategy,
     /// Whether an equal key matches. Nearest needs it.
     pub allow_eq: bool,
@@ -99,7 +108,7 @@ pub struct Options {
 impl Default for Options {
     /// Backward with equality, any distance, the check on, no by-columns.
     fn default() -> Self {
-        Options { strategy: Strategy::Backward, allow_eq: true, tolerance: None, check: true, by: vec![] }
+        Options { strategy: Strategy::Backward, allow_eq: true, tolerance: None, check: true, by: Vec::new() }
     }
 }
 
@@ -118,8 +127,8 @@ impl Options {
             allow_eq: self.allow_eq as u64,
             tolerance: self.tolerance.map_or(-1, |t| i64::try_from(t).unwrap_or(i64::MIN)),
             check: self.check as u64,
-            descending: std::array::from_fn(|j| flag(j, |by| by.descending)),
-            nulls_last: std::array::from_fn(|j| flag(j, |by| by.nulls_last)),
+            descending: array::from_fn(|j| flag(j, |by| by.descending)),
+            nulls_last: array::from_fn(|j| flag(j, |by| by.nulls_last)),
         }
     }
 }
@@ -127,10 +136,11 @@ impl Options {
 impl Refusal {
     /// The refusal of a number, or none if the call was not refused.
     fn of(number: u64) -> Result<(), Refusal> {
-        match Refusal::ALL.into_iter().find(|refusal| number == refusal.number().into()) {
-            Some(refusal) => Err(refusal),
-            None => Ok(assert_eq!(number, 0, "the library has a refusal that this version does not know")),
+        if number == 0 {
+            return Ok(());
         }
+        let known = Refusal::ALL.into_iter().find(|refusal| number == refusal.number().into());
+        Err(known.expect("the library has a refusal that this version does not know"))
     }
 
     /// Its number.
@@ -146,12 +156,15 @@ impl fmt::Display for Refusal {
     }
 }
 
-impl std::error::Error for Refusal {}
+impl core::error::Error for Refusal {}
 
 /// The three ports of the node.
 #[derive(Clone, Copy, Debug, PartialEq, Eq)]
 pub struct Ports {
+    /// Where left frames come in.
     pub left: Port,
+    /// Where right frames come in.
     pub right: Port,
+    /// Where matches go out.
     pub send: Port,
 }

@@ -172,17 +172,6 @@ fn numbers() {
     }
 }
 
-/// Rows that make no frame.
-#[test]
-fn no_frames() {
-    use rowkeeper::FrameError::*;
-    assert_eq!(Frame::of_keys(&vec![1; 4097]).unwrap_err(), TooManyRows);
-    assert_eq!(Frame::of_keys(&vec![1; 4096]).unwrap().len(), 2 + 2 * 4096);
-    assert_eq!(Frame::new(2, &[vec![Some(1), None], vec![None]]).unwrap_err(), OtherColumns);
-    assert_eq!(Frame::new(2, &[[Some(1), None]]).unwrap()[..], [1, 2, 1, 0, 1, 0]);
-    assert_eq!(Frame::new::<Row>(2, &[]).unwrap()[..], [0, 2]);
-}
-
 /// A sorted table of one group column and a key, some of them null.
 fn table(r: &mut Random) -> Vec<Row> {
     let count = r.below(30);
@@ -245,7 +234,8 @@ fn any_cut() {
 
 /// What a run wrote: the number of each frame, and its matches.
 fn written(run: &Run) -> Vec<(u64, Vec<Option<u64>>)> {
-    assert_eq!((run.written.len(), run.written.is_empty()), (run.written.iter().count(), run.written.len() == 0));
+    assert_eq!(run.written.len(), run.written.iter().count());
+    assert_eq!(run.written.is_empty(), run.written.iter().next().is_none());
     run.written.iter().map(|(sequence, matches)| (sequence, matches.iter().collect())).collect()
 }
 
