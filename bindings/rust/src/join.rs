@@ -91,9 +91,14 @@ pub struct Matches<'o> {
 
 impl<'o> Matches<'o> {
     /// The matches at the front of an output.
-    fn of(output: &'o [i64]) -> Matches<'o> {
+    pub(crate) fn of(output: &'o [i64]) -> Matches<'o> {
         let n = output[0] as usize;
         Matches { numbers: &output[2..2 + n], marks: &output[2 + n..2 + 2 * n] }
+    }
+
+    /// Those from a row on.
+    pub(crate) fn rest(self, from: usize) -> Matches<'o> {
+        Matches { numbers: &self.numbers[from..], marks: &self.marks[from..] }
     }
 
     /// How many rows the frame has.
@@ -113,6 +118,23 @@ impl<'o> Matches<'o> {
 }
 
 impl Join<Vec<i64>> {
+    /// Opens a join with areas for so many left rows that wait at once, in frames of one row or more, and so many right rows
+    /// that are held at once.
+    ///
+    /// ```
+    /// use rowkeeper::{Frame, Join, Options, Refusal};
+    ///
+    /// let mut join = Join::open_rows(&Options::default(), 2, 3)?;
+    /// join.left(&Frame::of_keys(&[5])?)?;
+    /// join.left(&Frame::of_keys(&[20])?)?;
+    /// join.right(&Frame::of_keys(&[10, 20, 30])?)?;
+    /// assert_eq!(join.right(&Frame::of_keys(&[40])?), Err(Refusal::NoRoom));
+    /// # Ok::<(), Box<dyn std::error::Error>>(())
+    /// ```
+    pub fn open_rows(options: &Options, left_rows: usize, right_rows: usize) -> Result<Self, Refusal> {
+        Join::open(options, Join::left_words(options, left_rows, 1), Join::right_words(options, right_rows))
+    }
+
     /// Opens a join with areas of so many words. [`Join::left_words`] and [`Join::right_words`] say what is needed.
     pub fn open(options: &Options, left_words: usize, right_words: usize) -> Result<Self, Refusal> {
         Join::with_areas(options, vec![0; left_words], vec![0; right_words])
@@ -120,24 +142,63 @@ impl Join<Vec<i64>> {
 
     /// The words of the left area for so many waiting frames of so many rows each.
     pub fn left_words(options: &Options, frames: usize, rows: usize) -> usize {
-        frames * (2 + 2 * rows * options.columns())
+        frames.saturating_mul(held_words(rows, options.columns()).saturating_add(2))
     }
 
     /// The words of the right area for so many held rows.
     pub fn right_words(options: &Options, rows: usize) -> usize {
-        2 * rows * options.columns()
+        held_words(rows, options.columns())
     }
 
     /// The words of an output for a frame of so many rows.
     pub fn output_words(rows: usize) -> usize {
-        2 + 2 * rows
+        held_words(rows, 1).saturating_add(2)
     }
 
     /// The words of an output for a run of so many turns, where no frame has more rows than this. As many words as wait
     /// ([`Join::waiting_words`]) are enough for any number of turns.
     pub fn run_words(turns: usize, rows: usize) -> usize {
-        turns * Join::output_words(rows)
+        turns.saturating_mul(Join::output_words(rows))
     }
+
+    /// Makes the right area larger, to hold so many rows at least; what is held and what waits stays. Nothing is done if it
+    /// can hold as many. No answer to a later call is another one, save that frames find more room. Refused by 2.
+    ///
+    /// ```
+    /// use rowkeeper::{Frame, Join, Options, Refusal};
+    ///
+    /// let mut join = Join::open_rows(&Options::default(), 10, 3)?;
+    /// join.right(&Frame::of_keys(&[10, 20])?)?;
+    /// let more = Frame::of_keys(&[30, 40])?;
+    /// assert_eq!(join.right(&more), Err(Refusal::NoRoom));
+    /// join.grow_right(2 * join.held() as usize + 2)?;
+    /// join.right(&more)?;
+    /// # Ok::<(), Box<dyn std::error::Error>>(())
+    /// ```
+    pub fn grow_right(&mut self, rows: usize) -> Result<(), Refusal> {
+        let by = usize::try_from(self.join.options.by).ok().filter(|by| *by <= raw::MOST_BY);
+        let words = held_words(rows, by.ok_or(Refusal::BadJoin)? + 1);
+        self.grow(self.left.len(), words)
+    }
+
+    /// Makes the left area larger, to so many words at least; what waits and what is held stays. Nothing is done if it has
+    /// as many. No answer to a later call is another one, save that frames find more room. Refused by 2.
+    pub fn grow_left(&mut self, words: usize) -> Result<(), Refusal> {
+        self.grow(words, self.right.len())
+    }
+
+    /// Moves the join to areas of at least these lengths, neither of them shorter than it is.
+    fn grow(&mut self, left: usize, right: usize) -> Result<(), Refusal> {
+        if left > self.left.len() || right > self.right.len() {
+            *self = self.moved(vec![0; left.max(self.left.len())], vec![0; right.max(self.right.len())])?;
+        }
+        Ok(())
+    }
+}
+
+/// The words of so many rows, their values and their marks; the greatest number if there is no such number.
+fn held_words(rows: usize, columns: usize) -> usize {
+    rows.saturating_mul(2 * columns)
 }
 
 impl<A: AsRef<[i64]> + AsMut<[i64]>> Join<A> {
@@ -156,6 +217,16 @@ impl<A: AsRef<[i64]> + AsMut<[i64]>> Join<A> {
     /// All that the join is: its own words and those of its areas.
     pub fn parts(&self) -> (raw::Join, &[i64], &[i64]) {
         (self.join, self.left.as_ref(), self.right.as_ref())
+    }
+
+    /// The same join in other areas, whose words may be anything: what waits and what is held is copied to them, and every
+    /// later answer is what it would have been, save that frames may find more room or less. They may be longer or
+    /// shorter. Refused by 6 if they are too short, by 2 if the join is none. This one stays as it is, so one of the two is
+    /// a copy; a host that wants to move drops it.
+    pub fn moved<B: AsRef<[i64]> + AsMut<[i64]>>(&self, mut left: B, mut right: B) -> Result<Join<B>, Refusal> {
+        let took = moved(self.join, self.left.as_ref(), self.right.as_ref(), left.as_mut(), right.as_mut());
+        Refusal::of(took.refusal)?;
+        Ok(Join { join: took.join, left, right })
     }
 
     /// Gives the areas back.
@@ -266,4 +337,34 @@ impl<A: AsRef<[i64]> + AsMut<[i64]>> Join<A> {
 /// A port of its code. The library gives no other codes.
 fn port(code: u64) -> Port {
     Port::of(code).unwrap_or(Port::Done)
+}
+
+/// A join with what waits and what is held, moved to new areas.
+fn moved(join: raw::Join, left: &[i64], right: &[i64], new_left: &mut [i64], new_right: &mut [i64]) -> raw::Took {
+    let refused = |refusal: Refusal| raw::Took { refusal: refusal.number().into(), join };
+    if join.options.by > raw::MOST_BY as u64 {
+        return refused(Refusal::BadJoin);
+    }
+    let columns = join.options.by as usize + 1;
+    let part = |words: &[i64], start: u64, count: u64| -> Option<alloc::vec::Vec<i64>> {
+        words.get(start as usize..start.checked_add(count)? as usize).map(|w| w.to_vec())
+    };
+    let (old, new) = (right.len() / (2 * columns), new_right.len() / (2 * columns));
+    let (Some(first), Some(count)) = (join.base.checked_mul(columns as u64), join.held.checked_mul(columns as u64))
+    else {
+        return refused(Refusal::BadJoin);
+    };
+    let waiting = part(left, join.queue_start, join.queue_words);
+    let values = part(&right[..old * columns], first, count);
+    let marks = part(&right[old * columns..2 * old * columns], first, count);
+    let (Some(waiting), Some(values), Some(marks)) = (waiting, values, marks) else {
+        return refused(Refusal::BadJoin);
+    };
+    if waiting.len() > new_left.len() || join.held > new as u64 {
+        return refused(Refusal::NoRoom);
+    }
+    new_left[..waiting.len()].copy_from_slice(&waiting);
+    new_right[..values.len()].copy_from_slice(&values);
+    new_right[new * columns..][..marks.len()].copy_from_slice(&marks);
+    raw::Took { refusal: 0, join: raw::Join { base: 0, queue_start: 0, ..join } }
 }

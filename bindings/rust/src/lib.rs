@@ -70,12 +70,14 @@ extern crate alloc;
 use alloc::vec::Vec;
 use core::{array, fmt};
 
+mod asof;
 mod frame;
 mod join;
 mod numbers;
 pub mod raw;
 mod spans;
 
+pub use asof::{AsOf, asof};
 pub use frame::{Column, Frame, FrameError, Frames};
 pub use join::{Join, Matches, Run, Stop, Turn, Written};
 pub use numbers::{NodeState, Port, Refusal, Strategy};
