@@ -107,6 +107,13 @@ fn bad_options() {
     assert!(Join::open(&most, 0, 0).is_ok());
 }
 
+/// The library is of the version that the wrapper is for, and an opened join has its layout.
+#[test]
+fn version() {
+    assert_eq!(raw::rowkeeper_version(), raw::VERSION_NUMBER);
+    assert_eq!(Join::open(&Options::default(), 0, 0).unwrap().parts().0.layout, raw::LAYOUT);
+}
+
 /// A join as it is with one thing altered.
 fn altered(join: &Join, alter: impl Fn(&mut raw::Join)) -> Join {
     let (mut words, left, right) = join.parts();
@@ -120,6 +127,7 @@ fn refusals() {
     let mut join = Join::open(&Options::default(), 10, 4).unwrap();
     join.right(&keys(&[1, 2])).unwrap();
     let odd = altered(&join, |j| j.sequence = 1);
+    let other = altered(&join, |j| j.layout = raw::LAYOUT + 1);
     let strange = altered(&join, |j| j.state = 7);
     assert_eq!(strange.state(), None);
     let failed = altered(&join, |j| j.failed = 1);
@@ -128,6 +136,7 @@ fn refusals() {
     let frame = keys(&[3]);
     let cases = [
         (odd, Refusal::BadJoin),
+        (other, Refusal::BadJoin),
         (strange, Refusal::BadJoin),
         (failed, Refusal::Failed),
         (done, Refusal::Closed),
@@ -215,10 +224,18 @@ fn join_cut(r: &mut Random, left: &[Row], right: &[Row]) -> Vec<Option<u64>> {
             let words = raw::Join::from_words(words.to_words());
             join = Join::from_parts(words, left.to_vec(), right.to_vec());
         }
+        if r.below(4) == 0 {
+            let (words, left, right) = join.parts();
+            let more = |r: &mut Random, area: &[i64]| vec![-1; area.len() + r.below(9) as usize];
+            let (mut new_left, mut new_right) = (more(r, left), more(r, right));
+            let took = raw::safe::move_to(words, left, right, &mut new_left, &mut new_right);
+            assert_eq!(took.refusal, 0);
+            join = Join::from_parts(took.join, new_left, new_right);
+        }
     }
 }
 
-/// No cutting into frames changes a match, and a join that was kept in words goes on.
+/// No cutting into frames changes a match; a join that was kept in words, or moved to other areas, goes on.
 #[test]
 fn any_cut() {
     let r = &mut Random(1);

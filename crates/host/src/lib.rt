@@ -1,14 +1,18 @@
-// The calls for hosts in C, over structs of numbers, all of 64 bits, and words that the host lends: the exported functions alone. What each does stands in hostfeed, hostturn and spanhost.
+// The calls for hosts in C, over structs of numbers, all of 64 bits, and words that the host lends: the exported functions alone. What each does stands in hostfeed, hostmove, hostturn, spanhost and version.
 use hostfeed::host_end_right;
 use hostfeed::host_left;
 use hostfeed::host_open;
 use hostfeed::host_right;
+use hostmove::host_move;
 use hostturn::host_ports;
 use hostturn::host_run;
 use hostturn::host_turn;
 use spanhost::spans_host;
-ghost use Rattle.hostcalls.specs.Leaves.{HostOpenLeaves, HostLeftLeaves, HostRightLeaves, HostEndLeaves, HostPortsLeaves, HostTurnLeaves, HostRunLeaves};
+use version::version_now;
+ghost use mathlib.Core.Path.{_≡_};
+ghost use Rattle.hostcalls.specs.Leaves.{HostOpenLeaves, HostLeftLeaves, HostRightLeaves, HostEndLeaves, HostMoveLeaves, HostPortsLeaves, HostTurnLeaves, HostRunLeaves};
 ghost use Rattle.spanhost.specs.Call.{HostSpanLeaves};
+ghost use Rattle.version.specs.Version.{versionNow};
 pub use convert::HostJoin;
 pub use convert::HostOptions;
 pub use convert::HostRow;
@@ -60,6 +64,20 @@ pub extern "C" fn rowkeeper_end_right(h: HostJoin, left: &[i64], right: &[i64]) 
     host_end_right(h, left, right)
 }
 
+// Moves a join with what waits and what is held to new areas, of any lengths. The old ones are only read.
+#[no_mangle]
+pub extern "C" fn rowkeeper_move(
+    h: HostJoin,
+    left: &[i64],
+    right: &[i64],
+    new_left: &mut [i64],
+    new_right: &mut [i64],
+) -> HostTook
+    ensures { λ r. ⌜ HostMoveLeaves h (now (left .entry)) (now (right .entry)) (now («new_left» .entry)) (now («new_right» .entry)) r (now («new_left» .exit)) (now («new_right» .exit)) ⌝ }
+{
+    host_move(h, left, right, new_left, new_right)
+}
+
 // A port call: l, r and s are what left, right and send come with.
 #[no_mangle]
 pub extern "C" fn rowkeeper_ports(
@@ -100,6 +118,14 @@ pub extern "C" fn rowkeeper_run(
     ensures { λ r. ⌜ HostRunLeaves h k (now (left .entry)) (now (right .entry)) (now (out .entry)) r (now (out .exit)) ⌝ }
 {
     host_run(h, k, left, right, out)
+}
+
+// The version of this library as a number: major × 1,000,000 + minor × 1,000 + patch.
+#[no_mangle]
+pub extern "C" fn rowkeeper_version() -> u64
+    ensures { λ r. ⌜ r ≡ versionNow ⌝ }
+{
+    version_now()
 }
 
 // Lists which points each interval covers; lower and upper tell whether a bound is inclusive. No join has a part in it.

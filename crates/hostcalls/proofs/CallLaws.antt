@@ -11,6 +11,7 @@ use Rattle.feeds.specs.Judged.{openAnswer}
 use Rattle.runs.specs.Run.{runCall}
 use Rattle.node.specs.Leaves.{LeftLeaves, RightLeaves, EndLeaves, PortsLeaves, TurnLeaves}
 use Rattle.runs.specs.RunLeaves.{RunLeaves}
+use Rattle.moves.specs.Moves.{moveCall, MoveLeaves}
 use Rattle.node.specs.declared.Join.{Join}
 use Rattle.answers.specs.declared.PortState.{PortState}
 use Rattle.node.specs.declared.TookJoin.{TookJoin}
@@ -26,8 +27,8 @@ use Rattle.answers.specs.declared.Answer.the-variants.{Refused as TurnRefused}
 use Rattle.codes.specs.Codes.{isCode, portOf}
 use Rattle.convert.specs.Convert.{isOptions, optionsOf, decodeOptions, isJoin, joinOf, encode, decode}
 use Rattle.told.specs.Told.{tookHost, portedHost, turnedHost, freshHost, Made, ranHost, refusedRun}
-use Rattle.hostcalls.specs.Calls.{HostAfter, afterHost, encodeAfter, byJoin, openHost, leftHost, rightHost, endHost, portsHost, turnHost, ranAfter, runHost}
-use Rattle.hostcalls.specs.Leaves.{HostLeftLeaves, HostRightLeaves, HostEndLeaves, HostPortsLeaves, HostTurnLeaves, HostRunLeaves}
+use Rattle.hostcalls.specs.Calls.{HostAfter, afterHost, encodeAfter, byJoin, openHost, leftHost, rightHost, endHost, moveHost, portsHost, turnHost, ranAfter, runHost}
+use Rattle.hostcalls.specs.Leaves.{HostLeftLeaves, HostRightLeaves, HostEndLeaves, HostMoveLeaves, HostPortsLeaves, HostTurnLeaves, HostRunLeaves}
 use Rattle.convert.specs.declared.HostOptions.{HostOptions}
 use Rattle.convert.specs.declared.HostJoin.{HostJoin}
 use Rattle.told.specs.declared.HostTook.{HostTook}
@@ -129,6 +130,27 @@ module _ (h : HostJoin) (left right : Words) where
   pub end-through : (j : Join) (t : TookJoin) (r : HostTook) → isJoin h ≡ true → j ≡ joinOf h → EndLeaves j left right t → r ≡ tookHost (t .answer) (encode (t .join)) → HostEndLeaves h left right r
   unfolding endHost
   end-through j t r e i l x = record { result = through h (afterHost (Refused BadJoin) h left right []) (λ j. endCall j left right) tookHost e i (l .answer) (l .join) x }
+
+-- ---- a move
+module _ (h : HostJoin) (left right newLeft newRight : Words) where
+  pub move-bad : (r : HostTook) → isJoin h ≡ false → r ≡ tookHost (Refused BadJoin) h → HostMoveLeaves h left right newLeft newRight r newLeft newRight
+  unfolding moveHost
+  move-bad r e x =
+      let no = afterHost (Refused BadJoin) h newLeft newRight [] in
+      let call : Join → After Took = λ j. moveCall j left right newLeft newRight in
+      record { result = refuses h no call tookHost e x; left-words = words-refused h no call (λ y. y .left) e refl; right-words = words-refused h no call (λ y. y .right) e refl }
+
+  pub move-through : (j : Join) (t : TookJoin) (r : HostTook) (ls rs : Words) → isJoin h ≡ true → j ≡ joinOf h → MoveLeaves j left right newLeft newRight t ls rs
+      → r ≡ tookHost (t .answer) (encode (t .join)) → HostMoveLeaves h left right newLeft newRight r ls rs
+  unfolding moveHost
+  move-through j t r ls rs e i l x =
+      let no = afterHost (Refused BadJoin) h newLeft newRight [] in
+      let call : Join → After Took = λ j. moveCall j left right newLeft newRight in
+      record {
+        result = through h no call tookHost e i (l .answer) (l .join) x;
+        left-words = words-through h no call (λ y. y .left) e i (l .left-words);
+        right-words = words-through h no call (λ y. y .right) e i (l .right-words);
+      }
 
 -- ---- ports
 module _ (h : HostJoin) (left right : Words) (l r s : ℕ) where

@@ -2,10 +2,11 @@
 use mathlib.Core.Path.{_≡_, refl, sym, _∙_, ap, subst}
 use mathlib.Core.Bool.{Bool, true, false, cond, _&&_}
 use mathlib.Core.List.{[]}
-use mathlib.Core.Option.{some}
+use mathlib.Core.Option.{none, some}
 use Prim.Native.Nat.{ℕ, zero, suc, _<_}
 use native.Mathlib.Omega.{arith}
 use borrow.Author.Tests.{not-true}
+use lib.Dec.{eqb}
 use lib.ListN.{take, drop}
 use Rattle.ports.specs.Ports.{portsJudged}
 use Rattle.frames.specs.Cells.{Words}
@@ -30,11 +31,12 @@ use Rattle.answers.specs.declared.Answer.the-variants.{Wrote, WantsRight, Idle,
 use Rattle.answers.specs.declared.Stop.{Stop}
 use Rattle.runs.specs.Run.{Ran, ran, andThen, stopOf, turnWords, runCall}
 use Rattle.node.proofs.Good.{opened-bad}
+use Rattle.moves.specs.Moves.{moveAnswer, atFront, leftMoved, rightMoved, moveCall}
 use Rattle.codes.specs.Codes.{isCode, portOf, tookCode}
-use Rattle.convert.specs.Convert.{isOptions, optionsOf, decodeOptions, isJoin, joinOf, decode}
+use Rattle.convert.specs.Convert.{layoutNow, isOptions, optionsOf, decodeOptions, isJoin, joinOf, decode}
 use Rattle.told.specs.Told.{freshHost, Made, refusedRun}
-use Rattle.hostcalls.specs.Calls.{HostAfter, afterHost, encodeAfter, byJoin, openHost, leftHost, rightHost, endHost, portsHost, turnHost, ranAfter, runHost}
-use Rattle.hostcalls.specs.Promises.{stays, staysAt, noTurn, Shut, Same, Follows, Promises}
+use Rattle.hostcalls.specs.Calls.{HostAfter, afterHost, encodeAfter, byJoin, openHost, leftHost, rightHost, endHost, moveHost, portsHost, turnHost, ranAfter, runHost}
+use Rattle.hostcalls.specs.Promises.{stays, staysAt, noTurn, Shut, NoJoin, Same, Follows, Promises}
 use Rattle.convert.specs.declared.HostOptions.{HostOptions}
 use Rattle.convert.specs.declared.HostJoin.{HostJoin}
 use Rattle.told.specs.declared.HostTook.{HostTook}
@@ -150,6 +152,12 @@ module _ (h : HostJoin) (left right : Words) where
       keeps h left right [] (Refused BadJoin) (Refused n) (λ j. endCall j left right)
       (λ j. took-keeps (endAnswer j left right) (after Accepted (endedRight j) left right []) j left right n refl)
 
+  move-kept : (newLeft newRight : Words) (n : Refusal) → moveHost h left right newLeft newRight .answer ≡ Refused n → moveHost h left right newLeft newRight ≡ afterHost (Refused n) h newLeft newRight []
+  unfolding moveHost moveCall
+  move-kept newLeft newRight n =
+      keeps h newLeft newRight [] (Refused BadJoin) (Refused n) (λ j. moveCall j left right newLeft newRight)
+      (λ j. took-keeps (moveAnswer j left right newLeft newRight) (after Accepted (atFront j) (leftMoved j left newLeft) (rightMoved j right newRight) []) j newLeft newRight n refl)
+
   -- Where a test fails, the call is refused with everything kept.
   either : (t : Bool) (x : HostAfter Ported) (n : Refusal) → (x .answer ≡ PortsRefused n → x ≡ afterHost (PortsRefused n) h left right [])
       → cond t x (afterHost (PortsRefused BadJoin) h left right []) .answer ≡ PortsRefused n
@@ -191,6 +199,10 @@ module _ (j : Join) (left right : Words) (e : badJoin j left right ≡ true) whe
   unfolding endCall endJudged
   end-bad = rw (e, endCall)
 
+  move-bad : (newLeft newRight : Words) → moveCall j left right newLeft newRight .answer ≡ Refused BadJoin
+  unfolding moveCall moveAnswer
+  move-bad newLeft newRight = rw (e, moveCall)
+
   ports-bad : (l r s : PortState) → portsCall j left right l r s .answer ≡ PortsRefused BadJoin
   unfolding portsCall portsJudged
   ports-bad l r s = rw (e, portsCall)
@@ -213,11 +225,12 @@ by-bad {A} h left right out bad call is = go (isJoin h) refl
     go true e = ap (λ (y : HostAfter A). y .answer) (by-some h (afterHost bad h left right out) call e) ∙ is e
 
 shut-by : (h : HostJoin) (left right : Words) → (isJoin h ≡ true → badJoin (joinOf h) left right ≡ true) → Shut h left right
-unfolding leftHost rightHost endHost portsHost turnHost runHost
+unfolding leftHost rightHost endHost moveHost portsHost turnHost runHost
 shut-by h left right is = record {
   by-left = λ f. by-bad h left right [] (Refused BadJoin) (λ j. leftCall j left right f) (λ e. left-bad (joinOf h) left right (is e) f);
   by-right = λ f. by-bad h left right [] (Refused BadJoin) (λ j. rightCall j left right f) (λ e. right-bad (joinOf h) left right (is e) f);
   by-end = by-bad h left right [] (Refused BadJoin) (λ j. endCall j left right) (λ e. end-bad (joinOf h) left right (is e));
+  by-move = λ newLeft newRight. by-bad h newLeft newRight [] (Refused BadJoin) (λ j. moveCall j left right newLeft newRight) (λ e. move-bad (joinOf h) left right (is e) newLeft newRight);
   by-ports = λ l r s. unsaid (isCode l && isCode r && isCode s)
       (byJoin h (afterHost (PortsRefused BadJoin) h left right []) (λ j. portsCall j left right (portOf l) (portOf r) (portOf s)))
       (by-bad h left right [] (PortsRefused BadJoin) (λ j. portsCall j left right (portOf l) (portOf r) (portOf s))
@@ -229,6 +242,38 @@ shut-by h left right is = record {
     unsaid : (t : Bool) (x : HostAfter Ported) → x .answer ≡ PortsRefused BadJoin → cond t x (afterHost (PortsRefused BadJoin) h left right []) .answer ≡ PortsRefused BadJoin
     unsaid true x e = e
     unsaid false x e = refl
+
+-- ---- numbers that are no join
+-- What is read as none is no join.
+none-is : (h : HostJoin) → decode h ≡ none → isJoin h ≡ false
+unfolding decode
+none-is h e = go (isJoin h) e
+  where
+    go : (b : Bool) → cond b (some (joinOf h)) none ≡ none → b ≡ false
+    go false x = refl
+    go true x = let z : _≡_ {A = ℕ} 0 1 = cc in absurd (omega arith)
+
+foreign : (h : HostJoin) (left right : Words) → isJoin h ≡ false → NoJoin h left right
+unfolding leftHost rightHost endHost moveHost portsHost turnHost runHost
+foreign h left right e = record {
+  by-left = λ f. by-none h (afterHost (Refused BadJoin) h left right []) (λ j. leftCall j left right f) e;
+  by-right = λ f. by-none h (afterHost (Refused BadJoin) h left right []) (λ j. rightCall j left right f) e;
+  by-end = by-none h (afterHost (Refused BadJoin) h left right []) (λ j. endCall j left right) e;
+  by-move = λ newLeft newRight. by-none h (afterHost (Refused BadJoin) h newLeft newRight []) (λ j. moveCall j left right newLeft newRight) e;
+  by-ports = λ l r s. either-none (isCode l && isCode r && isCode s)
+      (by-none h (afterHost (PortsRefused BadJoin) h left right []) (λ j. portsCall j left right (portOf l) (portOf r) (portOf s)) e);
+  by-turn = λ out. by-none h (afterHost (TurnRefused BadJoin) h left right out) (λ j. turnCall j left right out) e;
+  by-run = λ k out. by-none h (afterHost refusedRun h left right out) (λ j. ranAfter (runCall k j left right out) left right) e;
+}
+  where
+    either-none : {A : Type 0} (t : Bool) {x y : A} → x ≡ y → cond t x y ≡ y
+    either-none true p = p
+    either-none false p = refl
+
+-- A join of another layout is none.
+layout-none : (h : HostJoin) → eqb (h .layout) layoutNow ≡ false → decode h ≡ none
+unfolding decode isJoin
+layout-none h e = rw e
 
 -- Options that are refused meet refusal 1.
 refused-bad : (o : Options) → tookCode (openAnswer o) ≡ 1 → badOptions o ≡ true
@@ -314,7 +359,7 @@ module _ (h : HostJoin) (j : Join) (left right : Words) (is : Is h j) where
   said l r s = simp (port-is, port-back)
 
   follow : Follows h j left right
-  unfolding leftHost rightHost endHost turnHost runHost leftCall queued rightCall pushedRight endCall portsCall turnCall turned dequeued dropped
+  unfolding leftHost rightHost endHost moveHost turnHost runHost leftCall queued rightCall pushedRight endCall moveCall portsCall turnCall turned dequeued dropped
   follow = record {
     by-left = λ f. followed h j (afterHost (Refused BadJoin) h left right []) (λ k. leftCall k left right f) is
         (took-options (leftAnswer j left right f) (queued j left right f) j left right refl);
@@ -322,6 +367,8 @@ module _ (h : HostJoin) (j : Join) (left right : Words) (is : Is h j) where
         (took-options (rightAnswer j left right f) (pushedRight j left right f) j left right refl);
     by-end = followed h j (afterHost (Refused BadJoin) h left right []) (λ k. endCall k left right) is
         (took-options (endAnswer j left right) (after Accepted (endedRight j) left right []) j left right refl);
+    by-move = λ newLeft newRight. followed h j (afterHost (Refused BadJoin) h newLeft newRight []) (λ k. moveCall k left right newLeft newRight) is
+        (took-options (moveAnswer j left right newLeft newRight) (after Accepted (atFront j) (leftMoved j left newLeft) (rightMoved j right newRight) []) j newLeft newRight refl);
     by-ports = λ l r s. rw (said l r s)
         (followed h j (afterHost (PortsRefused BadJoin) h left right []) (λ k. portsCall k left right l r s) is
         (ports-options (portsAnswer j left right l r s) (stateAt j (portsState j l s)) j left right refl));
@@ -343,11 +390,14 @@ promises = record {
     by-left = left-kept h left right;
     by-right = right-kept h left right;
     by-end = end-kept h left right;
+    by-move = move-kept h left right;
     by-ports = ports-kept h left right;
     by-turn = turn-kept h left right;
     by-run = run-kept h left right;
   };
   shut = λ o left right e. shut-by (openHost o .join) left right (opened o left right e);
+  no-join = λ h left right e. foreign h left right (none-is h e);
+  other-layout = layout-none;
   opens = opening;
   follows = λ h j left right e. follow h j left right (decoded h j e);
 }

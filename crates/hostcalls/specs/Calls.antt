@@ -7,6 +7,7 @@ use Rattle.frames.specs.Cells.{Words}
 use Rattle.node.specs.State.{fresh}
 use Rattle.node.specs.Calls.{After, after, leftCall, rightCall, endCall, portsCall, turnCall}
 use Rattle.feeds.specs.Judged.{openAnswer}
+use Rattle.moves.specs.Moves.{moveCall}
 use Rattle.runs.specs.Run.{Ran, runCall}
 use Rattle.node.specs.declared.Join.{Join}
 use Rattle.refusals.specs.declared.Refusal.the-variants.{BadOptions, BadJoin}
@@ -62,6 +63,10 @@ rightHost h left right f = byJoin h (afterHost (Refused BadJoin) h left right []
 -- The end of right.
 unfoldable pub endHost : HostJoin → Words → Words → HostAfter Took
 endHost h left right = byJoin h (afterHost (Refused BadJoin) h left right []) (λ j. endCall j left right)
+
+-- A move to other areas; the words that it leaves are those of the new areas.
+unfoldable pub moveHost : HostJoin → Words → Words → Words → Words → HostAfter Took
+moveHost h left right newLeft newRight = byJoin h (afterHost (Refused BadJoin) h newLeft newRight []) (λ j. moveCall j left right newLeft newRight)
 
 -- A port call: what no port can say is refused like a join that cannot be.
 unfoldable pub portsHost : HostJoin → Words → Words → ℕ → ℕ → ℕ → HostAfter Ported

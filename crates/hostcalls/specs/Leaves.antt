@@ -3,7 +3,7 @@ use mathlib.Core.Path.{_≡_}
 use Prim.Native.Nat.{ℕ}
 use Rattle.frames.specs.Cells.{Words}
 use Rattle.told.specs.Told.{tookHost, portedHost, turnedHost, ranHost}
-use Rattle.hostcalls.specs.Calls.{openHost, leftHost, rightHost, endHost, portsHost, turnHost, runHost}
+use Rattle.hostcalls.specs.Calls.{openHost, leftHost, rightHost, endHost, moveHost, portsHost, turnHost, runHost}
 use Rattle.convert.specs.declared.HostOptions.{HostOptions}
 use Rattle.convert.specs.declared.HostJoin.{HostJoin}
 use Rattle.told.specs.declared.HostTook.{HostTook}
@@ -28,6 +28,12 @@ pub record HostRightLeaves (h : HostJoin) (left right frame : Words) (r : HostTo
 -- The end of right.
 pub record HostEndLeaves (h : HostJoin) (left right : Words) (r : HostTook) : Type 0 where
   pub result : r ≡ tookHost (endHost h left right .answer) (endHost h left right .join)
+
+-- A move to other areas; the new areas' words as they are afterwards.
+pub record HostMoveLeaves (h : HostJoin) (left right newLeft newRight : Words) (r : HostTook) (left′ right′ : Words) : Type 0 where
+  pub result : r ≡ tookHost (moveHost h left right newLeft newRight .answer) (moveHost h left right newLeft newRight .join)
+  pub left-words : left′ ≡ moveHost h left right newLeft newRight .left
+  pub right-words : right′ ≡ moveHost h left right newLeft newRight .right
 
 -- A port call that comes with l, r and s.
 pub record HostPortsLeaves (h : HostJoin) (left right : Words) (l r s : ℕ) (x : HostPorted) : Type 0 where

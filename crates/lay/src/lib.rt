@@ -1,4 +1,5 @@
 // A run of left rows, matched over a right run: walked or scanned, its choices laid into the answer.
+use candidates::candidates;
 use cursor::keys_sorted;
 use frames::Options;
 use matching::Choice;
@@ -6,16 +7,14 @@ use options::strategy_of;
 use scan::match_row;
 use walk::walk_row;
 ghost use mathlib.Core.Path.{_≡_};
-ghost use mathlib.Core.Bool.{_&&_};
 ghost use mathlib.Core.List.{map};
-ghost use Prim.Native.Nat.{_+_, _≤_};
+ghost use Prim.Native.Nat.{_+_};
 ghost use lib.ListN.{set};
 ghost use Rattle.matching.specs.Match.{matchIn};
 ghost use Rattle.matching.specs.Answer.{numberWord, choiceMark};
 ghost use Rattle.matching.specs.Walk.{between, lay};
 ghost use Rattle.matching.specs.Inner.{Small, PutRoom, RunRoom};
-ghost use Rattle.matching.specs.Moves.{keysSorted, WalkRoom, Counted};
-ghost use Rattle.frames.specs.Room.{RowsIn};
+ghost use Rattle.matching.specs.Moves.{WalkRoom, Counted};
 
 // The right number of a choice; 0 for none.
 fn number_word(choice: Choice) -> i64
@@ -111,30 +110,7 @@ pub fn walk_run(
     moved
 }
 
-// Whether left rows from..to and right rows at..end are both sorted by key.
-pub fn both_sorted(
-    lv: &[i64],
-    lm: &[i64],
-    from: usize,
-    to: usize,
-    wl: usize,
-    rv: &[i64],
-    rm: &[i64],
-    at: usize,
-    end: usize,
-    wr: usize,
-    o: Options,
-) -> bool
-    requires { ⌜ RowsIn o wl to (now lv) (now lm) × (from ≤ to) × RowsIn o wr end (now rv) (now rm) × (at ≤ end) ⌝ }
-    ensures { λ r. ⌜ r ≡ (keysSorted o (between wl from to (now (lv .entry)) (now (lm .entry))) && keysSorted o (between wr at end (now (rv .entry)) (now (rm .entry)))) ⌝ }
-{
-    if !keys_sorted(lv, lm, from, to, wl, o) {
-        return false;
-    }
-    keys_sorted(rv, rm, at, end, wr, o)
-}
-
-// Left rows from..to of a frame of n rows, each matched over right rows at..end: walked where both are sorted, else scanned.
+// Left rows from..to of a frame of n rows, each matched over right rows at..end. Where they are sorted by key, the right run is cut to its candidates first, and walked where those are sorted too; else it is scanned.
 pub fn match_run(
     lv: &[i64],
     lm: &[i64],
@@ -154,9 +130,16 @@ pub fn match_run(
     requires { ⌜ RunRoom o wl n (now lv) (now lm) from to wr (now rv) (now rm) at end number (now out) ⌝ }
     ensures { λ _. ⌜ now (out .exit) ≡ lay n from (map (matchIn o (number + at) (between wr at end (now (rv .entry)) (now (rm .entry)))) (between wl from to (now (lv .entry)) (now (lm .entry)))) (now (out .entry)) ⌝ }
 {
-    if both_sorted(lv, lm, from, to, wl, rv, rm, at, end, wr, o) {
-        let _moved = walk_run(lv, lm, n, wl, from, to, rv, rm, wr, at, end, number, o, out);
-    } else {
+    if !keys_sorted(lv, lm, from, to, wl, o) {
         scan_run(lv, lm, n, wl, from, to, rv, rm, wr, at, end, number, o, out);
+        return;
+    }
+    let part = candidates(lv, lm, from, to, wl, rv, rm, at, end, wr, o);
+    let lo = part.from;
+    let hi = part.to;
+    if keys_sorted(rv, rm, lo, hi, wr, o) {
+        let _moved = walk_run(lv, lm, n, wl, from, to, rv, rm, wr, lo, hi, number, o, out);
+    } else {
+        scan_run(lv, lm, n, wl, from, to, rv, rm, wr, lo, hi, number, o, out);
     }
 }

@@ -60,7 +60,7 @@ fore-equal q Greater e h = refl
 
 module _ (q : Bool) where
   -- What is on Backward's side of v is on that of a greater key; and what is at most it is on that of v.
-  back-up : (b v u : Cell) → AtMost (cmpCell keyRule) v u → onSide Backward q (cmpCell keyRule b v) ≡ true → onSide Backward q (cmpCell keyRule b u) ≡ true
+  pub back-up : (b v u : Cell) → AtMost (cmpCell keyRule) v u → onSide Backward q (cmpCell keyRule b v) ≡ true → onSide Backward q (cmpCell keyRule b u) ≡ true
   back-up b v u h e = by (three K b v)
     where
       by : (cmpCell keyRule b v ≡ Less) ⊎ ((cmpCell keyRule b v ≡ Equal) ⊎ (cmpCell keyRule b v ≡ Greater)) → onSide Backward q (cmpCell keyRule b u) ≡ true
@@ -77,7 +77,7 @@ module _ (q : Bool) where
       by (inr (inr g)) = absurd (back-side q (cmpCell keyRule k v) e g)
 
   -- What is on Forward's side of a key is on that of a smaller one.
-  fore-down : (a v u : Cell) → AtMost (cmpCell keyRule) v u → onSide Forward q (cmpCell keyRule a u) ≡ true → onSide Forward q (cmpCell keyRule a v) ≡ true
+  pub fore-down : (a v u : Cell) → AtMost (cmpCell keyRule) v u → onSide Forward q (cmpCell keyRule a u) ≡ true → onSide Forward q (cmpCell keyRule a v) ≡ true
   fore-down a v u h e = by (three K a u)
     where
       by : (cmpCell keyRule a u ≡ Less) ⊎ ((cmpCell keyRule a u ≡ Equal) ⊎ (cmpCell keyRule a u ≡ Greater)) → onSide Forward q (cmpCell keyRule a v) ≡ true

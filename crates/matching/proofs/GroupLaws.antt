@@ -47,7 +47,7 @@ only-greater Greater h e = refl
 all-of : (P : List Cell → Type 0) → ((r : List Cell) → P r) → (rs : Rows) → All P rs
 all-of P h rs = all-by P rs (λ i l. h (getD rs i []))
 
-map-same : (f g : List Cell → Choice) (rs : Rows) → All (λ x. f x ≡ g x) rs → map f rs ≡ map g rs
+pub map-same : (f g : List Cell → Choice) (rs : Rows) → All (λ x. f x ≡ g x) rs → map f rs ≡ map g rs
 map-same f g [] h = refl
 map-same f g (r ∷ rs) h = rw (h .0, map-same f g rs (h .1))
 

@@ -24,6 +24,13 @@ keysSorted o [] = true
 keysSorted o (r ∷ []) = true
 keysSorted o (r ∷ s ∷ rs) = not (isGreater (cmpCell keyRule (keyOf o r) (keyOf o s))) && keysSorted o (s ∷ rs)
 
+-- Row r is the first of from..to that has a key, or none has one and r is `to`.
+pub record FirstKey (o : Options) (w from to : ℕ) (ms : Words) (r : ℕ) : Type 0 where
+  pub start : from ≤ r
+  pub within : r ≤ to
+  pub before : (vs : Words) (k : ℕ) → from ≤ k → k < r → isNull (cellAt (k * w + o .by) vs ms) ≡ true
+  pub keyed : (vs : Words) → r < to → isNull (cellAt (r * w + o .by) vs ms) ≡ false
+
 -- Whether the right cursor moves on from a row with the key a to the next one, with the key b, for the left key v. Backward: b is null or on v's side. Forward: a does not fit v. Nearest: a is null, or b takes its place.
 abbrev pub movesOn : Strategy → Bool → Cell → Cell → Cell → Bool
 movesOn Backward eq v a b = isNull b || onSide Backward eq (cmpCell keyRule b v)

@@ -13,7 +13,7 @@ use Rattle.answers.specs.declared.Ported.the-variants.{Ports, Refused as PortsR
 use Rattle.answers.specs.declared.Answer.{Answer}
 use Rattle.answers.specs.declared.Answer.the-variants.{Wrote, WantsRight, Idle, Refused as TurnRefused}
 use Rattle.codes.specs.Codes.{tookCode, stopCode, stopRefusal}
-use Rattle.convert.specs.Convert.{encodeRow}
+use Rattle.convert.specs.Convert.{layoutNow, encodeRow}
 use Rattle.convert.specs.declared.HostOptions.{HostOptions}
 use Rattle.convert.specs.declared.HostJoin.{HostJoin}
 use Rattle.told.specs.declared.HostTook.{HostTook}
@@ -54,6 +54,7 @@ refusedRun = record { turns = 0; words = 0; stop = StopRefused BadJoin }
 -- A fresh join with any options, in numbers.
 abbrev pub freshHost : HostOptions → HostJoin
 freshHost h = record {
+  layout = layoutNow;
   options = h;
   base = 0;
   held = 0;

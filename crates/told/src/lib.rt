@@ -7,6 +7,7 @@ use codes::stop_refusal;
 use codes::took_code;
 use convert::HostJoin;
 use convert::HostOptions;
+use convert::LAYOUT;
 use convert::encode_join;
 use convert::encode_row;
 use keyed::no_row;
@@ -65,6 +66,7 @@ pub fn fresh_host(o: HostOptions) -> HostJoin
 {
     let none = encode_row(no_row());
     HostJoin {
+        layout: LAYOUT,
         options: o,
         base: 0,
         held: 0,

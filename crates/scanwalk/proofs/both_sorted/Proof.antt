@@ -1,7 +1,7 @@
 use mathlib.Core.Path.{sym, _∙_}
 use borrow.Author.Tests.{not-true, not-false}
-use Rattle.lay.proofs.both_sorted.Statement.{statement}
-use Rattle.lay.proofs.both_sorted.Tie as tie
+use Rattle.scanwalk.proofs.both_sorted.Statement.{statement}
+use Rattle.scanwalk.proofs.both_sorted.Tie as tie
 
 keys-sorted-requires : tie.Need-keys-sorted-requires
 keys-sorted-requires c κs = (c .pre .0, c .pre .1)
