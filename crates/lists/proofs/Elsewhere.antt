@@ -8,6 +8,8 @@ use borrow.Author.Tests.{le-ltb, ne-eqb}
 use lib.Dec.{ltb, eqb}
 use lib.ListN.{length, take, drop, length-take}
 use lib.Seq.{drop-drop}
+use Rattle.ports.specs.Ports.{portsJudged}
+use Rattle.feeds.specs.Judged.{endJudged, leftJudged, rightJudged}
 use Rattle.frames.specs.Cells.{Rows, Words, rowsOf}
 use Rattle.frames.specs.declared.Row.{Row}
 use Rattle.frames.specs.Frame.{rowCount, valuesIn, marksIn, frameRows, frameWords, isFrame, front}
@@ -20,14 +22,14 @@ use Rattle.answers.specs.Answers.{isRunning, isDone, mostRows}
 use Rattle.answers.specs.declared.PortState.{PortState}
 use Rattle.answers.specs.declared.Answer.{Answer}
 use Rattle.answers.specs.declared.Answer.the-variants.{Wrote, WantsRight, Idle, Refused as TurnRefused}
-use Rattle.answers.specs.declared.Refusal.{Refusal}
-use Rattle.answers.specs.declared.Refusal.the-variants.{BadOptions, BadJoin, Failed, Closed, BadFrame, NoRoom, UsedUp, LeftOrder, RightOrder}
+use Rattle.refusals.specs.Refusals.{marksFailed}
+use Rattle.refusals.specs.declared.Refusal.{Refusal}
 use Rattle.answers.specs.declared.Took.{Took}
 use Rattle.answers.specs.declared.Took.the-variants.{Accepted, Refused}
 use Rattle.answers.specs.declared.Ported.{Ported}
 use Rattle.answers.specs.declared.Ported.the-variants.{Ports, Refused as PortsRefused}
 use Rattle.answers.specs.declared.NodeState.{NodeState}
-use Rattle.node.specs.State.{queueAt, heldAt, nextTurn, endedRight, stateAt, widthOf, badJoin, heldOf, heldValues, heldMarks, waiting}
+use Rattle.node.specs.State.{queueAt, heldAt, nextTurn, endedRight, stateAt, markedFailed, leftWidth, rightWidth, badJoin, heldOf, heldValues, heldMarks, waiting}
 use Rattle.node.specs.Calls.{After, after, leftAnswer, leftCall, queued, rightAnswer, rightCall, pushedRight, endAnswer, endCall, portsAnswer, portsCall, portsState, turnAnswer, turnCall, turned, dropped, dequeued, spoiled}
 use Rattle.prunes.specs.Prunes.{firstPrune, keptRows, lastPrune}
 use Rattle.node.proofs.Good.{Good, LeftTaken, left-taken, RightTaken, right-taken}
@@ -41,20 +43,20 @@ unfolding badJoin
 unbroken j l r g =
     rw (
       g .options,
-      le-ltb (capacity (widthOf j) r) (j .base + j .held) (g .right-room),
+      le-ltb (capacity (rightWidth j) r) (j .base + j .held) (g .right-room),
       le-ltb (length l) (j .«queue_start» + j .«queue_words») (g .left-room),
       le-ltb mostRows (j .pruned + j .held) (g .rows),
       ne-eqb (j .sequence % 2) 1 (λ (h : j .sequence % 2 ≡ 1). omega (arith, g .even)),
     )
 
 -- ---- held rows
-pub held-read : (j : Join) (r : Words) → heldOf j r ≡ rowsOf (widthOf j) (j .held) (heldValues j r) (heldMarks j r)
+pub held-read : (j : Join) (r : Words) → heldOf j r ≡ rowsOf (rightWidth j) (j .held) (heldValues j r) (heldMarks j r)
 unfolding heldOf heldRows heldValues heldMarks
-held-read j r = sym (rows-read (widthOf j) (j .held) (j .held * widthOf j) (drop (j .base * widthOf j) r) (drop ((capacity (widthOf j) r + j .base) * widthOf j) r) (omega arith))
+held-read j r = sym (rows-read (rightWidth j) (j .held) (j .held * rightWidth j) (drop (j .base * rightWidth j) r) (drop ((capacity (rightWidth j) r + j .base) * rightWidth j) r) (omega arith))
 
 held-count : (j : Join) (r : Words) → length (heldOf j r) ≡ j .held
 unfolding heldOf heldRows
-held-count j r = rows-length (widthOf j) (j .held) (drop (j .base * widthOf j) r) (drop ((capacity (widthOf j) r + j .base) * widthOf j) r)
+held-count j r = rows-length (rightWidth j) (j .held) (drop (j .base * rightWidth j) r) (drop ((capacity (rightWidth j) r + j .base) * rightWidth j) r)
 
 -- A turn drops no more rows than are held, and takes no more words than wait.
 gone : (j : Join) (r : Words) (rows : Rows) → firstPrune (j .options) rows (heldOf j r) + pruneBy (j .options) (length rows - 1) rows (drop (firstPrune (j .options) rows (heldOf j r)) (heldOf j r)) ≤ j .held
@@ -126,7 +128,7 @@ module _ (j : Join) (s b : ℕ) (l r l′ r′ : Words) (a : Live (placedAt j s 
   k = placedAt j s b
 
   abbrev c : ℕ
-  c = widthOf j
+  c = rightWidth j
 
   pub holds : heldOf k r′ ≡ heldOf j r
   holds = held-read k r′ ∙ rw (a .values, a .marks) (sym (held-read j r))
@@ -166,28 +168,25 @@ module _ (j : Join) (s b : ℕ) (l r l′ r′ : Words) (a : Live (placedAt j s 
   turned-same : (out : Words) → Same (turned k l′ r′ out) (turned j l r out)
   unfolding turned dequeued dropped
   turned-same out =
-      let f = front c (waiting j l) in
-      let rows = frameRows c f in
+      let f = front (leftWidth j) (waiting j l) in
+      let rows = frameRows (leftWidth j) f in
       rw (a .waits, holds)
       (record {
         answer = refl;
         join = refl;
         out = refl;
-        live = next-live (firstPrune (j .options) rows (heldOf j r) + pruneBy (j .options) (length rows - 1) rows (drop (firstPrune (j .options) rows (heldOf j r)) (heldOf j r))) (length f) _ _ (gone j r rows) (taken c j l);
+        live = next-live (firstPrune (j .options) rows (heldOf j r) + pruneBy (j .options) (length rows - 1) rows (drop (firstPrune (j .options) rows (heldOf j r)) (heldOf j r))) (length f) _ _ (gone j r rows) (taken (leftWidth j) j l);
       })
 
   -- What changes nothing, or marks the join failed.
   spoiled-same : (n : Refusal) (out : Words) → Same {A = Answer} (record { answer = TurnRefused n; join = spoiled n k; left = l′; right = r′; out = out }) (record { answer = TurnRefused n; join = spoiled n j; left = l; right = r; out = out })
   unfolding badJoin waiting heldValues heldMarks
-  spoiled-same BadOptions out = record { answer = refl; join = refl; out = refl; live = a }
-  spoiled-same BadJoin out = record { answer = refl; join = refl; out = refl; live = a }
-  spoiled-same Failed out = record { answer = refl; join = refl; out = refl; live = a }
-  spoiled-same Closed out = record { answer = refl; join = refl; out = refl; live = a }
-  spoiled-same BadFrame out = record { answer = refl; join = refl; out = refl; live = a }
-  spoiled-same NoRoom out = record { answer = refl; join = refl; out = refl; live = a }
-  spoiled-same UsedUp out = record { answer = refl; join = refl; out = refl; live = a }
-  spoiled-same LeftOrder out = record { answer = refl; join = refl; out = refl; live = record { bad = a .bad; waits = a .waits; values = a .values; marks = a .marks } }
-  spoiled-same RightOrder out = record { answer = refl; join = refl; out = refl; live = record { bad = a .bad; waits = a .waits; values = a .values; marks = a .marks } }
+  spoiled-same n out = go (marksFailed n)
+    where
+      go : (b : Bool)
+          → Same {A = Answer} (record { answer = TurnRefused n; join = cond b (markedFailed k) k; left = l′; right = r′; out = out }) (record { answer = TurnRefused n; join = cond b (markedFailed j) j; left = l; right = r; out = out })
+      go true = record { answer = refl; join = refl; out = refl; live = record { bad = a .bad; waits = a .waits; values = a .values; marks = a .marks } }
+      go false = record { answer = refl; join = refl; out = refl; live = a }
 
   pub turn-same : (out : Words) → Same (turnCall k l′ r′ out) (turnCall j l r out)
   unfolding turnCall
@@ -201,7 +200,7 @@ module _ (j : Join) (s b : ℕ) (l r l′ r′ : Words) (a : Live (placedAt j s 
 
   -- ---- a left frame
   left-answer : (f : Words) → short (leftAnswer k l′ r′ f) ≡ short (leftAnswer j l r f) → leftAnswer k l′ r′ f ≡ leftAnswer j l r f
-  unfolding leftAnswer
+  unfolding leftJudged
   left-answer f e =
       let x′ = ltb (length l′) (j .«queue_words» + length f) in
       let x = ltb (length l) (j .«queue_words» + length f) in
@@ -257,7 +256,7 @@ module _ (j : Join) (s b : ℕ) (l r l′ r′ : Words) (a : Live (placedAt j s 
 
   -- ---- a right frame
   right-answer : (f : Words) → short (rightAnswer k l′ r′ f) ≡ short (rightAnswer j l r f) → rightAnswer k l′ r′ f ≡ rightAnswer j l r f
-  unfolding rightAnswer
+  unfolding rightJudged
   right-answer f e =
       let ended = j .«right_ended» || isDone (j .state) in
       let u = cond (ltb mostRows (j .pruned + j .held + rowCount f)) (Refused UsedUp) Accepted in
@@ -320,7 +319,7 @@ module _ (j : Join) (s b : ℕ) (l r l′ r′ : Words) (a : Live (placedAt j s 
 
   -- ---- the end of right, and ports
   pub end-answer : endAnswer k l′ r′ ≡ endAnswer j l r
-  unfolding endAnswer
+  unfolding endJudged
   end-answer = rw (a .bad)
 
   ended-live : Live (endedRight k) l′ r′ (endedRight j) l r
@@ -336,7 +335,7 @@ module _ (j : Join) (s b : ℕ) (l r l′ r′ : Words) (a : Live (placedAt j s 
       go (Refused n) e = rw (end-answer ∙ e, e, endCall) (record { answer = refl; join = refl; out = refl; live = a })
 
   pub ports-answer : (x y z : PortState) → portsAnswer k l′ r′ x y z ≡ portsAnswer j l r x y z
-  unfolding portsAnswer
+  unfolding portsJudged
   ports-answer x y z = rw (a .bad)
 
   state-live : (q : NodeState) → Live (stateAt k q) l′ r′ (stateAt j q) l r

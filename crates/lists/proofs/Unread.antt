@@ -5,6 +5,7 @@ use mathlib.Core.Bool.{Bool}
 use mathlib.Core.List.{List, [], _∷_}
 use Prim.Native.Nat.{ℕ, _+_, _≤_}
 use lib.ListN.{length}
+use Rattle.feeds.specs.Judged.{leftJudged, rightJudged}
 use Rattle.frames.specs.Cells.{Words}
 use Rattle.frames.specs.Frame.{rowCount}
 use Rattle.area.specs.Area.{newBase}
@@ -17,7 +18,7 @@ use Rattle.answers.specs.declared.Took.{Took}
 use Rattle.answers.specs.declared.Took.the-variants.{Accepted, Refused}
 use Rattle.answers.specs.declared.Ported.{Ported}
 use Rattle.answers.specs.declared.Ported.the-variants.{Ports, Refused as PortsRefused}
-use Rattle.node.specs.State.{endedRight, widthOf, badJoin, waiting, heldValues, heldMarks}
+use Rattle.node.specs.State.{endedRight, rightWidth, badJoin, waiting, heldValues, heldMarks}
 use Rattle.node.specs.Calls.{After, after, leftAnswer, leftCall, queued, rightAnswer, rightCall, pushedRight, endAnswer, endCall, portsAnswer, portsCall, turnAnswer, turnCall, turned}
 use Rattle.node.proofs.Good.{left-taken, right-taken}
 use Rattle.lists.specs.Lists.{Call, left, right, end, ports, turn, World, step, events, final}
@@ -51,7 +52,7 @@ module _ (j : Join) (l r : Words) where
   unfolding rightCall pushedRight
   right-lengths f =
       took-lengths (rightAnswer j l r f) (pushedRight j l r f)
-      (λ e. let t = right-taken j l r f e in record { in-left = refl; in-right = pushed-length (widthOf j) (j .base) (j .held) f r (t .frame) (t .good .right-room) (t .room) })
+      (λ e. let t = right-taken j l r f e in record { in-left = refl; in-right = pushed-length (rightWidth j) (j .base) (j .held) f r (t .frame) (t .good .right-room) (t .room) })
 
   end-lengths : Lengths (endCall j l r) l r
   unfolding endCall
@@ -86,11 +87,11 @@ module _ (j : Join) (l r l′ r′ : Words) (a : Alike j l r l′ r′) where
 
   -- A frame that finds no room finds none in an area that is as long.
   left-answer : (f : Words) → leftAnswer j l′ r′ f ≡ leftAnswer j l r f
-  unfolding leftAnswer badJoin
+  unfolding leftJudged badJoin
   left-answer f = rw (a .left-length, a .right-length)
 
   right-answer : (f : Words) → rightAnswer j l′ r′ f ≡ rightAnswer j l r f
-  unfolding rightAnswer badJoin
+  unfolding rightJudged badJoin
   right-answer f = rw (a .left-length, a .right-length)
 
   -- And it gets the same place.

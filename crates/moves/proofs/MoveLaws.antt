@@ -15,11 +15,11 @@ use Rattle.area.specs.Area.{capacity, heldRows, written}
 use Rattle.area.proofs.PushLaws.{capacity-room}
 use Rattle.feeds.proofs.FeedLaws.{or-both}
 use Rattle.answers.specs.Answers.{mostRows}
-use Rattle.answers.specs.declared.Refusal.{Refusal}
-use Rattle.answers.specs.declared.Refusal.the-variants.{BadJoin, NoRoom}
+use Rattle.refusals.specs.declared.Refusal.{Refusal}
+use Rattle.refusals.specs.declared.Refusal.the-variants.{BadJoin, NoRoom}
 use Rattle.answers.specs.declared.Took.{Took}
 use Rattle.answers.specs.declared.Took.the-variants.{Accepted, Refused}
-use Rattle.node.specs.State.{widthOf, badJoin, heldOf, waiting, heldValues, heldMarks}
+use Rattle.node.specs.State.{rightWidth, badJoin, heldOf, waiting, heldValues, heldMarks}
 use Rattle.node.specs.Calls.{After, after}
 use Rattle.node.specs.declared.Join.{Join}
 use Rattle.node.specs.declared.TookJoin.{TookJoin}
@@ -36,15 +36,15 @@ passed false n t e = (refl, e)
 pub record Fits (j : Join) (left right newLeft newRight : Words) : Type 0 where
   pub good : Good j left right
   pub left-room : j .«queue_words» ≤ length newLeft
-  pub right-room : j .held ≤ capacity (widthOf j) newRight
+  pub right-room : j .held ≤ capacity (rightWidth j) newRight
 
 pub fits-by : (j : Join) (left right newLeft newRight : Words) → badJoin j left right ≡ false → noRoomIn j newLeft newRight ≡ false → Fits j left right newLeft newRight
 fits-by j left right newLeft newRight e f =
-    let p = or-both (ltb (length newLeft) (j .«queue_words»)) (ltb (capacity (widthOf j) newRight) (j .held)) f in
+    let p = or-both (ltb (length newLeft) (j .«queue_words»)) (ltb (capacity (rightWidth j) newRight) (j .held)) f in
     record {
       good = good j left right e;
       left-room = ltb-false (length newLeft) (j .«queue_words») (p .0);
-      right-room = ltb-false (capacity (widthOf j) newRight) (j .held) (p .1);
+      right-room = ltb-false (capacity (rightWidth j) newRight) (j .held) (p .1);
     }
 
 taken-tests : (j : Join) (left right newLeft newRight : Words) → moveAnswer j left right newLeft newRight ≡ Accepted → (badJoin j left right ≡ false) × (noRoomIn j newLeft newRight ≡ false)
@@ -55,9 +55,9 @@ taken-tests j left right newLeft newRight e =
     (p .0, q .0)
 
 -- The held rows, by their words.
-held-read : (j : Join) (r : Words) → heldOf j r ≡ rowsOf (widthOf j) (j .held) (heldValues j r) (heldMarks j r)
+held-read : (j : Join) (r : Words) → heldOf j r ≡ rowsOf (rightWidth j) (j .held) (heldValues j r) (heldMarks j r)
 unfolding heldOf heldRows heldValues heldMarks
-held-read j r = sym (rows-read (widthOf j) (j .held) (j .held * widthOf j) (drop (j .base * widthOf j) r) (drop ((capacity (widthOf j) r + j .base) * widthOf j) r) (omega arith))
+held-read j r = sym (rows-read (rightWidth j) (j .held) (j .held * rightWidth j) (drop (j .base * rightWidth j) r) (drop ((capacity (rightWidth j) r + j .base) * rightWidth j) r) (omega arith))
 
 -- ---- what it leaves
 -- Words that were written are there.
@@ -66,7 +66,7 @@ there ws area at n e h = rw (← e) (part-copied area at ws (length ws) h (omega
 
 module _ (j : Join) (left right newLeft newRight : Words) (t : Fits j left right newLeft newRight) where
   abbrev c : ℕ
-  c = widthOf j
+  c = rightWidth j
 
   abbrev n : ℕ
   n = j .held * c
@@ -215,7 +215,7 @@ module _ (j : Join) (left right newLeft newRight : Words) where
   no-room-move e f = let w = move-short j left right newLeft newRight e f in record { answer = rw w; join = rw w; left-words = rw w; right-words = rw w }
 
   pub done-move : (left′ right′ : Words) → badJoin j left right ≡ false → noRoomIn j newLeft newRight ≡ false
-      → left′ ≡ written (take (j .«queue_words») (drop (j .«queue_start») left)) 0 newLeft → right′ ≡ rightCopied (widthOf j) (j .base) (j .held) right newRight
+      → left′ ≡ written (take (j .«queue_words») (drop (j .«queue_start») left)) 0 newLeft → right′ ≡ rightCopied (rightWidth j) (j .base) (j .held) right newRight
       → MoveLeaves j left right newLeft newRight (record { answer = Accepted; join = atFront j }) left′ right′
   unfolding leftMoved rightMoved rightCopied waiting heldValues heldMarks
   done-move left′ right′ e f x y = let w = move-done j left right newLeft newRight e f in record { answer = rw w; join = rw w; left-words = rw w x; right-words = rw w y }

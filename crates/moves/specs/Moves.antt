@@ -1,30 +1,29 @@
 -- A join moved to other areas (SCOPE 5.14 to 5.16): what the call answers, and the join and the words that it leaves. Assumes nothing.
 use mathlib.Core.Path.{_≡_}
-use mathlib.Core.Bool.{Bool, false, cond, _||_}
-use mathlib.Core.List.{[]}
+use mathlib.Core.Bool.{Bool, false, _||_}
+use mathlib.Core.List.{[], _∷_}
 use Prim.Native.Nat.{_*_}
 use lib.Dec.{ltb}
 use lib.ListN.{length}
 use Rattle.frames.specs.Cells.{Words}
 use Rattle.area.specs.Area.{capacity, written}
-use Rattle.node.specs.State.{queueAt, heldAt, widthOf, badJoin, heldOf, waiting, heldValues, heldMarks}
+use Rattle.node.specs.State.{queueAt, heldAt, rightWidth, badJoin, heldOf, waiting, heldValues, heldMarks}
 use Rattle.node.specs.Calls.{After, after}
 use Rattle.node.specs.declared.Join.{Join}
 use Rattle.node.specs.declared.TookJoin.{TookJoin}
-use Rattle.answers.specs.declared.Refusal.the-variants.{BadJoin, NoRoom}
+use Rattle.refusals.specs.Tests.{test, firstOf}
+use Rattle.refusals.specs.declared.Refusal.the-variants.{BadJoin, NoRoom}
 use Rattle.answers.specs.declared.Took.{Took}
 use Rattle.answers.specs.declared.Took.the-variants.{Accepted, Refused}
 
 -- SCOPE 16, number 6: the new areas have no room for the words that wait, or for the rows that are held.
 abbrev pub noRoomIn : Join → Words → Words → Bool
-noRoomIn j newLeft newRight = ltb (length newLeft) (j .«queue_words») || ltb (capacity (widthOf j) newRight) (j .held)
+noRoomIn j newLeft newRight = ltb (length newLeft) (j .«queue_words») || ltb (capacity (rightWidth j) newRight) (j .held)
 
--- SCOPE 16.3: a chain in checking order. Whether the join has failed or ended is not asked.
+-- SCOPE 16.3: its tests in checking order. Whether the join has failed or ended is not asked.
 unfoldable pub moveAnswer : Join → Words → Words → Words → Words → Took
 moveAnswer j left right newLeft newRight =
-    cond (badJoin j left right) (Refused BadJoin)
-    (cond (noRoomIn j newLeft newRight) (Refused NoRoom)
-    Accepted)
+    firstOf (test (badJoin j left right) (Refused BadJoin) ∷ test (noRoomIn j newLeft newRight) (Refused NoRoom) ∷ []) Accepted
 
 -- The join with what waits and what is held at the front of its areas.
 abbrev pub atFront : Join → Join
@@ -36,7 +35,7 @@ leftMoved j left newLeft = written (waiting j left) 0 newLeft
 
 -- The new right area has the held values at its front and the held marks from word R × c on, R being its own; its other words are as they were.
 unfoldable pub rightMoved : Join → Words → Words → Words
-rightMoved j right newRight = written (heldMarks j right) (capacity (widthOf j) newRight * widthOf j) (written (heldValues j right) 0 newRight)
+rightMoved j right newRight = written (heldMarks j right) (capacity (rightWidth j) newRight * rightWidth j) (written (heldValues j right) 0 newRight)
 
 -- A move: refused, it changes nothing. The areas that it leaves are the new ones; the old ones are only read.
 unfoldable pub moveCall : Join → Words → Words → Words → Words → After Took

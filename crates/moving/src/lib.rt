@@ -1,5 +1,4 @@
 // A join moved to other areas, of any lengths: what waits and what is held is copied to their fronts.
-use answers::Refusal;
 use answers::Took;
 use area::append;
 use area::held_marks;
@@ -7,6 +6,8 @@ use area::held_values;
 use node::Join;
 use node::TookJoin;
 use node::bad_join;
+use options::right_columns;
+use refusals::Refusal;
 ghost use mathlib.Core.Path.{_≡_};
 ghost use Prim.Native.Nat.{_≤_};
 ghost use lib.ListN.{length, take, drop};
@@ -60,7 +61,7 @@ fn no_room(j: Join, left: &[i64], right: &[i64]) -> bool
     if left.len() < j.queue_words {
         return true;
     }
-    let c = j.options.by + 1;
+    let c = right_columns(j.options);
     right.len() / (2 * c) < j.held
 }
 
@@ -88,7 +89,8 @@ pub fn move_join(
         };
     }
     copy_left(left, j.queue_start, j.queue_words, new_left);
-    copy_right(right, j.base, j.held, j.options.by + 1, new_right);
+    let c = right_columns(j.options);
+    copy_right(right, j.base, j.held, c, new_right);
     TookJoin {
         answer: Took::Accepted,
         join: Join {

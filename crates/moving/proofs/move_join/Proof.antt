@@ -1,5 +1,4 @@
 use mathlib.Core.Path.{sym, _∙_}
-use native.Mathlib.Numerals.{add-one}
 use native.Mathlib.Omega.{arith}
 use denote.Ref.{now}
 use Rattle.node.proofs.Good.{good}
@@ -12,6 +11,7 @@ use Rattle.moving.proofs.move_join.Lts as lts
 use Rattle.moving.proofs.copy_left.Reads as copy-left-reads
 use Rattle.moving.proofs.copy_right.Reads as copy-right-reads
 use Rattle.moving.proofs.no_room.Reads as no-room-reads
+use Rattle.options.proofs.right_columns.Reads as right-columns-reads
 use Rattle.node.proofs.bad_join.Reads as bad-join-reads
 
 bad-join-requires : tie.Need-bad-join-requires
@@ -43,13 +43,13 @@ fine c =
 copy-left-requires : tie.Need-copy-left-requires
 copy-left-requires c κs = let t = fine (c .before) in record { within = t .good .left-room; room = t .left-room }
 
-add-copy-right : tie.Need-add-copy-right
-add-copy-right c = omega (arith, fine (c .before .before .before .before) .good .few)
+right-columns-requires : tie.Need-right-columns-requires
+right-columns-requires c κs = fine (c .before .before .before .before) .good .few
 
 copy-right-requires : tie.Need-copy-right-requires
 copy-right-requires c κs =
     let t = fine (c .before .before .before .before .before) in
-    rw add-one (record { columns = record { some = omega arith; few = omega (arith, t .good .few) }; within = t .good .right-room; room = t .right-room })
+    rw (c .before .right-columns .ensures) (record { columns = record { some = omega arith; few = omega (arith, t .good .few) }; within = t .good .right-room; room = t .right-room })
 
 same-length-3 : tie.Need-same-length-3
 same-length-3 c = search needs
@@ -62,7 +62,7 @@ returns-3 c =
     let p = c .before .before .before .before in
     let e = p .before .before .before .before .before .before in
     let s = e .before .before .before .before .before in
-    done-move _ _ _ _ _ _ _ (sym (s .bad-join .ensures) ∙ e .before .before .before .before .if1 .left) (sym (e .before .no-room .ensures) ∙ e .if2 .left) (p .before .before .before .before .copy-left .ensures) (rw add-one at (p .copy-right .ensures))
+    done-move _ _ _ _ _ _ _ (sym (s .bad-join .ensures) ∙ e .before .before .before .before .if1 .left) (sym (e .before .no-room .ensures) ∙ e .if2 .left) (p .before .before .before .before .copy-left .ensures) (rw (p .before .before .right-columns .ensures) at (p .copy-right .ensures))
 
 pub move-join-spec : {M : Type 1} → statement M
 move-join-spec =
@@ -75,7 +75,7 @@ move-join-spec =
     same-length-2
     returns-2
     copy-left-requires
-    add-copy-right
+    right-columns-requires
     copy-right-requires
     same-length-3
     same-length-4
