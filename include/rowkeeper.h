@@ -23,6 +23,7 @@
  *     rowkeeper_left        takes a left frame, which then waits
  *     rowkeeper_right       takes a right frame, whose rows are then held
  *     rowkeeper_end_right   ends right: no right frame will come any more
+ *     rowkeeper_move        takes the join, with what waits and what is held, to other areas, of any lengths
  *     rowkeeper_ports       moves the node on, for hosts that run it in a pipeline; this is also how left ends
  *     rowkeeper_turn        writes the matches of the frame that has waited longest, or answers Wants right or Idle
  *     rowkeeper_run         makes turns, up to a given number, and writes their matches one after the other
@@ -348,6 +349,22 @@ rowkeeper_took rowkeeper_right(rowkeeper_join join, const int64_t *left, size_t 
 /* Ends right: turns want no more right rows from here on. Alters no word. Refused by 2 to 4. */
 rowkeeper_took rowkeeper_end_right(rowkeeper_join join, const int64_t *left, size_t left_len, const int64_t *right,
                                    size_t right_len);
+
+/* Moves a join to other areas, of any lengths: to longer ones if a frame finds no room, to shorter ones if they are enough.
+   The words that wait are copied to the front of the new left area. Of the held rows, the values are copied to the front of
+   the new right area and the marks to its word R * c, where R is this area's length / 2c, rounded down. All other words of
+   the new areas stay as they are; they may be anything. The join comes back with queue_start 0 and base 0, and is otherwise
+   as it came. Go on with it and the new areas: the old ones are only read, and belong to nothing any more.
+   Needed, in words: queue_words on the left, ROWKEEPER_RIGHT_WORDS(held, by) on the right; less is refused by 6. Refused by
+   2 before that, if the join does not hold together or does not fit the old areas; 3 and 4 do not apply, so a join that has
+   failed or ended is moved too, and stays what it is. A refused move alters no word and returns the join as it came.
+   What a move costs is the words that it copies. No later answer or match is another one than without the move, but that a
+   frame may find room in the one pair of areas and none in the other (proved: `move-lists` in crates/movelists).
+   An area of length 0, old or new, may have any pointer, null too. The new areas must overlap neither the old ones nor each
+   other. */
+rowkeeper_took rowkeeper_move(rowkeeper_join join, const int64_t *left, size_t left_len, const int64_t *right,
+                              size_t right_len, int64_t *new_left, size_t new_left_len, int64_t *new_right,
+                              size_t new_right_len);
 
 /* A port call: the states of left, right and send come in, a new state for each is returned. Send Done makes the node Done.
    Left Done makes a Running node Flush: it takes no left frame any more. A node in Flush with nothing waiting is Done.

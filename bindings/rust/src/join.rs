@@ -224,7 +224,7 @@ impl<A: AsRef<[i64]> + AsMut<[i64]>> Join<A> {
     /// shorter. Refused by 6 if they are too short, by 2 if the join is none. This one stays as it is, so one of the two is
     /// a copy; a host that wants to move drops it.
     pub fn moved<B: AsRef<[i64]> + AsMut<[i64]>>(&self, mut left: B, mut right: B) -> Result<Join<B>, Refusal> {
-        let took = moved(self.join, self.left.as_ref(), self.right.as_ref(), left.as_mut(), right.as_mut());
+        let took = safe::move_to(self.join, self.left.as_ref(), self.right.as_ref(), left.as_mut(), right.as_mut());
         Refusal::of(took.refusal)?;
         Ok(Join { join: took.join, left, right })
     }
@@ -337,34 +337,4 @@ impl<A: AsRef<[i64]> + AsMut<[i64]>> Join<A> {
 /// A port of its code. The library gives no other codes.
 fn port(code: u64) -> Port {
     Port::of(code).unwrap_or(Port::Done)
-}
-
-/// A join with what waits and what is held, moved to new areas.
-fn moved(join: raw::Join, left: &[i64], right: &[i64], new_left: &mut [i64], new_right: &mut [i64]) -> raw::Took {
-    let refused = |refusal: Refusal| raw::Took { refusal: refusal.number().into(), join };
-    if join.options.by > raw::MOST_BY as u64 {
-        return refused(Refusal::BadJoin);
-    }
-    let columns = join.options.by as usize + 1;
-    let part = |words: &[i64], start: u64, count: u64| -> Option<alloc::vec::Vec<i64>> {
-        words.get(start as usize..start.checked_add(count)? as usize).map(|w| w.to_vec())
-    };
-    let (old, new) = (right.len() / (2 * columns), new_right.len() / (2 * columns));
-    let (Some(first), Some(count)) = (join.base.checked_mul(columns as u64), join.held.checked_mul(columns as u64))
-    else {
-        return refused(Refusal::BadJoin);
-    };
-    let waiting = part(left, join.queue_start, join.queue_words);
-    let values = part(&right[..old * columns], first, count);
-    let marks = part(&right[old * columns..2 * old * columns], first, count);
-    let (Some(waiting), Some(values), Some(marks)) = (waiting, values, marks) else {
-        return refused(Refusal::BadJoin);
-    };
-    if waiting.len() > new_left.len() || join.held > new as u64 {
-        return refused(Refusal::NoRoom);
-    }
-    new_left[..waiting.len()].copy_from_slice(&waiting);
-    new_right[..values.len()].copy_from_slice(&values);
-    new_right[new * columns..][..marks.len()].copy_from_slice(&marks);
-    raw::Took { refusal: 0, join: raw::Join { base: 0, queue_start: 0, ..join } }
 }
