@@ -224,7 +224,7 @@ impl<A: AsRef<[i64]> + AsMut<[i64]>> Join<A> {
     /// shorter. Refused by 6 if they are too short, by 2 if the join is none. This one stays as it is, so one of the two is
     /// a copy; a host that wants to move drops it.
     pub fn moved<B: AsRef<[i64]> + AsMut<[i64]>>(&self, mut left: B, mut right: B) -> Result<Join<B>, Refusal> {
-        let took = safe::move_to(self.join, self.left.as_ref(), self.right.as_ref(), left.as_mut(), right.as_mut());
+        let took = safe::move_join(self.join, self.left.as_ref(), self.right.as_ref(), left.as_mut(), right.as_mut());
         Refusal::of(took.refusal)?;
         Ok(Join { join: took.join, left, right })
     }
