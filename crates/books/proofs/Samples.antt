@@ -7,10 +7,10 @@ use lib.Dec.{ltb}
 use lib.IntN.{pos, negsuc}
 use Rattle.frames.specs.Cells.{Cell, null, value, cell, Rows, Words, rowsOf, cellsOf}
 use Rattle.frames.specs.Frame.{frameRows, pairsFine, isTable}
-use Rattle.frames.specs.Options.{badOptions}
-use Rattle.frames.specs.Order.{cmpRow, cmpFirst, nullIn, sorted}
-use Rattle.frames.specs.declared.Options.{Options}
-use Rattle.frames.proofs.Samples.{options, row, frameOf}
+use Rattle.options.specs.Options.{badOptions}
+use Rattle.order.specs.Order.{cmpRow, cmpFirst, nullIn, sorted}
+use Rattle.options.specs.declared.Options.{Options}
+use Rattle.order.proofs.Samples.{options, row, frameOf}
 use Rattle.matching.specs.Match.{wholeTable, matchTable, choose, tolerate, fits, takesOver}
 use Rattle.matching.specs.declared.Choice.the-variants.{Row, Nothing}
 use Rattle.tables.specs.Setting.{Setting, allKnown}

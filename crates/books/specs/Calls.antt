@@ -5,7 +5,7 @@ use lib.Dec.{ltb}
 use lib.ListN.{length}
 use Rattle.frames.specs.Cells.{Rows, Words}
 use Rattle.frames.specs.Frame.{frameWords, isTable}
-use Rattle.frames.specs.Order.{sorted}
+use Rattle.order.specs.Order.{sorted}
 use Rattle.tables.specs.Setting.{Setting, rightWidth, unless, allKnown}
 use Rattle.tables.specs.Table.{tableRows, After, leave}
 use Rattle.refusals.specs.declared.Refusal.the-variants.{BadFrame, UnknownCode, BadColumns, Unsorted, NoRoom}

@@ -11,19 +11,20 @@ use lib.IntN.{ℤ}
 use lib.ListN.{length, getD}
 use lib.Signed.{ltZ}
 use Rattle.frames.specs.Cells.{Cell, null, value, isZero, cellOf, isNull, Rows, Words, rowFrom}
-use Rattle.frames.specs.Options.{strategyOf, keyRule}
-use Rattle.frames.specs.Order.{cmpZ, cmpCell, keyOf, distance}
-use Rattle.frames.specs.Room.{RowsIn}
-use Rattle.frames.proofs.OrderLaws.{AtMost, IsOrder, cmpZ-is, cmpCell-is, less-greater, greater-less, less-or, at-most-refl}
-use Rattle.frames.proofs.KeyLaws.{farther-above, nearer-below}
-use Rattle.frames.proofs.SortedLaws.{All, and-true}
-use Rattle.frames.specs.declared.Options.{Options}
-use Rattle.frames.specs.declared.Order.{Order}
-use Rattle.frames.specs.declared.Order.the-variants.{Less, Equal, Greater}
-use Rattle.frames.specs.declared.Strategy.{Strategy}
-use Rattle.frames.specs.declared.Strategy.the-variants.{Backward, Forward, Nearest}
+use Rattle.options.specs.Options.{strategyOf, keyRule}
+use Rattle.order.specs.Order.{cmpZ, cmpCell, keyOf, distance}
+use Rattle.order.specs.Requires.{RowsIn}
+use Rattle.order.proofs.OrderLaws.{AtMost, IsOrder, cmpZ-is, cmpCell-is, less-greater, greater-less, less-or, at-most-refl}
+use Rattle.order.proofs.KeyLaws.{farther-above, nearer-below}
+use Rattle.order.proofs.SortedLaws.{All}
+use Rattle.frames.proofs.BoolLaws.{and-true}
+use Rattle.options.specs.declared.Options.{Options}
+use Rattle.order.specs.declared.Order.{Order}
+use Rattle.order.specs.declared.Order.the-variants.{Less, Equal, Greater}
+use Rattle.options.specs.declared.Strategy.{Strategy}
+use Rattle.options.specs.declared.Strategy.the-variants.{Backward, Forward, Nearest}
 use Rattle.matching.specs.Match.{Hit, nobody, hit, onSide, fits, nearer, takesOver, choose, tolerate, matchIn}
-use Rattle.matching.specs.Walk.{between}
+use Rattle.matching.specs.Stretches.{between}
 use Rattle.matching.specs.Moves.{keyAt, NotAbove, fitsKey}
 use Rattle.matching.proofs.ChoiceLaws.{Has, Keeps, Wins, keeps-dead, choose-best, choose-skip, choose-wait}
 use Rattle.matching.proofs.MayLaws.{never, is-false, nearer-least, nearer-by}

@@ -11,17 +11,17 @@ use lib.IntN.{ℤ, pos}
 use lib.ListN.{getD}
 use lib.Signed.{ltZ}
 use Rattle.frames.specs.Cells.{Cell, value, isNull, Words, rowFrom}
-use Rattle.frames.specs.Options.{strategyOf, keyRule}
-use Rattle.frames.specs.Order.{cmpCell, keyOf}
-use Rattle.frames.specs.Room.{RowsIn}
-use Rattle.frames.proofs.OrderLaws.{cmpCell-is, cell-equal, three, three-less, not-less, at-most, at-most-equal}
-use Rattle.frames.proofs.KeyLaws.{key-up}
-use Rattle.frames.proofs.SortedLaws.{and-true}
-use Rattle.frames.specs.declared.Options.{Options}
-use Rattle.frames.specs.declared.Order.the-variants.{Less, Equal, Greater}
-use Rattle.frames.specs.declared.Strategy.the-variants.{Backward, Forward, Nearest}
+use Rattle.options.specs.Options.{strategyOf, keyRule}
+use Rattle.order.specs.Order.{cmpCell, keyOf}
+use Rattle.order.specs.Requires.{RowsIn}
+use Rattle.order.proofs.OrderLaws.{cmpCell-is, cell-equal, three, three-less, not-less, at-most, at-most-equal}
+use Rattle.order.proofs.KeyLaws.{key-up}
+use Rattle.frames.proofs.BoolLaws.{and-true}
+use Rattle.options.specs.declared.Options.{Options}
+use Rattle.order.specs.declared.Order.the-variants.{Less, Equal, Greater}
+use Rattle.options.specs.declared.Strategy.the-variants.{Backward, Forward, Nearest}
 use Rattle.matching.specs.Match.{onSide, matchIn}
-use Rattle.matching.specs.Walk.{between}
+use Rattle.matching.specs.Stretches.{between}
 use Rattle.matching.specs.Moves.{FirstKey, keyAt, NotAbove, fitsKey}
 use Rattle.matching.proofs.ScanLaws.{present}
 use Rattle.matching.proofs.MayLaws.{never, back-side}

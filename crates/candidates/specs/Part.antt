@@ -5,12 +5,12 @@ use mathlib.Core.List.{List, map}
 use Prim.Native.Nat.{ℕ, _+_, _-_, _≤_, _<_}
 use lib.IntN.{ℤ}
 use Rattle.frames.specs.Cells.{Cell, value, Words}
-use Rattle.frames.specs.Order.{keyOf}
-use Rattle.frames.specs.Room.{RowsIn}
-use Rattle.frames.specs.declared.Options.{Options}
-use Rattle.frames.specs.declared.Strategy.the-variants.{Backward, Forward}
+use Rattle.order.specs.Order.{keyOf}
+use Rattle.order.specs.Requires.{RowsIn}
+use Rattle.options.specs.declared.Options.{Options}
+use Rattle.options.specs.declared.Strategy.the-variants.{Backward, Forward}
 use Rattle.matching.specs.Match.{matchIn}
-use Rattle.matching.specs.Walk.{between}
+use Rattle.matching.specs.Stretches.{between}
 use Rattle.matching.specs.Moves.{keysSorted, NotAbove, fitsKey}
 use Rattle.candidates.specs.declared.Part.{Part}
 

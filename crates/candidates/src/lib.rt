@@ -1,16 +1,16 @@
 // Candidates: the part of a right run outside of which no row of a sorted left run finds its match.
 use cursor::first_key;
 use fits::fits_key;
-use frames::Options;
-use frames::Strategy;
+use options::Options;
+use options::Strategy;
 use options::strategy_of;
 ghost use mathlib.Core.Path.{_≡_};
 ghost use mathlib.Core.Bool.{true};
 ghost use Prim.Native.Nat.{_≤_};
 ghost use Rattle.frames.specs.Cells.{value};
-ghost use Rattle.frames.specs.Options.{strategyOf};
-ghost use Rattle.frames.specs.Room.{cellAt, CellIn, RowsIn};
-ghost use Rattle.frames.specs.declared.Strategy.the-variants.{Backward, Forward, Nearest};
+ghost use Rattle.options.specs.Options.{strategyOf};
+ghost use Rattle.order.specs.Requires.{cellAt, CellIn, RowsIn};
+ghost use Rattle.options.specs.declared.Strategy.the-variants.{Backward, Forward, Nearest};
 ghost use Rattle.matching.specs.Moves.{fitsKey, keyAt};
 ghost use Rattle.candidates.specs.Part.{LastFit, FirstFit, Cut, LeftRun, Candidates};
 

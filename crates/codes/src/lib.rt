@@ -1,13 +1,13 @@
 // Flags, states, ports and refusals as numbers.
-use answers::NodeState;
-use answers::PortState;
-use answers::Stop;
-use answers::Took;
-use frames::Check;
+use options::Check;
+use outcomes::NodeState;
+use outcomes::PortState;
+use outcomes::Stop;
+use outcomes::Took;
 use refusals::number_of;
 ghost use mathlib.Core.Path.{_≡_};
 ghost use mathlib.Core.Bool.{_&&_};
-ghost use Rattle.answers.specs.Answers.{stateCode, portCode};
+ghost use Rattle.outcomes.specs.Answers.{stateCode, portCode};
 ghost use Rattle.refusals.specs.Refusals.{number};
 ghost use Rattle.codes.specs.Codes.{isFlag, flagOf, flagCode, areFlags, flagsOf, flagCodes, checkOf, checkCode, isCode, stateOf, portOf, tookCode, stopCode, stopRefusal};
 

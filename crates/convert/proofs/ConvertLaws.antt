@@ -6,8 +6,8 @@ use Prim.Native.Nat.{ℕ, _<_}
 use native.Mathlib.Omega.{arith}
 use borrow.Author.Tests.{ltb-true, lt-ltb, eqb-true}
 use lib.Dec.{ltb, eqb}
-use Rattle.frames.specs.declared.Options.{Options}
-use Rattle.frames.specs.declared.Row.{Row}
+use Rattle.options.specs.declared.Options.{Options}
+use Rattle.order.specs.declared.Row.{Row}
 use Rattle.node.specs.declared.Join.{Join}
 use Rattle.codes.specs.Codes.{isFlag, areFlags, isCode}
 use Rattle.convert.specs.Convert.{layoutNow, isOptions, optionsOf, encodeOptions, decodeOptions, rowOf, encodeRow, isJoin, joinOf, encode, decode, ThereAndBack}

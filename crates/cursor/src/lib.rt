@@ -1,19 +1,19 @@
 // The first key of a run, whether the run is sorted by key, and when the right cursor moves on.
 use fits::fits_key;
 use fits::nearer_key;
-use frames::Options;
-use frames::Strategy;
 use keyed::null_at;
+use options::Options;
+use options::Strategy;
 ghost use mathlib.Core.Path.{_≡_};
 ghost use mathlib.Core.Bool.{false, not, _&&_, _||_};
 ghost use Prim.Native.Nat.{_<_, _≤_};
 ghost use Rattle.frames.specs.Cells.{value, isNull};
-ghost use Rattle.frames.specs.Options.{keyRule};
-ghost use Rattle.frames.specs.Order.{cmpCell};
-ghost use Rattle.frames.specs.Room.{cellAt, CellIn, KeysIn, RowsIn};
-ghost use Rattle.frames.specs.declared.Strategy.the-variants.{Backward, Forward};
+ghost use Rattle.options.specs.Options.{keyRule};
+ghost use Rattle.order.specs.Order.{cmpCell};
+ghost use Rattle.order.specs.Requires.{cellAt, CellIn, KeysIn, RowsIn};
+ghost use Rattle.options.specs.declared.Strategy.the-variants.{Backward, Forward};
 ghost use Rattle.matching.specs.Match.{onSide, nearer};
-ghost use Rattle.matching.specs.Walk.{between};
+ghost use Rattle.matching.specs.Stretches.{between};
 ghost use Rattle.matching.specs.Moves.{keysSorted, FirstKey, keyAt, movesOn, fitsKey, knownFit};
 
 // The first row of from..to that has a key; `to` where none has.

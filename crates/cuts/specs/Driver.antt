@@ -6,9 +6,9 @@ use lib.Dec.{ltb, eqb}
 use lib.ListN.{length, take, drop}
 use Rattle.frames.specs.Cells.{Rows, Words}
 use Rattle.frames.specs.Frame.{frameWords, isFrame, frameRows}
-use Rattle.frames.specs.Options.{columns, badOptions, rightColumns}
-use Rattle.frames.specs.Order.{cmpGroup, isLess, nullGroup, sorted}
-use Rattle.frames.specs.declared.Options.{Options}
+use Rattle.options.specs.Options.{columns, badOptions, rightColumns}
+use Rattle.order.specs.Order.{cmpGroup, isLess, nullGroup, sorted}
+use Rattle.options.specs.declared.Options.{Options}
 use Rattle.area.specs.Area.{capacity}
 use Rattle.matching.specs.Answer.{answered}
 use Rattle.plan.specs.Plan.{plan}

@@ -5,9 +5,9 @@ use Prim.Native.Nat.{ℕ, _+_, _-_, _*_, _^_, _≤_, _<_}
 use lib.ListN.{length, drop}
 use Rattle.frames.specs.Cells.{Rows, Words, rowsOf}
 use Rattle.frames.specs.Frame.{rowCount, valuesIn, marksIn}
-use Rattle.frames.specs.Options.{columns, rightColumns}
-use Rattle.frames.specs.declared.Options.{Options}
-use Rattle.answers.specs.Answers.{mostRows}
+use Rattle.options.specs.Options.{columns, rightColumns}
+use Rattle.options.specs.declared.Options.{Options}
+use Rattle.outcomes.specs.Answers.{mostRows}
 use Rattle.lists.specs.WholeTables.{asWritten, Each}
 use Rattle.plan.specs.Table.{framesBy, fullHeights}
 use Rattle.cuts.specs.Cut.{cutAt, cutBy, joined}

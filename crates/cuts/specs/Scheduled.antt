@@ -5,8 +5,8 @@ use mathlib.Core.List.{List, [], _∷_, _++_, map}
 use Prim.Native.Nat.{ℕ, _+_, _≤_}
 use lib.ListN.{length}
 use Rattle.frames.specs.Cells.{Rows, Words}
-use Rattle.frames.specs.Options.{columns, rightColumns}
-use Rattle.frames.specs.declared.Options.{Options}
+use Rattle.options.specs.Options.{columns, rightColumns}
+use Rattle.options.specs.declared.Options.{Options}
 use Rattle.area.specs.Area.{capacity}
 use Rattle.lists.specs.Lists.{start, events, rowsIn, Entry, outputs, matchesIn}
 use Rattle.lists.specs.WholeTables.{asWritten, Each}

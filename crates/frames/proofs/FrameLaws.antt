@@ -12,7 +12,7 @@ use lib.ListN.{length, take, drop, getD, length-drop, List·getD-append}
 use lib.Seq.{length-take-le}
 use Rattle.frames.specs.Cells.{Cell, Rows, Words, rowsOf}
 use Rattle.frames.specs.Frame.{sameZ, rowCount, frameWords, pairsFine, valuesIn, marksIn, isTable, frameLimit, isFrame, frameRows}
-use Rattle.frames.proofs.SortedLaws.{and-true}
+use Rattle.frames.proofs.BoolLaws.{and-true}
 use Rattle.frames.proofs.WordLaws.{rows-length, rows-wide}
 
 -- The parts of the table rule.

@@ -15,10 +15,9 @@ use mir.Syntax.{w64}
 use mir.Val.{SFits, ofZ}
 use Rattle.frames.specs.Cells.{Words}
 use Rattle.frames.specs.Frame.{sameZ, rowCount, frameWords, pairFine, pairsFine, valuesIn, marksIn, isTable, frameLimit, isFrame, front}
-use Rattle.frames.specs.Front.{frontOf, fewRows, fitting, frontLength}
-use Rattle.frames.specs.Room.{HasCount}
+use Rattle.frames.specs.Front.{frontOf, fewRows, fitting, frontLength, HasCount}
 use Rattle.frames.specs.declared.Front.the-variants.{Words as Long, Nothing}
-use Rattle.frames.proofs.SortedLaws.{and-true, and-true-right}
+use Rattle.frames.proofs.BoolLaws.{and-true, and-true-right}
 use Rattle.frames.proofs.FrameLaws.{table-parts}
 
 -- ---- a word that is a number of rows, or a count

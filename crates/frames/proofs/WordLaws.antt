@@ -11,7 +11,6 @@ use lib.IntN.{ℤ, pos, negsuc}
 use lib.ListN.{length, take, drop, getD, length-append, length-take, length-drop, take-append-drop, replicate, length-map}
 use lib.Seq.{take-at, drop-at, take-append-le, drop-append-le, length-take-le, take-take, drop-drop, take-add, take-append-add, drop-append-add, paste, length-paste-head, take-append-seam, drop-append-seam, take-length, take-all, getD-take, getD-drop}
 use Rattle.frames.specs.Cells.{Cell, null, value, cellOf, cellsOf, rowsOf, Rows, Words, valueWord, markWord}
-use Rattle.frames.specs.Keyed.{five, remember, recall}
 
 -- ---- lists
 module _ {A : Type 0} where
@@ -139,10 +138,3 @@ pub cells-back : (r : List Cell) → cellsOf (map valueWord r) (map markWord r) 
 unfolding cellsOf
 cells-back [] = refl
 cells-back (x ∷ r) = rw (cell-back x, cells-back r)
-
-pub recall-remember : (r : List Cell) (w : ℕ) → length r ≡ w → recall w (remember r) ≡ some r
-unfolding recall remember
-recall-remember r w e =
-    let v = take-at (map valueWord r) (replicate (5 - length (map valueWord r)) (pos 0)) w (length-map r valueWord ∙ e) in
-    let m = take-at (map markWord r) (replicate (5 - length (map markWord r)) (pos 0)) w (length-map r markWord ∙ e) in
-    rw (v, m, cells-back r)

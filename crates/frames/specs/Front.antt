@@ -1,6 +1,7 @@
 -- The front of words that wait, as an answer: its length, or nothing. Assumes nothing.
-use mathlib.Core.Bool.{Bool, cond, _&&_}
-use Prim.Native.Nat.{ℕ}
+use mathlib.Core.Path.{_≡_}
+use mathlib.Core.Bool.{Bool, true, cond, _&&_}
+use Prim.Native.Nat.{ℕ, _≤_}
 use lib.Dec.{leb}
 use lib.IntN.{ℤ, pos}
 use lib.Signed.{leZ}
@@ -25,3 +26,8 @@ fitting n c room = cond (leb (frameWords n c) room) (Long (frameWords n c)) Noth
 -- The length of the frame with which waiting words begin, by its n and c alone: whether its marks fit is not looked at.
 unfoldable pub frontLength : ℕ → Words → Front
 frontLength c ws = cond (leb 2 (length ws) && fewRows (getD ws 0 (pos 0))) (fitting (rowCount ws) c (length ws)) Nothing
+
+-- The first word is there and is a number of rows: so it is for a frame, and for words with a frame at their front.
+pub record HasCount (ws : Words) : Type 0 where
+  pub long : 1 ≤ length ws
+  pub few : fewRows (getD ws 0 (pos 0)) ≡ true

@@ -6,23 +6,23 @@ use Prim.Native.Nat.{ℕ}
 use Rattle.frames.specs.Cells.{Words}
 use Rattle.node.specs.State.{fresh}
 use Rattle.node.specs.Calls.{After, after, leftCall, rightCall, endCall, portsCall, turnCall}
-use Rattle.feeds.specs.Judged.{openAnswer}
+use Rattle.callrules.specs.Judged.{openAnswer}
 use Rattle.moves.specs.Moves.{moveCall}
 use Rattle.runs.specs.Run.{Ran, runCall}
 use Rattle.node.specs.declared.Join.{Join}
 use Rattle.refusals.specs.declared.Refusal.the-variants.{BadOptions, BadJoin}
-use Rattle.answers.specs.declared.Took.{Took}
-use Rattle.answers.specs.declared.Took.the-variants.{Refused}
-use Rattle.answers.specs.declared.Ported.{Ported}
-use Rattle.answers.specs.declared.Ported.the-variants.{Refused as PortsRefused}
-use Rattle.answers.specs.declared.Answer.{Answer}
-use Rattle.answers.specs.declared.Answer.the-variants.{Refused as TurnRefused}
+use Rattle.outcomes.specs.declared.Took.{Took}
+use Rattle.outcomes.specs.declared.Took.the-variants.{Refused}
+use Rattle.outcomes.specs.declared.Ported.{Ported}
+use Rattle.outcomes.specs.declared.Ported.the-variants.{Refused as PortsRefused}
+use Rattle.outcomes.specs.declared.Answer.{Answer}
+use Rattle.outcomes.specs.declared.Answer.the-variants.{Refused as TurnRefused}
 use Rattle.codes.specs.Codes.{isCode, portOf}
 use Rattle.convert.specs.Convert.{decodeOptions, decode, encode}
 use Rattle.convert.specs.declared.HostOptions.{HostOptions}
 use Rattle.convert.specs.declared.HostJoin.{HostJoin}
-use Rattle.told.specs.Told.{tookHost, freshHost, Made, refusedRun}
-use Rattle.told.specs.declared.HostTook.{HostTook}
+use Rattle.results.specs.Told.{tookHost, freshHost, Made, refusedRun}
+use Rattle.results.specs.declared.HostTook.{HostTook}
 
 -- Opening: options that cannot be encoded are refused as 1, and so are those that meet 1; the join holds them, with everything else as in a fresh join.
 unfoldable pub openHost : HostOptions → HostTook

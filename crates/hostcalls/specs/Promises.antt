@@ -6,25 +6,25 @@ use mathlib.Core.Option.{none, some}
 use Prim.Native.Nat.{ℕ, suc}
 use lib.Dec.{eqb}
 use Rattle.frames.specs.Cells.{Words}
-use Rattle.frames.specs.declared.Options.{Options}
+use Rattle.options.specs.declared.Options.{Options}
 use Rattle.node.specs.State.{fresh}
-use Rattle.answers.specs.Answers.{portCode}
+use Rattle.outcomes.specs.Answers.{portCode}
 use Rattle.node.specs.Calls.{After, leftCall, rightCall, endCall, portsCall, turnCall}
 use Rattle.node.specs.declared.Join.{Join}
-use Rattle.answers.specs.declared.PortState.{PortState}
+use Rattle.outcomes.specs.declared.PortState.{PortState}
 use Rattle.refusals.specs.Refusals.{marksFailed}
 use Rattle.refusals.specs.declared.Refusal.{Refusal}
 use Rattle.refusals.specs.declared.Refusal.the-variants.{BadJoin}
-use Rattle.answers.specs.declared.Took.the-variants.{Refused}
-use Rattle.answers.specs.declared.Ported.the-variants.{Refused as PortsRefused}
-use Rattle.answers.specs.declared.Answer.{Answer}
-use Rattle.answers.specs.declared.Answer.the-variants.{Wrote, WantsRight, Idle, Refused as TurnRefused}
-use Rattle.answers.specs.declared.Stop.{Stop}
-use Rattle.answers.specs.declared.Stop.the-variants.{Used, WantsRight as StopWants, Idle as StopIdle, Refused as StopRefused}
+use Rattle.outcomes.specs.declared.Took.the-variants.{Refused}
+use Rattle.outcomes.specs.declared.Ported.the-variants.{Refused as PortsRefused}
+use Rattle.outcomes.specs.declared.Answer.{Answer}
+use Rattle.outcomes.specs.declared.Answer.the-variants.{Wrote, WantsRight, Idle, Refused as TurnRefused}
+use Rattle.outcomes.specs.declared.Stop.{Stop}
+use Rattle.outcomes.specs.declared.Stop.the-variants.{Used, WantsRight as StopWants, Idle as StopIdle, Refused as StopRefused}
 use Rattle.runs.specs.Run.{runCall}
 use Rattle.moves.specs.Moves.{moveCall}
 use Rattle.convert.specs.Convert.{layoutNow, decodeOptions, decode}
-use Rattle.told.specs.Told.{Made}
+use Rattle.results.specs.Told.{Made}
 use Rattle.hostcalls.specs.Calls.{HostAfter, afterHost, encodeAfter, openHost, leftHost, rightHost, endHost, moveHost, portsHost, turnHost, ranAfter, runHost}
 use Rattle.convert.specs.declared.HostOptions.{HostOptions}
 use Rattle.convert.specs.declared.HostJoin.{HostJoin}

@@ -10,25 +10,25 @@ use lib.ListN.{length, take, drop, length-append, take-append-drop, length-drop}
 use lib.Seq.{length-take-le}
 use Rattle.frames.specs.Cells.{Words}
 use Rattle.frames.specs.Frame.{rowCount}
-use Rattle.frames.specs.Options.{badOptions}
-use Rattle.frames.specs.declared.Options.{Options}
+use Rattle.options.specs.Options.{badOptions}
+use Rattle.options.specs.declared.Options.{Options}
 use Rattle.node.specs.Calls.{After, leftCall, rightCall, turnCall}
 use Rattle.node.specs.declared.Join.{Join}
-use Rattle.feeds.specs.Judged.{openAnswer}
+use Rattle.callrules.specs.Judged.{openAnswer}
 use Rattle.runs.specs.Run.{turnWords}
 use Rattle.runs.proofs.RunLaws.{turn-fits, turn-length}
-use Rattle.answers.specs.Answers.{wrote, isDone}
-use Rattle.answers.specs.declared.Answer.{Answer}
-use Rattle.answers.specs.declared.Answer.the-variants.{Wrote, WantsRight, Idle, Refused as TurnRefused}
-use Rattle.answers.specs.declared.Took.{Took}
-use Rattle.answers.specs.declared.Took.the-variants.{Accepted, Refused}
+use Rattle.outcomes.specs.Answers.{wrote, isDone}
+use Rattle.outcomes.specs.declared.Answer.{Answer}
+use Rattle.outcomes.specs.declared.Answer.the-variants.{Wrote, WantsRight, Idle, Refused as TurnRefused}
+use Rattle.outcomes.specs.declared.Took.{Took}
+use Rattle.outcomes.specs.declared.Took.the-variants.{Accepted, Refused}
 use Rattle.codes.specs.Codes.{isCode, portOf, tookCode, stateOf}
 use Rattle.convert.specs.Convert.{isOptions, optionsOf, decodeOptions}
 use Rattle.convert.proofs.ConvertLaws.{decoded}
 use Rattle.convert.specs.declared.HostOptions.{HostOptions}
 use Rattle.convert.specs.declared.HostJoin.{HostJoin}
-use Rattle.told.specs.Told.{turnedHost}
-use Rattle.told.specs.declared.HostTook.{HostTook}
+use Rattle.results.specs.Told.{turnedHost}
+use Rattle.results.specs.declared.HostTook.{HostTook}
 use Rattle.hostcalls.specs.Calls.{openHost}
 use Rattle.hostcalls.proofs.CallLaws.{open-bad, open-through}
 use Rattle.hostcalls.proofs.PromiseLaws.{promises}

@@ -3,10 +3,10 @@ use convert::HostJoin;
 use convert::is_join;
 use convert::join_of;
 use moving::move_join;
-use told::HostTook;
-use told::bad_took;
-use told::took_host;
-ghost use Rattle.hostcalls.specs.Leaves.{HostMoveLeaves};
+use results::HostTook;
+use results::bad_took;
+use results::took_host;
+ghost use Rattle.hostcalls.specs.Contracts.{HostMoveContract};
 
 // Moves a join with what waits and what is held to new areas. The old ones are only read.
 pub fn host_move(
@@ -16,7 +16,7 @@ pub fn host_move(
     new_left: &mut [i64],
     new_right: &mut [i64],
 ) -> HostTook
-    ensures { λ r. ⌜ HostMoveLeaves h (now (left .entry)) (now (right .entry)) (now («new_left» .entry)) (now («new_right» .entry)) r (now («new_left» .exit)) (now («new_right» .exit)) ⌝ }
+    ensures { λ r. ⌜ HostMoveContract h (now (left .entry)) (now (right .entry)) (now («new_left» .entry)) (now («new_right» .entry)) r (now («new_left» .exit)) (now («new_right» .exit)) ⌝ }
 {
     if is_join(h) {
         return took_host(move_join(join_of(h), left, right, new_left, new_right));

@@ -1,21 +1,21 @@
 // Frames that are taken: a left frame waits behind those that wait, the rows of a right frame are held behind those that are.
-use answers::NodeState;
-use answers::Took;
 use area::append;
 use area::push;
-use feeds::FedEnd;
-use feeds::FedLeft;
-use feeds::FedRight;
+use callrules::FedEnd;
+use callrules::FedLeft;
+use callrules::FedRight;
 use framerule::row_count;
-use frames::Options;
 use judges::judge_end;
 use judges::judge_left;
 use judges::judge_right;
+use options::Options;
 use options::right_columns;
+use outcomes::NodeState;
+use outcomes::Took;
 ghost use mathlib.Core.Path.{_≡_};
 ghost use mathlib.Core.Bool.{false};
-ghost use Rattle.frames.specs.Options.{columns, rightColumns};
-ghost use Rattle.feeds.specs.Judged.{EndFed, LeftHolds, LeftFed, RightHolds, RightFed};
+ghost use Rattle.options.specs.Options.{columns, rightColumns};
+ghost use Rattle.callrules.specs.Judged.{EndFed, LeftHolds, LeftFed, RightHolds, RightFed};
 
 // A left frame: where it would pass the end, those that wait move to the front first.
 pub fn feed_left(

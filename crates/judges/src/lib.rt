@@ -1,23 +1,23 @@
 // The refusals of opening, of frames, of the end of right and of the start of a turn, in checking order. Nothing is altered here.
-use answers::Answer;
-use answers::NodeState;
-use answers::Took;
-use answers::above;
-use answers::is_done;
-use answers::is_running;
 use framerule::is_frame;
 use framerule::row_count;
-use frames::Options;
+use options::Options;
 use options::bad_options;
 use options::left_columns;
 use options::right_columns;
+use outcomes::Answer;
+use outcomes::NodeState;
+use outcomes::Took;
+use outcomes::above;
+use outcomes::is_done;
+use outcomes::is_running;
 use refusals::Refusal;
 ghost use mathlib.Core.Path.{_≡_};
 ghost use mathlib.Core.Bool.{false};
 ghost use Prim.Native.Nat.{_+_, _≤_};
-ghost use Rattle.frames.specs.Options.{columns, rightColumns};
-ghost use Rattle.answers.specs.Answers.{mostRows};
-ghost use Rattle.feeds.specs.Judged.{openAnswer, leftJudged, endJudged, rightJudged, readyJudged};
+ghost use Rattle.options.specs.Options.{columns, rightColumns};
+ghost use Rattle.outcomes.specs.Answers.{mostRows};
+ghost use Rattle.callrules.specs.Judged.{openAnswer, leftJudged, endJudged, rightJudged, readyJudged};
 
 // The greatest number of right rows.
 const MOST_ROWS: usize = 9223372036854775807;

@@ -9,31 +9,31 @@ use lib.Dec.{ltb, eqb}
 use lib.ListN.{length, take, drop, length-take}
 use lib.Seq.{drop-drop}
 use Rattle.ports.specs.Ports.{portsJudged}
-use Rattle.feeds.specs.Judged.{endJudged, leftJudged, rightJudged}
+use Rattle.callrules.specs.Judged.{endJudged, leftJudged, rightJudged}
 use Rattle.frames.specs.Cells.{Rows, Words, rowsOf}
-use Rattle.frames.specs.declared.Row.{Row}
+use Rattle.order.specs.declared.Row.{Row}
 use Rattle.frames.specs.Frame.{rowCount, valuesIn, marksIn, frameRows, frameWords, isFrame, front}
 use Rattle.frames.proofs.WordLaws.{drop-take, rows-read, rows-length}
 use Rattle.area.specs.Area.{capacity, heldRows, newBase, moved, written, pushed}
-use Rattle.buffer.specs.Reach.{pruneBy}
+use Rattle.searching.specs.Reach.{pruneBy}
 use Rattle.area.proofs.PushLaws.{newBase-room, append-length, append-part, pushed-length, pushed-values, pushed-marks}
 use Rattle.node.specs.declared.Join.{Join}
-use Rattle.answers.specs.Answers.{isRunning, isDone, mostRows}
-use Rattle.answers.specs.declared.PortState.{PortState}
-use Rattle.answers.specs.declared.Answer.{Answer}
-use Rattle.answers.specs.declared.Answer.the-variants.{Wrote, WantsRight, Idle, Refused as TurnRefused}
+use Rattle.outcomes.specs.Answers.{isRunning, isDone, mostRows}
+use Rattle.outcomes.specs.declared.PortState.{PortState}
+use Rattle.outcomes.specs.declared.Answer.{Answer}
+use Rattle.outcomes.specs.declared.Answer.the-variants.{Wrote, WantsRight, Idle, Refused as TurnRefused}
 use Rattle.refusals.specs.Refusals.{marksFailed}
 use Rattle.refusals.specs.declared.Refusal.{Refusal}
-use Rattle.answers.specs.declared.Took.{Took}
-use Rattle.answers.specs.declared.Took.the-variants.{Accepted, Refused}
-use Rattle.answers.specs.declared.Ported.{Ported}
-use Rattle.answers.specs.declared.Ported.the-variants.{Ports, Refused as PortsRefused}
-use Rattle.answers.specs.declared.NodeState.{NodeState}
+use Rattle.outcomes.specs.declared.Took.{Took}
+use Rattle.outcomes.specs.declared.Took.the-variants.{Accepted, Refused}
+use Rattle.outcomes.specs.declared.Ported.{Ported}
+use Rattle.outcomes.specs.declared.Ported.the-variants.{Ports, Refused as PortsRefused}
+use Rattle.outcomes.specs.declared.NodeState.{NodeState}
 use Rattle.node.specs.State.{queueAt, heldAt, nextTurn, endedRight, stateAt, markedFailed, leftWidth, rightWidth, badJoin, heldOf, heldValues, heldMarks, waiting}
 use Rattle.node.specs.Calls.{After, after, leftAnswer, leftCall, queued, rightAnswer, rightCall, pushedRight, endAnswer, endCall, portsAnswer, portsCall, portsState, turnAnswer, turnCall, turned, dropped, dequeued, spoiled}
-use Rattle.prunes.specs.Prunes.{firstPrune, keptRows, lastPrune}
+use Rattle.turnrows.specs.Prunes.{firstPrune, keptRows, lastPrune}
 use Rattle.node.proofs.Good.{Good, LeftTaken, left-taken, RightTaken, right-taken}
-use Rattle.prunes.proofs.PruneLaws.{drops-within}
+use Rattle.turnrows.proofs.PruneLaws.{drops-within}
 use Rattle.lists.specs.Lists.{Call, left, right, end, ports, turn, Event, onLeft, onRight, onEnd, onPorts, onTurn, World, stepped, step, events, final, tookRefusal}
 use Rattle.lists.specs.Elsewhere.{placedAt, SameLive, noRoom, Elsewhere}
 

@@ -9,30 +9,30 @@ use borrow.Author.Tests.{ltb-true, ltb-false, eqb-true, eqb-false, le-ltb, ne-eq
 use lib.Dec.{ltb, eqb}
 use lib.IntN.{ℤ}
 use lib.ListN.{length, take, drop, length-append, length-drop}
-use Rattle.feeds.specs.Judged.{leftJudged, endJudged, rightJudged}
-use Rattle.frames.proofs.SortedLaws.{and-true-right}
+use Rattle.callrules.specs.Judged.{leftJudged, endJudged, rightJudged}
+use Rattle.frames.proofs.BoolLaws.{and-true-right}
 use Rattle.frames.specs.Cells.{Rows, Words}
 use Rattle.frames.specs.Frame.{rowCount, isFrame, frameRows, front}
-use Rattle.frames.specs.Options.{columns, badOptions}
-use Rattle.frames.specs.declared.Options.{Options}
+use Rattle.options.specs.Options.{columns, badOptions}
+use Rattle.options.specs.declared.Options.{Options}
 use Rattle.frames.proofs.FrameLaws.{frame-length}
 use Rattle.area.specs.Area.{capacity}
 use Rattle.node.proofs.Good.{left-taken, right-taken}
 use Rattle.node.specs.declared.Join.{Join}
-use Rattle.answers.specs.declared.NodeState.{NodeState}
-use Rattle.answers.specs.declared.NodeState.the-variants.{Running, Flush, Done}
-use Rattle.answers.specs.declared.PortState.{PortState}
-use Rattle.answers.specs.declared.PortState.the-variants.{Blocked, Ready, Done as PortDone}
+use Rattle.outcomes.specs.declared.NodeState.{NodeState}
+use Rattle.outcomes.specs.declared.NodeState.the-variants.{Running, Flush, Done}
+use Rattle.outcomes.specs.declared.PortState.{PortState}
+use Rattle.outcomes.specs.declared.PortState.the-variants.{Blocked, Ready, Done as PortDone}
 use Rattle.refusals.specs.declared.Refusal.{Refusal}
 use Rattle.refusals.specs.declared.Refusal.the-variants.{BadOptions, BadJoin, Failed, Closed, BadFrame, NoRoom, UsedUp, LeftOrder, RightOrder}
-use Rattle.answers.specs.declared.Answer.{Answer}
-use Rattle.answers.specs.declared.Answer.the-variants.{Wrote, WantsRight, Idle, Refused as TurnRefused}
-use Rattle.answers.specs.declared.Took.{Took}
-use Rattle.answers.specs.declared.Took.the-variants.{Accepted, Refused}
-use Rattle.answers.specs.declared.Ported.{Ported}
-use Rattle.answers.specs.declared.Ported.the-variants.{Ports, Refused as PortsRefused}
+use Rattle.outcomes.specs.declared.Answer.{Answer}
+use Rattle.outcomes.specs.declared.Answer.the-variants.{Wrote, WantsRight, Idle, Refused as TurnRefused}
+use Rattle.outcomes.specs.declared.Took.{Took}
+use Rattle.outcomes.specs.declared.Took.the-variants.{Accepted, Refused}
+use Rattle.outcomes.specs.declared.Ported.{Ported}
+use Rattle.outcomes.specs.declared.Ported.the-variants.{Ports, Refused as PortsRefused}
 use Rattle.node.specs.State.{fresh, endedRight, stateAt, leftWidth, rightWidth, badJoin, overRight, overLeft, overRows, oddSequence, heldOf, waiting}
-use Rattle.answers.specs.Answers.{isRunning, isDone, mostRows}
+use Rattle.outcomes.specs.Answers.{isRunning, isDone, mostRows}
 use Rattle.refusals.specs.Refusals.{number}
 use Rattle.node.specs.Calls.{After, leftAnswer, leftCall, queued, rightAnswer, rightCall, pushedRight, endAnswer, endCall, portsAnswer, portsCall, portsState}
 use Rattle.ports.specs.Ports.{portsIn, toFlush, toDone, portDone, portsJudged}

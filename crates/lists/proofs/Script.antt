@@ -8,30 +8,30 @@ use lib.ListN.{take, replicate}
 use Rattle.ports.specs.Ports.{portsJudged}
 use Rattle.frames.specs.Cells.{Cell, cellsOf, rowsOf, Words}
 use Rattle.frames.specs.Frame.{rowCount, pairsFine, isFrame, frameRows, front, isTable}
-use Rattle.frames.specs.Options.{badOptions}
-use Rattle.frames.specs.Order.{cmpFirst, cmpRow, sorted, nullIn}
-use Rattle.frames.specs.Keyed.{firstFrom, lastBelow, recall, remember, rememberLast}
-use Rattle.frames.specs.declared.Options.{Options}
+use Rattle.options.specs.Options.{badOptions}
+use Rattle.order.specs.Order.{cmpFirst, cmpRow, sorted, nullIn}
+use Rattle.order.specs.Keyed.{firstFrom, lastBelow, recall, remember, rememberLast}
+use Rattle.options.specs.declared.Options.{Options}
 use Rattle.area.specs.Area.{heldRows, movedRows, pushed}
-use Rattle.buffer.specs.Search.{searchFor, search, find}
-use Rattle.buffer.specs.Reach.{narrowBy, narrow, keyNeedsMore, rowNeedsMore, needMore, splitAt, pruneBy, rowBefore, badSplit}
+use Rattle.searching.specs.Search.{searchFor, search, find}
+use Rattle.searching.specs.Reach.{narrowBy, narrow, keyNeedsMore, rowNeedsMore, needMore, splitAt, pruneBy, rowBefore, badSplit}
 use Rattle.matching.specs.Match.{fits, takesOver, choose, tolerate, matchIn}
 use Rattle.matching.specs.Groups.{joinRun, runs, passes, pass, used, byRuns, matchFrame}
 use Rattle.matching.specs.Answer.{answerWords, answered}
 use Rattle.node.specs.State.{badJoin, heldOf, waiting, leftWidth}
-use Rattle.answers.specs.Answers.{stateCode, portCode}
+use Rattle.outcomes.specs.Answers.{stateCode, portCode}
 use Rattle.refusals.specs.Refusals.{number}
 use Rattle.node.specs.Calls.{leftAnswer, queued, leftCall, rightAnswer, pushedRight, rightCall, endAnswer, endCall, portsAnswer, portsCall, turnAnswer, dropped, dequeued, turned, turnCall}
-use Rattle.feeds.specs.Judged.{openAnswer, leftJudged, endJudged, rightJudged}
-use Rattle.prunes.specs.Prunes.{badLeft, badRight, firstPrune, remembered}
+use Rattle.callrules.specs.Judged.{openAnswer, leftJudged, endJudged, rightJudged}
+use Rattle.turnrows.specs.Prunes.{badLeft, badRight, firstPrune, remembered}
 use Rattle.lists.specs.Lists.{Call, Event, onLeft, onRight, onEnd, onPorts, onTurn, World, start, step}
 use Rattle.node.specs.declared.Join.{Join}
-use Rattle.answers.specs.declared.Answer.{Answer}
-use Rattle.answers.specs.declared.Answer.the-variants.{Wrote, WantsRight, Idle, Refused as TurnRefused}
-use Rattle.answers.specs.declared.Took.{Took}
-use Rattle.answers.specs.declared.Took.the-variants.{Accepted, Refused}
-use Rattle.answers.specs.declared.Ported.{Ported}
-use Rattle.answers.specs.declared.Ported.the-variants.{Ports, Refused as PortsRefused}
+use Rattle.outcomes.specs.declared.Answer.{Answer}
+use Rattle.outcomes.specs.declared.Answer.the-variants.{Wrote, WantsRight, Idle, Refused as TurnRefused}
+use Rattle.outcomes.specs.declared.Took.{Took}
+use Rattle.outcomes.specs.declared.Took.the-variants.{Accepted, Refused}
+use Rattle.outcomes.specs.declared.Ported.{Ported}
+use Rattle.outcomes.specs.declared.Ported.the-variants.{Ports, Refused as PortsRefused}
 
 -- An answer: ok; refused N; wrote SEQ and the 2 + 2n words written; wants; idle; ports L R S STATE; no join;
 -- areas: the words of both; state: base, held, pruned, queue start, queue words, state, ended, failed, sequence, and the cells of the left and right remembered row.

@@ -12,20 +12,20 @@ use lib.ListN.{length, getD, take, drop, take-append-drop, length-append, length
 use lib.Seq.{take-append-le, drop-append-le, drop-drop, take-add}
 use Rattle.frames.specs.Cells.{Cell, Rows, Words}
 use Rattle.frames.specs.Frame.{rowCount, isFrame, frameRows}
-use Rattle.frames.specs.Options.{columns, isOn, rightColumns}
-use Rattle.frames.specs.Order.{cmpRow, sorted}
-use Rattle.frames.specs.Keyed.{recall, rememberLast, firstKeyed, rowAt, outOfOrder}
-use Rattle.frames.specs.declared.Options.{Options}
-use Rattle.frames.specs.declared.Row.{Row}
-use Rattle.frames.proofs.OrderLaws.{AtMost}
-use Rattle.frames.proofs.SortedLaws.{All, all-at, all-by, all-map, all-cut, all-join, sorted-cut, sorted-at, sorted-drop}
+use Rattle.options.specs.Options.{columns, isOn, rightColumns}
+use Rattle.order.specs.Order.{cmpRow, sorted}
+use Rattle.order.specs.Keyed.{recall, rememberLast, firstKeyed, rowAt, outOfOrder}
+use Rattle.options.specs.declared.Options.{Options}
+use Rattle.order.specs.declared.Row.{Row}
+use Rattle.order.proofs.OrderLaws.{AtMost}
+use Rattle.order.proofs.SortedLaws.{All, all-at, all-by, all-map, all-cut, all-join, sorted-cut, sorted-at, sorted-drop}
 use Rattle.frames.proofs.WordLaws.{map-append}
 use Rattle.frames.proofs.FrameLaws.{frame-rows, frame-wide}
-use Rattle.frames.proofs.KeyedLaws.{Below, below-fine, remember-last-below, wide-enough}
-use Rattle.buffer.specs.Reach.{needMore, rowNeedsMore, pruneBy, noPrune, splitAt, badSplit}
-use Rattle.buffer.proofs.SplitLaw.{split}
-use Rattle.buffer.proofs.EnoughLaw.{enough}
-use Rattle.buffer.proofs.CheckLaw.{split-fine}
+use Rattle.order.proofs.KeyedLaws.{Below, below-fine, remember-last-below, wide-enough}
+use Rattle.searching.specs.Reach.{needMore, rowNeedsMore, pruneBy, noPrune, splitAt, badSplit}
+use Rattle.searching.proofs.SplitLaw.{split}
+use Rattle.searching.proofs.EnoughLaw.{enough}
+use Rattle.searching.proofs.CheckLaw.{split-fine}
 use Rattle.matching.specs.declared.Choice.{Choice}
 use Rattle.matching.specs.Match.{matchTable}
 use Rattle.matching.specs.Answer.{answered}
@@ -35,12 +35,12 @@ use Rattle.lists.proofs.EnoughLaw.{enough-keeps}
 use Rattle.matching.proofs.GroupLaws.{frame-match}
 use Rattle.node.specs.declared.Join.{Join}
 use Rattle.node.specs.Calls.{dropped, dequeued}
-use Rattle.prunes.specs.Prunes.{badLeft, badRight, firstPrune, remembered, keptRows, lastPrune}
+use Rattle.turnrows.specs.Prunes.{badLeft, badRight, firstPrune, remembered, keptRows, lastPrune}
 use Rattle.lists.specs.Lists.{rowsIn, Entry, writtenIn, matchesIn}
 use Rattle.lists.specs.WholeTables.{asWritten}
 use Rattle.lists.proofs.ListLaws.{rows-in-append, matches-append, take-next, take-more}
 use Rattle.lists.proofs.Stock.{Frames, written-back}
-use Rattle.prunes.proofs.PruneLaws.{first-within, prune-within}
+use Rattle.turnrows.proofs.PruneLaws.{first-within, prune-within}
 use Rattle.lists.proofs.Turn.{leftBy, matchedBy}
 
 -- ---- small laws of lists

@@ -9,29 +9,29 @@ use lib.ListN.{length, getD, take, drop, take-append-drop}
 use lib.Seq.{drop-append-le, drop-drop}
 use Rattle.frames.specs.Cells.{Cell, Rows, Words}
 use Rattle.frames.specs.Frame.{frameRows}
-use Rattle.frames.specs.Options.{columns, badOptions, isOn}
-use Rattle.frames.specs.Order.{sorted}
-use Rattle.frames.specs.Keyed.{recall, rememberLast}
-use Rattle.frames.specs.declared.Options.{Options}
-use Rattle.frames.specs.declared.Row.{Row}
-use Rattle.frames.proofs.SortedLaws.{All, all-cut}
-use Rattle.buffer.specs.Reach.{needMore, pruneBy, badSplit}
+use Rattle.options.specs.Options.{columns, badOptions, isOn}
+use Rattle.order.specs.Order.{sorted}
+use Rattle.order.specs.Keyed.{recall, rememberLast}
+use Rattle.options.specs.declared.Options.{Options}
+use Rattle.order.specs.declared.Row.{Row}
+use Rattle.order.proofs.SortedLaws.{All, all-cut}
+use Rattle.searching.specs.Reach.{needMore, pruneBy, badSplit}
 use Rattle.node.specs.declared.Join.{Join}
-use Rattle.answers.specs.declared.PortState.{PortState}
+use Rattle.outcomes.specs.declared.PortState.{PortState}
 use Rattle.refusals.proofs.RefusalLaws.{marked-ind}
 use Rattle.refusals.specs.declared.Refusal.{Refusal}
 use Rattle.refusals.specs.declared.Refusal.the-variants.{Failed, Closed, NoRoom, UsedUp, LeftOrder, RightOrder}
-use Rattle.answers.specs.declared.Answer.{Answer}
-use Rattle.answers.specs.declared.Answer.the-variants.{Wrote, WantsRight, Idle, Refused as TurnRefused}
-use Rattle.answers.specs.declared.Took.{Took}
-use Rattle.answers.specs.declared.Took.the-variants.{Accepted, Refused}
-use Rattle.answers.specs.declared.Ported.{Ported}
-use Rattle.answers.specs.declared.Ported.the-variants.{Ports, Refused as PortsRefused}
+use Rattle.outcomes.specs.declared.Answer.{Answer}
+use Rattle.outcomes.specs.declared.Answer.the-variants.{Wrote, WantsRight, Idle, Refused as TurnRefused}
+use Rattle.outcomes.specs.declared.Took.{Took}
+use Rattle.outcomes.specs.declared.Took.the-variants.{Accepted, Refused}
+use Rattle.outcomes.specs.declared.Ported.{Ported}
+use Rattle.outcomes.specs.declared.Ported.the-variants.{Ports, Refused as PortsRefused}
 use Rattle.node.specs.State.{endedRight, stateAt, markedFailed, heldOf}
-use Rattle.answers.specs.Answers.{isDone, lastSequence}
+use Rattle.outcomes.specs.Answers.{isDone, lastSequence}
 use Rattle.node.specs.Calls.{leftAnswer, leftCall, queued, rightAnswer, rightCall, pushedRight, endAnswer, endCall, portsAnswer, portsCall, portsState, turnAnswer, turnCall, turned, dropped, dequeued, spoiled}
-use Rattle.prunes.specs.Prunes.{badLeft, badRight, firstPrune, remembered, keptRows, lastPrune}
-use Rattle.answers.proofs.Tests.{past}
+use Rattle.turnrows.specs.Prunes.{badLeft, badRight, firstPrune, remembered, keptRows, lastPrune}
+use Rattle.outcomes.proofs.Tests.{past}
 use Rattle.matching.specs.Answer.{answered}
 use Rattle.lists.specs.Lists.{Call, left, right, end, ports, turn, Event, onLeft, onRight, onEnd, onPorts, onTurn, World, start, step, events, final, rightIn, rightFrames, rowsIn, leftFrames, outputs, rightEnded}
 use Rattle.lists.specs.SplitAlone.{heldAfter, rememberedAfter, SplitsAlone}

@@ -10,31 +10,31 @@ use lib.IntN.{ℤ}
 use lib.ListN.{length, take, drop}
 use Rattle.frames.specs.Cells.{Cell, Rows, Words}
 use Rattle.frames.specs.Frame.{frameRows, isFrame}
-use Rattle.frames.specs.Options.{columns, badOptions}
-use Rattle.frames.specs.Order.{sorted}
-use Rattle.frames.specs.Keyed.{recall}
-use Rattle.frames.specs.declared.Options.{Options}
-use Rattle.frames.proofs.SortedLaws.{sorted-cut}
-use Rattle.buffer.specs.Reach.{needMore}
+use Rattle.options.specs.Options.{columns, badOptions}
+use Rattle.order.specs.Order.{sorted}
+use Rattle.order.specs.Keyed.{recall}
+use Rattle.options.specs.declared.Options.{Options}
+use Rattle.order.proofs.SortedLaws.{sorted-cut}
+use Rattle.searching.specs.Reach.{needMore}
 use Rattle.matching.specs.Answer.{answered}
 use Rattle.node.specs.declared.Join.{Join}
-use Rattle.answers.specs.declared.PortState.{PortState}
+use Rattle.outcomes.specs.declared.PortState.{PortState}
 use Rattle.refusals.specs.Refusals.{marksFailed}
 use Rattle.refusals.proofs.RefusalLaws.{marked-ind}
 use Rattle.refusals.specs.declared.Refusal.{Refusal}
 use Rattle.refusals.specs.declared.Refusal.the-variants.{Failed, Closed}
-use Rattle.answers.specs.declared.Answer.{Answer}
-use Rattle.answers.specs.declared.Answer.the-variants.{Wrote, WantsRight, Idle, Refused as TurnRefused}
-use Rattle.answers.specs.declared.Took.{Took}
-use Rattle.answers.specs.declared.Took.the-variants.{Accepted, Refused}
-use Rattle.answers.specs.declared.Ported.{Ported}
-use Rattle.answers.specs.declared.Ported.the-variants.{Ports, Refused as PortsRefused}
+use Rattle.outcomes.specs.declared.Answer.{Answer}
+use Rattle.outcomes.specs.declared.Answer.the-variants.{Wrote, WantsRight, Idle, Refused as TurnRefused}
+use Rattle.outcomes.specs.declared.Took.{Took}
+use Rattle.outcomes.specs.declared.Took.the-variants.{Accepted, Refused}
+use Rattle.outcomes.specs.declared.Ported.{Ported}
+use Rattle.outcomes.specs.declared.Ported.the-variants.{Ports, Refused as PortsRefused}
 use Rattle.node.specs.State.{fresh, waiting, heldValues, heldMarks, endedRight, stateAt, markedFailed}
-use Rattle.answers.specs.Answers.{isDone, lastSequence}
+use Rattle.outcomes.specs.Answers.{isDone, lastSequence}
 use Rattle.node.specs.Calls.{leftAnswer, leftCall, queued, rightAnswer, rightCall, pushedRight, endAnswer, endCall, portsAnswer, portsCall, portsState, turnAnswer, turnCall, turned, spoiled}
-use Rattle.prunes.specs.Prunes.{badLeft, badRight}
+use Rattle.turnrows.specs.Prunes.{badLeft, badRight}
 use Rattle.lists.specs.Lists.{Call, left, right, end, ports, turn, Event, onLeft, onRight, onEnd, onPorts, onTurn, World, start, step, events, final, leftIn, rightIn, leftFrames, rightFrames, rowsIn, outputIn, outputs, endsRight, rightEnded, turnRefusal, matchesIn, backToBack, leftEnded, doneAfter, refusedWith, turnsIn}
-use Rattle.answers.proofs.Tests.{past}
+use Rattle.outcomes.proofs.Tests.{past}
 use Rattle.lists.proofs.ListLaws.{left-append, right-append, outputs-append, ended-append, rows-in-append}
 use Rattle.lists.proofs.Stock.{Stock, next-frame}
 use Rattle.lists.proofs.Invariant.{Inv, left-passed, right-passed, inv-left, inv-right, inv-end, inv-ports}

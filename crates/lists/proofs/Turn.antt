@@ -9,14 +9,14 @@ use borrow.Author.Tests.{ltb-false, ne-eqb, eq-eqb, not-true}
 use lib.Dec.{ltb, eqb}
 use lib.IntN.{ℤ}
 use lib.ListN.{length, take, drop, length-append, length-drop}
-use Rattle.frames.proofs.SortedLaws.{and-true-right}
+use Rattle.frames.proofs.BoolLaws.{and-true-right}
 use Rattle.frames.specs.Cells.{Cell, Rows, Words}
 use Rattle.frames.specs.Frame.{rowCount, isFrame, frameRows, front}
-use Rattle.frames.specs.Options.{columns, badOptions, isOn}
-use Rattle.frames.specs.declared.Options.{Options}
+use Rattle.options.specs.Options.{columns, badOptions, isOn}
+use Rattle.options.specs.declared.Options.{Options}
 use Rattle.frames.proofs.FrameLaws.{frame-length, frame-rows}
-use Rattle.buffer.specs.Reach.{needMore, pruneBy, noPrune, splitAt}
-use Rattle.buffer.proofs.SplitLaw.{split-within}
+use Rattle.searching.specs.Reach.{needMore, pruneBy, noPrune, splitAt}
+use Rattle.searching.proofs.SplitLaw.{split-within}
 use Rattle.matching.specs.Groups.{matchFrame}
 use Rattle.matching.specs.declared.Choice.{Choice}
 use Rattle.matching.specs.Answer.{answered}
@@ -27,13 +27,13 @@ use Rattle.refusals.specs.Refusals.{marksFailed}
 use Rattle.refusals.proofs.RefusalLaws.{marked-ind}
 use Rattle.refusals.specs.declared.Refusal.{Refusal}
 use Rattle.refusals.specs.declared.Refusal.the-variants.{Failed, Closed, NoRoom, UsedUp, LeftOrder, RightOrder}
-use Rattle.answers.specs.declared.Answer.{Answer}
-use Rattle.answers.specs.declared.Answer.the-variants.{Wrote, WantsRight, Idle, Refused as TurnRefused}
+use Rattle.outcomes.specs.declared.Answer.{Answer}
+use Rattle.outcomes.specs.declared.Answer.the-variants.{Wrote, WantsRight, Idle, Refused as TurnRefused}
 use Rattle.node.specs.State.{nextTurn, markedFailed, badJoin, heldOf, waiting}
-use Rattle.answers.specs.Answers.{isRunning, isDone, lastSequence}
+use Rattle.outcomes.specs.Answers.{isRunning, isDone, lastSequence}
 use Rattle.node.specs.Calls.{After, after, turnAnswer, turnCall, turned, dropped, dequeued, spoiled}
-use Rattle.prunes.specs.Prunes.{badLeft, badRight, firstPrune, remembered, keptRows, lastPrune}
-use Rattle.prunes.proofs.PruneLaws.{drops-within}
+use Rattle.turnrows.specs.Prunes.{badLeft, badRight, firstPrune, remembered, keptRows, lastPrune}
+use Rattle.turnrows.proofs.PruneLaws.{drops-within}
 use Rattle.lists.specs.Lists.{turn, Event, onTurn, World, step, leftIn, rightIn, leftFrames, rightFrames, rowsIn, outputIn, outputs, backToBack, framesWaiting, doneBy, refusedWith, turnRefusal}
 use Rattle.lists.proofs.ListLaws.{left-append, right-append, outputs-append}
 use Rattle.lists.proofs.Stock.{Stock, stock-same, stock-turn, waiting-length, next-frame, front-next, waits-front, front-room, held-rows}

@@ -5,19 +5,19 @@ use mathlib.Core.Bool.{Bool}
 use mathlib.Core.List.{List, [], _∷_}
 use Prim.Native.Nat.{ℕ, _+_, _≤_}
 use lib.ListN.{length}
-use Rattle.feeds.specs.Judged.{leftJudged, rightJudged}
+use Rattle.callrules.specs.Judged.{leftJudged, rightJudged}
 use Rattle.frames.specs.Cells.{Words}
 use Rattle.frames.specs.Frame.{rowCount}
 use Rattle.area.specs.Area.{newBase}
 use Rattle.area.proofs.PushLaws.{newBase-room, append-length, pushed-length}
 use Rattle.node.specs.declared.Join.{Join}
-use Rattle.answers.specs.declared.PortState.{PortState}
-use Rattle.answers.specs.declared.Answer.{Answer}
-use Rattle.answers.specs.declared.Answer.the-variants.{Wrote, WantsRight, Idle, Refused as TurnRefused}
-use Rattle.answers.specs.declared.Took.{Took}
-use Rattle.answers.specs.declared.Took.the-variants.{Accepted, Refused}
-use Rattle.answers.specs.declared.Ported.{Ported}
-use Rattle.answers.specs.declared.Ported.the-variants.{Ports, Refused as PortsRefused}
+use Rattle.outcomes.specs.declared.PortState.{PortState}
+use Rattle.outcomes.specs.declared.Answer.{Answer}
+use Rattle.outcomes.specs.declared.Answer.the-variants.{Wrote, WantsRight, Idle, Refused as TurnRefused}
+use Rattle.outcomes.specs.declared.Took.{Took}
+use Rattle.outcomes.specs.declared.Took.the-variants.{Accepted, Refused}
+use Rattle.outcomes.specs.declared.Ported.{Ported}
+use Rattle.outcomes.specs.declared.Ported.the-variants.{Ports, Refused as PortsRefused}
 use Rattle.node.specs.State.{endedRight, rightWidth, badJoin, waiting, heldValues, heldMarks}
 use Rattle.node.specs.Calls.{After, after, leftAnswer, leftCall, queued, rightAnswer, rightCall, pushedRight, endAnswer, endCall, portsAnswer, portsCall, turnAnswer, turnCall, turned}
 use Rattle.node.proofs.Good.{left-taken, right-taken}

@@ -7,9 +7,9 @@ use lib.IntN.{pos}
 use lib.ListN.{length, take, drop}
 use Rattle.frames.specs.Cells.{Cell, Rows, Words}
 use Rattle.frames.specs.Frame.{rowCount, valuesIn, marksIn}
-use Rattle.frames.specs.Options.{columns, badOptions, rightColumns}
-use Rattle.frames.specs.Order.{sorted}
-use Rattle.frames.specs.declared.Options.{Options}
+use Rattle.options.specs.Options.{columns, badOptions, rightColumns}
+use Rattle.order.specs.Order.{sorted}
+use Rattle.options.specs.declared.Options.{Options}
 use Rattle.matching.specs.Match.{wholeTable}
 use Rattle.matching.specs.Picked.{Picked, NoneQualifies}
 use Rattle.matching.specs.Answer.{numberWord, choiceMark}

@@ -11,18 +11,19 @@ use lib.IntN.{ℤ}
 use lib.ListN.{length, drop, getD}
 use lib.Seq.{drop-drop}
 use Rattle.frames.specs.Cells.{Cell, null, value, isNull, Rows, Words, rowsOf, rowFrom}
-use Rattle.frames.specs.Options.{strategyOf, keyRule}
-use Rattle.frames.specs.Order.{cmpCell, cmpGroup, isGreater, keyOf, nullGroup, sorted}
-use Rattle.frames.specs.Room.{RowsIn}
-use Rattle.frames.proofs.OrderLaws.{AtMost, cmpKey, cmpKey-is, cmpGroup-is, at-most, at-most-refl, row-by-key}
-use Rattle.frames.proofs.SortedLaws.{All, all-by, all-map, and-true, not-greater}
-use Rattle.frames.proofs.RowLaws.{rows-from}
-use Rattle.frames.specs.declared.Options.{Options}
-use Rattle.frames.specs.declared.Order.the-variants.{Equal}
-use Rattle.frames.specs.declared.Strategy.{Strategy}
-use Rattle.frames.specs.declared.Strategy.the-variants.{Backward, Forward, Nearest}
+use Rattle.options.specs.Options.{strategyOf, keyRule}
+use Rattle.order.specs.Order.{cmpCell, cmpGroup, isGreater, keyOf, nullGroup, sorted}
+use Rattle.order.specs.Requires.{RowsIn}
+use Rattle.order.proofs.OrderLaws.{AtMost, cmpKey, cmpKey-is, cmpGroup-is, at-most, at-most-refl, row-by-key}
+use Rattle.order.proofs.SortedLaws.{All, all-by, all-map, not-greater}
+use Rattle.frames.proofs.BoolLaws.{and-true}
+use Rattle.order.proofs.RowLaws.{rows-from}
+use Rattle.options.specs.declared.Options.{Options}
+use Rattle.order.specs.declared.Order.the-variants.{Equal}
+use Rattle.options.specs.declared.Strategy.{Strategy}
+use Rattle.options.specs.declared.Strategy.the-variants.{Backward, Forward, Nearest}
 use Rattle.matching.specs.Match.{nobody, hit, onSide, fits, takesOver, choose, tolerate, matchIn}
-use Rattle.matching.specs.Walk.{between, hitAt}
+use Rattle.matching.specs.Stretches.{between, hitAt}
 use Rattle.matching.specs.Moves.{keysSorted, keyAt, Rising, fitsKey, movesOn, knownFit, Behind, CursorAt, Stopped}
 use Rattle.matching.specs.declared.Choice.the-variants.{Nothing}
 use Rattle.matching.proofs.ChoiceLaws.{Keeps, Wins, choose-keep, choose-dead, choose-skip}

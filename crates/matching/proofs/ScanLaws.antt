@@ -11,14 +11,14 @@ use lib.Dec.{ltb, eqb, leb·zero}
 use lib.IntN.{ℤ, pos, negsuc}
 use lib.Signed.{ltZ, leZ}
 use Rattle.frames.specs.Cells.{Cell, null, value, isZero, cellOf, isNull}
-use Rattle.frames.specs.Options.{keyRule}
-use Rattle.frames.specs.Order.{cmpZ, cmpCell, cmpGroup, nullGroup, isLess, isEqual, isGreater}
-use Rattle.frames.specs.declared.Options.{Options}
-use Rattle.frames.specs.declared.Order.{Order}
-use Rattle.frames.specs.declared.Order.the-variants.{Less, Equal, Greater}
-use Rattle.frames.proofs.Order.{the-type}
-use Rattle.frames.proofs.OrderLaws.{cmpZ-is, less-greater}
-use Rattle.frames.proofs.RowLaws.{next-stop}
+use Rattle.options.specs.Options.{keyRule}
+use Rattle.order.specs.Order.{cmpZ, cmpCell, cmpGroup, nullGroup, isLess, isEqual, isGreater}
+use Rattle.options.specs.declared.Options.{Options}
+use Rattle.order.specs.declared.Order.{Order}
+use Rattle.order.specs.declared.Order.the-variants.{Less, Equal, Greater}
+use Rattle.order.proofs.Order.{the-type}
+use Rattle.order.proofs.OrderLaws.{cmpZ-is, less-greater}
+use Rattle.order.proofs.RowLaws.{next-stop}
 use Rattle.matching.specs.Groups.{sameRun}
 
 -- A cell that is not null is its value.

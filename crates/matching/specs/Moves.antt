@@ -6,15 +6,15 @@ use Prim.Native.Nat.{ℕ, _+_, _-_, _*_, _^_, _≤_, _<_}
 use lib.Dec.{ltb}
 use lib.IntN.{ℤ}
 use Rattle.frames.specs.Cells.{Cell, value, isNull, Rows, Words, rowFrom}
-use Rattle.frames.specs.Options.{strategyOf, keyRule}
-use Rattle.frames.specs.Order.{cmpCell, isGreater, keyOf}
-use Rattle.frames.specs.Room.{cellAt, RowAt, RowsIn}
-use Rattle.frames.specs.declared.Options.{Options}
-use Rattle.frames.specs.declared.Order.the-variants.{Greater}
-use Rattle.frames.specs.declared.Strategy.{Strategy}
-use Rattle.frames.specs.declared.Strategy.the-variants.{Backward, Forward, Nearest}
+use Rattle.options.specs.Options.{strategyOf, keyRule}
+use Rattle.order.specs.Order.{cmpCell, isGreater, keyOf}
+use Rattle.order.specs.Requires.{cellAt, RowAt, RowsIn}
+use Rattle.options.specs.declared.Options.{Options}
+use Rattle.order.specs.declared.Order.the-variants.{Greater}
+use Rattle.options.specs.declared.Strategy.{Strategy}
+use Rattle.options.specs.declared.Strategy.the-variants.{Backward, Forward, Nearest}
 use Rattle.matching.specs.Match.{onSide, nearer, matchIn}
-use Rattle.matching.specs.Walk.{between}
+use Rattle.matching.specs.Stretches.{between}
 use Rattle.matching.specs.Inner.{RunRoom}
 use Rattle.matching.specs.declared.Step.{Step}
 

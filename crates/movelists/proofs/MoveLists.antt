@@ -2,7 +2,7 @@
 use mathlib.Core.Path.{_≡_, refl, sym, _∙_}
 use mathlib.Core.Bool.{false}
 use Rattle.frames.specs.Cells.{Words}
-use Rattle.answers.specs.declared.Took.the-variants.{Accepted}
+use Rattle.outcomes.specs.declared.Took.the-variants.{Accepted}
 use Rattle.node.specs.State.{badJoin}
 use Rattle.moves.specs.Moves.{moveCall, MovedSame}
 use Rattle.moves.proofs.MoveLaws.{moved-same, move-good}

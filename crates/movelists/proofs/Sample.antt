@@ -7,9 +7,9 @@ use mathlib.Core.Option.{none}
 use Prim.Native.Nat.{ℕ}
 use lib.IntN.{pos, negsuc}
 use Rattle.frames.specs.Cells.{Words}
-use Rattle.frames.proofs.Samples.{plain, keys, frameOf}
+use Rattle.order.proofs.Samples.{plain, keys, frameOf}
 use Rattle.refusals.specs.declared.Refusal.the-variants.{NoRoom}
-use Rattle.answers.specs.declared.Took.the-variants.{Accepted, Refused}
+use Rattle.outcomes.specs.declared.Took.the-variants.{Accepted, Refused}
 use Rattle.node.specs.State.{heldValues, heldMarks}
 use Rattle.moves.specs.Moves.{moveAnswer, leftMoved, rightMoved, moveCall}
 use Rattle.lists.specs.Lists.{Call, left, right, turn, World, start, final}

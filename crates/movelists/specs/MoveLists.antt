@@ -2,7 +2,7 @@
 use mathlib.Core.Path.{_≡_}
 use mathlib.Core.List.{List, map}
 use Rattle.frames.specs.Cells.{Words}
-use Rattle.answers.specs.declared.Took.the-variants.{Accepted}
+use Rattle.outcomes.specs.declared.Took.the-variants.{Accepted}
 use Rattle.moves.specs.Moves.{moveCall}
 use Rattle.lists.specs.Lists.{Call, World, events, final}
 use Rattle.lists.specs.Elsewhere.{SameLive, noRoom}

@@ -10,9 +10,9 @@ use lib.ListN.{length, take, drop, length-drop}
 use lib.Seq.{paste, paste-zero, drop-drop, take-all, length-take-le, length-paste, drop-length}
 use Rattle.frames.specs.Cells.{Words}
 use Rattle.area.specs.Area.{capacity, moved, written, newBase}
-use Rattle.area.specs.Room.{Appended}
+use Rattle.area.specs.Requires.{Appended}
 use Rattle.area.proofs.PushLaws.{capacity-room}
-use Rattle.moves.specs.Room.{BothFit, RightIn, rightCopied}
+use Rattle.moves.specs.Requires.{BothFit, RightIn, rightCopied}
 
 -- An append to nothing is a copy to the front.
 pub appended-front : (ws area : Words) (r : ℕ) (after : Words) → Appended 0 0 ws area r after → after ≡ written ws 0 area

@@ -13,19 +13,19 @@ use Rattle.frames.specs.Cells.{Rows, Words, rowsOf}
 use Rattle.frames.proofs.WordLaws.{part-copied, part-before, rows-read}
 use Rattle.area.specs.Area.{capacity, heldRows, written}
 use Rattle.area.proofs.PushLaws.{capacity-room}
-use Rattle.feeds.proofs.FeedLaws.{or-both}
-use Rattle.answers.specs.Answers.{mostRows}
+use Rattle.callrules.proofs.FeedLaws.{or-both}
+use Rattle.outcomes.specs.Answers.{mostRows}
 use Rattle.refusals.specs.declared.Refusal.{Refusal}
 use Rattle.refusals.specs.declared.Refusal.the-variants.{BadJoin, NoRoom}
-use Rattle.answers.specs.declared.Took.{Took}
-use Rattle.answers.specs.declared.Took.the-variants.{Accepted, Refused}
+use Rattle.outcomes.specs.declared.Took.{Took}
+use Rattle.outcomes.specs.declared.Took.the-variants.{Accepted, Refused}
 use Rattle.node.specs.State.{rightWidth, badJoin, heldOf, waiting, heldValues, heldMarks}
 use Rattle.node.specs.Calls.{After, after}
 use Rattle.node.specs.declared.Join.{Join}
 use Rattle.node.specs.declared.TookJoin.{TookJoin}
 use Rattle.node.proofs.Good.{Good, good}
-use Rattle.moves.specs.Moves.{noRoomIn, moveAnswer, atFront, leftMoved, rightMoved, moveCall, MoveLeaves, MovedSame, Moved}
-use Rattle.moves.specs.Room.{rightCopied}
+use Rattle.moves.specs.Moves.{noRoomIn, moveAnswer, atFront, leftMoved, rightMoved, moveCall, MoveContract, MovedSame, Moved}
+use Rattle.moves.specs.Requires.{rightCopied}
 
 -- ---- what is accepted
 passed : (b : Bool) (n : Refusal) (t : Took) → cond b (Refused n) t ≡ Accepted → (b ≡ false) × (t ≡ Accepted)
@@ -208,14 +208,14 @@ moved-same j left right newLeft newRight e =
 
 -- ---- for the code
 module _ (j : Join) (left right newLeft newRight : Words) where
-  pub bad-move : badJoin j left right ≡ true → MoveLeaves j left right newLeft newRight (record { answer = Refused BadJoin; join = j }) newLeft newRight
+  pub bad-move : badJoin j left right ≡ true → MoveContract j left right newLeft newRight (record { answer = Refused BadJoin; join = j }) newLeft newRight
   bad-move e = let w = move-bad j left right newLeft newRight e in record { answer = rw w; join = rw w; left-words = rw w; right-words = rw w }
 
-  pub no-room-move : badJoin j left right ≡ false → noRoomIn j newLeft newRight ≡ true → MoveLeaves j left right newLeft newRight (record { answer = Refused NoRoom; join = j }) newLeft newRight
+  pub no-room-move : badJoin j left right ≡ false → noRoomIn j newLeft newRight ≡ true → MoveContract j left right newLeft newRight (record { answer = Refused NoRoom; join = j }) newLeft newRight
   no-room-move e f = let w = move-short j left right newLeft newRight e f in record { answer = rw w; join = rw w; left-words = rw w; right-words = rw w }
 
   pub done-move : (left′ right′ : Words) → badJoin j left right ≡ false → noRoomIn j newLeft newRight ≡ false
       → left′ ≡ written (take (j .«queue_words») (drop (j .«queue_start») left)) 0 newLeft → right′ ≡ rightCopied (rightWidth j) (j .base) (j .held) right newRight
-      → MoveLeaves j left right newLeft newRight (record { answer = Accepted; join = atFront j }) left′ right′
+      → MoveContract j left right newLeft newRight (record { answer = Accepted; join = atFront j }) left′ right′
   unfolding leftMoved rightMoved rightCopied waiting heldValues heldMarks
   done-move left′ right′ e f x y = let w = move-done j left right newLeft newRight e f in record { answer = rw w; join = rw w; left-words = rw w x; right-words = rw w y }

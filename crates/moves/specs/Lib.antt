@@ -1,2 +1,2 @@
 pub mod Moves
-pub mod Room
+pub mod Requires

@@ -13,8 +13,8 @@ use Rattle.node.specs.declared.Join.{Join}
 use Rattle.node.specs.declared.TookJoin.{TookJoin}
 use Rattle.refusals.specs.Tests.{test, firstOf}
 use Rattle.refusals.specs.declared.Refusal.the-variants.{BadJoin, NoRoom}
-use Rattle.answers.specs.declared.Took.{Took}
-use Rattle.answers.specs.declared.Took.the-variants.{Accepted, Refused}
+use Rattle.outcomes.specs.declared.Took.{Took}
+use Rattle.outcomes.specs.declared.Took.the-variants.{Accepted, Refused}
 
 -- SCOPE 16, number 6: the new areas have no room for the words that wait, or for the rows that are held.
 abbrev pub noRoomIn : Join → Words → Words → Bool
@@ -46,7 +46,7 @@ moveCall j left right newLeft newRight =
     ]
 
 -- What the call leaves: the answer, the join handed back, and the new areas' words as they are afterwards.
-pub record MoveLeaves (j : Join) (left right newLeft newRight : Words) (r : TookJoin) (left′ right′ : Words) : Type 0 where
+pub record MoveContract (j : Join) (left right newLeft newRight : Words) (r : TookJoin) (left′ right′ : Words) : Type 0 where
   pub answer : r .answer ≡ moveCall j left right newLeft newRight .answer
   pub join : r .join ≡ moveCall j left right newLeft newRight .join
   pub left-words : left′ ≡ moveCall j left right newLeft newRight .left

@@ -1,5 +1,4 @@
 // A join moved to other areas, of any lengths: what waits and what is held is copied to their fronts.
-use answers::Took;
 use area::append;
 use area::held_marks;
 use area::held_values;
@@ -7,13 +6,14 @@ use node::Join;
 use node::TookJoin;
 use node::bad_join;
 use options::right_columns;
+use outcomes::Took;
 use refusals::Refusal;
 ghost use mathlib.Core.Path.{_≡_};
 ghost use Prim.Native.Nat.{_≤_};
 ghost use lib.ListN.{length, take, drop};
 ghost use Rattle.area.specs.Area.{written};
-ghost use Rattle.moves.specs.Moves.{noRoomIn, MoveLeaves};
-ghost use Rattle.moves.specs.Room.{LeftIn, BothFit, RightIn, rightCopied};
+ghost use Rattle.moves.specs.Moves.{noRoomIn, MoveContract};
+ghost use Rattle.moves.specs.Requires.{LeftIn, BothFit, RightIn, rightCopied};
 
 // Copies words to the front of an area that has room for them.
 fn copy_front(area: &mut [i64], words: &[i64])
@@ -74,7 +74,7 @@ pub fn move_join(
     new_left: &mut [i64],
     new_right: &mut [i64],
 ) -> TookJoin
-    ensures { λ r. ⌜ MoveLeaves j (now (left .entry)) (now (right .entry)) (now («new_left» .entry)) (now («new_right» .entry)) r (now («new_left» .exit)) (now («new_right» .exit)) ⌝ }
+    ensures { λ r. ⌜ MoveContract j (now (left .entry)) (now (right .entry)) (now («new_left» .entry)) (now («new_right» .entry)) r (now («new_left» .exit)) (now («new_right» .exit)) ⌝ }
 {
     if bad_join(j, left, right) {
         return TookJoin {

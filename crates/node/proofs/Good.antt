@@ -7,23 +7,23 @@ use borrow.Author.Tests.{ltb-false, eqb-false, not-false}
 use lib.Dec.{ltb}
 use lib.Signed.{ltZ}
 use lib.ListN.{length}
-use Rattle.feeds.specs.Judged.{leftJudged, endJudged, rightJudged}
+use Rattle.callrules.specs.Judged.{leftJudged, endJudged, rightJudged}
 use Rattle.frames.specs.Cells.{Words}
 use Rattle.frames.specs.Frame.{rowCount, isFrame}
-use Rattle.frames.specs.Options.{badOptions}
-use Rattle.frames.specs.Room.{HasCount}
-use Rattle.frames.specs.declared.Options.{Options}
+use Rattle.options.specs.Options.{badOptions}
+use Rattle.frames.specs.Front.{HasCount}
+use Rattle.options.specs.declared.Options.{Options}
 use Rattle.frames.proofs.FrontLaws.{frame-parts}
 use Rattle.area.specs.Area.{capacity}
-use Rattle.feeds.proofs.FeedLaws.{or-both, few-columns}
+use Rattle.callrules.proofs.FeedLaws.{or-both, few-columns}
 use Rattle.node.specs.State.{fresh, leftWidth, rightWidth, badJoin, overRight, overLeft, overRows, oddSequence}
-use Rattle.answers.specs.Answers.{isRunning, isDone, mostRows}
+use Rattle.outcomes.specs.Answers.{isRunning, isDone, mostRows}
 use Rattle.node.specs.Calls.{leftAnswer, rightAnswer, endAnswer}
 use Rattle.node.specs.declared.Join.{Join}
 use Rattle.refusals.specs.declared.Refusal.{Refusal}
 use Rattle.refusals.specs.declared.Refusal.the-variants.{BadJoin, Failed, Closed, BadFrame, NoRoom, UsedUp}
-use Rattle.answers.specs.declared.Took.{Took}
-use Rattle.answers.specs.declared.Took.the-variants.{Accepted, Refused}
+use Rattle.outcomes.specs.declared.Took.{Took}
+use Rattle.outcomes.specs.declared.Took.the-variants.{Accepted, Refused}
 
 -- ---- tests
 -- A chain of refusals that came to Accepted did not stop at its first.

@@ -13,34 +13,34 @@ use Rattle.frames.specs.declared.Front.{Front}
 use Rattle.frames.specs.declared.Front.the-variants.{Words as Long, Nothing}
 use Rattle.frames.proofs.FrontLaws.{Fronted, front-told}
 use Rattle.area.specs.Area.{capacity, heldRows}
-use Rattle.buffer.specs.Reach.{needMore}
+use Rattle.searching.specs.Reach.{needMore}
 use Rattle.area.proofs.PushLaws.{capacity-room}
 use Rattle.area.proofs.AreaLaws.{rows-words}
 use Rattle.matching.specs.Groups.{matchFrame}
 use Rattle.matching.specs.Answer.{answered}
 use Rattle.matching.proofs.ChoiceLaws.{cond-ind}
 use Rattle.node.specs.State.{markedFailed, leftWidth, rightWidth, badJoin, heldOf, waiting}
-use Rattle.answers.specs.Answers.{isDone, lastSequence, wrote}
+use Rattle.outcomes.specs.Answers.{isDone, lastSequence, wrote}
 use Rattle.node.specs.Calls.{after, turnAnswer, dropped, dequeued, turned, spoiled, turnCall}
-use Rattle.prunes.specs.Prunes.{firstPrune, badLeft, badRight, keptRows, lastPrune}
+use Rattle.turnrows.specs.Prunes.{firstPrune, badLeft, badRight, keptRows, lastPrune}
 use Rattle.node.specs.Inner.{readyAnswer, partOf, joinWith}
-use Rattle.node.specs.Leaves.{TurnLeaves}
+use Rattle.node.specs.Contracts.{TurnContract}
 use Rattle.node.proofs.Good.{Good, good}
-use Rattle.answers.proofs.Tests.{past}
-use Rattle.prunes.proofs.PruneLaws.{split-known}
+use Rattle.outcomes.proofs.Tests.{past}
+use Rattle.turnrows.proofs.PruneLaws.{split-known}
 use Rattle.node.specs.declared.Join.{Join}
 use Rattle.refusals.specs.Refusals.{marksFailed}
 use Rattle.refusals.specs.declared.Refusal.{Refusal}
 use Rattle.refusals.specs.declared.Refusal.the-variants.{BadJoin, Failed, Closed, BadFrame, NoRoom, UsedUp, LeftOrder, RightOrder}
-use Rattle.answers.specs.declared.Answer.{Answer}
-use Rattle.answers.specs.declared.Answer.the-variants.{Wrote, WantsRight, Idle, Refused}
-use Rattle.feeds.specs.Judged.{readyJudged}
-use Rattle.parts.specs.Part.{roomAnswer, orderAnswer, leftPart, failedPart}
-use Rattle.parts.specs.declared.Part.{Part}
-use Rattle.turns.specs.Turns.{left as unmoved, rowsAnswer, rowsTurn, spoiledPart, RowsTurned}
-use Rattle.queue.specs.Queue.{waitingIn, frontTurn, queueTurn, QueueTurned}
-use Rattle.queue.proofs.QueueLaws.{front-here, front-frame}
-use Rattle.turns.specs.declared.TurnedPart.{TurnedPart}
+use Rattle.outcomes.specs.declared.Answer.{Answer}
+use Rattle.outcomes.specs.declared.Answer.the-variants.{Wrote, WantsRight, Idle, Refused}
+use Rattle.callrules.specs.Judged.{readyJudged}
+use Rattle.turnparts.specs.Part.{roomAnswer, orderAnswer, leftPart, failedPart}
+use Rattle.turnparts.specs.declared.Part.{Part}
+use Rattle.turnfront.specs.Turns.{left as unmoved, rowsAnswer, rowsTurn, spoiledPart, RowsTurned}
+use Rattle.turncall.specs.Queue.{waitingIn, frontTurn, queueTurn, QueueTurned}
+use Rattle.turncall.proofs.QueueLaws.{front-here, front-frame}
+use Rattle.turnfront.specs.declared.TurnedPart.{TurnedPart}
 
 -- The answers by rows are one chain.
 through : (a b c : Bool) (s : ℕ) (x : Answer) →
@@ -137,7 +137,7 @@ module _ (j : Join) (left right out : Words) where
       is-ready (ready-all (λ a. wrote a ≡ true → a ≡ Wrote (j .sequence)) (λ x. cc) (λ x. cc) (λ x. cc) (λ x. cc) (λ x. refl) (sym (ap wrote e) ∙ g))
 
   -- A turn that is not ready answers so and changes nothing.
-  stops : (a : Answer) → turnAnswer j left right out ≡ a → wrote a ≡ false → TurnLeaves j left right out (record { answer = a; join = stopped j a }) out
+  stops : (a : Answer) → turnAnswer j left right out ≡ a → wrote a ≡ false → TurnContract j left right out (record { answer = a; join = stopped j a }) out
   unfolding turnCall
   stops (Wrote s) e g = let z : _≡_ {A = ℕ} 0 1 = cc in absurd (omega arith)
   stops WantsRight e g = record { answer = rw (e, turnCall); join = rw (e, turnCall); words = rw (e, turnCall) }
@@ -148,7 +148,7 @@ module _ (j : Join) (left right out : Words) where
   unfolding turnAnswer readyJudged
   unready g = stays-at (badJoin j left right) (j .failed) (isDone (j .state)) (eqb (j .«queue_words») 0) (j .sequence) _ g
 
-  ready-stops : (t : Answer) → t ≡ readyAnswer j left right → wrote t ≡ false → TurnLeaves j left right out (record { answer = t; join = j }) out
+  ready-stops : (t : Answer) → t ≡ readyAnswer j left right → wrote t ≡ false → TurnContract j left right out (record { answer = t; join = j }) out
   ready-stops t e g =
       let same : stopped j t ≡ j = rw e (ready-all (λ a. stopped j a ≡ j) refl refl refl refl refl) in
       rw same at (stops t (unready (sym (ap wrote e) ∙ g) ∙ sym e) g)
@@ -177,7 +177,7 @@ module _ (j : Join) (left right out : Words) where
       turned-rows = rw fronted
 
       turns : isFrame (leftWidth j) f ≡ true → (a : Answer) → rowsAnswer (partOf j) (frameRows (leftWidth j) f) (heldOf j right) (length out) ≡ a → (x : TurnedPart) (out′ : Words)
-          → RowsTurned (partOf j) (frameRows (leftWidth j) f) (heldOf j right) (length f) out x out′ → TurnLeaves j left right out (record { answer = x .answer; join = joinWith j (x .part) }) out′
+          → RowsTurned (partOf j) (frameRows (leftWidth j) f) (heldOf j right) (length f) out x out′ → TurnContract j left right out (record { answer = x .answer; join = joinWith j (x .part) }) out′
       unfolding turnCall rowsTurn
       turns frame (Wrote q) e x out′ h =
           let t = answer-rows frame ∙ e in
@@ -192,12 +192,12 @@ module _ (j : Join) (left right out : Words) where
           let t = answer-rows frame ∙ e in
           record { answer = rw (t, turnCall) (rw (e, rowsTurn) at (h .answer)); join = rw (t, turnCall) (ap (joinWith j) (rw (e, rowsTurn) at (h .part)) ∙ part-spoiled j n); words = rw (t, turnCall) (rw (e, rowsTurn) at (h .words)) }
 
-    front-stops : frontOf (leftWidth j) (waiting j left) ≡ Nothing → TurnLeaves j left right out (record { answer = Refused BadFrame; join = j }) out
+    front-stops : frontOf (leftWidth j) (waiting j left) ≡ Nothing → TurnContract j left right out (record { answer = Refused BadFrame; join = j }) out
     front-stops e = stops (Refused BadFrame) (front-answer (front (leftWidth j) (waiting j left)) refl (front-broken (leftWidth j) (waiting j left) e)) refl
 
     frame-turns : (k : ℕ) → frontOf (leftWidth j) (waiting j left) ≡ Long k → (x : TurnedPart) (out′ : Words)
         → RowsTurned (partOf j) (frameRows (leftWidth j) (take k (drop (j .«queue_start») left))) (heldRows (rightWidth j) (j .base) (j .held) right) (length (take k (drop (j .«queue_start») left))) out x out′
-        → TurnLeaves j left right out (record { answer = x .answer; join = joinWith j (x .part) }) out′
+        → TurnContract j left right out (record { answer = x .answer; join = joinWith j (x .part) }) out′
     unfolding heldOf waiting
     frame-turns k told x out′ h =
         turns (take k (drop (j .«queue_start») left)) (front-here (partOf j) left right k told) (front-frame (partOf j) left right k told) _ refl x out′ h
@@ -208,10 +208,10 @@ module _ (j : Join) (left right out : Words) where
     known = rw is at h
 
     abbrev Goal : Type 0
-    Goal = TurnLeaves j left right out (record { answer = x .answer; join = joinWith j (x .part) }) out′
+    Goal = TurnContract j left right out (record { answer = x .answer; join = joinWith j (x .part) }) out′
 
     -- A turn that changes nothing.
-    unchanged : (a : Answer) → queueTurn (badJoin j left right) (j .state) (partOf j) left right out ≡ unmoved a (partOf j) out → TurnLeaves j left right out (record { answer = a; join = j }) out → Goal
+    unchanged : (a : Answer) → queueTurn (badJoin j left right) (j .state) (partOf j) left right out ≡ unmoved a (partOf j) out → TurnContract j left right out (record { answer = a; join = j }) out → Goal
     unchanged a e z = record { answer = rw e at (known .answer) ∙ z .answer; join = ap (joinWith j) (rw e at (known .part)) ∙ z .join; words = rw e at (known .words) ∙ z .words }
 
     fronted : Ready → (s : ℕ) → readyAnswer j left right ≡ Wrote s → (f : Front) → frontOf (leftWidth j) (waiting j left) ≡ f → Goal

@@ -6,27 +6,27 @@ use lib.ListN.{length, drop, take}
 use Rattle.frames.specs.Cells.{Words}
 use Rattle.frames.specs.Frame.{rowCount, isFrame, frameRows, front}
 use Rattle.area.specs.Area.{capacity, newBase, pushed, moved, written}
-use Rattle.buffer.specs.Reach.{pruneBy}
+use Rattle.searching.specs.Reach.{pruneBy}
 use Rattle.matching.specs.Groups.{matchFrame}
 use Rattle.matching.specs.Answer.{answered}
 use Rattle.ports.specs.Ports.{toFlush, toDone, portsJudged}
-use Rattle.prunes.specs.Prunes.{badLeft, badRight, firstPrune, remembered}
+use Rattle.turnrows.specs.Prunes.{badLeft, badRight, firstPrune, remembered}
 use Rattle.node.specs.State.{queueAt, heldAt, stateAt, endedRight, markedFailed, nextTurn, leftWidth, rightWidth, badJoin, heldOf, waiting}
 use Rattle.node.specs.declared.Join.{Join}
-use Rattle.answers.specs.declared.NodeState.{NodeState}
-use Rattle.answers.specs.declared.PortState.{PortState}
+use Rattle.outcomes.specs.declared.NodeState.{NodeState}
+use Rattle.outcomes.specs.declared.PortState.{PortState}
 use Rattle.refusals.specs.Refusals.{marksFailed}
 use Rattle.refusals.specs.Tests.{test, firstOf}
-use Rattle.feeds.specs.Judged.{leftJudged, endJudged, rightJudged, readyTests}
-use Rattle.parts.specs.Part.{roomTests, orderTests}
+use Rattle.callrules.specs.Judged.{leftJudged, endJudged, rightJudged, readyTests}
+use Rattle.turnparts.specs.Part.{roomTests, orderTests}
 use Rattle.refusals.specs.declared.Refusal.{Refusal}
 use Rattle.refusals.specs.declared.Refusal.the-variants.{BadFrame}
-use Rattle.answers.specs.declared.Answer.{Answer}
-use Rattle.answers.specs.declared.Answer.the-variants.{Wrote, WantsRight, Idle, Refused as TurnRefused}
-use Rattle.answers.specs.declared.Took.{Took}
-use Rattle.answers.specs.declared.Took.the-variants.{Accepted, Refused}
-use Rattle.answers.specs.declared.Ported.{Ported}
-use Rattle.answers.specs.declared.Ported.the-variants.{Ports, Refused as PortsRefused}
+use Rattle.outcomes.specs.declared.Answer.{Answer}
+use Rattle.outcomes.specs.declared.Answer.the-variants.{Wrote, WantsRight, Idle, Refused as TurnRefused}
+use Rattle.outcomes.specs.declared.Took.{Took}
+use Rattle.outcomes.specs.declared.Took.the-variants.{Accepted, Refused}
+use Rattle.outcomes.specs.declared.Ported.{Ported}
+use Rattle.outcomes.specs.declared.Ported.the-variants.{Ports, Refused as PortsRefused}
 
 -- What a call leaves: its answer, the join handed back, and the words of the two areas and of the output (of a call that is lent one).
 pub record After (A : Type 0) : Type 0 where

@@ -1,6 +1,6 @@
 // Whether a join and its areas hold together, for any field values and any areas.
 use crate::Join;
-use holds::bad_numbers;
+use consistency::bad_numbers;
 ghost use mathlib.Core.Path.{_≡_};
 ghost use Rattle.node.specs.State.{badJoin};
 

@@ -1,10 +1,31 @@
-// The options that a join is opened with.
-use frames::Check;
-use frames::Options;
-use frames::Strategy;
+// The options that a join is opened with: their definitions, and tests of them.
 ghost use mathlib.Core.Path.{_≡_};
 ghost use Prim.Native.Nat.{_≤_};
-ghost use Rattle.frames.specs.Options.{badOptions, strategyOf, isOn, columns, rightColumns};
+ghost use Rattle.options.specs.Options.{badOptions, strategyOf, isOn, columns, rightColumns};
+
+// The strategies of a match. In the options a strategy is its number, since a host may hand in any.
+pub enum Strategy {
+    Backward,
+    Forward,
+    Nearest,
+}
+
+// Whether the order of the rows is checked.
+pub enum Check {
+    Off,
+    On,
+}
+
+// What a join is opened with.
+pub struct Options {
+    pub by: usize,
+    pub strategy: u8,
+    pub allow_eq: bool,
+    pub tolerance: i64,
+    pub check: Check,
+    pub descending: [bool; 4],
+    pub nulls_last: [bool; 4],
+}
 
 // Whether the options are invalid (SCOPE 3.6).
 pub fn bad_options(o: Options) -> bool

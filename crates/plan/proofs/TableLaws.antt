@@ -10,7 +10,7 @@ use lib.ListN.{length, take, drop, length-append, length-drop, take-append-drop,
 use lib.Seq.{length-take-le, take-at, drop-at}
 use Rattle.frames.specs.Cells.{Words, rowsOf}
 use Rattle.frames.specs.Frame.{frameWords, pairFine, pairsFine, valuesIn, marksIn, isFrame, frameRows, isTable}
-use Rattle.frames.proofs.SortedLaws.{and-true}
+use Rattle.frames.proofs.BoolLaws.{and-true}
 use Rattle.frames.proofs.WordLaws.{rows-append}
 use Rattle.lists.specs.Lists.{rowsIn}
 use Rattle.plan.specs.Plan.{AllFrames}

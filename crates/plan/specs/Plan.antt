@@ -6,13 +6,13 @@ use Prim.Native.Nat.{ℕ, zero, suc, _+_, _*_, _^_, _≤_, _<_, max}
 use lib.ListN.{length, drop}
 use Rattle.frames.specs.Cells.{Rows, Words}
 use Rattle.frames.specs.Frame.{rowCount, isFrame, frameRows}
-use Rattle.frames.specs.Options.{columns, badOptions, rightColumns}
-use Rattle.frames.specs.Order.{sorted}
-use Rattle.frames.specs.declared.Options.{Options}
+use Rattle.options.specs.Options.{columns, badOptions, rightColumns}
+use Rattle.order.specs.Order.{sorted}
+use Rattle.options.specs.declared.Options.{Options}
 use Rattle.area.specs.Area.{capacity}
-use Rattle.buffer.specs.Reach.{needMore}
-use Rattle.answers.specs.Answers.{mostRows}
-use Rattle.prunes.specs.Prunes.{firstPrune, lastPrune}
+use Rattle.searching.specs.Reach.{needMore}
+use Rattle.outcomes.specs.Answers.{mostRows}
+use Rattle.turnrows.specs.Prunes.{firstPrune, lastPrune}
 use Rattle.lists.specs.Lists.{start, events, rowsIn, outputs, backToBack}
 use Rattle.lists.specs.WholeTables.{Each}
 use Rattle.plan.specs.Schedule.{schedule, mostHeld, turnCalls, rightsTaken, meetsNoRoom}

@@ -6,12 +6,12 @@ use Prim.Native.Nat.{ℕ, _+_, _*_, _^_, _≤_, _<_}
 use lib.ListN.{length}
 use Rattle.frames.specs.Cells.{Words}
 use Rattle.frames.specs.Frame.{rowCount, valuesIn, marksIn, frameRows}
-use Rattle.frames.specs.Options.{columns, badOptions, rightColumns}
-use Rattle.frames.specs.Order.{sorted}
-use Rattle.frames.specs.declared.Options.{Options}
+use Rattle.options.specs.Options.{columns, badOptions, rightColumns}
+use Rattle.order.specs.Order.{sorted}
+use Rattle.options.specs.declared.Options.{Options}
 use Rattle.area.specs.Area.{capacity}
 use Rattle.matching.specs.Match.{wholeTable}
-use Rattle.answers.specs.Answers.{mostRows}
+use Rattle.outcomes.specs.Answers.{mostRows}
 use Rattle.lists.specs.Lists.{start, events, outputs, matchesIn, backToBack}
 use Rattle.lists.specs.WholeTables.{asWritten, Each}
 use Rattle.plan.specs.Schedule.{schedule}

@@ -4,8 +4,8 @@ use mathlib.Core.Path.{_≡_}
 use mathlib.Core.List.{List, map}
 use Prim.Native.Nat.{_≤_}
 use Rattle.frames.specs.Cells.{Words}
-use Rattle.frames.specs.Options.{columns, rightColumns}
-use Rattle.frames.specs.declared.Options.{Options}
+use Rattle.options.specs.Options.{columns, rightColumns}
+use Rattle.options.specs.declared.Options.{Options}
 use Rattle.area.specs.Area.{capacity}
 use Rattle.matching.specs.Match.{wholeTable}
 use Rattle.lists.specs.Lists.{start, events, rowsIn, outputs, matchesIn}

@@ -7,7 +7,7 @@ use Rattle.node.specs.declared.Join.{Join}
 use Rattle.runs.specs.declared.RanJoin.{RanJoin}
 
 -- A run of at most k turns; the output's words as they are afterwards.
-pub record RunLeaves (j : Join) (k : ℕ) (left right out : Words) (r : RanJoin) (out′ : Words) : Type 0 where
+pub record RunContract (j : Join) (k : ℕ) (left right out : Words) (r : RanJoin) (out′ : Words) : Type 0 where
   pub turns : r .turns ≡ runCall k j left right out .turns
   pub written : r .words ≡ runCall k j left right out .words
   pub stop : r .stop ≡ runCall k j left right out .stop

@@ -2,18 +2,18 @@
 use cursor::keys_sorted;
 use framerule::is_frame;
 use framerule::row_count;
-use frames::Check;
-use frames::Options;
-use lay::scan_run;
-use lay::walk_run;
+use matchrun::scan_run;
+use matchrun::walk_run;
+use options::Check;
+use options::Options;
 ghost use mathlib.Core.Path.{_≡_};
 ghost use mathlib.Core.Bool.{true, false, _&&_};
 ghost use Prim.Native.Nat.{_≤_};
 ghost use lib.ListN.{length};
 ghost use Rattle.frames.specs.Cells.{rowsOf};
 ghost use Rattle.frames.specs.Frame.{frameRows};
-ghost use Rattle.frames.specs.Room.{RowsIn};
-ghost use Rattle.matching.specs.Walk.{between};
+ghost use Rattle.order.specs.Requires.{RowsIn};
+ghost use Rattle.matching.specs.Stretches.{between};
 ghost use Rattle.matching.specs.Moves.{keysSorted};
 ghost use Rattle.scanwalk.specs.Drive.{keyOptions, judged, unsorted, refusalOf, Drives, PartsIn};
 

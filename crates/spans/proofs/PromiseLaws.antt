@@ -9,7 +9,7 @@ use lib.Dec.{ltb}
 use lib.ListN.{length, take, drop, length-append, length-map}
 use Rattle.frames.specs.Cells.{Cell, Rows, Words}
 use Rattle.frames.specs.Frame.{isFrame, rowCount, frameRows, frameWords, valuesIn, marksIn, isTable}
-use Rattle.frames.proofs.SortedLaws.{All, all-join}
+use Rattle.order.proofs.SortedLaws.{All, all-join}
 use Rattle.frames.proofs.WordLaws.{rows-length, part-behind}
 use Rattle.tables.specs.Table.{tableRows, tableOf, laid, leave}
 use Rattle.refusals.specs.declared.Refusal.{Refusal}

@@ -6,8 +6,8 @@ use Prim.Native.Nat.{ℕ}
 use lib.IntN.{pos, negsuc}
 use Rattle.frames.specs.Cells.{Cell, null, value, Rows, Words, rowsOf, cellsOf}
 use Rattle.frames.specs.Frame.{isFrame, frameRows, pairsFine, isTable}
-use Rattle.frames.proofs.Samples.{row, keys, frameOf}
-use Rattle.buffer.specs.Search.{find, search, searchFor}
+use Rattle.order.proofs.Samples.{row, keys, frameOf}
+use Rattle.searching.specs.Search.{find, search, searchFor}
 use Rattle.tables.specs.Table.{wordsOf, tableOf, laid, After}
 use Rattle.refusals.specs.declared.Refusal.the-variants.{BadFrame, BadPoints, NoRoom}
 use Rattle.tables.specs.declared.Written.{Written}

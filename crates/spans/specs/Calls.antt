@@ -31,6 +31,6 @@ unfoldable pub spanCall : Bounds → Words → Words → Words → After
 spanCall b points intervals out = leave 2 (pairsIn b points intervals) (spanAnswer b points intervals out) out
 
 -- The contract of the call: its answer, and the words of the output afterwards.
-pub record SpanLeaves (b : Bounds) (points intervals out : Words) (r : Written) (out′ : Words) : Type 0 where
+pub record SpanContract (b : Bounds) (points intervals out : Words) (r : Written) (out′ : Words) : Type 0 where
   pub answer : r ≡ spanCall b points intervals out .answer
   pub words : out′ ≡ spanCall b points intervals out .out

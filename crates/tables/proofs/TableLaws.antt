@@ -12,7 +12,8 @@ use lib.ListN.{length, take, drop, getD, length-append, length-map}
 use lib.Seq.{take-at, drop-at, take-length}
 use Rattle.frames.specs.Cells.{Cell, null, value, valueWord, markWord, cellsOf, rowsOf, Rows, Words}
 use Rattle.frames.specs.Frame.{sameZ, rowCount, frameWords, pairFine, pairsFine, valuesIn, marksIn, isFrame, frameRows, isTable}
-use Rattle.frames.proofs.SortedLaws.{All, and-true}
+use Rattle.order.proofs.SortedLaws.{All}
+use Rattle.frames.proofs.BoolLaws.{and-true}
 use Rattle.frames.proofs.WordLaws.{cells-back, part-copied}
 use Rattle.tables.specs.Table.{wordsOf, tableOf, laid}
 

@@ -4,8 +4,8 @@ use mathlib.Core.List.{List, [], _∷_}
 use Prim.Native.Nat.{ℕ, suc, _+_}
 use lib.Dec.{ltb}
 use Rattle.frames.specs.Cells.{Cell, Rows}
-use Rattle.frames.specs.Options.{badOptions}
-use Rattle.frames.specs.declared.Options.{Options}
+use Rattle.options.specs.Options.{badOptions}
+use Rattle.options.specs.declared.Options.{Options}
 use Rattle.refusals.specs.declared.Refusal.the-variants.{BadOptions, TooManyCarried, BadRanks}
 use Rattle.tables.specs.declared.Written.{Written}
 use Rattle.tables.specs.declared.Written.the-variants.{Refused}

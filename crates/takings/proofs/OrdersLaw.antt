@@ -4,7 +4,7 @@ use mathlib.Core.Bool.{Bool, true, false, cond, not, _&&_, _||_}
 use mathlib.Core.List.{List, [], _∷_, _++_, map}
 use mathlib.Core.Option.{Option, none, some}
 use Prim.Native.Nat.{ℕ, zero, suc, _+_, _*_, _≤_}
-use Rattle.frames.specs.Order.{nullIn}
+use Rattle.order.specs.Order.{nullIn}
 use native.Mathlib.Omega.{arith}
 use borrow.Author.Tests.{ltb-false, le-ltb, not-true}
 use lib.Dec.{ltb, eqb}
@@ -13,9 +13,10 @@ use lib.ListN.{length, take, getD, length-append, length-map, List·getD-append}
 use lib.Seq.{take-at, getD-at, getD-append-add, getD-take, length-take-le}
 use Rattle.frames.specs.Cells.{Cell, null, value, cell, isNull, Rows, Words}
 use Rattle.frames.specs.Frame.{rowCount, frameWords, isFrame, frameRows, isTable}
-use Rattle.frames.specs.Options.{badOptions}
-use Rattle.frames.specs.declared.Options.{Options}
-use Rattle.frames.proofs.SortedLaws.{and-true, all-by}
+use Rattle.options.specs.Options.{badOptions}
+use Rattle.options.specs.declared.Options.{Options}
+use Rattle.order.proofs.SortedLaws.{all-by}
+use Rattle.frames.proofs.BoolLaws.{and-true}
 use Rattle.frames.proofs.FrameLaws.{frame-rows, frame-wide}
 use Rattle.tables.specs.Setting.{Setting, leftWidth, allKnown}
 use Rattle.tables.specs.Table.{tableOf, laid}

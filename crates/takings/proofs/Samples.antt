@@ -9,9 +9,9 @@ use lib.IntN.{pos, negsuc}
 use lib.ListN.{replicate}
 use Rattle.frames.specs.Cells.{Cell, null, value, cell, Rows, Words, rowsOf, cellsOf}
 use Rattle.frames.specs.Frame.{isFrame, frameRows, pairsFine, isTable}
-use Rattle.frames.specs.Options.{badOptions}
-use Rattle.frames.specs.Order.{cmpFirst, nullIn}
-use Rattle.frames.proofs.Samples.{options, row, frameOf}
+use Rattle.options.specs.Options.{badOptions}
+use Rattle.order.specs.Order.{cmpFirst, nullIn}
+use Rattle.order.proofs.Samples.{options, row, frameOf}
 use Rattle.tables.specs.Setting.{Setting, allKnown}
 use Rattle.tables.specs.Table.{wordsOf, tableOf, laid}
 use Rattle.refusals.specs.declared.Refusal.the-variants.{BadFrame, UnknownCode, BadColumns, Unsorted, Beyond, NoRoom}

@@ -7,8 +7,8 @@ use lib.IntN.{ℤ, pos, natAbs}
 use lib.ListN.{length, getD}
 use Rattle.frames.specs.Cells.{Rows, Words}
 use Rattle.frames.specs.Frame.{rowCount, frameWords, isFrame, frameRows, isTable}
-use Rattle.frames.specs.Options.{badOptions}
-use Rattle.frames.specs.declared.Options.{Options}
+use Rattle.options.specs.Options.{badOptions}
+use Rattle.options.specs.declared.Options.{Options}
 use Rattle.tables.specs.Setting.{Setting, leftWidth, allKnown}
 use Rattle.tables.specs.Table.{tableRows, tableOf, laid}
 use Rattle.refusals.specs.declared.Refusal.the-variants.{BadOptions, TooManyCarried, BadRanks, BadFrame, UnknownCode, BadColumns, Unsorted, Beyond, NoRoom}

@@ -8,9 +8,9 @@ use mir.Syntax.{w64}
 use mir.Val.{toZ, ofZ}
 use mir.Facts.{toZ-ofZ}
 use Rattle.frames.specs.Cells.{value}
-use Rattle.frames.specs.Room.{cellAt}
-use Rattle.frames.specs.declared.Strategy.the-variants.{Forward}
-use Rattle.frames.proofs.RowLaws.{row-room}
+use Rattle.order.specs.Requires.{cellAt}
+use Rattle.options.specs.declared.Strategy.the-variants.{Forward}
+use Rattle.order.proofs.RowLaws.{row-room}
 use Rattle.matching.specs.Moves.{fitsKey}
 use Rattle.candidates.proofs.first_fit.Statement.{statement}
 use Rattle.candidates.proofs.first_fit.Tie as tie

@@ -6,8 +6,8 @@ use native.Mathlib.Decide.{ℕ-discrete}
 use borrow.Author.Tests.{not-true, not-false}
 use denote.Ref.{now}
 use Rattle.frames.specs.Cells.{isNull, Words}
-use Rattle.frames.specs.Room.{cellAt}
-use Rattle.frames.proofs.RowLaws.{row-room}
+use Rattle.order.specs.Requires.{cellAt}
+use Rattle.order.proofs.RowLaws.{row-room}
 use Rattle.cursor.proofs.first_key.Statement.{statement}
 use Rattle.cursor.proofs.first_key.Tie as tie
 

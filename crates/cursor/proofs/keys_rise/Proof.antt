@@ -7,10 +7,10 @@ use denote.Ref.{now}
 use lib.IntN.{pos}
 use lib.ListN.{getD}
 use Rattle.frames.specs.Cells.{isNull}
-use Rattle.frames.specs.Options.{keyRule}
-use Rattle.frames.specs.Order.{cmpCell, isGreater}
-use Rattle.frames.specs.Room.{cellAt}
-use Rattle.frames.proofs.RowLaws.{row-room}
+use Rattle.options.specs.Options.{keyRule}
+use Rattle.order.specs.Order.{cmpCell, isGreater}
+use Rattle.order.specs.Requires.{cellAt}
+use Rattle.order.proofs.RowLaws.{row-room}
 use Rattle.frames.proofs.Signed.{lt-flag}
 use Rattle.matching.proofs.ScanLaws.{falls-end, falls-less, falls-not}
 use Rattle.matching.proofs.RestLaws.{keys-fall, keys-rose}

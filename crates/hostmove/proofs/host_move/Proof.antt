@@ -8,8 +8,8 @@ use Rattle.hostmove.proofs.host_move.Lts as lts
 use Rattle.convert.proofs.is_join.Reads as is-join-reads
 use Rattle.convert.proofs.join_of.Reads as join-of-reads
 use Rattle.moving.proofs.move_join.Reads as move-join-reads
-use Rattle.told.proofs.bad_took.Reads as bad-took-reads
-use Rattle.told.proofs.took_host.Reads as took-host-reads
+use Rattle.results.proofs.bad_took.Reads as bad-took-reads
+use Rattle.results.proofs.took_host.Reads as took-host-reads
 
 is-join-requires : tie.Need-is-join-requires
 is-join-requires c κs = search needs

@@ -1,9 +1,9 @@
 use mathlib.Core.Path.{sym, _∙_}
 use native.Mathlib.Omega.{arith}
-use Rattle.frames.specs.Options.{columns}
+use Rattle.options.specs.Options.{columns}
 use denote.Ref.{now}
-use Rattle.feeds.specs.Judged.{LeftHolds}
-use Rattle.feeds.proofs.FeedLaws.{LeftTaken, left-taken, left-refused, left-accepted}
+use Rattle.callrules.specs.Judged.{LeftHolds}
+use Rattle.callrules.proofs.FeedLaws.{LeftTaken, left-taken, left-refused, left-accepted}
 use borrow.Author.Needs.{needs}
 use Rattle.intake.proofs.feed_left.Statement.{statement}
 use Rattle.intake.proofs.feed_left.Tie as tie

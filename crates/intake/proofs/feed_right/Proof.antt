@@ -1,9 +1,9 @@
 use mathlib.Core.Path.{sym, _∙_}
 use native.Mathlib.Omega.{arith}
-use Rattle.frames.specs.Options.{rightColumns}
+use Rattle.options.specs.Options.{rightColumns}
 use denote.Ref.{now}
-use Rattle.feeds.specs.Judged.{RightHolds}
-use Rattle.feeds.proofs.FeedLaws.{RightTaken, right-taken, right-refused, right-accepted, has-count}
+use Rattle.callrules.specs.Judged.{RightHolds}
+use Rattle.callrules.proofs.FeedLaws.{RightTaken, right-taken, right-refused, right-accepted, has-count}
 use borrow.Author.Needs.{needs}
 use Rattle.intake.proofs.feed_right.Statement.{statement}
 use Rattle.intake.proofs.feed_right.Tie as tie

@@ -1,8 +1,8 @@
 use mathlib.Core.Path.{_≡_}
 use denote.Ref.{now}
 use Rattle.frames.specs.Frame.{isFrame}
-use Rattle.frames.specs.Options.{columns}
-use Rattle.feeds.specs.Judged.{leftJudged}
+use Rattle.options.specs.Options.{columns}
+use Rattle.callrules.specs.Judged.{leftJudged}
 use borrow.Author.Needs.{needs}
 use Rattle.judges.proofs.judge_left.Statement.{statement}
 use Rattle.judges.proofs.judge_left.Tie as tie
@@ -10,8 +10,8 @@ use Rattle.judges.proofs.judge_left.Reads as reads
 use Rattle.judges.proofs.judge_left.Lts as lts
 use Rattle.framerule.proofs.is_frame.Reads as is-frame-reads
 use Rattle.options.proofs.left_columns.Reads as left-columns-reads
-use Rattle.answers.proofs.above.Reads as above-reads
-use Rattle.answers.proofs.is_running.Reads as is-running-reads
+use Rattle.outcomes.proofs.above.Reads as above-reads
+use Rattle.outcomes.proofs.is_running.Reads as is-running-reads
 
 returns : tie.Need-returns
 unfolding leftJudged

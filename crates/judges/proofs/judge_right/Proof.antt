@@ -5,12 +5,12 @@ use borrow.Author.Tests.{not-false}
 use denote.Ref.{now}
 use lib.Dec.{ltb}
 use Rattle.frames.specs.Frame.{isFrame, rowCount}
-use Rattle.frames.specs.Options.{rightColumns}
+use Rattle.options.specs.Options.{rightColumns}
 use Rattle.area.specs.Area.{capacity}
-use Rattle.answers.specs.Answers.{mostRows}
-use Rattle.answers.specs.declared.Took.the-variants.{Accepted}
-use Rattle.feeds.specs.Judged.{endJudged, rightJudged}
-use Rattle.feeds.proofs.FeedLaws.{rightRest, end-taken, right-shut, right-open, has-count}
+use Rattle.outcomes.specs.Answers.{mostRows}
+use Rattle.outcomes.specs.declared.Took.the-variants.{Accepted}
+use Rattle.callrules.specs.Judged.{endJudged, rightJudged}
+use Rattle.callrules.proofs.FeedLaws.{rightRest, end-taken, right-shut, right-open, has-count}
 use borrow.Author.Needs.{needs}
 use Rattle.judges.proofs.judge_right.Statement.{statement}
 use Rattle.judges.proofs.judge_right.Tie as tie
@@ -19,7 +19,7 @@ use Rattle.judges.proofs.judge_right.Lts as lts
 use Rattle.framerule.proofs.is_frame.Reads as is-frame-reads
 use Rattle.framerule.proofs.row_count.Reads as row-count-reads
 use Rattle.options.proofs.right_columns.Reads as right-columns-reads
-use Rattle.answers.proofs.above.Reads as above-reads
+use Rattle.outcomes.proofs.above.Reads as above-reads
 use Rattle.judges.proofs.judge_end.Reads as judge-end-reads
 
 judge-end-requires : tie.Need-judge-end-requires
