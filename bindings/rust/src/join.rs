@@ -219,10 +219,21 @@ impl<A: AsRef<[i64]> + AsMut<[i64]>> Join<A> {
         (self.join, self.left.as_ref(), self.right.as_ref())
     }
 
-    /// The same join in other areas, whose words may be anything: what waits and what is held is copied to them, and every
-    /// later answer is what it would have been, save that frames may find more room or less. They may be longer or
-    /// shorter. Refused by 6 if they are too short, by 2 if the join is none. This one stays as it is, so one of the two is
-    /// a copy; a host that wants to move drops it.
+    /// The same join in other areas, longer or shorter, whose words may be anything: what waits and what is held is copied
+    /// to them. Later answers are the same, save that frames may find more room or less. Refused by 6 if the areas are too
+    /// short, by 2 if this is no join. This one stays as it is, with its own areas.
+    ///
+    /// ```
+    /// use rowkeeper::{Frame, Join, Options};
+    ///
+    /// let (mut left, mut right) = ([0; 4], [0; 2]);
+    /// let mut small = Join::with_areas(&Options::default(), &mut left[..], &mut right[..])?;
+    /// small.right(&Frame::of_keys(&[10])?)?;
+    /// let mut large = small.moved(vec![0; 100], vec![0; 100])?;
+    /// large.right(&Frame::of_keys(&[20, 30])?)?;
+    /// assert_eq!((small.held(), large.held()), (1, 3));
+    /// # Ok::<(), Box<dyn std::error::Error>>(())
+    /// ```
     pub fn moved<B: AsRef<[i64]> + AsMut<[i64]>>(&self, mut left: B, mut right: B) -> Result<Join<B>, Refusal> {
         let took = safe::move_join(self.join, self.left.as_ref(), self.right.as_ref(), left.as_mut(), right.as_mut());
         Refusal::of(took.refusal)?;

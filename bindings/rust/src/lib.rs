@@ -1,14 +1,30 @@
-//! Rowkeeper's as-of join for Rust hosts, over the archive. No dependency.
+//! Rowkeeper's as-of join for Rust hosts, over the archive. No dependency, no std: core and alloc are enough.
 //!
-//! A [`Join`] owns the two areas that it works in, so no call can be lent another join's; frames are made by [`Frame`], so
-//! they keep the frame rule; what a turn wrote is seen through [`Matches`], so nothing else of the output is. Calls that
-//! are refused say why by a [`Refusal`] and change nothing, save that the last two mark the join failed.
+//! [`asof`] joins two tables, each an iterator of frames, to an iterator of matches, and makes all calls itself:
+//!
+//! ```
+//! use rowkeeper::{Frames, Options, asof};
+//!
+//! // Right rows 10, 20, 20, 30; left rows 5, 20, 25: each takes the last right row whose key is not greater.
+//! let (left, right) = (vec![5, 20, 25], vec![10, 20, 20, 30]);
+//! for found in asof(&Options::default(), Frames::of_columns(&[&left])?, Frames::of_columns(&[&right])?)? {
+//!     match found? {
+//!         Some(number) => println!("right row {number}"),
+//!         None => println!("no right row"),
+//!     }
+//! }
+//! # Ok::<(), Box<dyn std::error::Error>>(())
+//! ```
+//!
+//! A host that makes the calls itself has a [`Join`]. It owns the two areas that it works in, so no call can be lent another
+//! join's; frames are made by [`Frame`], so they keep the frame rule; what a turn wrote is seen through [`Matches`], so
+//! nothing else of the output is. Calls that are refused say why by a [`Refusal`] and change nothing, save that
+//! [`Refusal::LeftOrder`] and [`Refusal::RightOrder`] mark the join failed. After [`Refusal::NoRoom`] the areas can grow.
 //!
 //! ```
 //! use rowkeeper::{Frame, Join, Options, Turn};
 //!
-//! // Right rows 10, 20, 20, 30; left rows 5, 20, 25: each takes the last right row whose key is not greater.
-//! let mut join = Join::open(&Options::default(), 64, 64)?;
+//! let mut join = Join::open_rows(&Options::default(), 10, 10)?;
 //! join.right(&Frame::of_keys(&[10, 20, 20, 30])?)?;
 //! join.left(&Frame::of_keys(&[5, 20, 25])?)?;
 //! let mut output = [0; 64];
@@ -22,7 +38,7 @@
 //! ```
 //! use rowkeeper::{Frame, Join, Options, Stop};
 //!
-//! let mut join = Join::open(&Options::default(), 64, 64)?;
+//! let mut join = Join::open_rows(&Options::default(), 10, 10)?;
 //! join.right(&Frame::of_keys(&[10, 20, 20, 30])?)?;
 //! join.left(&Frame::of_keys(&[5, 20])?)?;
 //! join.left(&Frame::of_keys(&[25])?)?;
@@ -48,7 +64,8 @@
 //! # Ok::<(), Box<dyn std::error::Error>>(())
 //! ```
 //!
-//! A join cannot be lent its own area as a frame, and an output cannot be altered while its matches are looked at:
+//! A join cannot be lent its own area as a frame, and neither an output nor a driver can be altered while its matches are
+//! looked at:
 //!
 //! ```compile_fail,E0502
 //! # let mut join = rowkeeper::Join::open(&rowkeeper::Options::default(), 64, 64).unwrap();
@@ -61,6 +78,25 @@
 //! let turn = join.turn(&mut output);
 //! output[0] = 1;
 //! drop(turn);
+//! ```
+//!
+//! ```compile_fail,E0499
+//! # let lefts = [rowkeeper::Frame::of_keys(&[1]).unwrap()];
+//! # let mut joined = rowkeeper::asof(&rowkeeper::Options::default(), &lefts, &lefts).unwrap();
+//! let matches = joined.next_matches();
+//! joined.next();
+//! drop(matches);
+//! ```
+//!
+//! Refusals may come with any version, so a match over them has an arm for others:
+//!
+//! ```compile_fail,E0004
+//! # use rowkeeper::Refusal::*;
+//! fn known(refusal: rowkeeper::Refusal) -> bool {
+//!     match refusal {
+//!         BadOptions | BadJoin | Failed | Closed | BadFrame | NoRoom | UsedUp | LeftOrder | RightOrder | BadPoints => true,
+//!     }
+//! }
 //! ```
 #![no_std]
 #![deny(missing_docs)]
