@@ -187,10 +187,10 @@ impl Join<Vec<i64>> {
         self.grow(words, self.right.len())
     }
 
-    /// Moves the join to areas of at least these lengths, neither of them shorter than it is.
+    /// Moves the join to areas of these lengths if one of them is longer than it is; neither is shorter then.
     fn grow(&mut self, left: usize, right: usize) -> Result<(), Refusal> {
         if left > self.left.len() || right > self.right.len() {
-            *self = self.moved(vec![0; left.max(self.left.len())], vec![0; right.max(self.right.len())])?;
+            *self = self.moved(vec![0; left], vec![0; right])?;
         }
         Ok(())
     }

@@ -1,19 +1,21 @@
 //! The driver allocates where an area grows and nowhere else: as many times for many rows as for few.
 use std::alloc::{GlobalAlloc, Layout, System};
-use std::sync::atomic::{AtomicUsize, Ordering};
+use std::cell::Cell;
 
 use rowkeeper::{Frame, Options, asof};
 
-/// The system's allocator, which counts.
+/// The system's allocator, which counts for each thread.
 struct Counting;
 
-static COUNT: AtomicUsize = AtomicUsize::new(0);
+thread_local! {
+    static COUNT: Cell<usize> = const { Cell::new(0) };
+}
 
 // SAFETY: every call is the system's.
 unsafe impl GlobalAlloc for Counting {
     /// Counts, and allocates.
     unsafe fn alloc(&self, layout: Layout) -> *mut u8 {
-        COUNT.fetch_add(1, Ordering::Relaxed);
+        COUNT.set(COUNT.get() + 1);
         unsafe { System.alloc(layout) }
     }
 
@@ -30,11 +32,11 @@ static ALLOCATOR: Counting = Counting;
 fn allocations(frames: i64) -> usize {
     let table: Vec<Frame> =
         (0..frames).map(|i| Frame::of_keys(&(10 * i..10 * i + 10).collect::<Vec<_>>()).unwrap()).collect();
-    let before = COUNT.load(Ordering::Relaxed);
+    let before = COUNT.get();
     let matched =
         asof(&Options::default(), &table, &table).unwrap().filter(|found| matches!(found, Ok(Some(_)))).count();
     assert_eq!(matched as i64, 10 * frames);
-    COUNT.load(Ordering::Relaxed) - before
+    COUNT.get() - before
 }
 
 /// Ten times, a hundred times the rows: not one allocation more.
