@@ -34,7 +34,7 @@ use Rattle.node.proofs.Good.{opened-bad}
 use Rattle.moves.specs.Moves.{moveAnswer, atFront, leftMoved, rightMoved, moveCall}
 use Rattle.codes.specs.Codes.{isCode, portOf, tookCode}
 use Rattle.convert.specs.Convert.{layoutNow, isOptions, optionsOf, decodeOptions, isJoin, joinOf, decode}
-use Rattle.results.specs.Told.{freshHost, Made, refusedRun}
+use Rattle.results.specs.Results.{freshHost, Made, refusedRun}
 use Rattle.hostcalls.specs.Calls.{HostAfter, afterHost, encodeAfter, byJoin, openHost, leftHost, rightHost, endHost, moveHost, portsHost, turnHost, ranAfter, runHost}
 use Rattle.hostcalls.specs.Promises.{stays, staysAt, noTurn, Shut, NoJoin, Same, Follows, Promises}
 use Rattle.convert.specs.declared.HostOptions.{HostOptions}

@@ -21,7 +21,7 @@ use Rattle.codes.specs.Codes.{isCode, portOf}
 use Rattle.convert.specs.Convert.{decodeOptions, decode, encode}
 use Rattle.convert.specs.declared.HostOptions.{HostOptions}
 use Rattle.convert.specs.declared.HostJoin.{HostJoin}
-use Rattle.results.specs.Told.{tookHost, freshHost, Made, refusedRun}
+use Rattle.results.specs.Results.{tookHost, freshHost, Made, refusedRun}
 use Rattle.results.specs.declared.HostTook.{HostTook}
 
 -- Opening: options that cannot be encoded are refused as 1, and so are those that meet 1; the join holds them, with everything else as in a fresh join.

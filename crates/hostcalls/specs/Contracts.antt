@@ -2,7 +2,7 @@
 use mathlib.Core.Path.{_≡_}
 use Prim.Native.Nat.{ℕ}
 use Rattle.frames.specs.Cells.{Words}
-use Rattle.results.specs.Told.{tookHost, portedHost, turnedHost, ranHost}
+use Rattle.results.specs.Results.{tookHost, portedHost, turnedHost, ranHost}
 use Rattle.hostcalls.specs.Calls.{openHost, leftHost, rightHost, endHost, moveHost, portsHost, turnHost, runHost}
 use Rattle.convert.specs.declared.HostOptions.{HostOptions}
 use Rattle.convert.specs.declared.HostJoin.{HostJoin}

@@ -24,7 +24,7 @@ use Rattle.outcomes.specs.declared.Stop.the-variants.{Used, WantsRight as StopW
 use Rattle.runs.specs.Run.{runCall}
 use Rattle.moves.specs.Moves.{moveCall}
 use Rattle.convert.specs.Convert.{layoutNow, decodeOptions, decode}
-use Rattle.results.specs.Told.{Made}
+use Rattle.results.specs.Results.{Made}
 use Rattle.hostcalls.specs.Calls.{HostAfter, afterHost, encodeAfter, openHost, leftHost, rightHost, endHost, moveHost, portsHost, turnHost, ranAfter, runHost}
 use Rattle.convert.specs.declared.HostOptions.{HostOptions}
 use Rattle.convert.specs.declared.HostJoin.{HostJoin}

@@ -25,7 +25,7 @@ use Rattle.codes.proofs.CodeLaws.{and-both}
 use Rattle.convert.specs.Convert.{encode, decode}
 use Rattle.convert.proofs.ConvertLaws.{there-and-back}
 use Rattle.convert.specs.declared.HostJoin.{HostJoin}
-use Rattle.results.specs.Told.{tookHost, portedHost, turnedHost, Made, ranHost}
+use Rattle.results.specs.Results.{tookHost, portedHost, turnedHost, Made, ranHost}
 use Rattle.hostcalls.specs.Calls.{HostAfter, afterHost, leftHost, rightHost, endHost, portsHost, turnHost, ranAfter, runHost}
 use Rattle.hostcalls.specs.Promises.{Same, Follows}
 use Rattle.hostcalls.proofs.PromiseLaws.{promises}

@@ -27,7 +27,7 @@ use Rattle.convert.specs.Convert.{isOptions, optionsOf, decodeOptions}
 use Rattle.convert.proofs.ConvertLaws.{decoded}
 use Rattle.convert.specs.declared.HostOptions.{HostOptions}
 use Rattle.convert.specs.declared.HostJoin.{HostJoin}
-use Rattle.results.specs.Told.{turnedHost}
+use Rattle.results.specs.Results.{turnedHost}
 use Rattle.results.specs.declared.HostTook.{HostTook}
 use Rattle.hostcalls.specs.Calls.{openHost}
 use Rattle.hostcalls.proofs.CallLaws.{open-bad, open-through}

@@ -12,7 +12,7 @@ use Rattle.outcomes.specs.declared.Ported.the-variants.{Refused as PortsRefused
 use Rattle.codes.specs.Codes.{isCode, portOf}
 use Rattle.convert.specs.Convert.{encode, decode}
 use Rattle.convert.specs.declared.HostJoin.{HostJoin}
-use Rattle.results.specs.Told.{tookHost, portedHost, turnedHost, ranHost}
+use Rattle.results.specs.Results.{tookHost, portedHost, turnedHost, ranHost}
 use Rattle.results.specs.declared.HostTook.{HostTook}
 use Rattle.results.specs.declared.HostPorted.{HostPorted}
 use Rattle.results.specs.declared.HostTurned.{HostTurned}

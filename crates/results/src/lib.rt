@@ -22,7 +22,7 @@ ghost use Rattle.outcomes.specs.declared.Took.the-variants.{Refused};
 ghost use Rattle.outcomes.specs.declared.Ported.the-variants.{Refused as PortsRefused};
 ghost use Rattle.outcomes.specs.declared.Answer.the-variants.{Refused as TurnRefused};
 ghost use Rattle.convert.specs.Convert.{encode};
-ghost use Rattle.results.specs.Told.{tookHost, portedHost, turnedHost, ranHost, refusedRun, freshHost};
+ghost use Rattle.results.specs.Results.{tookHost, portedHost, turnedHost, ranHost, refusedRun, freshHost};
 
 // The answer of opening, of a left or right frame, and of the end of right: refusal is 0 where the call was accepted.
 #[repr(C)]
