@@ -47,7 +47,7 @@ impl Random {
     }
 }
 
-/// The match of a left row by SCOPE 9's words alone, over the whole right table.
+/// The match of a left row by SCOPE 14's rule, over the whole right table.
 fn plain_match(options: &Options, left: &Row, right: &[Row]) -> Option<u64> {
     let [Some(group), Some(key)] = *left else { return None };
     let qualifies = |row: &&(usize, i64)| {
