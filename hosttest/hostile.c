@@ -312,7 +312,8 @@ static void ran(outcome *o, rowkeeper_ran r) {
 static void make(const attempt *a, outcome *o) {
     int64_t *l = lent(&left_lend, a->left, a->left_len), *r = lent(&right_lend, a->right, a->right_len);
     int64_t *f = lent(&frame_lend, a->frame, a->frame_len), *w = lent(&out_lend, a->out, a->out_len);
-    int64_t *nl = lent(&new_left_lend, a->new_left, a->new_left_len), *nr = lent(&new_right_lend, a->new_right, a->new_right_len);
+    int64_t *nl = lent(&new_left_lend, a->new_left, a->new_left_len);
+    int64_t *nr = lent(&new_right_lend, a->new_right, a->new_right_len);
     size_t ln = a->left_len, rn = a->right_len;
     memset(o, 0, sizeof *o);
     switch (a->call) {

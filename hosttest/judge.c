@@ -210,8 +210,8 @@ static int moved_on(const rowkeeper_join *was, const rowkeeper_join *now, uint64
     if (now->queue_start != was->queue_start + frames || now->queue_words != was->queue_words - frames) return 0;
     if (now->sequence != was->sequence + 2 * turns) return 0;
     if (now->last_left.some > 1 || now->last_right.some > 1) return 0;
-    return now->layout == was->layout && memcmp(&was->options, &now->options, sizeof was->options) == 0 && now->state == was->state &&
-           now->right_ended == was->right_ended;
+    return now->layout == was->layout && memcmp(&was->options, &now->options, sizeof was->options) == 0 &&
+           now->state == was->state && now->right_ended == was->right_ended;
 }
 
 /* Whether a turn that wrote moved the join on by one frame. */
