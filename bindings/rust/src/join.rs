@@ -142,17 +142,17 @@ impl Join<Vec<i64>> {
 
     /// The words of the left area for so many waiting frames of so many rows each.
     pub fn left_words(options: &Options, frames: usize, rows: usize) -> usize {
-        frames.saturating_mul(held_words(rows, options.columns()).saturating_add(2))
+        frames.saturating_mul(row_words(rows, options.columns()).saturating_add(2))
     }
 
     /// The words of the right area for so many held rows.
     pub fn right_words(options: &Options, rows: usize) -> usize {
-        held_words(rows, options.columns())
+        row_words(rows, options.columns())
     }
 
     /// The words of an output for a frame of so many rows.
     pub fn output_words(rows: usize) -> usize {
-        held_words(rows, 1).saturating_add(2)
+        row_words(rows, 1).saturating_add(2)
     }
 
     /// The words of an output for a run of so many turns, where no frame has more rows than this. As many words as wait
@@ -177,7 +177,7 @@ impl Join<Vec<i64>> {
     /// ```
     pub fn grow_right(&mut self, rows: usize) -> Result<(), Refusal> {
         let by = usize::try_from(self.join.options.by).ok().filter(|by| *by <= raw::MOST_BY);
-        let words = held_words(rows, by.ok_or(Refusal::BadJoin)? + 1);
+        let words = row_words(rows, by.ok_or(Refusal::BadJoin)? + 1);
         self.grow(self.left.len(), words)
     }
 
@@ -197,7 +197,7 @@ impl Join<Vec<i64>> {
 }
 
 /// The words of so many rows, their values and their marks; the greatest number if there is no such number.
-fn held_words(rows: usize, columns: usize) -> usize {
+fn row_words(rows: usize, columns: usize) -> usize {
     rows.saturating_mul(2 * columns)
 }
 
