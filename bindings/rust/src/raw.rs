@@ -181,13 +181,13 @@ impl Join {
     /// The join's words, in the order of the fields.
     pub fn to_words(self) -> [i64; JOIN_WORDS] {
         // SAFETY: the struct is fields of 64 bits without padding, and any bits are a word.
-        unsafe { std::mem::transmute(self) }
+        unsafe { core::mem::transmute(self) }
     }
 
     /// The join of these words. Any words make one: calls judge it.
     pub fn from_words(words: [i64; JOIN_WORDS]) -> Join {
         // SAFETY: as above; any bits are a field.
-        unsafe { std::mem::transmute(words) }
+        unsafe { core::mem::transmute(words) }
     }
 }
 

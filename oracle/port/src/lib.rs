@@ -112,7 +112,7 @@ impl Host {
     fn move_to(&mut self, left_words: usize, right_words: usize) -> Answer {
         let (mut left, mut right) = (new_left(left_words), new_right(right_words));
         let old = (self.left.get().to_vec(), self.right.get().to_vec());
-        let took = safe::move_to(self.join, self.left.get(), self.right.get(), left.get_mut(), right.get_mut());
+        let took = safe::move_join(self.join, self.left.get(), self.right.get(), left.get_mut(), right.get_mut());
         self.note(!left.intact() || !right.intact(), "a guard word of a new area was altered");
         self.note(old != (self.left.get().to_vec(), self.right.get().to_vec()), "an old area was altered");
         if took.refusal == 0 {
