@@ -5,7 +5,7 @@ use mathlib.Core.List.{List, [], _∷_, _++_, map}
 use mathlib.Core.Logic.{_⊎_, inl, inr}
 use Prim.Native.Nat.{ℕ, _+_, _-_, _*_, _≤_, _<_}
 use native.Mathlib.Omega.{arith}
-use native.Mathlib.Decide.{decLt}
+use native.Mathlib.Decide.{ℕ-discrete}
 use borrow.Author.Tests.{lt-ltb, not-true}
 use lib.IntN.{ℤ}
 use lib.ListN.{length, getD}
@@ -47,6 +47,19 @@ below-fits eq v a m h = by (isZero m)
     by : (z : Bool) → fitsKey Forward eq (value v) (cond z null (value a)) ≡ false
     by true = refl
     by false = rw h (and-false eq)
+
+-- ---- four rows from row n on, one w words behind the other
+pub four-rows : (P : ℕ → Type 0) (n w b : ℕ) → P (n * w + b) → P (n * w + b + w) → P (n * w + b + w + w) → P (n * w + b + w + w + w) → (k : ℕ) → n ≤ k → k < n + 4 → P (k * w + b)
+four-rows P n w b p q r s k l h = by (ℕ-discrete k n) (ℕ-discrete k (n + 1)) (ℕ-discrete k (n + 2))
+  where
+    by : Dec (k ≡ n) → Dec (k ≡ n + 1) → Dec (k ≡ n + 2) → P (k * w + b)
+    by (yes e) y z = rw e p
+    by (no x) (yes e) z = let f : (n + 1) * w + b ≡ n * w + b + w = omega arith in rw (e, f) q
+    by (no x) (no y) (yes e) = let f : (n + 2) * w + b ≡ n * w + b + w + w = omega arith in rw (e, f) r
+    by (no x) (no y) (no z) =
+        let e : k ≡ n + 3 = omega arith in
+        let f : (n + 3) * w + b ≡ n * w + b + w + w + w = omega arith in
+        rw (e, f) s
 
 -- ---- what fits a key fits those on its other side
 back-fits : (eq : Bool) (b v u : Cell) → NotAbove v u → fitsKey Backward eq v b ≡ true → fitsKey Backward eq u b ≡ true

@@ -2,8 +2,10 @@
 use mathlib.Core.Path.{_≡_}
 use mathlib.Core.Bool.{Bool, true, false}
 use mathlib.Core.List.{List, map}
-use Prim.Native.Nat.{ℕ, _+_, _-_, _≤_, _<_}
-use lib.IntN.{ℤ}
+use Prim.Native.Nat.{ℕ, _+_, _-_, _*_, _≤_, _<_}
+use lib.IntN.{ℤ, pos}
+use lib.ListN.{getD}
+use lib.Signed.{ltZ}
 use Rattle.frames.specs.Cells.{Cell, value, Words}
 use Rattle.frames.specs.Order.{keyOf}
 use Rattle.frames.specs.Room.{RowsIn}
@@ -13,6 +15,12 @@ use Rattle.matching.specs.Match.{matchIn}
 use Rattle.matching.specs.Walk.{between}
 use Rattle.matching.specs.Moves.{keysSorted, NotAbove, fitsKey}
 use Rattle.candidates.specs.declared.Part.{Part}
+
+-- From row r on, up to row `end`, every value is above v.
+pub record Above (w by at end : ℕ) (vs : Words) (v : ℤ) (r : ℕ) : Type 0 where
+  pub start : at ≤ r
+  pub within : r ≤ end
+  pub above : (k : ℕ) → r ≤ k → k < end → ltZ v (getD vs (k * w + by) (pos 0)) ≡ true
 
 -- Row r − 1 is the last of at..end that fits v for Backward, or none does and r is `at`.
 pub record LastFit (eq : Bool) (key : ℕ → Cell) (at end : ℕ) (v : Cell) (r : ℕ) : Type 0 where

@@ -6,13 +6,16 @@ use frames::Strategy;
 use options::strategy_of;
 ghost use mathlib.Core.Path.{_≡_};
 ghost use mathlib.Core.Bool.{true};
-ghost use Prim.Native.Nat.{_≤_};
+ghost use Prim.Native.Nat.{ℕ, _+_, _*_, _≤_, _<_};
+ghost use lib.IntN.{pos};
+ghost use lib.ListN.{length, getD};
+ghost use lib.Signed.{ltZ};
 ghost use Rattle.frames.specs.Cells.{value};
 ghost use Rattle.frames.specs.Options.{strategyOf};
 ghost use Rattle.frames.specs.Room.{cellAt, CellIn, RowsIn};
 ghost use Rattle.frames.specs.declared.Strategy.the-variants.{Backward, Forward, Nearest};
 ghost use Rattle.matching.specs.Moves.{fitsKey, keyAt};
-ghost use Rattle.candidates.specs.Part.{LastFit, FirstFit, Cut, LeftRun, Candidates};
+ghost use Rattle.candidates.specs.Part.{Above, LastFit, FirstFit, Cut, LeftRun, Candidates};
 
 // Rows from..to of a run.
 pub struct Part {
@@ -20,18 +23,7 @@ pub struct Part {
     pub to: usize,
 }
 
-// Whether the right key at place k fits v for Backward. A value above v is told first: its mark need not be read.
-fn fits_back(rv: &[i64], rm: &[i64], k: usize, v: i64, eq: bool) -> bool
-    requires { ⌜ CellIn k (now rv) (now rm) ⌝ }
-    ensures { λ r. ⌜ r ≡ fitsKey Backward eq (value v) (cellAt k (now (rv .entry)) (now (rm .entry))) ⌝ }
-{
-    if v < rv[k] {
-        return false;
-    }
-    fits_key(rv, rm, k, v, Strategy::Backward, eq)
-}
-
-// Whether the right key at place k fits v for Forward. A value below v is told first.
+// Whether the right key at place k fits v for Forward. A value below v is told first: its mark need not be read.
 fn fits_fore(rv: &[i64], rm: &[i64], k: usize, v: i64, eq: bool) -> bool
     requires { ⌜ CellIn k (now rv) (now rm) ⌝ }
     ensures { λ r. ⌜ r ≡ fitsKey Forward eq (value v) (cellAt k (now (rv .entry)) (now (rm .entry))) ⌝ }
@@ -40,6 +32,49 @@ fn fits_fore(rv: &[i64], rm: &[i64], k: usize, v: i64, eq: bool) -> bool
         return false;
     }
     fits_key(rv, rm, k, v, Strategy::Forward, eq)
+}
+
+// Whether the value at place k is above v.
+fn above(rv: &[i64], k: usize, v: i64) -> bool
+    requires { ⌜ k < length (now rv) ⌝ }
+    ensures { λ r. ⌜ r ≡ ltZ v (getD (now (rv .entry)) k (pos 0)) ⌝ }
+{
+    v < rv[k]
+}
+
+// Whether the values of the four rows before row i are all above v.
+fn four_above(rv: &[i64], i: usize, w: usize, by: usize, v: i64) -> bool
+    requires { ⌜ (4 ≤ i) × (by < w) × (i * w ≤ length (now rv)) ⌝ }
+    ensures { λ r. ⌜ (r ≡ true → (k : ℕ) → i ≤ k + 4 → k < i → ltZ v (getD (now (rv .entry)) (k * w + by) (pos 0)) ≡ true) ⌝ }
+{
+    let a = (i - 4) * w + by;
+    if !above(rv, a, v) {
+        return false;
+    }
+    let b = a + w;
+    if !above(rv, b, v) {
+        return false;
+    }
+    let c = b + w;
+    if !above(rv, c, v) {
+        return false;
+    }
+    above(rv, c + w, v)
+}
+
+// A row of at..end, or `end`, from which on all values are above v: looked for from the end back, four rows at a time.
+fn skip_above(rv: &[i64], at: usize, end: usize, w: usize, by: usize, v: i64) -> usize
+    requires { ⌜ (at ≤ end) × (by < w) × (end * w ≤ length (now rv)) ⌝ }
+    ensures { λ r. ⌜ Above w by at end (now (rv .entry)) v r ⌝ }
+{
+    let mut i = end;
+    while 3 < i - at {
+        if !four_above(rv, i, w, by, v) {
+            return i;
+        }
+        i -= 4;
+    }
+    i
 }
 
 // Behind the last row of at..end that fits v for Backward, looked for from the end back; `at` where none does.
@@ -57,10 +92,10 @@ fn last_fit(
     ensures { λ r. ⌜ LastFit eq (keyAt o w (now (rv .entry)) (now (rm .entry))) at end (value v) r ⌝ }
 {
     let by = o.by;
-    let mut i = end;
+    let mut i = skip_above(rv, at, end, w, by, v);
     while at < i {
         let k = (i - 1) * w + by;
-        if fits_back(rv, rm, k, v, eq) {
+        if fits_key(rv, rm, k, v, Strategy::Backward, eq) {
             return i;
         }
         i -= 1;
