@@ -1,22 +1,20 @@
 -- Why nothing outside of the candidates is chosen: on keys, then on the choice among rows, by strategy. Assumes nothing.
-use mathlib.Core.Path.{_≡_, refl, sym, ap, _∙_, subst}
-use mathlib.Core.Bool.{Bool, true, false, cond, not, _&&_, _||_, and-false}
-use mathlib.Core.List.{List, [], _∷_, _++_, map}
+use mathlib.Core.Path.{_≡_, refl, sym, ap, _∙_}
+use mathlib.Core.Bool.{Bool, true, false, not}
+use mathlib.Core.List.{List, []}
 use mathlib.Core.Logic.{_⊎_, inl, inr}
 use Prim.Native.Nat.{ℕ, _+_, _-_, _*_, _≤_, _<_}
 use native.Mathlib.Omega.{arith}
-use native.Mathlib.Decide.{ℕ-discrete}
 use borrow.Author.Tests.{lt-ltb, not-true}
 use lib.IntN.{ℤ}
 use lib.ListN.{length, getD}
-use lib.Signed.{ltZ}
-use Rattle.frames.specs.Cells.{Cell, null, value, isZero, cellOf, isNull, Rows, Words, rowFrom}
+use Rattle.frames.specs.Cells.{Cell, value, isNull, Rows, Words, rowFrom}
 use Rattle.frames.specs.Options.{strategyOf, keyRule}
-use Rattle.frames.specs.Order.{cmpZ, cmpCell, keyOf, distance}
+use Rattle.frames.specs.Order.{cmpCell, keyOf, distance}
 use Rattle.frames.specs.Room.{RowsIn}
-use Rattle.frames.proofs.OrderLaws.{AtMost, IsOrder, cmpZ-is, cmpCell-is, less-greater, greater-less, less-or, at-most-refl}
+use Rattle.frames.proofs.OrderLaws.{AtMost, IsOrder, cmpCell-is, greater-less, less-or, at-most-refl}
 use Rattle.frames.proofs.KeyLaws.{farther-above, nearer-below}
-use Rattle.frames.proofs.SortedLaws.{All, and-true}
+use Rattle.frames.proofs.SortedLaws.{and-true}
 use Rattle.frames.specs.declared.Options.{Options}
 use Rattle.frames.specs.declared.Order.{Order}
 use Rattle.frames.specs.declared.Order.the-variants.{Less, Equal, Greater}
@@ -31,35 +29,7 @@ use Rattle.matching.proofs.WalkLaws.{between-length, between-more, between-none
 use Rattle.matching.proofs.BestLaws.{key-at}
 use Rattle.matching.proofs.CursorLaws.{back-up, fore-down}
 use Rattle.matching.proofs.RestLaws.{between-at, all-between}
-use Rattle.candidates.specs.Part.{LastFit, FirstFit}
-
--- ---- a value on the other side does not fit, whatever its mark
-pub above-fits : (eq : Bool) (v a m : ℤ) → ltZ v a ≡ true → fitsKey Backward eq (value v) (cellOf a m) ≡ false
-above-fits eq v a m h = by (isZero m)
-  where
-    by : (z : Bool) → fitsKey Backward eq (value v) (cond z null (value a)) ≡ false
-    by true = refl
-    by false = rw (less-greater cmpZ-is v a (rw h)) (and-false eq)
-
-pub below-fits : (eq : Bool) (v a m : ℤ) → ltZ a v ≡ true → fitsKey Forward eq (value v) (cellOf a m) ≡ false
-below-fits eq v a m h = by (isZero m)
-  where
-    by : (z : Bool) → fitsKey Forward eq (value v) (cond z null (value a)) ≡ false
-    by true = refl
-    by false = rw h (and-false eq)
-
--- ---- four rows from row n on, one w words behind the other
-pub four-rows : (P : ℕ → Type 0) (n w b : ℕ) → P (n * w + b) → P (n * w + b + w) → P (n * w + b + w + w) → P (n * w + b + w + w + w) → (k : ℕ) → n ≤ k → k < n + 4 → P (k * w + b)
-four-rows P n w b p q r s k l h = by (ℕ-discrete k n) (ℕ-discrete k (n + 1)) (ℕ-discrete k (n + 2))
-  where
-    by : Dec (k ≡ n) → Dec (k ≡ n + 1) → Dec (k ≡ n + 2) → P (k * w + b)
-    by (yes e) y z = rw e p
-    by (no x) (yes e) z = let f : (n + 1) * w + b ≡ n * w + b + w = omega arith in rw (e, f) q
-    by (no x) (no y) (yes e) = let f : (n + 2) * w + b ≡ n * w + b + w + w = omega arith in rw (e, f) r
-    by (no x) (no y) (no z) =
-        let e : k ≡ n + 3 = omega arith in
-        let f : (n + 3) * w + b ≡ n * w + b + w + w + w = omega arith in
-        rw (e, f) s
+use Rattle.look.specs.Fit.{LastFit, FirstFit}
 
 -- ---- what fits a key fits those on its other side
 back-fits : (eq : Bool) (b v u : Cell) → NotAbove v u → fitsKey Backward eq v b ≡ true → fitsKey Backward eq u b ≡ true

@@ -5,9 +5,9 @@ use lib.IntN.{pos}
 use lib.ListN.{getD}
 use mir.Facts.{toZ-ofZ}
 use Rattle.frames.proofs.Signed.{lt-flag}
-use Rattle.candidates.proofs.CutLaws.{below-fits}
-use Rattle.candidates.proofs.fits_fore.Statement.{statement}
-use Rattle.candidates.proofs.fits_fore.Tie as tie
+use Rattle.look.proofs.FitLaws.{below-fits}
+use Rattle.look.proofs.fits_fore.Statement.{statement}
+use Rattle.look.proofs.fits_fore.Tie as tie
 
 mul-if1 : tie.Need-mul-if1
 mul-if1 c = search needs

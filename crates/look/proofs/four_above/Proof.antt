@@ -1,7 +1,6 @@
-use borrow.Author.Needs.{needs}
 use mathlib.Core.Path.{_≡_, refl, sym, _∙_}
 use mathlib.Core.Bool.{true, false}
-use Prim.Native.Nat.{ℕ, _+_, _-_, _*_, _≤_}
+use Prim.Native.Nat.{ℕ, _+_, _-_, _*_}
 use native.Mathlib.Omega.{arith}
 use borrow.Author.Tests.{not-false}
 use denote.Ref.{now}
@@ -10,9 +9,9 @@ use lib.ListN.{getD}
 use lib.Signed.{ltZ}
 use mir.Facts.{toZ-ofZ}
 use Rattle.matching.proofs.MayLaws.{never}
-use Rattle.candidates.proofs.CutLaws.{four-rows}
-use Rattle.candidates.proofs.four_above.Statement.{statement}
-use Rattle.candidates.proofs.four_above.Tie as tie
+use Rattle.look.proofs.FitLaws.{four-rows}
+use Rattle.look.proofs.four_above.Statement.{statement}
+use Rattle.look.proofs.four_above.Tie as tie
 
 -- four rows, each w words wide, end where row i begins
 room : (c : tie.Start) → let a = c .args in (a .i - 4) * a .w + a .w + a .w + a .w + a .w ≡ a .i * a .w

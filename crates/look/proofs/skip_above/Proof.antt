@@ -1,4 +1,4 @@
-use mathlib.Core.Path.{_≡_, sym, _∙_}
+use mathlib.Core.Path.{_≡_}
 use mathlib.Core.Bool.{true}
 use Prim.Native.Nat.{ℕ, _+_, _-_, _*_, _≤_, _<_}
 use native.Mathlib.Nat.{mul-le-mul-right}
@@ -12,8 +12,8 @@ use lib.Signed.{ltZ}
 use mir.Syntax.{w64}
 use mir.Val.{toZ, ofZ}
 use mir.Facts.{toZ-ofZ}
-use Rattle.candidates.proofs.skip_above.Statement.{statement}
-use Rattle.candidates.proofs.skip_above.Tie as tie
+use Rattle.look.proofs.skip_above.Statement.{statement}
+use Rattle.look.proofs.skip_above.Tie as tie
 
 abbrev Inv-loop : tie.InvT-loop
 Inv-loop rv at end w by v i₀ i = (at ≤ i) × (i ≤ end) × ((k : ℕ) → i ≤ k → k < end → ltZ (toZ w64 v) (getD rv (k * w + by) (pos 0)) ≡ true)

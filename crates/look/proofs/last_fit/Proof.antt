@@ -14,9 +14,9 @@ use Rattle.frames.specs.Room.{cellAt}
 use Rattle.frames.specs.declared.Strategy.the-variants.{Backward}
 use Rattle.frames.proofs.RowLaws.{row-room}
 use Rattle.matching.specs.Moves.{fitsKey}
-use Rattle.candidates.proofs.CutLaws.{above-fits}
-use Rattle.candidates.proofs.last_fit.Statement.{statement}
-use Rattle.candidates.proofs.last_fit.Tie as tie
+use Rattle.look.proofs.FitLaws.{above-fits}
+use Rattle.look.proofs.last_fit.Statement.{statement}
+use Rattle.look.proofs.last_fit.Tie as tie
 
 abbrev Inv-loop : tie.InvT-loop
 Inv-loop rv rm at end w v eq by i₀ i = (at ≤ i) × (i ≤ end) × ((k : ℕ) → i ≤ k → k < end → fitsKey Backward eq (value (toZ w64 v)) (cellAt (k * w + by) rv rm) ≡ false)
