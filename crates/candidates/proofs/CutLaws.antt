@@ -1,22 +1,19 @@
 -- Why nothing outside of the candidates is chosen: on keys, then on the choice among rows, by strategy. Assumes nothing.
-use mathlib.Core.Path.{_≡_, refl, sym, ap, _∙_, subst}
-use mathlib.Core.Bool.{Bool, true, false, cond, not, _&&_, _||_, and-false}
-use mathlib.Core.List.{List, [], _∷_, _++_, map}
+use mathlib.Core.Path.{_≡_, refl, sym, ap, _∙_}
+use mathlib.Core.Bool.{Bool, true, false, not}
+use mathlib.Core.List.{List, []}
 use mathlib.Core.Logic.{_⊎_, inl, inr}
 use Prim.Native.Nat.{ℕ, _+_, _-_, _*_, _≤_, _<_}
 use native.Mathlib.Omega.{arith}
-use native.Mathlib.Decide.{decLt}
 use borrow.Author.Tests.{lt-ltb, not-true}
 use lib.IntN.{ℤ}
 use lib.ListN.{length, getD}
-use lib.Signed.{ltZ}
-use Rattle.frames.specs.Cells.{Cell, null, value, isZero, cellOf, isNull, Rows, Words, rowFrom}
+use Rattle.frames.specs.Cells.{Cell, value, isNull, Rows, Words, rowFrom}
 use Rattle.options.specs.Options.{strategyOf, keyRule}
-use Rattle.order.specs.Order.{cmpZ, cmpCell, keyOf, distance}
+use Rattle.order.specs.Order.{cmpCell, keyOf, distance}
 use Rattle.order.specs.Requires.{RowsIn}
-use Rattle.order.proofs.OrderLaws.{AtMost, IsOrder, cmpZ-is, cmpCell-is, less-greater, greater-less, less-or, at-most-refl}
+use Rattle.order.proofs.OrderLaws.{AtMost, IsOrder, cmpCell-is, greater-less, less-or, at-most-refl}
 use Rattle.order.proofs.KeyLaws.{farther-above, nearer-below}
-use Rattle.order.proofs.SortedLaws.{All}
 use Rattle.frames.proofs.BoolLaws.{and-true}
 use Rattle.options.specs.declared.Options.{Options}
 use Rattle.order.specs.declared.Order.{Order}
@@ -32,22 +29,7 @@ use Rattle.matching.proofs.WalkLaws.{between-length, between-more, between-none
 use Rattle.matching.proofs.BestLaws.{key-at}
 use Rattle.matching.proofs.CursorLaws.{back-up, fore-down}
 use Rattle.matching.proofs.RestLaws.{between-at, all-between}
-use Rattle.candidates.specs.Part.{LastFit, FirstFit}
-
--- ---- a value on the other side does not fit, whatever its mark
-pub above-fits : (eq : Bool) (v a m : ℤ) → ltZ v a ≡ true → fitsKey Backward eq (value v) (cellOf a m) ≡ false
-above-fits eq v a m h = by (isZero m)
-  where
-    by : (z : Bool) → fitsKey Backward eq (value v) (cond z null (value a)) ≡ false
-    by true = refl
-    by false = rw (less-greater cmpZ-is v a (rw h)) (and-false eq)
-
-pub below-fits : (eq : Bool) (v a m : ℤ) → ltZ a v ≡ true → fitsKey Forward eq (value v) (cellOf a m) ≡ false
-below-fits eq v a m h = by (isZero m)
-  where
-    by : (z : Bool) → fitsKey Forward eq (value v) (cond z null (value a)) ≡ false
-    by true = refl
-    by false = rw h (and-false eq)
+use Rattle.look.specs.Fit.{LastFit, FirstFit}
 
 -- ---- what fits a key fits those on its other side
 back-fits : (eq : Bool) (b v u : Cell) → NotAbove v u → fitsKey Backward eq v b ≡ true → fitsKey Backward eq u b ≡ true

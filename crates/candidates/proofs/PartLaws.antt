@@ -1,7 +1,7 @@
 -- The parts that the code finds are candidates: by strategy for the left keys from f to l, then for all rows of a sorted left run. Assumes nothing.
-use mathlib.Core.Path.{_≡_, refl, sym, ap, _∙_}
-use mathlib.Core.Bool.{Bool, true, false, not, _&&_}
-use mathlib.Core.List.{List, map}
+use mathlib.Core.Path.{_≡_, refl, sym, _∙_}
+use mathlib.Core.Bool.{true, false, not}
+use mathlib.Core.List.{List}
 use mathlib.Core.Logic.{_⊎_, inl, inr}
 use Prim.Native.Nat.{ℕ, _+_, _-_, _*_, _≤_, _<_}
 use native.Mathlib.Omega.{arith}
@@ -12,13 +12,13 @@ use lib.ListN.{getD}
 use lib.Signed.{ltZ}
 use Rattle.frames.specs.Cells.{Cell, value, isNull, Words, rowFrom}
 use Rattle.options.specs.Options.{strategyOf, keyRule}
-use Rattle.order.specs.Order.{cmpCell, keyOf}
-use Rattle.order.specs.Requires.{RowsIn}
-use Rattle.order.proofs.OrderLaws.{cmpCell-is, cell-equal, three, three-less, not-less, at-most, at-most-equal}
-use Rattle.order.proofs.KeyLaws.{key-up}
+use Rattle.compare.specs.Order.{cmpCell, keyOf}
+use Rattle.compare.specs.Requires.{RowsIn}
+use Rattle.compare.proofs.OrderLaws.{cmpCell-is, cell-equal, three, three-less, not-less, at-most, at-most-equal}
+use Rattle.compare.proofs.KeyLaws.{key-up}
 use Rattle.frames.proofs.BoolLaws.{and-true}
 use Rattle.options.specs.declared.Options.{Options}
-use Rattle.order.specs.declared.Order.the-variants.{Less, Equal, Greater}
+use Rattle.compare.specs.declared.Order.the-variants.{Less, Equal, Greater}
 use Rattle.options.specs.declared.Strategy.the-variants.{Backward, Forward, Nearest}
 use Rattle.matching.specs.Match.{onSide, matchIn}
 use Rattle.matching.specs.Stretches.{between}
@@ -28,7 +28,8 @@ use Rattle.matching.proofs.MayLaws.{never, back-side}
 use Rattle.matching.proofs.GroupLaws.{map-same}
 use Rattle.matching.proofs.BestLaws.{key-at, none-null}
 use Rattle.matching.proofs.RestLaws.{all-between, sorted-rising}
-use Rattle.candidates.specs.Part.{LastFit, FirstFit, Cut, LeftRun, Candidates}
+use Rattle.look.specs.Fit.{LastFit, FirstFit}
+use Rattle.candidates.specs.Part.{Cut, LeftRun, Candidates}
 use Rattle.candidates.specs.declared.Part.{Part}
 use Rattle.candidates.proofs.CutLaws.{backward-cut, backward-whole, forward-cut, forward-whole, nearest-cut}
 

@@ -1,32 +1,17 @@
 -- A part of a right run outside of which no row of a sorted left run finds its match. Assumes nothing.
 use mathlib.Core.Path.{_≡_}
-use mathlib.Core.Bool.{Bool, true, false}
+use mathlib.Core.Bool.{true}
 use mathlib.Core.List.{List, map}
-use Prim.Native.Nat.{ℕ, _+_, _-_, _≤_, _<_}
+use Prim.Native.Nat.{ℕ, _+_, _≤_}
 use lib.IntN.{ℤ}
 use Rattle.frames.specs.Cells.{Cell, value, Words}
 use Rattle.order.specs.Order.{keyOf}
 use Rattle.order.specs.Requires.{RowsIn}
 use Rattle.options.specs.declared.Options.{Options}
-use Rattle.options.specs.declared.Strategy.the-variants.{Backward, Forward}
 use Rattle.matching.specs.Match.{matchIn}
 use Rattle.matching.specs.Stretches.{between}
-use Rattle.matching.specs.Moves.{keysSorted, NotAbove, fitsKey}
+use Rattle.matching.specs.Moves.{keysSorted, NotAbove}
 use Rattle.candidates.specs.declared.Part.{Part}
-
--- Row r − 1 is the last of at..end that fits v for Backward, or none does and r is `at`.
-pub record LastFit (eq : Bool) (key : ℕ → Cell) (at end : ℕ) (v : Cell) (r : ℕ) : Type 0 where
-  pub start : at ≤ r
-  pub within : r ≤ end
-  pub behind : (k : ℕ) → r ≤ k → k < end → fitsKey Backward eq v (key k) ≡ false
-  pub fit : at < r → fitsKey Backward eq v (key (r - 1)) ≡ true
-
--- Row r is the first of at..end that fits v for Forward, or none does and r is `end`.
-pub record FirstFit (eq : Bool) (key : ℕ → Cell) (at end : ℕ) (v : Cell) (r : ℕ) : Type 0 where
-  pub start : at ≤ r
-  pub within : r ≤ end
-  pub before : (k : ℕ) → at ≤ k → k < r → fitsKey Forward eq v (key k) ≡ false
-  pub fit : r < end → fitsKey Forward eq v (key r) ≡ true
 
 -- Outside of the part r of rows at..end no left row with a key from f to l finds its match.
 pub record Cut (o : Options) (w at end : ℕ) (vs ms : Words) (f l : ℤ) (r : Part) : Type 0 where

@@ -1,97 +1,21 @@
 // Candidates: the part of a right run outside of which no row of a sorted left run finds its match.
 use cursor::first_key;
-use fits::fits_key;
 use options::Options;
 use options::Strategy;
+use look::first_fit;
+use look::last_fit;
 use options::strategy_of;
 ghost use mathlib.Core.Path.{_≡_};
-ghost use mathlib.Core.Bool.{true};
 ghost use Prim.Native.Nat.{_≤_};
-ghost use Rattle.frames.specs.Cells.{value};
 ghost use Rattle.options.specs.Options.{strategyOf};
-ghost use Rattle.order.specs.Requires.{cellAt, CellIn, RowsIn};
+ghost use Rattle.order.specs.Requires.{RowsIn};
 ghost use Rattle.options.specs.declared.Strategy.the-variants.{Backward, Forward, Nearest};
-ghost use Rattle.matching.specs.Moves.{fitsKey, keyAt};
-ghost use Rattle.candidates.specs.Part.{LastFit, FirstFit, Cut, LeftRun, Candidates};
+ghost use Rattle.candidates.specs.Part.{Cut, LeftRun, Candidates};
 
 // Rows from..to of a run.
 pub struct Part {
     pub from: usize,
     pub to: usize,
-}
-
-// Whether the right key at place k fits v for Backward. A value above v is told first: its mark need not be read.
-fn fits_back(rv: &[i64], rm: &[i64], k: usize, v: i64, eq: bool) -> bool
-    requires { ⌜ CellIn k (now rv) (now rm) ⌝ }
-    ensures { λ r. ⌜ r ≡ fitsKey Backward eq (value v) (cellAt k (now (rv .entry)) (now (rm .entry))) ⌝ }
-{
-    if v < rv[k] {
-        return false;
-    }
-    fits_key(rv, rm, k, v, Strategy::Backward, eq)
-}
-
-// Whether the right key at place k fits v for Forward. A value below v is told first.
-fn fits_fore(rv: &[i64], rm: &[i64], k: usize, v: i64, eq: bool) -> bool
-    requires { ⌜ CellIn k (now rv) (now rm) ⌝ }
-    ensures { λ r. ⌜ r ≡ fitsKey Forward eq (value v) (cellAt k (now (rv .entry)) (now (rm .entry))) ⌝ }
-{
-    if rv[k] < v {
-        return false;
-    }
-    fits_key(rv, rm, k, v, Strategy::Forward, eq)
-}
-
-// Behind the last row of at..end that fits v for Backward, looked for from the end back; `at` where none does.
-fn last_fit(
-    rv: &[i64],
-    rm: &[i64],
-    at: usize,
-    end: usize,
-    w: usize,
-    v: i64,
-    eq: bool,
-    o: Options,
-) -> usize
-    requires { ⌜ RowsIn o w end (now rv) (now rm) × (at ≤ end) ⌝ }
-    ensures { λ r. ⌜ LastFit eq (keyAt o w (now (rv .entry)) (now (rm .entry))) at end (value v) r ⌝ }
-{
-    let by = o.by;
-    let mut i = end;
-    while at < i {
-        let k = (i - 1) * w + by;
-        if fits_back(rv, rm, k, v, eq) {
-            return i;
-        }
-        i -= 1;
-    }
-    i
-}
-
-// The first row of at..end that fits v for Forward; `end` where none does.
-fn first_fit(
-    rv: &[i64],
-    rm: &[i64],
-    at: usize,
-    end: usize,
-    w: usize,
-    v: i64,
-    eq: bool,
-    o: Options,
-) -> usize
-    requires { ⌜ RowsIn o w end (now rv) (now rm) × (at ≤ end) ⌝ }
-    ensures { λ r. ⌜ FirstFit eq (keyAt o w (now (rv .entry)) (now (rm .entry))) at end (value v) r ⌝ }
-{
-    let by = o.by;
-    let mut i = at;
-    while i < end {
-        let k = i * w + by;
-        if fits_fore(rv, rm, k, v, eq) {
-            return i;
-        }
-        i += 1;
-    }
-    i
 }
 
 // Backward: behind the last row that fits l no row fits a key up to l; before the last row that fits f no row is chosen for a key from f on.

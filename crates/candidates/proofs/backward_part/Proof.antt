@@ -6,7 +6,7 @@ use mir.Facts.{toZ-ofZ}
 use Rattle.frames.specs.Cells.{value}
 use Rattle.matching.specs.Moves.{keyAt}
 use Rattle.matching.proofs.RestLaws.{rows-less}
-use Rattle.candidates.specs.Part.{LastFit}
+use Rattle.look.specs.Fit.{LastFit}
 use Rattle.candidates.proofs.PartLaws.{back-all, back-from}
 use Rattle.candidates.proofs.backward_part.Statement.{statement}
 use Rattle.candidates.proofs.backward_part.Tie as tie

@@ -5,7 +5,7 @@ use denote.Ref.{now}
 use mir.Facts.{toZ-ofZ}
 use Rattle.frames.specs.Cells.{value}
 use Rattle.matching.specs.Moves.{keyAt}
-use Rattle.candidates.specs.Part.{FirstFit}
+use Rattle.look.specs.Fit.{FirstFit}
 use Rattle.candidates.proofs.PartLaws.{fore-all, fore-to}
 use Rattle.candidates.proofs.forward_part.Statement.{statement}
 use Rattle.candidates.proofs.forward_part.Tie as tie

@@ -5,9 +5,9 @@ use lib.IntN.{pos}
 use lib.ListN.{getD}
 use mir.Facts.{toZ-ofZ}
 use Rattle.frames.proofs.Signed.{lt-flag}
-use Rattle.candidates.proofs.CutLaws.{above-fits}
-use Rattle.candidates.proofs.fits_back.Statement.{statement}
-use Rattle.candidates.proofs.fits_back.Tie as tie
+use Rattle.look.proofs.FitLaws.{below-fits}
+use Rattle.look.proofs.fits_fore.Statement.{statement}
+use Rattle.look.proofs.fits_fore.Tie as tie
 
 mul-if1 : tie.Need-mul-if1
 mul-if1 c = search needs
@@ -19,7 +19,7 @@ returns : tie.Need-returns
 returns c =
     let s = c .before .before in
     let a = s .args in
-    sym (above-fits (a .eq) (a .v) (getD (now (a .rv)) (a .k) (pos 0)) (getD (now (a .rm)) (a .k) (pos 0)) (lt-flag (s .fits .v) (record { sfits = c .before .if12 .given }) (c .if1 .taken)))
+    sym (below-fits (a .eq) (a .v) (getD (now (a .rv)) (a .k) (pos 0)) (getD (now (a .rm)) (a .k) (pos 0)) (lt-flag {a = getD (now (a .rv)) (a .k) (pos 0)} (record { sfits = c .before .if12 .given }) (s .fits .v) (c .if1 .taken)))
 
 fits-key-requires : tie.Need-fits-key-requires
 fits-key-requires c κs = search needs
@@ -27,5 +27,5 @@ fits-key-requires c κs = search needs
 returns-2 : tie.Need-returns-2
 returns-2 c = rw (toZ-ofZ (c .before .before .before .fits .v)) at (c .fits-key .ensures)
 
-pub fits-back-spec : {M : Type 1} → statement M
-fits-back-spec = tie.close (tie.spec mul-if1 shared-slice-copy-out-if1 returns fits-key-requires returns-2)
+pub fits-fore-spec : {M : Type 1} → statement M
+fits-fore-spec = tie.close (tie.spec mul-if1 shared-slice-copy-out-if1 returns fits-key-requires returns-2)

@@ -8,12 +8,12 @@ use mir.Syntax.{w64}
 use mir.Val.{toZ, ofZ}
 use mir.Facts.{toZ-ofZ}
 use Rattle.frames.specs.Cells.{value}
-use Rattle.order.specs.Requires.{cellAt}
+use Rattle.compare.specs.Requires.{cellAt}
 use Rattle.options.specs.declared.Strategy.the-variants.{Forward}
-use Rattle.order.proofs.RowLaws.{row-room}
+use Rattle.compare.proofs.RowLaws.{row-room}
 use Rattle.matching.specs.Moves.{fitsKey}
-use Rattle.candidates.proofs.first_fit.Statement.{statement}
-use Rattle.candidates.proofs.first_fit.Tie as tie
+use Rattle.look.proofs.first_fit.Statement.{statement}
+use Rattle.look.proofs.first_fit.Tie as tie
 
 abbrev Inv-loop : tie.InvT-loop
 Inv-loop rv rm at end w v eq by i₀ i = (at ≤ i) × (i ≤ end) × ((k : ℕ) → at ≤ k → k < i → fitsKey Forward eq (value (toZ w64 v)) (cellAt (k * w + by) rv rm) ≡ false)
