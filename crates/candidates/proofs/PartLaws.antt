@@ -12,13 +12,13 @@ use lib.ListN.{getD}
 use lib.Signed.{ltZ}
 use Rattle.frames.specs.Cells.{Cell, value, isNull, Words, rowFrom}
 use Rattle.options.specs.Options.{strategyOf, keyRule}
-use Rattle.compare.specs.Order.{cmpCell, keyOf}
-use Rattle.compare.specs.Requires.{RowsIn}
-use Rattle.compare.proofs.OrderLaws.{cmpCell-is, cell-equal, three, three-less, not-less, at-most, at-most-equal}
-use Rattle.compare.proofs.KeyLaws.{key-up}
+use Rattle.order.specs.Order.{cmpCell, keyOf}
+use Rattle.order.specs.Requires.{RowsIn}
+use Rattle.order.proofs.OrderLaws.{cmpCell-is, cell-equal, three, three-less, not-less, at-most, at-most-equal}
+use Rattle.order.proofs.KeyLaws.{key-up}
 use Rattle.frames.proofs.BoolLaws.{and-true}
 use Rattle.options.specs.declared.Options.{Options}
-use Rattle.compare.specs.declared.Order.the-variants.{Less, Equal, Greater}
+use Rattle.order.specs.declared.Order.the-variants.{Less, Equal, Greater}
 use Rattle.options.specs.declared.Strategy.the-variants.{Backward, Forward, Nearest}
 use Rattle.matching.specs.Match.{onSide, matchIn}
 use Rattle.matching.specs.Stretches.{between}

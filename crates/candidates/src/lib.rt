@@ -1,9 +1,9 @@
 // Candidates: the part of a right run outside of which no row of a sorted left run finds its match.
 use cursor::first_key;
-use options::Options;
-use options::Strategy;
 use look::first_fit;
 use look::last_fit;
+use options::Options;
+use options::Strategy;
 use options::strategy_of;
 ghost use mathlib.Core.Path.{_≡_};
 ghost use Prim.Native.Nat.{_≤_};

@@ -3,7 +3,7 @@ use native.Mathlib.Omega.{arith}
 use denote.Ref.{now}
 use lib.IntN.{pos}
 use lib.ListN.{getD}
-use Rattle.compare.proofs.RowLaws.{row-room}
+use Rattle.order.proofs.RowLaws.{row-room}
 use Rattle.frames.proofs.Signed.{back}
 use Rattle.candidates.proofs.PartLaws.{no-keys, from-keys}
 use Rattle.candidates.proofs.candidates.Statement.{statement}

@@ -5,7 +5,7 @@ use denote.Ref.{now}
 use lib.IntN.{pos}
 use lib.ListN.{getD}
 use mir.Facts.{toZ-ofZ}
-use Rattle.compare.proofs.RowLaws.{row-room}
+use Rattle.order.proofs.RowLaws.{row-room}
 use Rattle.frames.proofs.Signed.{lt-flag}
 use Rattle.candidates.proofs.PartLaws.{whole, near-one}
 use Rattle.candidates.proofs.nearest_part.Statement.{statement}

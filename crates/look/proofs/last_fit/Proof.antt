@@ -10,9 +10,9 @@ use mir.Syntax.{w64}
 use mir.Val.{toZ, ofZ}
 use mir.Facts.{toZ-ofZ}
 use Rattle.frames.specs.Cells.{value}
-use Rattle.compare.specs.Requires.{cellAt}
+use Rattle.order.specs.Requires.{cellAt}
 use Rattle.options.specs.declared.Strategy.the-variants.{Backward}
-use Rattle.compare.proofs.RowLaws.{row-room}
+use Rattle.order.proofs.RowLaws.{row-room}
 use Rattle.matching.specs.Moves.{fitsKey}
 use Rattle.look.proofs.FitLaws.{above-fits}
 use Rattle.look.proofs.last_fit.Statement.{statement}
