@@ -15,6 +15,9 @@ MOST_BY = 4
 # options.tolerance if any distance will do.
 NO_TOLERANCE = -1
 
+# join.layout: the bytes "rowkeep" from the highest down, then the layout's version, 1.
+LAYOUT = 0x726f776b65657001
+
 # options.strategy
 BACKWARD = 0
 FORWARD = 1
@@ -80,10 +83,11 @@ class Row(ctypes.Structure):
 
 
 class Join(ctypes.Structure):
-    """A join: 44 words, no padding. A host may read every field and need not."""
-    _fields_ = [('options', Options), ('base', c_uint64), ('held', c_uint64), ('pruned', c_uint64),
-                ('queue_start', c_uint64), ('queue_words', c_uint64), ('state', c_uint64), ('right_ended', c_uint64),
-                ('failed', c_uint64), ('sequence', c_uint64), ('last_left', Row), ('last_right', Row)]
+    """A join: 45 words, no padding. A host may read every field and need not."""
+    _fields_ = [('layout', c_uint64), ('options', Options), ('base', c_uint64), ('held', c_uint64),
+                ('pruned', c_uint64), ('queue_start', c_uint64), ('queue_words', c_uint64), ('state', c_uint64),
+                ('right_ended', c_uint64), ('failed', c_uint64), ('sequence', c_uint64), ('last_left', Row),
+                ('last_right', Row)]
 
 
 class Took(ctypes.Structure):
@@ -117,8 +121,10 @@ CALLS = {
     'rowkeeper_left': ([Join, c_void_p, c_size_t, c_void_p, c_size_t, c_void_p, c_size_t], Took),
     'rowkeeper_right': ([Join, c_void_p, c_size_t, c_void_p, c_size_t, c_void_p, c_size_t], Took),
     'rowkeeper_end_right': ([Join, c_void_p, c_size_t, c_void_p, c_size_t], Took),
+    'rowkeeper_move': ([Join, c_void_p, c_size_t, c_void_p, c_size_t, c_void_p, c_size_t, c_void_p, c_size_t], Took),
     'rowkeeper_ports': ([Join, c_void_p, c_size_t, c_void_p, c_size_t, c_uint64, c_uint64, c_uint64], Ported),
     'rowkeeper_turn': ([Join, c_void_p, c_size_t, c_void_p, c_size_t, c_void_p, c_size_t], Turned),
     'rowkeeper_run': ([Join, c_size_t, c_void_p, c_size_t, c_void_p, c_size_t, c_void_p, c_size_t], Ran),
     'rowkeeper_spans': ([c_void_p, c_size_t, c_void_p, c_size_t, c_uint64, c_uint64, c_void_p, c_size_t], Written),
+    'rowkeeper_version': ([], c_uint64),
 }

@@ -58,16 +58,12 @@ class Join:
         return len(self.right_area) // (2 * self.columns)
 
     def grow(self, rows):
-        """Makes the right area twice as large, or as large as so many rows need. Values keep their place; marks stand
-        behind room for the values of all rows, so they move."""
-        old, room = self.right_area, self.right_rows()
-        larger = max(2 * room, rows)
-        first, last = self.words.base * self.columns, (self.words.base + self.words.held) * self.columns
-        new = zeros(2 * larger * self.columns)
-        new[first:last] = old[first:last]
-        marks, moved = room * self.columns, larger * self.columns
-        new[moved + first:moved + last] = old[marks + first:marks + last]
-        self.right_area = new
+        """Moves the join to a right area that is twice as large, or as large as so many rows need."""
+        left, right = zeros(len(self.left_area)), zeros(2 * max(2 * self.right_rows(), rows) * self.columns)
+        took = self.library.rowkeeper_move(self.words, *lent(self.left_area), *lent(self.right_area), *lent(left),
+                                           *lent(right))
+        expect(took.refusal, 'a move to a larger area')
+        self.words, self.left_area, self.right_area = took.join, left, right
         self.grown += 1
 
     def end_right(self):

@@ -17,7 +17,7 @@
 #include "judge.h"
 #include "lend.h"
 
-static const char *const CALL_NAMES[CALLS] = {"open", "left", "right", "end_right", "ports", "turn", "run"};
+static const char *const CALL_NAMES[CALLS] = {"open", "left", "right", "end_right", "ports", "turn", "run", "move"};
 
 /* The answers that each call can give, and at the end no answer. The run fails if one was never met. */
 enum { MOST_ANSWERS = 12, NO_ANSWER = -1 };
@@ -29,6 +29,7 @@ static const int POSSIBLE[CALLS][MOST_ANSWERS] = {
     {0, 2, 3, NO_ANSWER},
     {0, 2, 3, 4, 5, 6, 7, 8, 9, ANSWER_WANTS, ANSWER_IDLE, NO_ANSWER},
     {0, 2, 3, 4, 5, 6, 7, 8, 9, ANSWER_WANTS, ANSWER_IDLE, NO_ANSWER},
+    {0, 2, 6, NO_ANSWER},
 };
 
 /* The answers that must have stopped a run after a turn that wrote: those that a turn can change. 9 can too, if the host
@@ -51,8 +52,8 @@ typedef struct host {
 } host;
 
 static host now, before;
-static int64_t frame[LEND_MOST], out[LEND_MOST], again[LEND_MOST];
-static lend left_lend, right_lend, frame_lend, out_lend;
+static int64_t frame[LEND_MOST], out[LEND_MOST], again[LEND_MOST], new_left[LEND_MOST], new_right[LEND_MOST];
+static lend left_lend, right_lend, frame_lend, out_lend, new_left_lend, new_right_lend;
 static uint64_t seed, state, made, met[CALLS][ANSWERS], altered_joins, altered_past_2;
 /* Of runs: the turns that they made, those of more than one, and what stopped those in which a turn wrote. */
 static uint64_t run_turns, several, met_after[ANSWERS];
@@ -165,11 +166,20 @@ static size_t alter_frame(size_t len) {
     }
 }
 
+/* The first word of a join of another layout: another version, the first word of joins that had none, any word. */
+static uint64_t other_layout(void) {
+    switch (below(3)) {
+    case 0: return ROWKEEPER_LAYOUT - 1 + 2 * below(2);
+    case 1: return below(5);
+    default: return (uint64_t)any_word();
+    }
+}
+
 /* Alters a word of the join so that it may still hold together. */
 static void alter_join(void) {
     rowkeeper_join *j = &now.join;
     uint64_t capacity = now.right_len / (2 * (j->options.by % 8 + 1));
-    switch (below(14)) {
+    switch (below(15)) {
     case 0: j->base = any_count(j->base, capacity - j->held % (capacity + 1)); break;
     case 1: j->held = any_count(j->held, capacity - j->base % (capacity + 1)); break;
     case 2: j->pruned = percent(50) ? INT64_MAX - j->held - below(40) : any_count(j->pruned, INT64_MAX); break;
@@ -182,6 +192,7 @@ static void alter_join(void) {
     case 9: j->options = any_options(); break;
     case 10: ((int64_t *)&j->last_left)[below(11)] = percent(50) ? 1 : any_word(); break;
     case 11: ((int64_t *)&j->last_right)[below(11)] = percent(50) ? 1 : any_word(); break;
+    case 12: j->layout = percent(50) ? ROWKEEPER_LAYOUT : other_layout(); break;
     default: ((int64_t *)j)[below(JOIN_WORDS)] = any_word(); break;
     }
 }
@@ -209,12 +220,13 @@ static int alter_host(void) {
     return joins;
 }
 
-/* Random words for join and areas. */
+/* Random words for join and areas; most joins have the layout that is read. */
 static void random_host(void) {
     size_t i;
     now.left_len = any_length();
     now.right_len = any_length();
     for (i = 0; i < JOIN_WORDS; i++) ((int64_t *)&now.join)[i] = any_word();
+    if (percent(80)) now.join.layout = ROWKEEPER_LAYOUT;
     for (i = 0; i < now.left_len; i++) now.left[i] = any_word();
     for (i = 0; i < now.right_len; i++) now.right[i] = any_word();
 }
@@ -238,7 +250,7 @@ static void fault(const attempt *a, const char *why) {
     size_t i;
     printf("FAIL seed %" PRIu64 ", call %" PRIu64 ", rowkeeper_%s: %s\n", seed, made, CALL_NAMES[a->call], why);
     printf("lengths: left %zu, right %zu, frame %zu, output %zu\n", a->left_len, a->right_len, a->frame_len, a->out_len);
-    printf("turns of a run: %zu\njoin:", a->turns);
+    printf("turns of a run: %zu; new areas: %zu, %zu\njoin:", a->turns, a->new_left_len, a->new_right_len);
     for (i = 0; i < JOIN_WORDS; i++) printf(" %" PRId64, ((const int64_t *)&a->join)[i]);
     printf("\n");
     exit(1);
@@ -259,7 +271,7 @@ static int refusal_answer(uint64_t refusal) {
     return refusal > ROWKEEPER_LAST_REFUSAL ? ANSWER_UNKNOWN : (int)refusal;
 }
 
-/* Reads the answer of opening, left, right and the end of right. */
+/* Reads the answer of opening, left, right, the end of right and a move. */
 static void took(outcome *o, rowkeeper_took t) {
     o->answer = refusal_answer(t.refusal);
     o->join = t.join;
@@ -300,6 +312,8 @@ static void ran(outcome *o, rowkeeper_ran r) {
 static void make(const attempt *a, outcome *o) {
     int64_t *l = lent(&left_lend, a->left, a->left_len), *r = lent(&right_lend, a->right, a->right_len);
     int64_t *f = lent(&frame_lend, a->frame, a->frame_len), *w = lent(&out_lend, a->out, a->out_len);
+    int64_t *nl = lent(&new_left_lend, a->new_left, a->new_left_len);
+    int64_t *nr = lent(&new_right_lend, a->new_right, a->new_right_len);
     size_t ln = a->left_len, rn = a->right_len;
     memset(o, 0, sizeof *o);
     switch (a->call) {
@@ -309,16 +323,20 @@ static void make(const attempt *a, outcome *o) {
     case CALL_END: took(o, rowkeeper_end_right(a->join, l, ln, r, rn)); break;
     case CALL_PORTS: ported(o, rowkeeper_ports(a->join, l, ln, r, rn, a->ports[0], a->ports[1], a->ports[2])); break;
     case CALL_RUN: ran(o, rowkeeper_run(a->join, a->turns, l, ln, r, rn, w, a->out_len)); break;
+    case CALL_MOVE: took(o, rowkeeper_move(a->join, l, ln, r, rn, nl, a->new_left_len, nr, a->new_right_len)); break;
     default: turned(o, rowkeeper_turn(a->join, l, ln, r, rn, w, a->out_len)); break;
     }
     o->left = left_lend.at;
     o->right = right_lend.at;
     o->out = out_lend.at;
+    o->new_left = new_left_lend.at;
+    o->new_right = new_right_lend.at;
 }
 
 /* Whether guard words, the frame and what the call may only read are as they were. */
 static const char *untouched(const attempt *a) {
-    int intact = lend_intact(&left_lend) & lend_intact(&right_lend) & lend_intact(&frame_lend) & lend_intact(&out_lend);
+    int intact = lend_intact(&left_lend) & lend_intact(&right_lend) & lend_intact(&frame_lend) & lend_intact(&out_lend) &
+                 lend_intact(&new_left_lend) & lend_intact(&new_right_lend);
     if (!intact) return "a guard word was altered";
     if (!lend_same(&frame_lend, a->frame, 0)) return "the frame was altered";
     if (a->call != CALL_LEFT && !lend_same(&left_lend, a->left, 0)) return "the left area was altered";
@@ -359,6 +377,14 @@ static void count(const attempt *a, const outcome *o) {
     met_after[o->answer] += o->turns > 0;
 }
 
+/* The host goes on with the areas that it moved to. */
+static void go_on_there(const attempt *a) {
+    now.left_len = a->new_left_len;
+    now.right_len = a->new_right_len;
+    memcpy(now.left, new_left_lend.at, now.left_len * sizeof *now.left);
+    memcpy(now.right, new_right_lend.at, now.right_len * sizeof *now.right);
+}
+
 /* Makes a call, judges it, counts it; the answer. The host goes on with what it left. */
 static int try_call(attempt *a) {
     outcome o;
@@ -372,6 +398,7 @@ static int try_call(attempt *a) {
     count(a, &o);
     if (a->call == CALL_LEFT) memcpy(now.left, left_lend.at, now.left_len * sizeof *now.left);
     if (a->call == CALL_RIGHT) memcpy(now.right, right_lend.at, now.right_len * sizeof *now.right);
+    if (a->call == CALL_MOVE && o.answer == 0) go_on_there(a);
     now.join = o.join;
     return o.answer;
 }
@@ -388,6 +415,8 @@ static attempt attempt_of(int call) {
     a.out = out;
     a.left_len = now.left_len;
     a.right_len = now.right_len;
+    a.new_left = new_left;
+    a.new_right = new_right;
     return a;
 }
 
@@ -395,7 +424,7 @@ static attempt attempt_of(int call) {
 static int any_call(void) {
     static const int OFTEN[16] = {CALL_LEFT, CALL_LEFT, CALL_LEFT, CALL_RIGHT, CALL_RIGHT, CALL_RIGHT, CALL_RIGHT, CALL_TURN,
                                   CALL_TURN, CALL_TURN, CALL_TURN, CALL_TURN, CALL_TURN, CALL_PORTS, CALL_TURN, CALL_END};
-    int call = OFTEN[below(16)];
+    int call = percent(4) ? CALL_MOVE : OFTEN[below(16)];
     if (call == CALL_END && !percent(30)) call = CALL_TURN;
     if (call == CALL_TURN && now.gathers) call = percent(30) ? CALL_RUN : CALL_LEFT;
     return call == CALL_TURN && percent(15) ? CALL_RUN : call;
@@ -417,6 +446,27 @@ static size_t run_output(void) {
     return percent(40) ? below(enough + 1) : enough + below(30);
 }
 
+/* The length of an area to move to: just enough for so many words, more, less, or any. */
+static size_t new_length(uint64_t words) {
+    size_t enough = words < LEND_MOST - 400 ? (size_t)words : LEND_MOST - 400;
+    switch (below(6)) {
+    case 0: return enough;
+    case 1: return enough > 0 ? below(enough) : 0;
+    case 2: return any_length();
+    default: return enough + below(400);
+    }
+}
+
+/* Gives a move the areas that it goes to, with any words. */
+static void equip_move(attempt *a) {
+    uint64_t row = 2 * (a->join.options.by % 8 + 1);
+    size_t i;
+    a->new_left_len = new_length(a->join.queue_words);
+    a->new_right_len = new_length(a->join.held < LEND_MOST ? a->join.held * row : LEND_MOST);
+    for (i = 0; i < a->new_left_len; i++) new_left[i] = any_word();
+    for (i = 0; i < a->new_right_len; i++) new_right[i] = any_word();
+}
+
 /* Gives a call its frame, its output or its ports. */
 static void equip(attempt *a) {
     size_t i, most = below(percent(3) ? 1200 : 12);
@@ -426,6 +476,7 @@ static void equip(attempt *a) {
     if (a->call == CALL_TURN) a->out_len = percent(10) ? any_length() : percent(95) ? 2 + 2 * most + below(30) : LEND_MOST;
     if (a->call == CALL_RUN) a->out_len = run_output();
     if (a->call == CALL_RUN) a->turns = any_turns();
+    if (a->call == CALL_MOVE) equip_move(a);
     for (i = 0; i < a->out_len; i++) out[i] = (int64_t)(3 * i % 7) - 9;
     for (i = 0; i < 3; i++) a->ports[i] = percent(97) ? percent(95) ? below(2) : 2 : (uint64_t)any_word();
 }
@@ -462,6 +513,7 @@ static int open_host(void) {
     attempt a;
     size_t i;
     memset(&now.join, 0, sizeof now.join);
+    now.join.layout = ROWKEEPER_LAYOUT;
     now.join.options = o;
     now.gathers = percent(40);
     now.left_len = now.gathers ? 60 + below(600) : any_length();
@@ -544,6 +596,8 @@ int main(int argc, char **argv) {
     lend_init(&right_lend, LEND_MOST);
     lend_init(&frame_lend, LEND_MOST);
     lend_init(&out_lend, LEND_MOST);
+    lend_init(&new_left_lend, LEND_MOST);
+    lend_init(&new_right_lend, LEND_MOST);
     while (made < calls) {
         if (!open_host()) continue;
         for (steps = below(80); steps > 0 && made < calls && !spent(); steps--) step();

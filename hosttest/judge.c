@@ -1,4 +1,4 @@
-/* See judge.h. Left, right, end and ports are told exactly; of a turn, and of each turn of a run, all
+/* See judge.h. Left, right, end, ports and moves are told exactly; of a turn, and of each turn of a run, all
    that needs no look at the order of rows. */
 #include "judge.h"
 
@@ -22,7 +22,7 @@ int judge_bad_options(const rowkeeper_options *o) {
 
 /* Whether no join has these numbers. */
 static int no_join(const rowkeeper_join *j) {
-    if (strange_flags(&j->options) || j->options.strategy > 255) return 1;
+    if (j->layout != ROWKEEPER_LAYOUT || strange_flags(&j->options) || j->options.strategy > 255) return 1;
     return j->state > 2 || j->right_ended > 1 || j->failed > 1 || j->last_left.some > 1 || j->last_right.some > 1;
 }
 
@@ -75,12 +75,18 @@ static int frame_refusal(const attempt *a) {
     return above(j->pruned + j->held, (uint64_t)a->frame[0], INT64_MAX) ? ROWKEEPER_USED_UP : 0;
 }
 
+/* Whether the areas that a move goes to are too short for what waits or for what is held. */
+static int short_of_room(const attempt *a) {
+    return a->join.queue_words > a->new_left_len || a->join.held > a->new_right_len / (2 * (a->join.options.by + 1));
+}
+
 /* The answer that is known before rows are compared, or -1 for a turn that goes on from there. */
 static int known_answer(const attempt *a) {
     const uint64_t *p = a->ports;
     if (a->call == CALL_OPEN) return judge_bad_options(&a->join.options) ? ROWKEEPER_BAD_OPTIONS : 0;
     if (judge_bad_join(&a->join, a->left_len, a->right_len)) return ROWKEEPER_BAD_JOIN;
     if (a->call == CALL_PORTS && (p[0] > 2 || p[1] > 2 || p[2] > 2)) return ROWKEEPER_BAD_JOIN;
+    if (a->call == CALL_MOVE) return short_of_room(a) ? ROWKEEPER_NO_ROOM : 0;
     if (a->join.failed) return ROWKEEPER_FAILED;
     if (closed(a)) return ROWKEEPER_CLOSED;
     if (a->call == CALL_LEFT || a->call == CALL_RIGHT) return frame_refusal(a);
@@ -138,6 +144,24 @@ static int right_taken(const attempt *a, const outcome *o) {
            rows_taken(a, o, capacity * c, a->frame + 2 + n * c);
 }
 
+/* Whether so many words are these, and the words up to a place behind them as they were. */
+static int copied(const int64_t *now, const int64_t *words, size_t n, const int64_t *was, size_t end) {
+    return memcmp(now, words, n * sizeof *now) == 0 && memcmp(now + n, was + n, (end - n) * sizeof *now) == 0;
+}
+
+/* Whether what waited and the rows that were held stand at the fronts of the new areas, all other words as they were. */
+static int all_moved(const attempt *a, const outcome *o) {
+    size_t c = a->join.options.by + 1, held = a->join.held * c, from = a->join.base * c;
+    size_t half = a->right_len / (2 * c) * c, new_half = a->new_right_len / (2 * c) * c;
+    rowkeeper_join want = a->join;
+    want.queue_start = 0;
+    want.base = 0;
+    return same_join(&want, &o->join) &&
+           copied(o->new_left, a->left + a->join.queue_start, a->join.queue_words, a->new_left, a->new_left_len) &&
+           copied(o->new_right, a->right + from, held, a->new_right, new_half) &&
+           copied(o->new_right + new_half, a->right + half + from, held, a->new_right + new_half, a->new_right_len - new_half);
+}
+
 /* The node's state after a port call. */
 static uint64_t next_state(const attempt *a) {
     uint64_t state = a->join.state;
@@ -186,8 +210,8 @@ static int moved_on(const rowkeeper_join *was, const rowkeeper_join *now, uint64
     if (now->queue_start != was->queue_start + frames || now->queue_words != was->queue_words - frames) return 0;
     if (now->sequence != was->sequence + 2 * turns) return 0;
     if (now->last_left.some > 1 || now->last_right.some > 1) return 0;
-    return memcmp(&was->options, &now->options, sizeof was->options) == 0 && now->state == was->state &&
-           now->right_ended == was->right_ended;
+    return now->layout == was->layout && memcmp(&was->options, &now->options, sizeof was->options) == 0 &&
+           now->state == was->state && now->right_ended == was->right_ended;
 }
 
 /* Whether a turn that wrote moved the join on by one frame. */
@@ -204,6 +228,7 @@ static const char *judge_done(const attempt *a, const outcome *o) {
     case CALL_RIGHT: return right_taken(a, o) ? NULL : "the rows are not held as they came";
     case CALL_END: want.right_ended = 1; return same_join(&want, &o->join) ? NULL : "the end changed something else";
     case CALL_PORTS: return ports_told(a, o) ? NULL : "the ports are told something else";
+    case CALL_MOVE: return all_moved(a, o) ? NULL : "the new areas or the join are not those of a move";
     default: break;
     }
     if (!turn_moved(a, o)) return "the turn left another join";
@@ -218,6 +243,8 @@ static const char *judge_unchanged(const attempt *a, const outcome *o) {
     if (o->sequence != 0 || (o->told[0] | o->told[1] | o->told[2]) != 0) return "an answer with something beside it";
     if (memcmp(a->left, o->left, a->left_len * sizeof *a->left) != 0) return "the left area was altered";
     if (memcmp(a->right, o->right, a->right_len * sizeof *a->right) != 0) return "the right area was altered";
+    if (memcmp(a->new_left, o->new_left, a->new_left_len * sizeof *a->left) != 0) return "the new left area was altered";
+    if (memcmp(a->new_right, o->new_right, a->new_right_len * sizeof *a->right) != 0) return "the new right area was altered";
     return memcmp(a->out, o->out, a->out_len * sizeof *a->out) == 0 ? NULL : "the output was altered";
 }
 

@@ -5,7 +5,7 @@
 #include "rowkeeper.h"
 
 /* The calls. */
-enum { CALL_OPEN, CALL_LEFT, CALL_RIGHT, CALL_END, CALL_PORTS, CALL_TURN, CALL_RUN, CALLS };
+enum { CALL_OPEN, CALL_LEFT, CALL_RIGHT, CALL_END, CALL_PORTS, CALL_TURN, CALL_RUN, CALL_MOVE, CALLS };
 
 /* Answers: 0 accepted, written or all turns of a run used; a refusal is its number; other answers are from 100 on, beyond all
    refusals. */
@@ -20,6 +20,8 @@ typedef struct attempt {
     size_t left_len, right_len, frame_len, out_len;
     uint64_t ports[3];
     size_t turns; /* how many a run may make */
+    const int64_t *new_left, *new_right; /* where a move goes to */
+    size_t new_left_len, new_right_len;
 } attempt;
 
 /* What came back: the answer by its number, the join, and the words as they are now. */
@@ -28,7 +30,7 @@ typedef struct outcome {
     uint64_t told[3], sequence;
     uint64_t turns, words; /* what a run made and wrote */
     rowkeeper_join join;
-    const int64_t *left, *right, *out;
+    const int64_t *left, *right, *out, *new_left, *new_right;
 } outcome;
 
 /* Whether these options are refused. */

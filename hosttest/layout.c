@@ -25,34 +25,35 @@ HOLDS(row_size, sizeof(rowkeeper_row) == 88);
 HOLDS(row_some_at, AT(rowkeeper_row, some) == 0);
 HOLDS(row_values_at, AT(rowkeeper_row, values) == 1);
 HOLDS(row_marks_at, AT(rowkeeper_row, marks) == 6);
-HOLDS(join_size, sizeof(rowkeeper_join) == 352);
-HOLDS(join_options_at, AT(rowkeeper_join, options) == 0);
-HOLDS(join_base_at, AT(rowkeeper_join, base) == 13);
-HOLDS(join_held_at, AT(rowkeeper_join, held) == 14);
-HOLDS(join_pruned_at, AT(rowkeeper_join, pruned) == 15);
-HOLDS(join_queue_start_at, AT(rowkeeper_join, queue_start) == 16);
-HOLDS(join_queue_words_at, AT(rowkeeper_join, queue_words) == 17);
-HOLDS(join_state_at, AT(rowkeeper_join, state) == 18);
-HOLDS(join_right_ended_at, AT(rowkeeper_join, right_ended) == 19);
-HOLDS(join_failed_at, AT(rowkeeper_join, failed) == 20);
-HOLDS(join_sequence_at, AT(rowkeeper_join, sequence) == 21);
-HOLDS(join_last_left_at, AT(rowkeeper_join, last_left) == 22);
-HOLDS(join_last_right_at, AT(rowkeeper_join, last_right) == 33);
-HOLDS(took_size, sizeof(rowkeeper_took) == 360);
+HOLDS(join_size, sizeof(rowkeeper_join) == 360);
+HOLDS(join_layout_at, AT(rowkeeper_join, layout) == 0);
+HOLDS(join_options_at, AT(rowkeeper_join, options) == 1);
+HOLDS(join_base_at, AT(rowkeeper_join, base) == 14);
+HOLDS(join_held_at, AT(rowkeeper_join, held) == 15);
+HOLDS(join_pruned_at, AT(rowkeeper_join, pruned) == 16);
+HOLDS(join_queue_start_at, AT(rowkeeper_join, queue_start) == 17);
+HOLDS(join_queue_words_at, AT(rowkeeper_join, queue_words) == 18);
+HOLDS(join_state_at, AT(rowkeeper_join, state) == 19);
+HOLDS(join_right_ended_at, AT(rowkeeper_join, right_ended) == 20);
+HOLDS(join_failed_at, AT(rowkeeper_join, failed) == 21);
+HOLDS(join_sequence_at, AT(rowkeeper_join, sequence) == 22);
+HOLDS(join_last_left_at, AT(rowkeeper_join, last_left) == 23);
+HOLDS(join_last_right_at, AT(rowkeeper_join, last_right) == 34);
+HOLDS(took_size, sizeof(rowkeeper_took) == 368);
 HOLDS(took_refusal_at, AT(rowkeeper_took, refusal) == 0);
 HOLDS(took_join_at, AT(rowkeeper_took, join) == 1);
-HOLDS(ported_size, sizeof(rowkeeper_ported) == 384);
+HOLDS(ported_size, sizeof(rowkeeper_ported) == 392);
 HOLDS(ported_refusal_at, AT(rowkeeper_ported, refusal) == 0);
 HOLDS(ported_left_at, AT(rowkeeper_ported, left) == 1);
 HOLDS(ported_right_at, AT(rowkeeper_ported, right) == 2);
 HOLDS(ported_send_at, AT(rowkeeper_ported, send) == 3);
 HOLDS(ported_join_at, AT(rowkeeper_ported, join) == 4);
-HOLDS(turned_size, sizeof(rowkeeper_turned) == 376);
+HOLDS(turned_size, sizeof(rowkeeper_turned) == 384);
 HOLDS(turned_answer_at, AT(rowkeeper_turned, answer) == 0);
 HOLDS(turned_refusal_at, AT(rowkeeper_turned, refusal) == 1);
 HOLDS(turned_sequence_at, AT(rowkeeper_turned, sequence) == 2);
 HOLDS(turned_join_at, AT(rowkeeper_turned, join) == 3);
-HOLDS(ran_size, sizeof(rowkeeper_ran) == 384);
+HOLDS(ran_size, sizeof(rowkeeper_ran) == 392);
 HOLDS(ran_turns_at, AT(rowkeeper_ran, turns) == 0);
 HOLDS(ran_words_at, AT(rowkeeper_ran, words) == 1);
 HOLDS(ran_stop_at, AT(rowkeeper_ran, stop) == 2);
@@ -76,7 +77,7 @@ typedef struct field {
 
 /* All fields. A word that no line is about fails the test. */
 static const field FIELDS[] = {
-    FIELD(options.by, 5), FIELD(options.strategy, 3), FIELD(options.allow_eq, 2), FIELD(options.tolerance, (uint64_t)-2),
+    FIELD(layout, ROWKEEPER_LAYOUT + 1), FIELD(options.by, 5), FIELD(options.strategy, 3), FIELD(options.allow_eq, 2), FIELD(options.tolerance, (uint64_t)-2),
     FIELD(options.check, 2), FIELD(options.descending, 2), FIELD(options.nulls_last, 2),
     FIELD(base, 7), FIELD(held, 7), FIELD(pruned, (uint64_t)1 << 63), FIELD(queue_start, LEFT + 1), FIELD(queue_words, LEFT + 1),
     FIELD(state, 3), FIELD(right_ended, 2), FIELD(failed, 2), FIELD(sequence, 1),
@@ -173,6 +174,35 @@ static void runs(rowkeeper_join join) {
     want(memcmp(out, BOTH, sizeof out) == 0, "a run's output", NO_WORD);
 }
 
+/* What a join of another layout gets: 2 from every call, a run of no turns too, and itself as it came. The first word of
+   joins from before there was a layout word is `by`; the last word here has the bytes of the layout in the other order. */
+static void other_layouts(rowkeeper_join join) {
+    static const uint64_t OTHER[] = {0, 1, 4, ROWKEEPER_LAYOUT - 1, ROWKEEPER_LAYOUT + 1, UINT64_MAX, 0x017065656b776f72u};
+    static const int64_t NONE[] = {0, 2};
+    int64_t out[2] = {-1, -1};
+    size_t i;
+    for (i = 0; i < sizeof OTHER / sizeof *OTHER; i++) {
+        rowkeeper_took took;
+        rowkeeper_turned turned;
+        rowkeeper_ported ported;
+        rowkeeper_ran ran;
+        join.layout = OTHER[i];
+        took = rowkeeper_left(join, left, LEFT, right, RIGHT, NONE, 2);
+        want(took.refusal == 2 && memcmp(&took.join, &join, sizeof join) == 0, "left of another layout", AT(rowkeeper_join, layout));
+        took = rowkeeper_right(join, left, LEFT, right, RIGHT, NONE, 2);
+        want(took.refusal == 2 && memcmp(&took.join, &join, sizeof join) == 0, "right of another layout", AT(rowkeeper_join, layout));
+        took = rowkeeper_end_right(join, left, LEFT, right, RIGHT);
+        want(took.refusal == 2 && memcmp(&took.join, &join, sizeof join) == 0, "the end of another layout", AT(rowkeeper_join, layout));
+        ported = rowkeeper_ports(join, left, LEFT, right, RIGHT, 1, 1, 1);
+        want(ported.refusal == 2 && memcmp(&ported.join, &join, sizeof join) == 0, "ports of another layout", AT(rowkeeper_join, layout));
+        turned = rowkeeper_turn(join, left, LEFT, right, RIGHT, out, 2);
+        want(turned.refusal == 2 && memcmp(&turned.join, &join, sizeof join) == 0, "a turn of another layout", AT(rowkeeper_join, layout));
+        ran = rowkeeper_run(join, 0, left, LEFT, right, RIGHT, out, 2);
+        want(ran.refusal == 2 && memcmp(&ran.join, &join, sizeof join) == 0, "a run of another layout", AT(rowkeeper_join, layout));
+    }
+    want(out[0] == -1 && out[1] == -1, "the output of a refused call", NO_WORD);
+}
+
 /* Whether spans answer so, over the points 10, 20, 30 and a pass from 10 to 30; a refused call must leave the output. */
 static int covers(uint64_t lower, uint64_t upper, size_t room, uint64_t refusal, uint64_t rows) {
     static const int64_t POINTS[] = {3, 1, 10, 20, 30, 1, 1, 1}, PASS[] = {1, 2, 10, 30, 1, 1};
@@ -217,9 +247,14 @@ int main(void) {
     want(end_with(took.join, AT(rowkeeper_join, failed), 1) == ROWKEEPER_FAILED, "failed", AT(rowkeeper_join, failed));
     want(end_with(took.join, AT(rowkeeper_join, right_ended), 1) == ROWKEEPER_CLOSED, "right_ended", AT(rowkeeper_join, right_ended));
     want(end_with(took.join, AT(rowkeeper_join, state), ROWKEEPER_DONE) == ROWKEEPER_CLOSED, "state", AT(rowkeeper_join, state));
+    other_layouts(took.join);
     answers(took.join);
     runs(took.join);
     spans();
+    options.by = 5;
+    took = rowkeeper_open(options);
+    want(took.refusal == 1 && took.join.layout == ROWKEEPER_LAYOUT, "a refused opening", AT(rowkeeper_join, layout));
+    want(rowkeeper_version() == ROWKEEPER_VERSION_NUMBER, "the library has another version than the header", NO_WORD);
     if (!failed) printf("sizes, offsets, each field of a join where the archive reads it, and each answer\n");
     return failed;
 }

@@ -1,4 +1,7 @@
 //! The join and its calls.
+use alloc::vec;
+use alloc::vec::Vec;
+
 use crate::raw::{self, safe};
 use crate::{NodeState, Options, Port, Ports, Refusal};
 
@@ -15,7 +18,12 @@ pub struct Join<A = Vec<i64>> {
 #[derive(Clone, Copy, Debug, PartialEq, Eq)]
 pub enum Turn<'o> {
     /// The matches of the frame that waited first; frames are numbered 0, 2, 4 and so on.
-    Wrote { sequence: u64, matches: Matches<'o> },
+    Wrote {
+        /// The number of the frame.
+        sequence: u64,
+        /// Its matches.
+        matches: Matches<'o>,
+    },
     /// Right rows that are still to come might match: hand in more, or end right.
     WantsRight,
     /// No frame waits.
@@ -27,6 +35,7 @@ pub enum Turn<'o> {
 pub struct Run<'o> {
     /// What its turns wrote. It stands whatever ended the run.
     pub written: Written<'o>,
+    /// What ended it.
     pub stop: Stop,
 }
 
@@ -82,9 +91,14 @@ pub struct Matches<'o> {
 
 impl<'o> Matches<'o> {
     /// The matches at the front of an output.
-    fn of(output: &'o [i64]) -> Matches<'o> {
+    pub(crate) fn of(output: &'o [i64]) -> Matches<'o> {
         let n = output[0] as usize;
         Matches { numbers: &output[2..2 + n], marks: &output[2 + n..2 + 2 * n] }
+    }
+
+    /// Those from a row on.
+    pub(crate) fn rest(self, from: usize) -> Matches<'o> {
+        Matches { numbers: &self.numbers[from..], marks: &self.marks[from..] }
     }
 
     /// How many rows the frame has.
@@ -104,6 +118,23 @@ impl<'o> Matches<'o> {
 }
 
 impl Join<Vec<i64>> {
+    /// Opens a join with areas for so many left rows that wait at once, in frames of one row or more, and so many right rows
+    /// that are held at once.
+    ///
+    /// ```
+    /// use rowkeeper::{Frame, Join, Options, Refusal};
+    ///
+    /// let mut join = Join::open_rows(&Options::default(), 2, 3)?;
+    /// join.left(&Frame::of_keys(&[5])?)?;
+    /// join.left(&Frame::of_keys(&[20])?)?;
+    /// join.right(&Frame::of_keys(&[10, 20, 30])?)?;
+    /// assert_eq!(join.right(&Frame::of_keys(&[40])?), Err(Refusal::NoRoom));
+    /// # Ok::<(), Box<dyn std::error::Error>>(())
+    /// ```
+    pub fn open_rows(options: &Options, left_rows: usize, right_rows: usize) -> Result<Self, Refusal> {
+        Join::open(options, Join::left_words(options, left_rows, 1), Join::right_words(options, right_rows))
+    }
+
     /// Opens a join with areas of so many words. [`Join::left_words`] and [`Join::right_words`] say what is needed.
     pub fn open(options: &Options, left_words: usize, right_words: usize) -> Result<Self, Refusal> {
         Join::with_areas(options, vec![0; left_words], vec![0; right_words])
@@ -111,24 +142,63 @@ impl Join<Vec<i64>> {
 
     /// The words of the left area for so many waiting frames of so many rows each.
     pub fn left_words(options: &Options, frames: usize, rows: usize) -> usize {
-        frames * (2 + 2 * rows * options.columns())
+        frames.saturating_mul(row_words(rows, options.columns()).saturating_add(2))
     }
 
     /// The words of the right area for so many held rows.
     pub fn right_words(options: &Options, rows: usize) -> usize {
-        2 * rows * options.columns()
+        row_words(rows, options.columns())
     }
 
     /// The words of an output for a frame of so many rows.
     pub fn output_words(rows: usize) -> usize {
-        2 + 2 * rows
+        row_words(rows, 1).saturating_add(2)
     }
 
     /// The words of an output for a run of so many turns, where no frame has more rows than this. As many words as wait
     /// ([`Join::waiting_words`]) are enough for any number of turns.
     pub fn run_words(turns: usize, rows: usize) -> usize {
-        turns * Join::output_words(rows)
+        turns.saturating_mul(Join::output_words(rows))
     }
+
+    /// Makes the right area larger, to hold so many rows at least; what is held and what waits stays. Nothing is done if it
+    /// can hold as many. No answer to a later call is another one, save that frames find more room. Refused by 2.
+    ///
+    /// ```
+    /// use rowkeeper::{Frame, Join, Options, Refusal};
+    ///
+    /// let mut join = Join::open_rows(&Options::default(), 10, 3)?;
+    /// join.right(&Frame::of_keys(&[10, 20])?)?;
+    /// let more = Frame::of_keys(&[30, 40])?;
+    /// assert_eq!(join.right(&more), Err(Refusal::NoRoom));
+    /// join.grow_right(2 * join.held() as usize + 2)?;
+    /// join.right(&more)?;
+    /// # Ok::<(), Box<dyn std::error::Error>>(())
+    /// ```
+    pub fn grow_right(&mut self, rows: usize) -> Result<(), Refusal> {
+        let by = usize::try_from(self.join.options.by).ok().filter(|by| *by <= raw::MOST_BY);
+        let words = row_words(rows, by.ok_or(Refusal::BadJoin)? + 1);
+        self.grow(self.left.len(), words)
+    }
+
+    /// Makes the left area larger, to so many words at least; what waits and what is held stays. Nothing is done if it has
+    /// as many. No answer to a later call is another one, save that frames find more room. Refused by 2.
+    pub fn grow_left(&mut self, words: usize) -> Result<(), Refusal> {
+        self.grow(words, self.right.len())
+    }
+
+    /// Moves the join to areas of these lengths if one of them is longer than it is; neither is shorter then.
+    fn grow(&mut self, left: usize, right: usize) -> Result<(), Refusal> {
+        if left > self.left.len() || right > self.right.len() {
+            *self = self.moved(vec![0; left], vec![0; right])?;
+        }
+        Ok(())
+    }
+}
+
+/// The words of so many rows, their values and their marks; the greatest number if there is no such number.
+fn row_words(rows: usize, columns: usize) -> usize {
+    rows.saturating_mul(2 * columns)
 }
 
 impl<A: AsRef<[i64]> + AsMut<[i64]>> Join<A> {
@@ -147,6 +217,27 @@ impl<A: AsRef<[i64]> + AsMut<[i64]>> Join<A> {
     /// All that the join is: its own words and those of its areas.
     pub fn parts(&self) -> (raw::Join, &[i64], &[i64]) {
         (self.join, self.left.as_ref(), self.right.as_ref())
+    }
+
+    /// The same join in other areas, longer or shorter, whose words may be anything: what waits and what is held is copied
+    /// to them. Later answers are the same, save that frames may find more room or less. Refused by 6 if the areas are too
+    /// short, by 2 if this is no join. This one stays as it is, with its own areas.
+    ///
+    /// ```
+    /// use rowkeeper::{Frame, Join, Options};
+    ///
+    /// let (mut left, mut right) = ([0; 4], [0; 2]);
+    /// let mut small = Join::with_areas(&Options::default(), &mut left[..], &mut right[..])?;
+    /// small.right(&Frame::of_keys(&[10])?)?;
+    /// let mut large = small.moved(vec![0; 100], vec![0; 100])?;
+    /// large.right(&Frame::of_keys(&[20, 30])?)?;
+    /// assert_eq!((small.held(), large.held()), (1, 3));
+    /// # Ok::<(), Box<dyn std::error::Error>>(())
+    /// ```
+    pub fn moved<B: AsRef<[i64]> + AsMut<[i64]>>(&self, mut left: B, mut right: B) -> Result<Join<B>, Refusal> {
+        let took = safe::move_join(self.join, self.left.as_ref(), self.right.as_ref(), left.as_mut(), right.as_mut());
+        Refusal::of(took.refusal)?;
+        Ok(Join { join: took.join, left, right })
     }
 
     /// Gives the areas back.

@@ -1,14 +1,30 @@
-//! Rowkeeper's as-of join for Rust hosts, over the archive. No dependency.
+//! Rowkeeper's as-of join for Rust hosts, over the archive. No dependency, no std: core and alloc are enough.
 //!
-//! A [`Join`] owns the two areas that it works in, so no call can be lent another join's; frames are made by [`Frame`], so
-//! they keep the frame rule; what a turn wrote is seen through [`Matches`], so nothing else of the output is. Calls that
-//! are refused say why by a [`Refusal`] and change nothing, save that the last two mark the join failed.
+//! [`asof`] joins two tables, each an iterator of frames, to an iterator of matches, and makes all calls itself:
+//!
+//! ```
+//! use rowkeeper::{Frames, Options, asof};
+//!
+//! // Right rows 10, 20, 20, 30; left rows 5, 20, 25: each takes the last right row whose key is not greater.
+//! let (left, right) = (vec![5, 20, 25], vec![10, 20, 20, 30]);
+//! for found in asof(&Options::default(), Frames::of_columns(&[&left])?, Frames::of_columns(&[&right])?)? {
+//!     match found? {
+//!         Some(number) => println!("right row {number}"),
+//!         None => println!("no right row"),
+//!     }
+//! }
+//! # Ok::<(), Box<dyn std::error::Error>>(())
+//! ```
+//!
+//! A host that makes the calls itself has a [`Join`]. It owns the two areas that it works in, so no call can be lent another
+//! join's; frames are made by [`Frame`], so they keep the frame rule; what a turn wrote is seen through [`Matches`], so
+//! nothing else of the output is. Calls that are refused say why by a [`Refusal`] and change nothing, save that
+//! [`Refusal::LeftOrder`] and [`Refusal::RightOrder`] mark the join failed. After [`Refusal::NoRoom`] the areas can grow.
 //!
 //! ```
 //! use rowkeeper::{Frame, Join, Options, Turn};
 //!
-//! // Right rows 10, 20, 20, 30; left rows 5, 20, 25: each takes the last right row whose key is not greater.
-//! let mut join = Join::open(&Options::default(), 64, 64)?;
+//! let mut join = Join::open_rows(&Options::default(), 10, 10)?;
 //! join.right(&Frame::of_keys(&[10, 20, 20, 30])?)?;
 //! join.left(&Frame::of_keys(&[5, 20, 25])?)?;
 //! let mut output = [0; 64];
@@ -22,7 +38,7 @@
 //! ```
 //! use rowkeeper::{Frame, Join, Options, Stop};
 //!
-//! let mut join = Join::open(&Options::default(), 64, 64)?;
+//! let mut join = Join::open_rows(&Options::default(), 10, 10)?;
 //! join.right(&Frame::of_keys(&[10, 20, 20, 30])?)?;
 //! join.left(&Frame::of_keys(&[5, 20])?)?;
 //! join.left(&Frame::of_keys(&[25])?)?;
@@ -48,7 +64,8 @@
 //! # Ok::<(), Box<dyn std::error::Error>>(())
 //! ```
 //!
-//! A join cannot be lent its own area as a frame, and an output cannot be altered while its matches are looked at:
+//! A join cannot be lent its own area as a frame, and neither an output nor a driver can be altered while its matches are
+//! looked at:
 //!
 //! ```compile_fail,E0502
 //! # let mut join = rowkeeper::Join::open(&rowkeeper::Options::default(), 64, 64).unwrap();
@@ -62,15 +79,42 @@
 //! output[0] = 1;
 //! drop(turn);
 //! ```
-use std::fmt;
+//!
+//! ```compile_fail,E0499
+//! # let lefts = [rowkeeper::Frame::of_keys(&[1]).unwrap()];
+//! # let mut joined = rowkeeper::asof(&rowkeeper::Options::default(), &lefts, &lefts).unwrap();
+//! let matches = joined.next_matches();
+//! joined.next();
+//! drop(matches);
+//! ```
+//!
+//! Refusals may come with any version, so a match over them has an arm for others:
+//!
+//! ```compile_fail,E0004
+//! # use rowkeeper::Refusal::*;
+//! fn known(refusal: rowkeeper::Refusal) -> bool {
+//!     match refusal {
+//!         BadOptions | BadJoin | Failed | Closed | BadFrame | NoRoom | UsedUp | LeftOrder | RightOrder | BadPoints => true,
+//!     }
+//! }
+//! ```
+#![no_std]
+#![deny(missing_docs)]
 
+extern crate alloc;
+
+use alloc::vec::Vec;
+use core::{array, fmt};
+
+mod asof;
 mod frame;
 mod join;
 mod numbers;
 pub mod raw;
 mod spans;
 
-pub use frame::{Frame, FrameError};
+pub use asof::{AsOf, asof};
+pub use frame::{Column, Frame, FrameError, Frames};
 pub use join::{Join, Matches, Run, Stop, Turn, Written};
 pub use numbers::{NodeState, Port, Refusal, Strategy};
 pub use spans::{Bounds, Pairs, spans, spans_words};
@@ -78,13 +122,16 @@ pub use spans::{Bounds, Pairs, spans, spans_words};
 /// How a by-column is sorted.
 #[derive(Clone, Copy, Debug, Default, PartialEq, Eq)]
 pub struct ByColumn {
+    /// Whether its numbers descend.
     pub descending: bool,
+    /// Whether its nulls come last.
     pub nulls_last: bool,
 }
 
 /// What a join is opened with.
 #[derive(Clone, Debug, PartialEq, Eq)]
 pub struct Options {
+    /// Which right row a left row takes.
     pub strategy: Strategy,
     /// Whether an equal key matches. Nearest needs it.
     pub allow_eq: bool,
@@ -99,7 +146,7 @@ pub struct Options {
 impl Default for Options {
     /// Backward with equality, any distance, the check on, no by-columns.
     fn default() -> Self {
-        Options { strategy: Strategy::Backward, allow_eq: true, tolerance: None, check: true, by: vec![] }
+        Options { strategy: Strategy::Backward, allow_eq: true, tolerance: None, check: true, by: Vec::new() }
     }
 }
 
@@ -118,8 +165,8 @@ impl Options {
             allow_eq: self.allow_eq as u64,
             tolerance: self.tolerance.map_or(-1, |t| i64::try_from(t).unwrap_or(i64::MIN)),
             check: self.check as u64,
-            descending: std::array::from_fn(|j| flag(j, |by| by.descending)),
-            nulls_last: std::array::from_fn(|j| flag(j, |by| by.nulls_last)),
+            descending: array::from_fn(|j| flag(j, |by| by.descending)),
+            nulls_last: array::from_fn(|j| flag(j, |by| by.nulls_last)),
         }
     }
 }
@@ -127,10 +174,11 @@ impl Options {
 impl Refusal {
     /// The refusal of a number, or none if the call was not refused.
     fn of(number: u64) -> Result<(), Refusal> {
-        match Refusal::ALL.into_iter().find(|refusal| number == refusal.number().into()) {
-            Some(refusal) => Err(refusal),
-            None => Ok(assert_eq!(number, 0, "the library has a refusal that this version does not know")),
+        if number == 0 {
+            return Ok(());
         }
+        let known = Refusal::ALL.into_iter().find(|refusal| number == refusal.number().into());
+        Err(known.expect("the library has a refusal that this version does not know"))
     }
 
     /// Its number.
@@ -146,12 +194,15 @@ impl fmt::Display for Refusal {
     }
 }
 
-impl std::error::Error for Refusal {}
+impl core::error::Error for Refusal {}
 
 /// The three ports of the node.
 #[derive(Clone, Copy, Debug, PartialEq, Eq)]
 pub struct Ports {
+    /// Where left frames come in.
     pub left: Port,
+    /// Where right frames come in.
     pub right: Port,
+    /// Where matches go out.
     pub send: Port,
 }

@@ -11,6 +11,8 @@ pub const MOST_ROWS: usize = 4096;
 pub const MOST_BY: usize = 4;
 /// Options.tolerance if any distance will do.
 pub const NO_TOLERANCE: i64 = -1;
+/// Join.layout: the bytes "rowkeep" from the highest down, then the layout's version, 1.
+pub const LAYOUT: u64 = 0x726f776b65657001;
 /// The last row whose key is not greater.
 pub const BACKWARD: u64 = 0;
 /// The first row whose key is not smaller.
@@ -72,10 +74,12 @@ pub struct Row {
     pub marks: [i64; 5],
 }
 
-/// A join: 44 words, no padding. A host may read every field and need not.
+/// A join: 45 words, no padding. A host may read every field and need not.
 #[repr(C)]
 #[derive(Clone, Copy, Debug, Default, PartialEq, Eq)]
 pub struct Join {
+    /// LAYOUT.
+    pub layout: u64,
     /// What it was opened with.
     pub options: Options,
     /// The place of the first held row in the right area, in rows.
@@ -169,7 +173,7 @@ pub struct Written {
 }
 
 /// How many words a join is.
-pub const JOIN_WORDS: usize = 44;
+pub const JOIN_WORDS: usize = 45;
 const _: () = assert!(size_of::<Join>() == 8 * JOIN_WORDS && align_of::<Join>() == 8 && size_of::<usize>() == 8);
 // ---- tools/interface: end of structs
 
@@ -177,13 +181,13 @@ impl Join {
     /// The join's words, in the order of the fields.
     pub fn to_words(self) -> [i64; JOIN_WORDS] {
         // SAFETY: the struct is fields of 64 bits without padding, and any bits are a word.
-        unsafe { std::mem::transmute(self) }
+        unsafe { core::mem::transmute(self) }
     }
 
     /// The join of these words. Any words make one: calls judge it.
     pub fn from_words(words: [i64; JOIN_WORDS]) -> Join {
         // SAFETY: as above; any bits are a field.
-        unsafe { std::mem::transmute(words) }
+        unsafe { core::mem::transmute(words) }
     }
 }
 
@@ -218,6 +222,18 @@ unsafe extern "C" {
         left_len: usize,
         right: *const i64,
         right_len: usize,
+    ) -> Took;
+    /// Takes the join, with what waits and what is held, to other areas, of any lengths.
+    pub fn rowkeeper_move(
+        join: Join,
+        left: *const i64,
+        left_len: usize,
+        right: *const i64,
+        right_len: usize,
+        new_left: *mut i64,
+        new_left_len: usize,
+        new_right: *mut i64,
+        new_right_len: usize,
     ) -> Took;
     /// Moves the node on, for hosts that run it in a pipeline; this is also how left ends.
     pub fn rowkeeper_ports(
@@ -262,6 +278,8 @@ unsafe extern "C" {
         out: *mut i64,
         out_words: usize,
     ) -> Written;
+    /// The version of the library, to compare with VERSION_NUMBER. Safe: it is lent nothing.
+    pub safe fn rowkeeper_version() -> u64;
 }
 // ---- tools/interface: end of calls
 
@@ -308,6 +326,24 @@ pub mod safe {
     pub fn end_right(join: Join, left: &[i64], right: &[i64]) -> Took {
         // SAFETY: see the module.
         unsafe { rowkeeper_end_right(join, left.as_ptr(), left.len(), right.as_ptr(), right.len()) }
+    }
+
+    /// Takes the join, with what waits and what is held, to other areas, of any lengths.
+    pub fn move_join(join: Join, left: &[i64], right: &[i64], new_left: &mut [i64], new_right: &mut [i64]) -> Took {
+        // SAFETY: see the module.
+        unsafe {
+            rowkeeper_move(
+                join,
+                left.as_ptr(),
+                left.len(),
+                right.as_ptr(),
+                right.len(),
+                new_left.as_mut_ptr(),
+                new_left.len(),
+                new_right.as_mut_ptr(),
+                new_right.len(),
+            )
+        }
     }
 
     /// Moves the node on, for hosts that run it in a pipeline; this is also how left ends.

@@ -5,7 +5,9 @@ use crate::raw::safe;
 /// Whether each bound of an interval is itself inside.
 #[derive(Clone, Copy, Debug, PartialEq, Eq)]
 pub struct Bounds {
+    /// Whether the lower one is.
     pub lower_inclusive: bool,
+    /// Whether the upper one is.
     pub upper_inclusive: bool,
 }
 

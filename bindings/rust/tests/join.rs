@@ -1,4 +1,4 @@
-//! The wrapper over the archive: the worked cases, every refusal, any cut, runs, keeping a join, and threads.
+//! The wrapper over the archive: the worked cases, every refusal, any cut, runs, keeping a join, areas that grow, threads.
 use rowkeeper::{ByColumn, Frame, Join, NodeState, Options, Port, Ports, Refusal, Run, Stop, Strategy, Turn, raw};
 
 type Row = [Option<i64>; 2];
@@ -107,6 +107,13 @@ fn bad_options() {
     assert!(Join::open(&most, 0, 0).is_ok());
 }
 
+/// The library is of the version that the wrapper is for, and an opened join has its layout.
+#[test]
+fn version() {
+    assert_eq!(raw::rowkeeper_version(), raw::VERSION_NUMBER);
+    assert_eq!(Join::open(&Options::default(), 0, 0).unwrap().parts().0.layout, raw::LAYOUT);
+}
+
 /// A join as it is with one thing altered.
 fn altered(join: &Join, alter: impl Fn(&mut raw::Join)) -> Join {
     let (mut words, left, right) = join.parts();
@@ -120,6 +127,7 @@ fn refusals() {
     let mut join = Join::open(&Options::default(), 10, 4).unwrap();
     join.right(&keys(&[1, 2])).unwrap();
     let odd = altered(&join, |j| j.sequence = 1);
+    let other = altered(&join, |j| j.layout = raw::LAYOUT + 1);
     let strange = altered(&join, |j| j.state = 7);
     assert_eq!(strange.state(), None);
     let failed = altered(&join, |j| j.failed = 1);
@@ -128,6 +136,7 @@ fn refusals() {
     let frame = keys(&[3]);
     let cases = [
         (odd, Refusal::BadJoin),
+        (other, Refusal::BadJoin),
         (strange, Refusal::BadJoin),
         (failed, Refusal::Failed),
         (done, Refusal::Closed),
@@ -172,17 +181,6 @@ fn numbers() {
     }
 }
 
-/// Rows that make no frame.
-#[test]
-fn no_frames() {
-    use rowkeeper::FrameError::*;
-    assert_eq!(Frame::of_keys(&vec![1; 4097]).unwrap_err(), TooManyRows);
-    assert_eq!(Frame::of_keys(&vec![1; 4096]).unwrap().len(), 2 + 2 * 4096);
-    assert_eq!(Frame::new(2, &[vec![Some(1), None], vec![None]]).unwrap_err(), OtherColumns);
-    assert_eq!(Frame::new(2, &[[Some(1), None]]).unwrap()[..], [1, 2, 1, 0, 1, 0]);
-    assert_eq!(Frame::new::<Row>(2, &[]).unwrap()[..], [0, 2]);
-}
-
 /// A sorted table of one group column and a key, some of them null.
 fn table(r: &mut Random) -> Vec<Row> {
     let count = r.below(30);
@@ -202,8 +200,7 @@ fn whole_table(left: &[Row], right: &[Row]) -> Vec<Option<u64>> {
 fn join_cut(r: &mut Random, left: &[Row], right: &[Row]) -> Vec<Option<u64>> {
     let options = Options { by: vec![ByColumn::default()], ..Options::default() };
     let (mut left_rest, mut right_rest, mut out) = (left, right, vec![]);
-    let room = Join::right_words(&options, right.len());
-    let mut join = Join::open(&options, Join::left_words(&options, 1, 5), room).unwrap();
+    let mut join = Join::open_rows(&options, 5, r.below(9) as usize).unwrap();
     let mut output = vec![0; Join::output_words(5)];
     loop {
         match join.turn(&mut output).unwrap() {
@@ -211,7 +208,11 @@ fn join_cut(r: &mut Random, left: &[Row], right: &[Row]) -> Vec<Option<u64>> {
             Turn::WantsRight if right_rest.is_empty() => join.end_right().unwrap(),
             Turn::WantsRight => {
                 let (frame, rest) = right_rest.split_at((1 + r.below(6) as usize).min(right_rest.len()));
-                join.right(&Frame::new(2, frame).unwrap()).unwrap();
+                let frame = Frame::new(2, frame).unwrap();
+                if join.right(&frame) == Err(Refusal::NoRoom) {
+                    join.grow_right(join.held() as usize + frame[0] as usize).unwrap();
+                    join.right(&frame).unwrap();
+                }
                 right_rest = rest;
             },
             Turn::Idle if left_rest.is_empty() => return out,
@@ -226,10 +227,14 @@ fn join_cut(r: &mut Random, left: &[Row], right: &[Row]) -> Vec<Option<u64>> {
             let words = raw::Join::from_words(words.to_words());
             join = Join::from_parts(words, left.to_vec(), right.to_vec());
         }
+        if r.below(4) == 0 {
+            let mut more = |area: &[i64]| vec![-1; area.len() + r.below(9) as usize];
+            join = join.moved(more(join.left_area()), more(join.right_area())).unwrap();
+        }
     }
 }
 
-/// No cutting into frames changes a match, and a join that was kept in words goes on.
+/// No cutting into frames changes a match; a join that was kept in words, moved to other areas, or grown goes on.
 #[test]
 fn any_cut() {
     let r = &mut Random(1);
@@ -245,7 +250,8 @@ fn any_cut() {
 
 /// What a run wrote: the number of each frame, and its matches.
 fn written(run: &Run) -> Vec<(u64, Vec<Option<u64>>)> {
-    assert_eq!((run.written.len(), run.written.is_empty()), (run.written.iter().count(), run.written.len() == 0));
+    assert_eq!(run.written.len(), run.written.iter().count());
+    assert_eq!(run.written.is_empty(), run.written.iter().next().is_none());
     run.written.iter().map(|(sequence, matches)| (sequence, matches.iter().collect())).collect()
 }
 
@@ -349,6 +355,107 @@ fn runs_are_turns() {
         assert_eq!((join.parts(), output), (one.parts(), other));
     }
     assert!(several > 50 && short > 5, "{several} runs of several turns, {short} cut short");
+}
+
+/// A join that holds rows and has frames waiting, neither from the front of its area on: right 10 to 80 with the first three
+/// dropped, left 35, 45, 95 waiting behind one that is written.
+fn in_the_middle() -> Join {
+    let mut join = Join::open_rows(&Options::default(), 8, 9).unwrap();
+    join.right(&keys(&[10, 20, 30, 40, 50, 60, 70, 80])).unwrap();
+    [&[35][..], &[45], &[95, 96]].into_iter().for_each(|left| join.left(&keys(left)).unwrap());
+    assert_eq!(turn(&mut join), Some(vec![Some(2)]));
+    let words = join.parts().0;
+    assert!(words.base > 0 && words.queue_start > 0 && words.held > 3, "{words:?}");
+    join
+}
+
+/// What a join still writes, right ended: the matches of all frames that wait.
+fn rest<A: AsRef<[i64]> + AsMut<[i64]>>(mut join: Join<A>) -> Vec<Vec<Option<u64>>> {
+    join.end_right().unwrap();
+    std::iter::from_fn(|| turn(&mut join)).collect()
+}
+
+/// Areas that grow keep what waits and what is held, have the room that was asked for, and never get shorter.
+#[test]
+fn grows() {
+    let due = [vec![Some(3)], vec![Some(7), Some(7)]];
+    let join = in_the_middle();
+    assert_eq!(rest(join.clone()), due);
+    for (left, right) in [(0, 0), (33, 0), (0, 10), (1000, 1000), (32, 9)] {
+        let mut grown = join.clone();
+        grown.grow_left(left).unwrap();
+        grown.grow_right(right).unwrap();
+        assert_eq!((grown.left_area().len(), grown.right_area().len()), (left.max(32), right.max(9) * 2));
+        assert_eq!(
+            (grown.held(), grown.pruned(), grown.waiting_words()),
+            (join.held(), join.pruned(), join.waiting_words())
+        );
+        assert_eq!((left > 32 || right > 9) as u64, (grown.parts().0.base == 0) as u64);
+        assert_eq!(rest(grown), due);
+    }
+    let (mut full, frame) = (in_the_middle(), keys(&[90, 100, 110, 120]));
+    assert_eq!(full.right(&frame), Err(Refusal::NoRoom));
+    full.grow_right(full.held() as usize + 4).unwrap();
+    full.right(&frame).unwrap();
+    assert_eq!(rest(full), [vec![Some(3)], vec![Some(8), Some(8)]]);
+    let (mut full, frame) = (in_the_middle(), keys(&[97; 20]));
+    assert_eq!(full.left(&frame), Err(Refusal::NoRoom));
+    full.grow_left(full.waiting_words() as usize + frame.len()).unwrap();
+    full.left(&frame).unwrap();
+    assert_eq!(rest(full).len(), 3);
+}
+
+/// With by-columns an area has fewer rows; growing counts in rows.
+#[test]
+fn grows_by_rows() {
+    for by in 0..=4 {
+        let options = Options { by: vec![ByColumn::default(); by], ..Options::default() };
+        let mut join = Join::open(&options, 0, 0).unwrap();
+        let row = vec![Some(1); by + 1];
+        for rows in 1..5 {
+            join.grow_right(rows).unwrap();
+            assert_eq!(join.right_area().len(), 2 * rows * (by + 1));
+            join.right(&Frame::new(by + 1, &[&row]).unwrap()).unwrap();
+        }
+        assert_eq!(join.right(&Frame::new(by + 1, &[&row]).unwrap()), Err(Refusal::NoRoom));
+        let most = Join::open_rows(&options, 3, 2).unwrap();
+        assert_eq!((most.left_area().len(), most.right_area().len()), (3 * (2 + 2 * (by + 1)), 2 * 2 * (by + 1)));
+    }
+}
+
+/// A join in areas of another kind, longer or as short as can be; shorter ones are refused, and joins that are none.
+#[test]
+fn moves() {
+    let join = in_the_middle();
+    let (waiting, held) = (join.waiting_words() as usize, 2 * join.held() as usize);
+    for (left, right) in [(waiting, held), (waiting + 1, held + 1), (waiting + 70, held + 70)] {
+        let (mut left, mut right) = (vec![-1; left], vec![-1; right]);
+        let moved = join.moved(&mut left[..], &mut right[..]).unwrap();
+        assert_eq!((moved.parts().0.base, moved.parts().0.queue_start), (0, 0));
+        assert_eq!(rest(moved), rest(join.clone()));
+    }
+    for (left, right) in [(waiting - 1, held), (waiting, held - 1), (0, 0)] {
+        assert_eq!(join.moved(vec![-1; left], vec![-1; right]).unwrap_err(), Refusal::NoRoom);
+    }
+    let mut failed = altered(&join, |j| j.failed = 1);
+    failed.grow_left(100).unwrap();
+    assert_eq!((failed.failed(), failed.left_area().len()), (true, 100));
+    let alterations: [fn(&mut raw::Join); 6] = [
+        |j| j.base = u64::MAX,
+        |j| j.queue_start = 1 << 63,
+        |j| j.held = 10,
+        |j| j.options.by = u64::MAX,
+        |j| j.sequence = 1,
+        |j| j.state = 3,
+    ];
+    for alter in alterations {
+        let mut strange = altered(&join, alter);
+        let before = strange.clone();
+        assert_eq!(strange.grow_right(100), Err(Refusal::BadJoin));
+        assert_eq!(strange.grow_left(100), Err(Refusal::BadJoin));
+        assert_eq!(strange.moved([0; 99], [0; 99]).unwrap_err(), Refusal::BadJoin);
+        assert_eq!(strange.parts(), before.parts());
+    }
 }
 
 /// Areas that are lent, and joins on several threads at once.

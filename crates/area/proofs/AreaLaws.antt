@@ -17,13 +17,14 @@ use mir.Syntax.{w64}
 use mir.Val.{toZ, ofZ}
 use Rattle.frames.specs.Cells.{Words}
 use Rattle.frames.specs.Frame.{rowCount, valuesIn, marksIn}
-use Rattle.frames.specs.Room.{HasCount, RowsIn}
-use Rattle.frames.specs.declared.Options.{Options}
+use Rattle.order.specs.Requires.{RowsIn}
+use Rattle.frames.specs.Front.{HasCount}
+use Rattle.options.specs.declared.Options.{Options}
 use Rattle.frames.proofs.Signed.{back}
 use Rattle.frames.proofs.FrameLaws.{frame-length, values-length, marks-length}
 use Rattle.frames.proofs.FrontLaws.{frame-parts}
 use Rattle.area.specs.Area.{capacity, moved, written, newBase, movedRows, pushed}
-use Rattle.area.specs.Room.{Appended, BothIn, AppendedBoth, PushIn, Pushed}
+use Rattle.area.specs.Requires.{Appended, BothIn, AppendedBoth, PushIn, Pushed}
 use Rattle.area.proofs.PushLaws.{capacity-room, newBase-room, moved-length, append-length}
 
 -- ---- one word more, as a loop goes

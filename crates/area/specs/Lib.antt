@@ -1,2 +1,2 @@
 pub mod Area
-pub mod Room
+pub mod Requires

@@ -4,7 +4,7 @@ ghost use mathlib.Core.Path.{_≡_};
 ghost use Prim.Native.Nat.{_+_, _*_};
 ghost use lib.ListN.{length, drop};
 ghost use Rattle.area.specs.Area.{capacity, moved, written};
-ghost use Rattle.area.specs.Room.{Columns, BaseIn, WordsIn, AppendIn, Appended, BothIn, AppendedBoth, PushIn, Pushed};
+ghost use Rattle.area.specs.Requires.{Columns, BaseIn, WordsIn, AppendIn, Appended, BothIn, AppendedBoth, PushIn, Pushed};
 
 // Right capacity R: how many rows of c columns the area has room for, values and marks.
 pub(crate) fn capacity(area: &[i64], c: usize) -> usize

@@ -3,9 +3,9 @@ use mathlib.Core.Path.{_≡_}
 use mathlib.Core.Bool.{true, false}
 use mathlib.Core.List.{List, map}
 use Rattle.frames.specs.Cells.{Rows, Words}
-use Rattle.frames.specs.Options.{badOptions}
-use Rattle.frames.specs.Order.{sorted}
-use Rattle.frames.specs.declared.Options.{Options}
+use Rattle.options.specs.Options.{badOptions}
+use Rattle.order.specs.Order.{sorted}
+use Rattle.options.specs.declared.Options.{Options}
 use Rattle.matching.specs.Match.{wholeTable}
 use Rattle.lists.specs.Lists.{Call}
 use Rattle.lists.specs.WholeTables.{lefts, rights, turnedRows, matches, asWritten, Correct, Each}

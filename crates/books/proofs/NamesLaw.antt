@@ -10,9 +10,9 @@ use lib.Dec.{eqb}
 use lib.ListN.{length, drop, getD, length-drop}
 use lib.Seq.{getD-drop}
 use Rattle.frames.specs.Cells.{Cell, Rows}
-use Rattle.frames.specs.Order.{cmpRow, isEqual}
-use Rattle.frames.specs.declared.Options.{Options}
-use Rattle.frames.proofs.OrderLaws.{cmpRow-is}
+use Rattle.order.specs.Order.{cmpRow, isEqual}
+use Rattle.options.specs.declared.Options.{Options}
+use Rattle.order.proofs.OrderLaws.{cmpRow-is}
 use Rattle.books.specs.Standing.{corrects, corrected, lastOf, LastIs, namedBy, NamesLast}
 
 module _ (o : Options) (r : List Cell) where

@@ -5,12 +5,12 @@ use mathlib.Core.Bool.{Bool, true, false, cond, _||_}
 use mathlib.Core.List.{List, [], _∷_}
 use Prim.Native.Nat.{ℕ, suc}
 use Rattle.frames.specs.Cells.{Cell, Rows}
-use Rattle.frames.specs.Order.{cmpRow, isEqual}
-use Rattle.frames.specs.declared.Options.{Options}
-use Rattle.frames.specs.declared.Order.{Order}
-use Rattle.frames.specs.declared.Order.the-variants.{Less, Equal, Greater}
-use Rattle.frames.proofs.OrderLaws.{AtMost, cmpRow-is, same-right, at-most-equal, equal-at-most, equal-flip, at-most}
-use Rattle.frames.proofs.SortedLaws.{All, Ordered}
+use Rattle.order.specs.Order.{cmpRow, isEqual}
+use Rattle.options.specs.declared.Options.{Options}
+use Rattle.order.specs.declared.Order.{Order}
+use Rattle.order.specs.declared.Order.the-variants.{Less, Equal, Greater}
+use Rattle.order.proofs.OrderLaws.{AtMost, cmpRow-is, same-right, at-most-equal, equal-at-most, equal-flip, at-most}
+use Rattle.order.proofs.SortedLaws.{All, Ordered}
 use Rattle.matching.proofs.MayLaws.{is-false, never}
 use Rattle.books.specs.Standing.{corrects, corrected, lastOf}
 

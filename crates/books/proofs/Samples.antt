@@ -6,16 +6,17 @@ use Prim.Native.Nat.{ℕ}
 use lib.Dec.{ltb}
 use lib.IntN.{pos, negsuc}
 use Rattle.frames.specs.Cells.{Cell, null, value, cell, Rows, Words, rowsOf, cellsOf}
-use Rattle.frames.specs.Frame.{frameRows, pairsFine}
-use Rattle.frames.specs.Options.{badOptions}
-use Rattle.frames.specs.Order.{cmpRow, cmpFirst, nullIn, sorted}
-use Rattle.frames.specs.declared.Options.{Options}
-use Rattle.frames.proofs.Samples.{options, row, frameOf}
+use Rattle.frames.specs.Frame.{frameRows, pairsFine, isTable}
+use Rattle.options.specs.Options.{badOptions}
+use Rattle.order.specs.Order.{cmpRow, cmpFirst, nullIn, sorted}
+use Rattle.options.specs.declared.Options.{Options}
+use Rattle.order.proofs.Samples.{options, row, frameOf}
 use Rattle.matching.specs.Match.{wholeTable, matchTable, choose, tolerate, fits, takesOver}
 use Rattle.matching.specs.declared.Choice.the-variants.{Row, Nothing}
-use Rattle.tables.specs.Setting.{Setting, allKnown, number}
-use Rattle.tables.specs.Table.{isTable, wordsOf, tableOf, laid, After}
-use Rattle.tables.specs.declared.Refusal.the-variants.{BadOptions, TooManyCarried, BadRanks, BadTable, UnknownCode, BadColumns, Unsorted, NoRoom}
+use Rattle.tables.specs.Setting.{Setting, allKnown}
+use Rattle.refusals.specs.Refusals.{number}
+use Rattle.tables.specs.Table.{wordsOf, tableOf, laid, After}
+use Rattle.refusals.specs.declared.Refusal.the-variants.{BadOptions, TooManyCarried, BadRanks, BadFrame, UnknownCode, BadColumns, Unsorted, NoRoom}
 use Rattle.tables.specs.declared.Written.{Written}
 use Rattle.tables.specs.declared.Written.the-variants.{Rows as Wrote, Refused}
 use Rattle.books.specs.Merge.{merge}
@@ -72,7 +73,7 @@ answers =
     ∷ mergeAnswer (with 0) (frameOf 2 []) (frameOf 2 (row (1 ∷ 9 ∷ []) ∷ [])) (pos 0 ∷ pos 0 ∷ pos 0 ∷ pos 0 ∷ pos 0 ∷ [])
     ∷ []
 
-pub merge-refusals : answers ≡ Refused TooManyCarried ∷ Refused BadTable ∷ Refused UnknownCode ∷ Refused Unsorted ∷ Refused NoRoom ∷ []
+pub merge-refusals : answers ≡ Refused TooManyCarried ∷ Refused BadFrame ∷ Refused UnknownCode ∷ Refused Unsorted ∷ Refused NoRoom ∷ []
 unfolding mergeAnswer badOptions isTable pairsFine frameRows rowsOf cellsOf allKnown sorted merge cmpRow cmpFirst
 merge-refusals = refl
 

@@ -11,16 +11,16 @@ use lib.Dec.{ltb, eqb}
 use lib.ListN.{length, getD, length-append}
 use lib.Seq.{getD-append-seam}
 use Rattle.frames.specs.Cells.{Cell, Rows}
-use Rattle.frames.specs.Options.{strategyOf, keyRule}
-use Rattle.frames.specs.Order.{cmpRow, cmpGroup, cmpCell, isEqual, keyOf, nullKey, nullGroup, distance}
-use Rattle.frames.specs.declared.Options.{Options}
-use Rattle.frames.specs.declared.Order.{Order}
-use Rattle.frames.specs.declared.Order.the-variants.{Less, Equal, Greater}
-use Rattle.frames.specs.declared.Strategy.{Strategy}
-use Rattle.frames.specs.declared.Strategy.the-variants.{Backward, Forward, Nearest}
-use Rattle.frames.proofs.OrderLaws.{cmpCell-is, cmpGroup-is, row-equal}
-use Rattle.frames.proofs.SortedLaws.{and-true}
-use Rattle.frames.proofs.KeyLaws.{null-group}
+use Rattle.options.specs.Options.{strategyOf, keyRule}
+use Rattle.order.specs.Order.{cmpRow, cmpGroup, cmpCell, isEqual, keyOf, nullKey, nullGroup, distance}
+use Rattle.options.specs.declared.Options.{Options}
+use Rattle.order.specs.declared.Order.{Order}
+use Rattle.order.specs.declared.Order.the-variants.{Less, Equal, Greater}
+use Rattle.options.specs.declared.Strategy.{Strategy}
+use Rattle.options.specs.declared.Strategy.the-variants.{Backward, Forward, Nearest}
+use Rattle.order.proofs.OrderLaws.{cmpCell-is, cmpGroup-is, row-equal}
+use Rattle.frames.proofs.BoolLaws.{and-true}
+use Rattle.order.proofs.KeyLaws.{null-group}
 use Rattle.matching.specs.Match.{Hit, nobody, hit, onSide, fits, takesOver, meet, choose, tooFar, tolerate, matchTable, wholeTable}
 use Rattle.matching.specs.declared.Choice.{Choice}
 use Rattle.matching.specs.declared.Choice.the-variants.{Row, Nothing}

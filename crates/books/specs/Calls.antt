@@ -4,11 +4,11 @@ use Prim.Native.Nat.{ℕ, _+_}
 use lib.Dec.{ltb}
 use lib.ListN.{length}
 use Rattle.frames.specs.Cells.{Rows, Words}
-use Rattle.frames.specs.Frame.{frameWords}
-use Rattle.frames.specs.Order.{sorted}
+use Rattle.frames.specs.Frame.{frameWords, isTable}
+use Rattle.order.specs.Order.{sorted}
 use Rattle.tables.specs.Setting.{Setting, rightWidth, unless, allKnown}
-use Rattle.tables.specs.Table.{isTable, tableRows, After, leave}
-use Rattle.tables.specs.declared.Refusal.the-variants.{BadTable, UnknownCode, BadColumns, Unsorted, NoRoom}
+use Rattle.tables.specs.Table.{tableRows, After, leave}
+use Rattle.refusals.specs.declared.Refusal.the-variants.{BadFrame, UnknownCode, BadColumns, Unsorted, NoRoom}
 use Rattle.tables.specs.declared.Written.{Written}
 use Rattle.tables.specs.declared.Written.the-variants.{Rows as Wrote, Refused}
 use Rattle.books.specs.Merge.{merge}
@@ -26,7 +26,7 @@ rowsIn s t = tableRows (rightWidth s) t
 unfoldable pub mergeAnswer : Setting → Words → Words → Words → Written
 mergeAnswer s house festival out =
     unless s
-    (cond (not (fineTable s house && fineTable s festival)) (Refused BadTable)
+    (cond (not (fineTable s house && fineTable s festival)) (Refused BadFrame)
     (cond (not (allKnown s (rowsIn s house) && allKnown s (rowsIn s festival))) (Refused UnknownCode)
     (cond (not (sorted (s .options) (rowsIn s house) && sorted (s .options) (rowsIn s festival))) (Refused Unsorted)
     (cond (ltb (length out) (frameWords (length (rowsIn s house) + length (rowsIn s festival)) (rightWidth s))) (Refused NoRoom)
@@ -41,7 +41,7 @@ mergeCall s house festival out =
 unfoldable pub standAnswer : Setting → ℕ → Words → Words → Written
 standAnswer s q book out =
     unless s
-    (cond (not (fineTable s book)) (Refused BadTable)
+    (cond (not (fineTable s book)) (Refused BadFrame)
     (cond (not (allKnown s (rowsIn s book))) (Refused UnknownCode)
     (cond (not (ltb q (s .carried))) (Refused BadColumns)
     (cond (not (sorted (s .options) (rowsIn s book))) (Refused Unsorted)

@@ -1,4 +1,4 @@
 pub mod Merge
 pub mod Standing
 pub mod Calls
-pub mod Room
+pub mod Requires

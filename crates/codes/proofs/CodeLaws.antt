@@ -6,13 +6,13 @@ use Prim.Native.Nat.{ℕ, zero, suc}
 use native.Mathlib.Omega.{arith}
 use borrow.Author.Tests.{ltb-true}
 use lib.ListN.{length, getD}
-use Rattle.frames.specs.declared.Check.{Check}
-use Rattle.frames.specs.declared.Check.the-variants.{Off, On}
-use Rattle.answers.specs.Answers.{stateCode, portCode}
-use Rattle.answers.specs.declared.NodeState.{NodeState}
-use Rattle.answers.specs.declared.NodeState.the-variants.{Running, Flush, Done}
-use Rattle.answers.specs.declared.PortState.{PortState}
-use Rattle.answers.specs.declared.PortState.the-variants.{Blocked, Ready, Done as PortDone}
+use Rattle.options.specs.declared.Check.{Check}
+use Rattle.options.specs.declared.Check.the-variants.{Off, On}
+use Rattle.outcomes.specs.Answers.{stateCode, portCode}
+use Rattle.outcomes.specs.declared.NodeState.{NodeState}
+use Rattle.outcomes.specs.declared.NodeState.the-variants.{Running, Flush, Done}
+use Rattle.outcomes.specs.declared.PortState.{PortState}
+use Rattle.outcomes.specs.declared.PortState.the-variants.{Blocked, Ready, Done as PortDone}
 use Rattle.codes.specs.Codes.{isFlag, flagOf, flagCode, areFlags, flagsOf, flagCodes, checkOf, checkCode, isCode, stateOf, portOf}
 
 -- Of two tests that both hold each does.

@@ -3,17 +3,17 @@ use mathlib.Core.Bool.{Bool, true, cond, _&&_}
 use mathlib.Core.List.{List, [], _∷_}
 use Prim.Native.Nat.{ℕ}
 use lib.Dec.{ltb, eqb}
-use Rattle.frames.specs.declared.Check.{Check}
-use Rattle.frames.specs.declared.Check.the-variants.{Off, On}
-use Rattle.answers.specs.Answers.{number}
-use Rattle.answers.specs.declared.NodeState.{NodeState}
-use Rattle.answers.specs.declared.NodeState.the-variants.{Running, Flush, Done}
-use Rattle.answers.specs.declared.PortState.{PortState}
-use Rattle.answers.specs.declared.PortState.the-variants.{Blocked, Ready, Done as PortDone}
-use Rattle.answers.specs.declared.Stop.{Stop}
-use Rattle.answers.specs.declared.Stop.the-variants.{Used, WantsRight, Idle, Refused as StopRefused}
-use Rattle.answers.specs.declared.Took.{Took}
-use Rattle.answers.specs.declared.Took.the-variants.{Accepted, Refused}
+use Rattle.options.specs.declared.Check.{Check}
+use Rattle.options.specs.declared.Check.the-variants.{Off, On}
+use Rattle.refusals.specs.Refusals.{number}
+use Rattle.outcomes.specs.declared.NodeState.{NodeState}
+use Rattle.outcomes.specs.declared.NodeState.the-variants.{Running, Flush, Done}
+use Rattle.outcomes.specs.declared.PortState.{PortState}
+use Rattle.outcomes.specs.declared.PortState.the-variants.{Blocked, Ready, Done as PortDone}
+use Rattle.outcomes.specs.declared.Stop.{Stop}
+use Rattle.outcomes.specs.declared.Stop.the-variants.{Used, WantsRight, Idle, Refused as StopRefused}
+use Rattle.outcomes.specs.declared.Took.{Took}
+use Rattle.outcomes.specs.declared.Took.the-variants.{Accepted, Refused}
 
 -- A flag is 0 or 1.
 abbrev pub isFlag : ℕ → Bool

@@ -1,13 +1,14 @@
 // Flags, states, ports and refusals as numbers.
-use answers::NodeState;
-use answers::PortState;
-use answers::Refusal;
-use answers::Stop;
-use answers::Took;
-use frames::Check;
+use options::Check;
+use outcomes::NodeState;
+use outcomes::PortState;
+use outcomes::Stop;
+use outcomes::Took;
+use refusals::number_of;
 ghost use mathlib.Core.Path.{_≡_};
 ghost use mathlib.Core.Bool.{_&&_};
-ghost use Rattle.answers.specs.Answers.{number, stateCode, portCode};
+ghost use Rattle.outcomes.specs.Answers.{stateCode, portCode};
+ghost use Rattle.refusals.specs.Refusals.{number};
 ghost use Rattle.codes.specs.Codes.{isFlag, flagOf, flagCode, areFlags, flagsOf, flagCodes, checkOf, checkCode, isCode, stateOf, portOf, tookCode, stopCode, stopRefusal};
 
 // Whether two tests hold.
@@ -144,23 +145,6 @@ pub fn port_code(s: PortState) -> u64
         PortState::Blocked => 0,
         PortState::Ready => 1,
         PortState::Done => 2,
-    }
-}
-
-// The number of a refusal.
-pub fn number_of(n: Refusal) -> u64
-    ensures { λ r. ⌜ r ≡ number n ⌝ }
-{
-    match n {
-        Refusal::BadOptions => 1,
-        Refusal::BadJoin => 2,
-        Refusal::Failed => 3,
-        Refusal::Closed => 4,
-        Refusal::BadFrame => 5,
-        Refusal::NoRoom => 6,
-        Refusal::UsedUp => 7,
-        Refusal::LeftOrder => 8,
-        Refusal::RightOrder => 9,
     }
 }
 

@@ -4,13 +4,13 @@ use mathlib.Core.Bool.{Bool, true, false, cond, _&&_}
 use mathlib.Core.Option.{none, some}
 use Prim.Native.Nat.{ℕ, _<_}
 use native.Mathlib.Omega.{arith}
-use borrow.Author.Tests.{ltb-true, lt-ltb}
-use lib.Dec.{ltb}
-use Rattle.frames.specs.declared.Options.{Options}
-use Rattle.frames.specs.declared.Row.{Row}
+use borrow.Author.Tests.{ltb-true, lt-ltb, eqb-true}
+use lib.Dec.{ltb, eqb}
+use Rattle.options.specs.declared.Options.{Options}
+use Rattle.order.specs.declared.Row.{Row}
 use Rattle.node.specs.declared.Join.{Join}
 use Rattle.codes.specs.Codes.{isFlag, areFlags, isCode}
-use Rattle.convert.specs.Convert.{isOptions, optionsOf, encodeOptions, decodeOptions, rowOf, encodeRow, isJoin, joinOf, encode, decode, ThereAndBack}
+use Rattle.convert.specs.Convert.{layoutNow, isOptions, optionsOf, encodeOptions, decodeOptions, rowOf, encodeRow, isJoin, joinOf, encode, decode, ThereAndBack}
 use Rattle.convert.specs.declared.HostOptions.{HostOptions}
 use Rattle.convert.specs.declared.HostRow.{HostRow}
 use Rattle.convert.specs.declared.HostJoin.{HostJoin}
@@ -55,6 +55,7 @@ row-numbers h e = rw (flag-there (h .some) e)
 
 -- ---- the join
 pub record JoinParts (h : HostJoin) : Type 0 where
+  pub layout : h .layout ≡ layoutNow
   pub options : isOptions (h .options) ≡ true
   pub state : isCode (h .state) ≡ true
   pub ended : isFlag (h .«right_ended») ≡ true
@@ -67,12 +68,13 @@ unfolding isJoin
 join-parts h e =
     let flags = isFlag (h .«right_ended») && isFlag (h .failed) in
     let rows = isFlag (h .«last_left» .some) && isFlag (h .«last_right» .some) in
-    let p = and-both (isOptions (h .options) && isCode (h .state)) (flags && rows) e in
+    let l = and-both (eqb (h .layout) layoutNow) ((isOptions (h .options) && isCode (h .state)) && (flags && rows)) e in
+    let p = and-both (isOptions (h .options) && isCode (h .state)) (flags && rows) (l .1) in
     let q = and-both (isOptions (h .options)) (isCode (h .state)) (p .0) in
     let r = and-both flags rows (p .1) in
     let f = and-both (isFlag (h .«right_ended»)) (isFlag (h .failed)) (r .0) in
     let s = and-both (isFlag (h .«last_left» .some)) (isFlag (h .«last_right» .some)) (r .1) in
-    record { options = q .0; state = q .1; ended = f .0; failed = f .1; left = s .0; right = s .1 }
+    record { layout = eqb-true (h .layout) layoutNow (l .0); options = q .0; state = q .1; ended = f .0; failed = f .1; left = s .0; right = s .1 }
 
 pub join-is : (j : Join) → j .options .strategy < 256 → isJoin (encode j) ≡ true
 unfolding isJoin
@@ -86,7 +88,7 @@ join-same j =
 pub join-numbers : (h : HostJoin) → isJoin h ≡ true → encode (joinOf h) ≡ h
 join-numbers h e =
     let p = join-parts h e in
-    rw (numbers-same (h .options) (p .options), state-there (h .state) (p .state), flag-there (h .«right_ended») (p .ended), flag-there (h .failed) (p .failed), row-numbers (h .«last_left») (p .left), row-numbers (h .«last_right») (p .right))
+    rw (← p .layout, numbers-same (h .options) (p .options), state-there (h .state) (p .state), flag-there (h .«right_ended») (p .ended), flag-there (h .failed) (p .failed), row-numbers (h .«last_left») (p .left), row-numbers (h .«last_right») (p .right))
 
 -- ---- there and back
 -- What a test lets pass is what stands behind it.

@@ -2,11 +2,11 @@
 use mathlib.Core.Path.{_≡_}
 use mathlib.Core.Bool.{Bool, cond, _&&_}
 use mathlib.Core.Option.{Option, none, some}
-use Prim.Native.Nat.{_<_}
-use lib.Dec.{ltb}
-use Rattle.frames.specs.declared.Options.{Options}
-use Rattle.frames.specs.declared.Row.{Row}
-use Rattle.answers.specs.Answers.{stateCode}
+use Prim.Native.Nat.{ℕ, _<_}
+use lib.Dec.{ltb, eqb}
+use Rattle.options.specs.declared.Options.{Options}
+use Rattle.order.specs.declared.Row.{Row}
+use Rattle.outcomes.specs.Answers.{stateCode}
 use Rattle.node.specs.declared.Join.{Join}
 use Rattle.codes.specs.Codes.{isFlag, flagOf, flagCode, areFlags, flagsOf, flagCodes, checkOf, checkCode, isCode, stateOf}
 use Rattle.convert.specs.declared.HostOptions.{HostOptions}
@@ -56,11 +56,16 @@ abbrev pub encodeRow : Row → HostRow
 encodeRow r = record { some = flagCode (r .some); values = r .values; marks = r .marks }
 
 -- ---- the join
--- A join that the library could have written: one of the three states, and flags that are 0 or 1.
+-- The first word of a join: the bytes "rowkeep", then the layout's version. Joins of another layout have another first word (SCOPE 16.5).
+abbrev pub layoutNow : ℕ
+layoutNow = 0x726f_776b_6565_7001
+
+-- A join that the library could have written: this layout, one of the three states, and flags that are 0 or 1.
 unfoldable pub isJoin : HostJoin → Bool
 isJoin h =
-    (isOptions (h .options) && isCode (h .state))
-    && ((isFlag (h .«right_ended») && isFlag (h .failed)) && (isFlag (h .«last_left» .some) && isFlag (h .«last_right» .some)))
+    eqb (h .layout) layoutNow
+    && ((isOptions (h .options) && isCode (h .state))
+    && ((isFlag (h .«right_ended») && isFlag (h .failed)) && (isFlag (h .«last_left» .some) && isFlag (h .«last_right» .some))))
 
 -- The join that such numbers tell.
 abbrev pub joinOf : HostJoin → Join
@@ -82,6 +87,7 @@ joinOf h = record {
 -- The numbers of a join.
 abbrev pub encode : Join → HostJoin
 encode j = record {
+  layout = layoutNow;
   options = encodeOptions (j .options);
   base = j .base;
   held = j .held;

@@ -11,12 +11,15 @@ use codes::is_code;
 use codes::is_flag;
 use codes::state_code;
 use codes::state_of;
-use frames::Options;
-use frames::Row;
 use node::Join;
+use options::Options;
+use order::Row;
 ghost use mathlib.Core.Path.{_≡_};
 ghost use mathlib.Core.Bool.{true};
 ghost use Rattle.convert.specs.Convert.{isOptions, optionsOf, encodeOptions, rowOf, encodeRow, isJoin, joinOf, encode};
+
+// The layout of a join in numbers: its first word. The bytes "rowkeep", then the layout's version.
+pub const LAYOUT: u64 = 0x726f_776b_6565_7001;
 
 // The options in numbers. A flag is 0 or 1; check is 0 off, 1 on.
 #[repr(C)]
@@ -41,6 +44,7 @@ pub struct HostRow {
 // The join in numbers. State is 0 Running, 1 Flush, 2 Done.
 #[repr(C)]
 pub struct HostJoin {
+    pub layout: u64,
     pub options: HostOptions,
     pub base: usize,
     pub held: usize,
@@ -140,7 +144,8 @@ pub fn is_join(h: HostJoin) -> bool
     let state = both(is_options(o), is_code(h.state));
     let flags = both(is_flag(h.right_ended), is_flag(h.failed));
     let rows = both(is_flag(h.last_left.some), is_flag(h.last_right.some));
-    both(state, both(flags, rows))
+    let layout = h.layout == LAYOUT;
+    both(layout, both(state, both(flags, rows)))
 }
 
 // The join that the numbers tell.
@@ -176,6 +181,7 @@ pub fn encode_join(j: Join) -> HostJoin
     let last_left = encode_row(j.last_left);
     let last_right = encode_row(j.last_right);
     HostJoin {
+        layout: LAYOUT,
         options: options,
         base: j.base,
         held: j.held,

@@ -1,36 +1,57 @@
-// Whether a run is sorted by key, and when the right cursor moves on.
+// The first key of a run, whether the run is sorted by key, and when the right cursor moves on.
 use fits::fits_key;
 use fits::nearer_key;
-use frames::Options;
-use frames::Order;
-use frames::Strategy;
 use keyed::null_at;
-use order::cmp_cell;
+use options::Options;
+use options::Strategy;
 ghost use mathlib.Core.Path.{_≡_};
-ghost use mathlib.Core.Bool.{not, _&&_, _||_};
-ghost use Prim.Native.Nat.{_+_, _-_, _*_, _<_, _≤_};
+ghost use mathlib.Core.Bool.{false, not, _&&_, _||_};
+ghost use Prim.Native.Nat.{_<_, _≤_};
 ghost use Rattle.frames.specs.Cells.{value, isNull};
-ghost use Rattle.frames.specs.Options.{keyRule};
-ghost use Rattle.frames.specs.Order.{cmpCell, isGreater};
-ghost use Rattle.frames.specs.Room.{cellAt, CellIn, RowAt, RowsIn};
-ghost use Rattle.frames.specs.declared.Strategy.the-variants.{Backward, Forward};
+ghost use Rattle.options.specs.Options.{keyRule};
+ghost use Rattle.order.specs.Order.{cmpCell};
+ghost use Rattle.order.specs.Requires.{cellAt, CellIn, KeysIn, RowsIn};
+ghost use Rattle.options.specs.declared.Strategy.the-variants.{Backward, Forward};
 ghost use Rattle.matching.specs.Match.{onSide, nearer};
-ghost use Rattle.matching.specs.Walk.{between};
-ghost use Rattle.matching.specs.Moves.{keysSorted, movesOn, fitsKey, knownFit};
+ghost use Rattle.matching.specs.Stretches.{between};
+ghost use Rattle.matching.specs.Moves.{keysSorted, FirstKey, keyAt, movesOn, fitsKey, knownFit};
 
-// Whether the key of the row at p is greater than that of the row at q.
-fn falls(values: &[i64], marks: &[i64], p: usize, q: usize, o: Options) -> bool
-    requires { ⌜ RowAt o p (now values) (now marks) × RowAt o q (now values) (now marks) ⌝ }
-    ensures { λ r. ⌜ r ≡ isGreater (cmpCell keyRule (cellAt (p + o .by) (now (values .entry)) (now (marks .entry))) (cellAt (q + o .by) (now (values .entry)) (now (marks .entry)))) ⌝ }
+// The first row of from..to that has a key; `to` where none has.
+pub fn first_key(marks: &[i64], from: usize, to: usize, w: usize, o: Options) -> usize
+    requires { ⌜ KeysIn o w to (now marks) × (from ≤ to) ⌝ }
+    ensures { λ r. ⌜ FirstKey o w from to (now (marks .entry)) r ⌝ }
 {
     let by = o.by;
-    let a = p + by;
-    let b = q + by;
-    match cmp_cell(values[a], marks[a], values[b], marks[b], false, false) {
-        Order::Less => false,
-        Order::Equal => false,
-        Order::Greater => true,
+    let mut i = from;
+    while i < to {
+        let k = i * w + by;
+        if !null_at(marks, k) {
+            return i;
+        }
+        i += 1;
     }
+    i
+}
+
+// Whether no key of rows from..to, each w wide, is greater than the next, where the first of them has a key: so each has one.
+fn keys_rise(values: &[i64], marks: &[i64], from: usize, to: usize, w: usize, o: Options) -> bool
+    requires { ⌜ RowsIn o w to (now values) (now marks) × (from < to) × (isNull (keyAt o w (now values) (now marks) from) ≡ false) ⌝ }
+    ensures { λ r. ⌜ r ≡ keysSorted o (between w from to (now (values .entry)) (now (marks .entry))) ⌝ }
+{
+    let by = o.by;
+    let mut i = from;
+    while 1 < to - i {
+        let p = i * w + by;
+        let q = p + w;
+        if null_at(marks, q) {
+            return false;
+        }
+        if values[q] < values[p] {
+            return false;
+        }
+        i += 1;
+    }
+    true
 }
 
 // Whether no key of rows from..to, each w wide, is greater than the next.
@@ -45,15 +66,11 @@ pub fn keys_sorted(
     requires { ⌜ RowsIn o w to (now values) (now marks) × (from ≤ to) ⌝ }
     ensures { λ r. ⌜ r ≡ keysSorted o (between w from to (now (values .entry)) (now (marks .entry))) ⌝ }
 {
-    let mut i = from;
-    while 1 < to - i {
-        let p = i * w;
-        if falls(values, marks, p, p + w, o) {
-            return false;
-        }
-        i += 1;
+    let start = first_key(marks, from, to, w, o);
+    if start == to {
+        return true;
     }
-    true
+    keys_rise(values, marks, start, to, w, o)
 }
 
 // Backward: whether the cursor moves on to the right key at q, which is null or lies on the side of v.

@@ -7,12 +7,12 @@ use native.Mathlib.Omega.{arith}
 use lib.ListN.{length, take, drop, take-append-drop}
 use lib.Seq.{length-take-le}
 use Rattle.frames.specs.Cells.{Cell, Rows}
-use Rattle.frames.specs.Order.{cmpGroup, cmpRow, isLess, sorted}
-use Rattle.frames.specs.declared.Options.{Options}
-use Rattle.frames.specs.declared.Order.{Order}
-use Rattle.frames.specs.declared.Order.the-variants.{Less, Equal, Greater}
-use Rattle.frames.proofs.OrderLaws.{AtMost, cmpGroup-is, not-less, not-both, at-most, less-then, equal-at-most, equal-flip, group-at-most}
-use Rattle.frames.proofs.SortedLaws.{All, all-map, Ordered, ordered}
+use Rattle.order.specs.Order.{cmpGroup, cmpRow, isLess, sorted}
+use Rattle.options.specs.declared.Options.{Options}
+use Rattle.order.specs.declared.Order.{Order}
+use Rattle.order.specs.declared.Order.the-variants.{Less, Equal, Greater}
+use Rattle.order.proofs.OrderLaws.{AtMost, cmpGroup-is, not-less, not-both, at-most, less-then, equal-at-most, equal-flip, group-at-most}
+use Rattle.order.proofs.SortedLaws.{All, all-map, Ordered, ordered}
 use Rattle.matching.specs.Match.{Hit, nobody, meet, choose, tolerate, matchTable, wholeTable}
 use Rattle.matching.specs.declared.Choice.{Choice}
 use Rattle.matching.specs.declared.Choice.the-variants.{Row, Nothing}

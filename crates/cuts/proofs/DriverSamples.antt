@@ -5,9 +5,9 @@ use mathlib.Core.List.{List, [], _∷_, map}
 use Prim.Native.Nat.{ℕ, zero, suc}
 use lib.IntN.{pos, negsuc}
 use Rattle.frames.specs.Cells.{null, Words}
-use Rattle.frames.proofs.Samples.{options, row, frameOf}
-use Rattle.frames.specs.declared.Options.{Options}
-use Rattle.prunes.specs.Prunes.{keptRows, lastPrune}
+use Rattle.order.proofs.Samples.{options, row, frameOf}
+use Rattle.options.specs.declared.Options.{Options}
+use Rattle.turnrows.specs.Prunes.{keptRows, lastPrune}
 use Rattle.lists.proofs.Script.{leftArea, rightArea, space, speakAll}
 use Rattle.plan.specs.Plan.{planFrom, plan}
 use Rattle.plan.specs.Table.{isTable, fullHeights}

@@ -11,13 +11,14 @@ use lib.ListN.{length, take, drop, length-append, length-drop, replicate}
 use lib.Seq.{length-take-le}
 use Rattle.frames.specs.Cells.{Rows, Words, rowsOf}
 use Rattle.frames.specs.Frame.{rowCount, pairsFine, isFrame, frameRows}
-use Rattle.frames.specs.Options.{columns, badOptions}
-use Rattle.frames.specs.Order.{sorted}
-use Rattle.frames.specs.declared.Options.{Options}
-use Rattle.frames.proofs.SortedLaws.{and-true, sorted-take, sorted-drop}
+use Rattle.options.specs.Options.{columns, badOptions}
+use Rattle.order.specs.Order.{sorted}
+use Rattle.options.specs.declared.Options.{Options}
+use Rattle.order.proofs.SortedLaws.{sorted-take, sorted-drop}
+use Rattle.frames.proofs.BoolLaws.{and-true}
 use Rattle.frames.proofs.WordLaws.{rows-length, rows-read, rows-drop}
 use Rattle.area.specs.Area.{capacity}
-use Rattle.answers.specs.Answers.{mostRows}
+use Rattle.outcomes.specs.Answers.{mostRows}
 use Rattle.lists.specs.Lists.{backToBack}
 use Rattle.lists.specs.WholeTables.{Each, ends, pairs}
 use Rattle.plan.specs.Plan.{plan}

@@ -6,9 +6,9 @@ use Prim.Native.Nat.{ℕ}
 use lib.IntN.{pos, negsuc}
 use lib.ListN.{length}
 use Rattle.frames.specs.Cells.{null, value}
-use Rattle.frames.specs.Order.{cmpFirst, nullIn}
-use Rattle.frames.proofs.Samples.{options, row}
-use Rattle.frames.specs.declared.Options.{Options}
+use Rattle.order.specs.Order.{cmpFirst, nullIn}
+use Rattle.order.proofs.Samples.{options, row}
+use Rattle.options.specs.declared.Options.{Options}
 use Rattle.matching.specs.Match.{choose, takesOver, fits, tolerate, matchTable, wholeTable}
 use Rattle.matching.specs.declared.Choice.the-variants.{Row, Nothing}
 use Rattle.cuts.specs.Cut.{cutAt, Pair, cutBy, joined, appended}

@@ -7,9 +7,9 @@ use native.Mathlib.Omega.{arith}
 use lib.ListN.{length, take, drop, take-append-drop}
 use lib.Seq.{length-take-le}
 use Rattle.frames.specs.Cells.{Cell, Rows}
-use Rattle.frames.specs.Options.{badOptions}
-use Rattle.frames.specs.declared.Options.{Options}
-use Rattle.frames.proofs.SortedLaws.{All, ordered, sorted-drop}
+use Rattle.options.specs.Options.{badOptions}
+use Rattle.options.specs.declared.Options.{Options}
+use Rattle.order.proofs.SortedLaws.{All, ordered, sorted-drop}
 use Rattle.matching.specs.Match.{wholeTable}
 use Rattle.matching.specs.declared.Choice.{Choice}
 use Rattle.matching.specs.declared.Choice.the-variants.{Row, Nothing}

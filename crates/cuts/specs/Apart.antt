@@ -7,9 +7,9 @@ use Prim.Native.Nat.{ℕ, _+_}
 use lib.IntN.{pos, _+ℤ_}
 use lib.ListN.{length}
 use Rattle.frames.specs.Cells.{Rows, Words, isZero}
-use Rattle.frames.specs.Options.{badOptions}
-use Rattle.frames.specs.Order.{sorted}
-use Rattle.frames.specs.declared.Options.{Options}
+use Rattle.options.specs.Options.{badOptions}
+use Rattle.order.specs.Order.{sorted}
+use Rattle.options.specs.declared.Options.{Options}
 use Rattle.lists.specs.Lists.{Call, Entry}
 use Rattle.lists.specs.WholeTables.{all, lefts, rights, matches, Each}
 use Rattle.isolation.specs.Isolation.{Finished}

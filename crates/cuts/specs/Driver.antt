@@ -6,9 +6,9 @@ use lib.Dec.{ltb, eqb}
 use lib.ListN.{length, take, drop}
 use Rattle.frames.specs.Cells.{Rows, Words}
 use Rattle.frames.specs.Frame.{frameWords, isFrame, frameRows}
-use Rattle.frames.specs.Options.{columns, badOptions}
-use Rattle.frames.specs.Order.{cmpGroup, isLess, nullGroup, sorted}
-use Rattle.frames.specs.declared.Options.{Options}
+use Rattle.options.specs.Options.{columns, badOptions, rightColumns}
+use Rattle.order.specs.Order.{cmpGroup, isLess, nullGroup, sorted}
+use Rattle.options.specs.declared.Options.{Options}
 use Rattle.area.specs.Area.{capacity}
 use Rattle.matching.specs.Answer.{answered}
 use Rattle.plan.specs.Plan.{plan}
@@ -31,7 +31,7 @@ wordsFor c (h ∷ hs) = frameWords h c + wordsFor c hs
 -- An area too short for a pair: left for its frames, right for the first figure of its plan.
 unfoldable pub tooShort : Options → Words → Words → Pair → Bool
 tooShort o l r p =
-    ltb (length l) (wordsFor (columns o) (fullHeights (length (p .left)))) || ltb (capacity (columns o) r) (plan o (fullFrames (p .left)) (fullFrames (p .right)) .rows)
+    ltb (length l) (wordsFor (columns o) (fullHeights (length (p .left)))) || ltb (capacity (rightColumns o) r) (plan o (fullFrames (p .left)) (fullFrames (p .right)) .rows)
 
 -- For any pair.
 unfoldable pub anyShort : Options → Words → Words → List Pair → Bool
@@ -55,7 +55,7 @@ badBoundaries o gs = ltb 16 (length gs) || (eqb (o .by) 0 && ltb 0 (length gs)) 
 module _ (o : Options) (left right boundaries l r out : Words) where
   -- The two tables.
   abbrev pub tables : Pair
-  tables = record { left = frameRows (columns o) left; right = frameRows (columns o) right }
+  tables = record { left = frameRows (columns o) left; right = frameRows (rightColumns o) right }
 
   -- Boundaries are a frame of b columns.
   abbrev pub groups : Rows
@@ -66,7 +66,7 @@ module _ (o : Options) (left right boundaries l r out : Words) where
   unfoldable pub cutAnswer : ℕ
   cutAnswer =
       cond (badOptions o) 1
-      (cond (not (isTable (columns o) left && isTable (columns o) right && isFrame (o .by) boundaries)) 5
+      (cond (not (isTable (columns o) left && isTable (rightColumns o) right && isFrame (o .by) boundaries)) 5
       (cond (not (sorted o (tables .left) && sorted o (tables .right))) 14
       (cond (badBoundaries o groups) 18
       (cond (anyShort o l r (cutBy o groups tables) || ltb (length out) (2 + 2 * length (tables .left))) 6

@@ -5,9 +5,9 @@ use Prim.Native.Nat.{ℕ, _+_, _-_, _*_, _^_, _≤_, _<_}
 use lib.ListN.{length, drop}
 use Rattle.frames.specs.Cells.{Rows, Words, rowsOf}
 use Rattle.frames.specs.Frame.{rowCount, valuesIn, marksIn}
-use Rattle.frames.specs.Options.{columns}
-use Rattle.frames.specs.declared.Options.{Options}
-use Rattle.answers.specs.Answers.{mostRows}
+use Rattle.options.specs.Options.{columns, rightColumns}
+use Rattle.options.specs.declared.Options.{Options}
+use Rattle.outcomes.specs.Answers.{mostRows}
 use Rattle.lists.specs.WholeTables.{asWritten, Each}
 use Rattle.plan.specs.Table.{framesBy, fullHeights}
 use Rattle.cuts.specs.Cut.{cutAt, cutBy, joined}
@@ -53,7 +53,7 @@ loads o gs x y [] = []
 loads o [] x y (e ∷ es) = loadOf (columns o) x y e ∷ []
 loads o (g ∷ gs) x y (e ∷ es) =
     let a = cutAt o g (rowsWithin (columns o) x) in
-    let b = cutAt o g (rowsWithin (columns o) y) in
+    let b = cutAt o g (rowsWithin (rightColumns o) y) in
     loadOf (columns o) (firstOf a x) (firstOf b y) e ∷ loads o gs (othersOf (columns o) a x) (othersOf (columns o) b y) es
 
 -- The areas keep their lengths, whatever words the pair before left in them, and each output is enough: 2 + 2n words.

@@ -5,8 +5,8 @@ use mathlib.Core.List.{List, [], _∷_, _++_, map}
 use Prim.Native.Nat.{ℕ, _+_, _≤_}
 use lib.ListN.{length}
 use Rattle.frames.specs.Cells.{Rows, Words}
-use Rattle.frames.specs.Options.{columns}
-use Rattle.frames.specs.declared.Options.{Options}
+use Rattle.options.specs.Options.{columns, rightColumns}
+use Rattle.options.specs.declared.Options.{Options}
 use Rattle.area.specs.Area.{capacity}
 use Rattle.lists.specs.Lists.{start, events, rowsIn, Entry, outputs, matchesIn}
 use Rattle.lists.specs.WholeTables.{asWritten, Each}
@@ -26,9 +26,9 @@ pub record Load : Type 0 where
 -- They are the frames of the pair, and the areas are large enough for its schedule.
 pub record Fits (o : Options) (p : Pair) (j : Load) : Type 0 where
   pub planned : Planned o (j .left) (j .lefts) (j .rights) (j .outs)
-  pub room : figures o (j .left) (j .right) (j .lefts) (j .rights) (j .outs) .rows ≤ capacity (columns o) (j .right)
+  pub room : figures o (j .left) (j .right) (j .lefts) (j .rights) (j .outs) .rows ≤ capacity (rightColumns o) (j .right)
   pub left : rowsIn (columns o) (j .lefts) ≡ p .left
-  pub right : rowsIn (columns o) (j .rights) ≡ p .right
+  pub right : rowsIn (rightColumns o) (j .rights) ≡ p .right
 
 -- What its schedule writes.
 abbrev pub scheduled : Options → Load → List Entry

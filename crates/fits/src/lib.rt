@@ -1,9 +1,9 @@
 // Matching: whether a right key may be chosen for a left one, which of two is nearer, which takes the place of the other, and when one is too far.
-use frames::Order;
-use frames::Strategy;
+use compare::cmp_cell;
+use compare::distance;
 use keyed::null_at;
-use order::cmp_cell;
-use order::distance;
+use options::Strategy;
+use order::Order;
 ghost use mathlib.Core.Path.{_≡_};
 ghost use mathlib.Core.Bool.{not, _&&_};
 ghost use Prim.Native.Nat.{_<_};
@@ -11,9 +11,9 @@ ghost use lib.Dec.{ltb};
 ghost use lib.IntN.{pos, natAbs, _-ℤ_};
 ghost use lib.Signed.{leZ};
 ghost use Rattle.frames.specs.Cells.{value, isNull};
-ghost use Rattle.frames.specs.Options.{keyRule};
-ghost use Rattle.frames.specs.Order.{cmpCell};
-ghost use Rattle.frames.specs.Room.{cellAt, CellIn};
+ghost use Rattle.options.specs.Options.{keyRule};
+ghost use Rattle.order.specs.Order.{cmpCell};
+ghost use Rattle.order.specs.Requires.{cellAt, CellIn};
 ghost use Rattle.matching.specs.Match.{onSide, nearer};
 ghost use Rattle.matching.specs.Inner.{TakesOver};
 

@@ -5,8 +5,7 @@ ghost use Prim.Native.Nat.{_≤_};
 ghost use lib.IntN.{pos};
 ghost use lib.ListN.{length};
 ghost use Rattle.frames.specs.Frame.{isFrame, rowCount, sameZ, pairFine, pairsFine};
-ghost use Rattle.frames.specs.Room.{HasCount};
-ghost use Rattle.frames.specs.Front.{fewRows, frontOf, frontLength, fitting};
+ghost use Rattle.frames.specs.Front.{HasCount, fewRows, frontOf, frontLength, fitting};
 
 // Whether a word is a number of rows, 0 to 4,096.
 fn few_rows(word: i64) -> bool

@@ -11,22 +11,35 @@ use lib.Signed.{leZ}
 use lib.ListN.{length, take, drop, getD, length-drop, List·getD-append}
 use lib.Seq.{length-take-le}
 use Rattle.frames.specs.Cells.{Cell, Rows, Words, rowsOf}
-use Rattle.frames.specs.Frame.{sameZ, rowCount, frameWords, pairsFine, valuesIn, marksIn, isFrame, frameRows}
-use Rattle.frames.proofs.SortedLaws.{and-true}
+use Rattle.frames.specs.Frame.{sameZ, rowCount, frameWords, pairsFine, valuesIn, marksIn, isTable, frameLimit, isFrame, frameRows}
+use Rattle.frames.proofs.BoolLaws.{and-true}
 use Rattle.frames.proofs.WordLaws.{rows-length, rows-wide}
 
-module _ (c : ℕ) (f : Words) (h : isFrame c f ≡ true) where
-  -- The parts of the rule, from the last to the first.
-  shape : (leb 2 (length f) && (leZ (pos 0) (getD f 0 (pos 0)) && leZ (getD f 0 (pos 0)) (pos 4096)) && sameZ (getD f 1 (pos 0)) (pos c) && eqb (length f) (frameWords (rowCount f) c)) ≡ true
-  unfolding isFrame
-  shape =
-      and-true (leb 2 (length f) && (leZ (pos 0) (getD f 0 (pos 0)) && leZ (getD f 0 (pos 0)) (pos 4096)) && sameZ (getD f 1 (pos 0)) (pos c) && eqb (length f) (frameWords (rowCount f) c))
-      (pairsFine (valuesIn c f) (marksIn c f)) h .0
+-- The parts of the table rule.
+pub record Parts (c : ℕ) (f : Words) : Type 0 where
+  pub long : 2 ≤ length f
+  pub counted : leZ (pos 0) (getD f 0 (pos 0)) ≡ true
+  pub columns : sameZ (getD f 1 (pos 0)) (pos c) ≡ true
+  pub exact : length f ≡ frameWords (rowCount f) c
+  pub fine : pairsFine (valuesIn c f) (marksIn c f) ≡ true
 
+pub table-parts : (c : ℕ) (f : Words) → isTable c f ≡ true → Parts c f
+unfolding isTable
+table-parts c f h =
+    let a = leb 2 (length f) in
+    let b = leZ (pos 0) (getD f 0 (pos 0)) in
+    let d = sameZ (getD f 1 (pos 0)) (pos c) in
+    let e = eqb (length f) (frameWords (rowCount f) c) in
+    let p = and-true (a && b && d && e) (pairsFine (valuesIn c f) (marksIn c f)) h in
+    let q = and-true (a && b && d) e (p .0) in
+    let r = and-true (a && b) d (q .0) in
+    let s = and-true a b (r .0) in
+    record { long = leb-true 2 (length f) (s .0); counted = s .1; columns = r .1; exact = eqb-true (length f) (frameWords (rowCount f) c) (q .1); fine = p .1 }
+
+module _ (c : ℕ) (f : Words) (h : isFrame c f ≡ true) where
   pub frame-length : length f ≡ frameWords (rowCount f) c
-  frame-length =
-      eqb-true (length f) (frameWords (rowCount f) c)
-      (and-true (leb 2 (length f) && (leZ (pos 0) (getD f 0 (pos 0)) && leZ (getD f 0 (pos 0)) (pos 4096)) && sameZ (getD f 1 (pos 0)) (pos c)) (eqb (length f) (frameWords (rowCount f) c)) shape .1)
+  unfolding isFrame
+  frame-length = table-parts c f (and-true (isTable c f) (leZ (getD f 0 (pos 0)) (pos frameLimit)) h .0) .exact
 
   pub values-length : length (valuesIn c f) ≡ rowCount f * c
   values-length = length-take-le (rowCount f * c) (drop 2 f) (rw (length-drop 2 f) (omega (arith, frame-length)))

@@ -14,11 +14,11 @@ use lib.Seq.{drop-cons, length-take-le, getD-take, take-all}
 use mir.Syntax.{w64}
 use mir.Val.{SFits, ofZ}
 use Rattle.frames.specs.Cells.{Words}
-use Rattle.frames.specs.Frame.{sameZ, rowCount, frameWords, pairFine, pairsFine, valuesIn, marksIn, isFrame, front}
-use Rattle.frames.specs.Front.{frontOf, fewRows, fitting, frontLength}
-use Rattle.frames.specs.Room.{HasCount}
+use Rattle.frames.specs.Frame.{sameZ, rowCount, frameWords, pairFine, pairsFine, valuesIn, marksIn, isTable, frameLimit, isFrame, front}
+use Rattle.frames.specs.Front.{frontOf, fewRows, fitting, frontLength, HasCount}
 use Rattle.frames.specs.declared.Front.the-variants.{Words as Long, Nothing}
-use Rattle.frames.proofs.SortedLaws.{and-true}
+use Rattle.frames.proofs.BoolLaws.{and-true, and-true-right}
+use Rattle.frames.proofs.FrameLaws.{table-parts}
 
 -- ---- a word that is a number of rows, or a count
 pub few-negative : (z : ℤ) → ltZ z (pos 0) ≡ true → fewRows z ≡ false
@@ -136,15 +136,9 @@ pub record Parts (c : ℕ) (f : Words) : Type 0 where
 pub frame-parts : (c : ℕ) (f : Words) → isFrame c f ≡ true → Parts c f
 unfolding isFrame
 frame-parts c f h =
-    let a = leb 2 (length f) in
-    let b = fewRows (getD f 0 (pos 0)) in
-    let d = sameZ (getD f 1 (pos 0)) (pos c) in
-    let e = eqb (length f) (frameWords (rowCount f) c) in
-    let p = and-true (a && b && d && e) (pairsFine (valuesIn c f) (marksIn c f)) h in
-    let q = and-true (a && b && d) e (p .0) in
-    let r = and-true (a && b) d (q .0) in
-    let s = and-true a b (r .0) in
-    record { long = leb-true 2 (length f) (s .0); few = s .1; columns = r .1; exact = eqb-true (length f) (frameWords (rowCount f) c) (q .1); fine = p .1 }
+    let p = and-true (isTable c f) (leZ (getD f 0 (pos 0)) (pos frameLimit)) h in
+    let t = table-parts c f (p .0) in
+    record { long = t .long; few = rw (t .counted, p .1) refl; columns = t .columns; exact = t .exact; fine = t .fine }
 
 module _ (c : ℕ) (ws : Words) where
   frame-front : isFrame c ws ≡ true → frontLength c ws ≡ Long (length ws)
@@ -164,14 +158,16 @@ module _ (c : ℕ) (ws : Words) where
   -- The words behind the first two fall into two halves, values and marks.
   pub frame-halves : (k : ℕ) → frontLength c ws ≡ Long k → k ≡ length ws → sameZ (getD ws 1 (pos 0)) (pos c) ≡ true →
       isFrame c ws ≡ pairsFine (take (length ws / 2 + 1 - 2) (drop 2 ws)) (take (length ws - (length ws / 2 + 1)) (drop (length ws / 2 + 1) ws))
-  unfolding isFrame
+  unfolding isFrame isTable
   frame-halves k e n s =
       let p = front-found c ws k e in
       let x : length ws ≡ frameWords (rowCount ws) c = omega (arith, p .3) in
       let a : length ws / 2 + 1 - 2 ≡ rowCount ws * c = omega arith in
       let b : length ws / 2 + 1 ≡ 2 + rowCount ws * c = omega arith in
       let d : take (length ws - (2 + rowCount ws * c)) (drop (2 + rowCount ws * c) ws) ≡ drop (2 + rowCount ws * c) ws = take-all (length ws - (2 + rowCount ws * c)) (drop (2 + rowCount ws * c) ws) (rw (length-drop (2 + rowCount ws * c) ws) (omega arith)) in
-      rw (a, b, d, le-leb 2 (length ws) (p .0), p .1, s, eq-eqb (length ws) (frameWords (rowCount ws) c) x)
+      let few = and-true (leZ (pos 0) (getD ws 0 (pos 0))) (leZ (getD ws 0 (pos 0)) (pos frameLimit)) (p .1) in
+      rw (a, b, d, le-leb 2 (length ws) (p .0), few .0, few .1, s, eq-eqb (length ws) (frameWords (rowCount ws) c) x)
+      (and-true-right (pairsFine (take (rowCount ws * c) (drop 2 ws)) (drop (2 + rowCount ws * c) ws)))
 
   -- ---- the front of words that wait
   front-word : getD (front c ws) 0 (pos 0) ≡ getD ws 0 (pos 0)

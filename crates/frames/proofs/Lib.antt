@@ -1,11 +1,5 @@
-pub mod Samples
-pub mod OrderLaws
-pub mod SortedLaws
 pub mod WordLaws
 pub mod FrameLaws
-pub mod KeyLaws
-pub mod KeyedLaws
 pub mod Signed
-pub mod Apart
-pub mod RowLaws
 pub mod FrontLaws
+pub mod BoolLaws

@@ -11,7 +11,6 @@ use lib.IntN.{ℤ, pos, negsuc}
 use lib.ListN.{length, take, drop, getD, length-append, length-take, length-drop, take-append-drop, replicate, length-map}
 use lib.Seq.{take-at, drop-at, take-append-le, drop-append-le, length-take-le, take-take, drop-drop, take-add, take-append-add, drop-append-add, paste, length-paste-head, take-append-seam, drop-append-seam, take-length, take-all, getD-take, getD-drop}
 use Rattle.frames.specs.Cells.{Cell, null, value, cellOf, cellsOf, rowsOf, Rows, Words, valueWord, markWord}
-use Rattle.frames.specs.Keyed.{five, remember, recall}
 
 -- ---- lists
 module _ {A : Type 0} where
@@ -105,6 +104,14 @@ rows-drop w (suc n) (suc k) vs ms h =
     let z : suc n - suc k ≡ n - k = omega arith in
     rw (e, z, ← drop-drop (k * w) w vs, ← drop-drop (k * w) w ms) (rows-drop w n k (drop w vs) (drop w ms) (omega arith))
 
+-- The first cells of a row are those of its first words.
+pub cells-take : (k : ℕ) (vs ms : Words) → take k (cellsOf vs ms) ≡ cellsOf (take k vs) (take k ms)
+unfolding cellsOf
+cells-take zero vs ms = refl
+cells-take (suc k) [] ms = refl
+cells-take (suc k) (v ∷ vs) [] = refl
+cells-take (suc k) (v ∷ vs) (m ∷ ms) = ap (λ (r : List Cell). cellOf v m ∷ r) (cells-take k vs ms)
+
 -- Row i is decoded from its own words: those of a part of the values and of the marks.
 pub rows-at : (w n i : ℕ) (vs ms : Words) → i < n → getD (rowsOf w n vs ms) i [] ≡ cellsOf (take w (drop (i * w) vs)) (take w (drop (i * w) ms))
 unfolding rowsOf
@@ -131,10 +138,3 @@ pub cells-back : (r : List Cell) → cellsOf (map valueWord r) (map markWord r) 
 unfolding cellsOf
 cells-back [] = refl
 cells-back (x ∷ r) = rw (cell-back x, cells-back r)
-
-pub recall-remember : (r : List Cell) (w : ℕ) → length r ≡ w → recall w (remember r) ≡ some r
-unfolding recall remember
-recall-remember r w e =
-    let v = take-at (map valueWord r) (replicate (5 - length (map valueWord r)) (pos 0)) w (length-map r valueWord ∙ e) in
-    let m = take-at (map markWord r) (replicate (5 - length (map markWord r)) (pos 0)) w (length-map r markWord ∙ e) in
-    rw (v, m, cells-back r)

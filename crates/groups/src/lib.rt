@@ -1,19 +1,19 @@
 // Runs of equal groups, and the one right cursor that serves a frame.
-use frames::Options;
-use frames::Order;
+use compare::cmp_group;
 use keyed::null_at;
 use keyed::null_group;
 use matching::Right;
-use order::cmp_group;
+use options::Options;
+use order::Order;
 ghost use mathlib.Core.Path.{_≡_};
 ghost use mathlib.Core.Bool.{true};
 ghost use Prim.Native.Nat.{ℕ, _+_, _<_};
 ghost use Rattle.frames.specs.Cells.{rowFrom};
-ghost use Rattle.frames.specs.Order.{cmpGroup};
-ghost use Rattle.frames.specs.Room.{cellAt, CellIn, RowAt};
-ghost use Rattle.frames.specs.declared.Order.the-variants.{Equal};
+ghost use Rattle.order.specs.Order.{cmpGroup};
+ghost use Rattle.order.specs.Requires.{cellAt, CellIn, RowAt};
+ghost use Rattle.order.specs.declared.Order.the-variants.{Equal};
 ghost use Rattle.matching.specs.Groups.{sameRun};
-ghost use Rattle.matching.specs.Walk.{between, runLength, standing};
+ghost use Rattle.matching.specs.Stretches.{between, runLength, standing};
 ghost use Rattle.matching.specs.Inner.{Within, PassRoom, Stands, Passed, Serves};
 
 // Whether the cells at a and b have the same value, and neither is null.

@@ -1,27 +1,31 @@
-// The calls for hosts in C, over structs of numbers, all of 64 bits, and words that the host lends: the exported functions alone. What each does stands in hostfeed, hostturn and spanhost.
+// The calls for hosts in C, over structs of numbers, all of 64 bits, and words that the host lends: the exported functions alone. What each does stands in hostfeed, hostmove, hostturn, spanhost and version.
 use hostfeed::host_end_right;
 use hostfeed::host_left;
 use hostfeed::host_open;
 use hostfeed::host_right;
+use hostmove::host_move;
 use hostturn::host_ports;
 use hostturn::host_run;
 use hostturn::host_turn;
 use spanhost::spans_host;
-ghost use Rattle.hostcalls.specs.Leaves.{HostOpenLeaves, HostLeftLeaves, HostRightLeaves, HostEndLeaves, HostPortsLeaves, HostTurnLeaves, HostRunLeaves};
-ghost use Rattle.spanhost.specs.Call.{HostSpanLeaves};
+use version::version_now;
+ghost use mathlib.Core.Path.{_≡_};
+ghost use Rattle.hostcalls.specs.Contracts.{HostOpenContract, HostLeftContract, HostRightContract, HostEndContract, HostMoveContract, HostPortsContract, HostTurnContract, HostRunContract};
+ghost use Rattle.spanhost.specs.Call.{HostSpanContract};
+ghost use Rattle.version.specs.Version.{versionNow};
 pub use convert::HostJoin;
 pub use convert::HostOptions;
 pub use convert::HostRow;
-pub use told::HostPorted;
-pub use told::HostRan;
-pub use told::HostTook;
-pub use told::HostTurned;
-pub use written::HostWritten;
+pub use results::HostPorted;
+pub use results::HostRan;
+pub use results::HostTook;
+pub use results::HostTurned;
+pub use tableresults::HostWritten;
 
 // Opens a join. The join of a refused opening holds the options that came, and every call but a run of no turns answers 2 to it.
 #[no_mangle]
 pub extern "C" fn rowkeeper_open(h: HostOptions) -> HostTook
-    ensures { λ r. ⌜ HostOpenLeaves h r ⌝ }
+    ensures { λ r. ⌜ HostOpenContract h r ⌝ }
 {
     host_open(h)
 }
@@ -34,7 +38,7 @@ pub extern "C" fn rowkeeper_left(
     right: &[i64],
     frame: &[i64],
 ) -> HostTook
-    ensures { λ r. ⌜ HostLeftLeaves h (now (left .entry)) (now (right .entry)) (now (frame .entry)) r (now (left .exit)) ⌝ }
+    ensures { λ r. ⌜ HostLeftContract h (now (left .entry)) (now (right .entry)) (now (frame .entry)) r (now (left .exit)) ⌝ }
 {
     host_left(h, left, right, frame)
 }
@@ -47,7 +51,7 @@ pub extern "C" fn rowkeeper_right(
     right: &mut [i64],
     frame: &[i64],
 ) -> HostTook
-    ensures { λ r. ⌜ HostRightLeaves h (now (left .entry)) (now (right .entry)) (now (frame .entry)) r (now (right .exit)) ⌝ }
+    ensures { λ r. ⌜ HostRightContract h (now (left .entry)) (now (right .entry)) (now (frame .entry)) r (now (right .exit)) ⌝ }
 {
     host_right(h, left, right, frame)
 }
@@ -55,9 +59,23 @@ pub extern "C" fn rowkeeper_right(
 // Ends right: no right frame comes any more.
 #[no_mangle]
 pub extern "C" fn rowkeeper_end_right(h: HostJoin, left: &[i64], right: &[i64]) -> HostTook
-    ensures { λ r. ⌜ HostEndLeaves h (now (left .entry)) (now (right .entry)) r ⌝ }
+    ensures { λ r. ⌜ HostEndContract h (now (left .entry)) (now (right .entry)) r ⌝ }
 {
     host_end_right(h, left, right)
+}
+
+// Moves a join with what waits and what is held to new areas, of any lengths. The old ones are only read.
+#[no_mangle]
+pub extern "C" fn rowkeeper_move(
+    h: HostJoin,
+    left: &[i64],
+    right: &[i64],
+    new_left: &mut [i64],
+    new_right: &mut [i64],
+) -> HostTook
+    ensures { λ r. ⌜ HostMoveContract h (now (left .entry)) (now (right .entry)) (now («new_left» .entry)) (now («new_right» .entry)) r (now («new_left» .exit)) (now («new_right» .exit)) ⌝ }
+{
+    host_move(h, left, right, new_left, new_right)
 }
 
 // A port call: l, r and s are what left, right and send come with.
@@ -70,7 +88,7 @@ pub extern "C" fn rowkeeper_ports(
     r: u64,
     s: u64,
 ) -> HostPorted
-    ensures { λ x. ⌜ HostPortsLeaves h (now (left .entry)) (now (right .entry)) l r s x ⌝ }
+    ensures { λ x. ⌜ HostPortsContract h (now (left .entry)) (now (right .entry)) l r s x ⌝ }
 {
     host_ports(h, left, right, l, r, s)
 }
@@ -83,7 +101,7 @@ pub extern "C" fn rowkeeper_turn(
     right: &[i64],
     out: &mut [i64],
 ) -> HostTurned
-    ensures { λ r. ⌜ HostTurnLeaves h (now (left .entry)) (now (right .entry)) (now (out .entry)) r (now (out .exit)) ⌝ }
+    ensures { λ r. ⌜ HostTurnContract h (now (left .entry)) (now (right .entry)) (now (out .entry)) r (now (out .exit)) ⌝ }
 {
     host_turn(h, left, right, out)
 }
@@ -97,9 +115,17 @@ pub extern "C" fn rowkeeper_run(
     right: &[i64],
     out: &mut [i64],
 ) -> HostRan
-    ensures { λ r. ⌜ HostRunLeaves h k (now (left .entry)) (now (right .entry)) (now (out .entry)) r (now (out .exit)) ⌝ }
+    ensures { λ r. ⌜ HostRunContract h k (now (left .entry)) (now (right .entry)) (now (out .entry)) r (now (out .exit)) ⌝ }
 {
     host_run(h, k, left, right, out)
+}
+
+// The version of this library as a number: major × 1,000,000 + minor × 1,000 + patch.
+#[no_mangle]
+pub extern "C" fn rowkeeper_version() -> u64
+    ensures { λ r. ⌜ r ≡ versionNow ⌝ }
+{
+    version_now()
 }
 
 // Lists which points each interval covers; lower and upper tell whether a bound is inclusive. No join has a part in it.
@@ -111,7 +137,7 @@ pub extern "C" fn rowkeeper_spans(
     upper: u64,
     out: &mut [i64],
 ) -> HostWritten
-    ensures { λ r. ⌜ HostSpanLeaves lower upper (now (points .entry)) (now (intervals .entry)) (now (out .entry)) r (now (out .exit)) ⌝ }
+    ensures { λ r. ⌜ HostSpanContract lower upper (now (points .entry)) (now (intervals .entry)) (now (out .entry)) r (now (out .exit)) ⌝ }
 {
     spans_host(points, intervals, lower, upper, out)
 }

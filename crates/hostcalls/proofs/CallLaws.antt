@@ -7,33 +7,34 @@ use Prim.Native.Nat.{ℕ}
 use Rattle.frames.specs.Cells.{Words}
 use Rattle.node.specs.State.{fresh}
 use Rattle.node.specs.Calls.{After, leftCall, rightCall, endCall, portsCall, turnCall}
-use Rattle.feeds.specs.Judged.{openAnswer}
+use Rattle.callrules.specs.Judged.{openAnswer}
 use Rattle.runs.specs.Run.{runCall}
-use Rattle.node.specs.Leaves.{LeftLeaves, RightLeaves, EndLeaves, PortsLeaves, TurnLeaves}
-use Rattle.runs.specs.RunLeaves.{RunLeaves}
+use Rattle.node.specs.Contracts.{LeftContract, RightContract, EndContract, PortsContract, TurnContract}
+use Rattle.runs.specs.RunContract.{RunContract}
+use Rattle.moves.specs.Moves.{moveCall, MoveContract}
 use Rattle.node.specs.declared.Join.{Join}
-use Rattle.answers.specs.declared.PortState.{PortState}
+use Rattle.outcomes.specs.declared.PortState.{PortState}
 use Rattle.node.specs.declared.TookJoin.{TookJoin}
 use Rattle.node.specs.declared.PortedJoin.{PortedJoin}
 use Rattle.node.specs.declared.TurnedJoin.{TurnedJoin}
 use Rattle.runs.specs.declared.RanJoin.{RanJoin}
-use Rattle.answers.specs.declared.Refusal.the-variants.{BadOptions, BadJoin}
-use Rattle.answers.specs.declared.Took.{Took}
-use Rattle.answers.specs.declared.Took.the-variants.{Refused}
-use Rattle.answers.specs.declared.Ported.the-variants.{Refused as PortsRefused}
-use Rattle.answers.specs.declared.Answer.{Answer}
-use Rattle.answers.specs.declared.Answer.the-variants.{Refused as TurnRefused}
+use Rattle.refusals.specs.declared.Refusal.the-variants.{BadOptions, BadJoin}
+use Rattle.outcomes.specs.declared.Took.{Took}
+use Rattle.outcomes.specs.declared.Took.the-variants.{Refused}
+use Rattle.outcomes.specs.declared.Ported.the-variants.{Refused as PortsRefused}
+use Rattle.outcomes.specs.declared.Answer.{Answer}
+use Rattle.outcomes.specs.declared.Answer.the-variants.{Refused as TurnRefused}
 use Rattle.codes.specs.Codes.{isCode, portOf}
 use Rattle.convert.specs.Convert.{isOptions, optionsOf, decodeOptions, isJoin, joinOf, encode, decode}
-use Rattle.told.specs.Told.{tookHost, portedHost, turnedHost, freshHost, Made, ranHost, refusedRun}
-use Rattle.hostcalls.specs.Calls.{HostAfter, afterHost, encodeAfter, byJoin, openHost, leftHost, rightHost, endHost, portsHost, turnHost, ranAfter, runHost}
-use Rattle.hostcalls.specs.Leaves.{HostLeftLeaves, HostRightLeaves, HostEndLeaves, HostPortsLeaves, HostTurnLeaves, HostRunLeaves}
+use Rattle.results.specs.Results.{tookHost, portedHost, turnedHost, freshHost, Made, ranHost, refusedRun}
+use Rattle.hostcalls.specs.Calls.{HostAfter, afterHost, encodeAfter, byJoin, openHost, leftHost, rightHost, endHost, moveHost, portsHost, turnHost, ranAfter, runHost}
+use Rattle.hostcalls.specs.Contracts.{HostLeftContract, HostRightContract, HostEndContract, HostMoveContract, HostPortsContract, HostTurnContract, HostRunContract}
 use Rattle.convert.specs.declared.HostOptions.{HostOptions}
 use Rattle.convert.specs.declared.HostJoin.{HostJoin}
-use Rattle.told.specs.declared.HostTook.{HostTook}
-use Rattle.told.specs.declared.HostPorted.{HostPorted}
-use Rattle.told.specs.declared.HostTurned.{HostTurned}
-use Rattle.told.specs.declared.HostRan.{HostRan}
+use Rattle.results.specs.declared.HostTook.{HostTook}
+use Rattle.results.specs.declared.HostPorted.{HostPorted}
+use Rattle.results.specs.declared.HostTurned.{HostTurned}
+use Rattle.results.specs.declared.HostRan.{HostRan}
 
 -- ---- what is read
 options-none : (h : HostOptions) → isOptions h ≡ false → decodeOptions h ≡ none
@@ -92,28 +93,28 @@ module _ {A : Type 0} (h : HostJoin) (refused : HostAfter A) (call : Join → Af
 
 -- ---- frames
 module _ (h : HostJoin) (left right f : Words) where
-  pub left-bad : (r : HostTook) → isJoin h ≡ false → r ≡ tookHost (Refused BadJoin) h → HostLeftLeaves h left right f r left
+  pub left-bad : (r : HostTook) → isJoin h ≡ false → r ≡ tookHost (Refused BadJoin) h → HostLeftContract h left right f r left
   unfolding leftHost
   left-bad r e x =
       let no = afterHost (Refused BadJoin) h left right [] in
       let call : Join → After Took = λ j. leftCall j left right f in
       record { result = refuses h no call tookHost e x; words = words-refused h no call (λ y. y .left) e refl }
 
-  pub left-through : (j : Join) (t : TookJoin) (r : HostTook) (ws : Words) → isJoin h ≡ true → j ≡ joinOf h → LeftLeaves j left right f t ws → r ≡ tookHost (t .answer) (encode (t .join)) → HostLeftLeaves h left right f r ws
+  pub left-through : (j : Join) (t : TookJoin) (r : HostTook) (ws : Words) → isJoin h ≡ true → j ≡ joinOf h → LeftContract j left right f t ws → r ≡ tookHost (t .answer) (encode (t .join)) → HostLeftContract h left right f r ws
   unfolding leftHost
   left-through j t r ws e i l x =
       let no = afterHost (Refused BadJoin) h left right [] in
       let call : Join → After Took = λ j. leftCall j left right f in
       record { result = through h no call tookHost e i (l .answer) (l .join) x; words = words-through h no call (λ y. y .left) e i (l .words) }
 
-  pub right-bad : (r : HostTook) → isJoin h ≡ false → r ≡ tookHost (Refused BadJoin) h → HostRightLeaves h left right f r right
+  pub right-bad : (r : HostTook) → isJoin h ≡ false → r ≡ tookHost (Refused BadJoin) h → HostRightContract h left right f r right
   unfolding rightHost
   right-bad r e x =
       let no = afterHost (Refused BadJoin) h left right [] in
       let call : Join → After Took = λ j. rightCall j left right f in
       record { result = refuses h no call tookHost e x; words = words-refused h no call (λ y. y .right) e refl }
 
-  pub right-through : (j : Join) (t : TookJoin) (r : HostTook) (ws : Words) → isJoin h ≡ true → j ≡ joinOf h → RightLeaves j left right f t ws → r ≡ tookHost (t .answer) (encode (t .join)) → HostRightLeaves h left right f r ws
+  pub right-through : (j : Join) (t : TookJoin) (r : HostTook) (ws : Words) → isJoin h ≡ true → j ≡ joinOf h → RightContract j left right f t ws → r ≡ tookHost (t .answer) (encode (t .join)) → HostRightContract h left right f r ws
   unfolding rightHost
   right-through j t r ws e i l x =
       let no = afterHost (Refused BadJoin) h left right [] in
@@ -122,42 +123,63 @@ module _ (h : HostJoin) (left right f : Words) where
 
 -- ---- the end of right
 module _ (h : HostJoin) (left right : Words) where
-  pub end-bad : (r : HostTook) → isJoin h ≡ false → r ≡ tookHost (Refused BadJoin) h → HostEndLeaves h left right r
+  pub end-bad : (r : HostTook) → isJoin h ≡ false → r ≡ tookHost (Refused BadJoin) h → HostEndContract h left right r
   unfolding endHost
   end-bad r e x = record { result = refuses h (afterHost (Refused BadJoin) h left right []) (λ j. endCall j left right) tookHost e x }
 
-  pub end-through : (j : Join) (t : TookJoin) (r : HostTook) → isJoin h ≡ true → j ≡ joinOf h → EndLeaves j left right t → r ≡ tookHost (t .answer) (encode (t .join)) → HostEndLeaves h left right r
+  pub end-through : (j : Join) (t : TookJoin) (r : HostTook) → isJoin h ≡ true → j ≡ joinOf h → EndContract j left right t → r ≡ tookHost (t .answer) (encode (t .join)) → HostEndContract h left right r
   unfolding endHost
   end-through j t r e i l x = record { result = through h (afterHost (Refused BadJoin) h left right []) (λ j. endCall j left right) tookHost e i (l .answer) (l .join) x }
 
+-- ---- a move
+module _ (h : HostJoin) (left right newLeft newRight : Words) where
+  pub move-bad : (r : HostTook) → isJoin h ≡ false → r ≡ tookHost (Refused BadJoin) h → HostMoveContract h left right newLeft newRight r newLeft newRight
+  unfolding moveHost
+  move-bad r e x =
+      let no = afterHost (Refused BadJoin) h newLeft newRight [] in
+      let call : Join → After Took = λ j. moveCall j left right newLeft newRight in
+      record { result = refuses h no call tookHost e x; left-words = words-refused h no call (λ y. y .left) e refl; right-words = words-refused h no call (λ y. y .right) e refl }
+
+  pub move-through : (j : Join) (t : TookJoin) (r : HostTook) (ls rs : Words) → isJoin h ≡ true → j ≡ joinOf h → MoveContract j left right newLeft newRight t ls rs
+      → r ≡ tookHost (t .answer) (encode (t .join)) → HostMoveContract h left right newLeft newRight r ls rs
+  unfolding moveHost
+  move-through j t r ls rs e i l x =
+      let no = afterHost (Refused BadJoin) h newLeft newRight [] in
+      let call : Join → After Took = λ j. moveCall j left right newLeft newRight in
+      record {
+        result = through h no call tookHost e i (l .answer) (l .join) x;
+        left-words = words-through h no call (λ y. y .left) e i (l .left-words);
+        right-words = words-through h no call (λ y. y .right) e i (l .right-words);
+      }
+
 -- ---- ports
 module _ (h : HostJoin) (left right : Words) (l r s : ℕ) where
-  pub ports-unsaid : (x : HostPorted) → (isCode l && isCode r && isCode s) ≡ false → x ≡ portedHost (PortsRefused BadJoin) h → HostPortsLeaves h left right l r s x
+  pub ports-unsaid : (x : HostPorted) → (isCode l && isCode r && isCode s) ≡ false → x ≡ portedHost (PortsRefused BadJoin) h → HostPortsContract h left right l r s x
   unfolding portsHost
   ports-unsaid x e y = record { result = rw e y }
 
-  pub ports-bad : (x : HostPorted) → (isCode l && isCode r && isCode s) ≡ true → isJoin h ≡ false → x ≡ portedHost (PortsRefused BadJoin) h → HostPortsLeaves h left right l r s x
+  pub ports-bad : (x : HostPorted) → (isCode l && isCode r && isCode s) ≡ true → isJoin h ≡ false → x ≡ portedHost (PortsRefused BadJoin) h → HostPortsContract h left right l r s x
   unfolding portsHost
   ports-bad x c e y =
       record { result = rw c (refuses h (afterHost (PortsRefused BadJoin) h left right []) (λ j. portsCall j left right (portOf l) (portOf r) (portOf s)) portedHost e y) }
 
   pub ports-through : (j : Join) (a b d : PortState) (t : PortedJoin) (x : HostPorted) → (isCode l && isCode r && isCode s) ≡ true → isJoin h ≡ true → j ≡ joinOf h →
-      a ≡ portOf l → b ≡ portOf r → d ≡ portOf s → PortsLeaves j left right a b d t → x ≡ portedHost (t .answer) (encode (t .join)) → HostPortsLeaves h left right l r s x
+      a ≡ portOf l → b ≡ portOf r → d ≡ portOf s → PortsContract j left right a b d t → x ≡ portedHost (t .answer) (encode (t .join)) → HostPortsContract h left right l r s x
   unfolding portsHost
   ports-through j a b d t x c e i pa pb pd k y =
-      let k′ : PortsLeaves j left right (portOf l) (portOf r) (portOf s) t = rw (← pa, ← pb, ← pd) k in
+      let k′ : PortsContract j left right (portOf l) (portOf r) (portOf s) t = rw (← pa, ← pb, ← pd) k in
       record { result = rw c (through h (afterHost (PortsRefused BadJoin) h left right []) (λ j. portsCall j left right (portOf l) (portOf r) (portOf s)) portedHost e i (k′ .answer) (k′ .join) y) }
 
 -- ---- a turn
 module _ (h : HostJoin) (left right out : Words) where
-  pub turn-bad : (r : HostTurned) → isJoin h ≡ false → r ≡ turnedHost (TurnRefused BadJoin) h → HostTurnLeaves h left right out r out
+  pub turn-bad : (r : HostTurned) → isJoin h ≡ false → r ≡ turnedHost (TurnRefused BadJoin) h → HostTurnContract h left right out r out
   unfolding turnHost
   turn-bad r e x =
       let no = afterHost (TurnRefused BadJoin) h left right out in
       let call : Join → After Answer = λ j. turnCall j left right out in
       record { result = refuses h no call turnedHost e x; words = words-refused h no call (λ y. y .out) e refl }
 
-  pub turn-through : (j : Join) (t : TurnedJoin) (r : HostTurned) (ws : Words) → isJoin h ≡ true → j ≡ joinOf h → TurnLeaves j left right out t ws → r ≡ turnedHost (t .answer) (encode (t .join)) → HostTurnLeaves h left right out r ws
+  pub turn-through : (j : Join) (t : TurnedJoin) (r : HostTurned) (ws : Words) → isJoin h ≡ true → j ≡ joinOf h → TurnContract j left right out t ws → r ≡ turnedHost (t .answer) (encode (t .join)) → HostTurnContract h left right out r ws
   unfolding turnHost
   turn-through j t r ws e i l x =
       let no = afterHost (TurnRefused BadJoin) h left right out in
@@ -166,15 +188,15 @@ module _ (h : HostJoin) (left right out : Words) where
 
 -- ---- a run
 module _ (h : HostJoin) (k : ℕ) (left right out : Words) where
-  pub run-bad : (r : HostRan) → isJoin h ≡ false → r ≡ ranHost refusedRun h → HostRunLeaves h k left right out r out
+  pub run-bad : (r : HostRan) → isJoin h ≡ false → r ≡ ranHost refusedRun h → HostRunContract h k left right out r out
   unfolding runHost
   run-bad r e x =
       let no = afterHost refusedRun h left right out in
       let call : Join → After Made = λ j. ranAfter (runCall k j left right out) left right in
       record { result = refuses h no call ranHost e x; words = words-refused h no call (λ y. y .out) e refl }
 
-  pub run-through : (j : Join) (t : RanJoin) (r : HostRan) (ws : Words) → isJoin h ≡ true → j ≡ joinOf h → RunLeaves j k left right out t ws
-      → r ≡ ranHost (record { turns = t .turns; words = t .words; stop = t .stop }) (encode (t .join)) → HostRunLeaves h k left right out r ws
+  pub run-through : (j : Join) (t : RanJoin) (r : HostRan) (ws : Words) → isJoin h ≡ true → j ≡ joinOf h → RunContract j k left right out t ws
+      → r ≡ ranHost (record { turns = t .turns; words = t .words; stop = t .stop }) (encode (t .join)) → HostRunContract h k left right out r ws
   unfolding runHost
   run-through j t r ws e i l x =
       let no = afterHost refusedRun h left right out in

@@ -2,39 +2,44 @@
 use mathlib.Core.Path.{_≡_, refl, sym, _∙_, ap, subst}
 use mathlib.Core.Bool.{Bool, true, false, cond, _&&_}
 use mathlib.Core.List.{[]}
-use mathlib.Core.Option.{some}
+use mathlib.Core.Option.{none, some}
 use Prim.Native.Nat.{ℕ, zero, suc, _<_}
 use native.Mathlib.Omega.{arith}
 use borrow.Author.Tests.{not-true}
+use lib.Dec.{eqb}
 use lib.ListN.{take, drop}
+use Rattle.ports.specs.Ports.{portsJudged}
 use Rattle.frames.specs.Cells.{Words}
-use Rattle.frames.specs.Options.{badOptions}
-use Rattle.frames.specs.declared.Options.{Options}
+use Rattle.options.specs.Options.{badOptions}
+use Rattle.options.specs.declared.Options.{Options}
 use Rattle.node.specs.State.{fresh, badJoin, stateAt, endedRight}
-use Rattle.answers.specs.Answers.{portCode, wrote}
+use Rattle.outcomes.specs.Answers.{portCode, wrote}
 use Rattle.node.specs.Calls.{After, after, leftAnswer, leftCall, queued, rightAnswer, rightCall, pushedRight, endAnswer, endCall, portsAnswer, portsState, portsCall, turnAnswer, turnCall, turned, dequeued, dropped, spoiled}
-use Rattle.feeds.specs.Judged.{openAnswer}
+use Rattle.callrules.specs.Judged.{openAnswer, leftJudged, endJudged, rightJudged}
 use Rattle.node.specs.declared.Join.{Join}
-use Rattle.answers.specs.declared.PortState.{PortState}
-use Rattle.answers.specs.declared.Refusal.{Refusal}
-use Rattle.answers.specs.declared.Refusal.the-variants.{BadOptions, BadJoin, Failed, Closed, BadFrame, NoRoom, UsedUp, LeftOrder, RightOrder}
-use Rattle.answers.specs.declared.Took.{Took}
-use Rattle.answers.specs.declared.Took.the-variants.{Accepted, Refused}
-use Rattle.answers.specs.declared.Ported.{Ported}
-use Rattle.answers.specs.declared.Ported.the-variants.{Ports, Refused as PortsRefused}
-use Rattle.answers.specs.declared.Answer.{Answer}
-use Rattle.answers.specs.declared.Answer.the-variants.{Wrote, WantsRight, Idle, Refused as TurnRefused}
-use Rattle.answers.specs.declared.Stop.{Stop}
+use Rattle.outcomes.specs.declared.PortState.{PortState}
+use Rattle.refusals.specs.Refusals.{marksFailed}
+use Rattle.refusals.specs.declared.Refusal.{Refusal}
+use Rattle.refusals.proofs.RefusalLaws.{marked-ind}
+use Rattle.refusals.specs.declared.Refusal.the-variants.{BadOptions, BadJoin}
+use Rattle.outcomes.specs.declared.Took.{Took}
+use Rattle.outcomes.specs.declared.Took.the-variants.{Accepted, Refused}
+use Rattle.outcomes.specs.declared.Ported.{Ported}
+use Rattle.outcomes.specs.declared.Ported.the-variants.{Ports, Refused as PortsRefused}
+use Rattle.outcomes.specs.declared.Answer.{Answer}
+use Rattle.outcomes.specs.declared.Answer.the-variants.{Wrote, WantsRight, Idle, Refused as TurnRefused}
+use Rattle.outcomes.specs.declared.Stop.{Stop}
 use Rattle.runs.specs.Run.{Ran, ran, andThen, stopOf, turnWords, runCall}
 use Rattle.node.proofs.Good.{opened-bad}
+use Rattle.moves.specs.Moves.{moveAnswer, atFront, leftMoved, rightMoved, moveCall}
 use Rattle.codes.specs.Codes.{isCode, portOf, tookCode}
-use Rattle.convert.specs.Convert.{isOptions, optionsOf, decodeOptions, isJoin, joinOf, decode}
-use Rattle.told.specs.Told.{freshHost, Made, refusedRun}
-use Rattle.hostcalls.specs.Calls.{HostAfter, afterHost, encodeAfter, byJoin, openHost, leftHost, rightHost, endHost, portsHost, turnHost, ranAfter, runHost}
-use Rattle.hostcalls.specs.Promises.{spoils, stays, staysAt, noTurn, Shut, Same, Follows, Promises}
+use Rattle.convert.specs.Convert.{layoutNow, isOptions, optionsOf, decodeOptions, isJoin, joinOf, decode}
+use Rattle.results.specs.Results.{freshHost, Made, refusedRun}
+use Rattle.hostcalls.specs.Calls.{HostAfter, afterHost, encodeAfter, byJoin, openHost, leftHost, rightHost, endHost, moveHost, portsHost, turnHost, ranAfter, runHost}
+use Rattle.hostcalls.specs.Promises.{stays, staysAt, noTurn, Shut, NoJoin, Same, Follows, Promises}
 use Rattle.convert.specs.declared.HostOptions.{HostOptions}
 use Rattle.convert.specs.declared.HostJoin.{HostJoin}
-use Rattle.told.specs.declared.HostTook.{HostTook}
+use Rattle.results.specs.declared.HostTook.{HostTook}
 use Rattle.codes.proofs.CodeLaws.{port-is, port-back}
 use Rattle.convert.proofs.ConvertLaws.{join-numbers, join-same, options-parts, decoded-options, Is, decoded, there-and-back}
 use Rattle.hostcalls.proofs.CallLaws.{open-bad, open-through, by-none, by-some}
@@ -66,16 +71,8 @@ byTurn a done j left right out =
       | TurnRefused n ↦ after (TurnRefused n) (spoiled n j) left right out
     ]
 
-unspoiled : (n : Refusal) (j : Join) → spoils n ≡ false → spoiled n j ≡ j
-unspoiled BadOptions j e = refl
-unspoiled BadJoin j e = refl
-unspoiled Failed j e = refl
-unspoiled Closed j e = refl
-unspoiled BadFrame j e = refl
-unspoiled NoRoom j e = refl
-unspoiled UsedUp j e = refl
-unspoiled LeftOrder j e = let z : _≡_ {A = ℕ} 0 1 = cc in absurd (omega arith)
-unspoiled RightOrder j e = let z : _≡_ {A = ℕ} 0 1 = cc in absurd (omega arith)
+unspoiled : (n : Refusal) (j : Join) → marksFailed n ≡ false → spoiled n j ≡ j
+unspoiled n j e = rw e refl
 
 turn-keeps : (a : Answer) (done : After Answer) (s : ℕ) (j : Join) (left right out : Words) (b : Answer) → done .answer ≡ Wrote s → stays b ≡ true → byTurn a done j left right out .answer ≡ b
     → byTurn a done j left right out ≡ after b j left right out
@@ -87,7 +84,7 @@ turn-keeps WantsRight done s j left right out b d k x = ap (λ (p : Answer). aft
 turn-keeps Idle done s j left right out b d k x = ap (λ (p : Answer). after p j left right out) x
 turn-keeps (TurnRefused n) done s j left right out b d k x =
     let f = subst (λ (y : Answer). stays y ≡ true) (sym x) k in
-    ap (λ (y : Join). after (TurnRefused n) y left right out) (unspoiled n j (not-true (spoils n) f)) ∙ ap (λ (y : Answer). after y j left right out) x
+    ap (λ (y : Join). after (TurnRefused n) y left right out) (unspoiled n j (not-true (marksFailed n) f)) ∙ ap (λ (y : Answer). after y j left right out) x
 
 -- A run that made no turn.
 stays-same : (a : Answer) → wrote a ≡ false → stays a ≡ staysAt (stopOf a)
@@ -155,6 +152,12 @@ module _ (h : HostJoin) (left right : Words) where
       keeps h left right [] (Refused BadJoin) (Refused n) (λ j. endCall j left right)
       (λ j. took-keeps (endAnswer j left right) (after Accepted (endedRight j) left right []) j left right n refl)
 
+  move-kept : (newLeft newRight : Words) (n : Refusal) → moveHost h left right newLeft newRight .answer ≡ Refused n → moveHost h left right newLeft newRight ≡ afterHost (Refused n) h newLeft newRight []
+  unfolding moveHost moveCall
+  move-kept newLeft newRight n =
+      keeps h newLeft newRight [] (Refused BadJoin) (Refused n) (λ j. moveCall j left right newLeft newRight)
+      (λ j. took-keeps (moveAnswer j left right newLeft newRight) (after Accepted (atFront j) (leftMoved j left newLeft) (rightMoved j right newRight) []) j newLeft newRight n refl)
+
   -- Where a test fails, the call is refused with everything kept.
   either : (t : Bool) (x : HostAfter Ported) (n : Refusal) → (x .answer ≡ PortsRefused n → x ≡ afterHost (PortsRefused n) h left right [])
       → cond t x (afterHost (PortsRefused BadJoin) h left right []) .answer ≡ PortsRefused n
@@ -185,19 +188,23 @@ module _ (h : HostJoin) (left right : Words) where
 -- The node's calls of a bad join.
 module _ (j : Join) (left right : Words) (e : badJoin j left right ≡ true) where
   left-bad : (f : Words) → leftCall j left right f .answer ≡ Refused BadJoin
-  unfolding leftCall leftAnswer
+  unfolding leftCall leftJudged
   left-bad f = rw (e, leftCall)
 
   right-bad : (f : Words) → rightCall j left right f .answer ≡ Refused BadJoin
-  unfolding rightCall rightAnswer
+  unfolding rightCall rightJudged
   right-bad f = rw (e, rightCall)
 
   end-bad : endCall j left right .answer ≡ Refused BadJoin
-  unfolding endCall endAnswer
+  unfolding endCall endJudged
   end-bad = rw (e, endCall)
 
+  move-bad : (newLeft newRight : Words) → moveCall j left right newLeft newRight .answer ≡ Refused BadJoin
+  unfolding moveCall moveAnswer
+  move-bad newLeft newRight = rw (e, moveCall)
+
   ports-bad : (l r s : PortState) → portsCall j left right l r s .answer ≡ PortsRefused BadJoin
-  unfolding portsCall portsAnswer
+  unfolding portsCall portsJudged
   ports-bad l r s = rw (e, portsCall)
 
   turn-bad : (out : Words) → turnCall j left right out .answer ≡ TurnRefused BadJoin
@@ -218,11 +225,12 @@ by-bad {A} h left right out bad call is = go (isJoin h) refl
     go true e = ap (λ (y : HostAfter A). y .answer) (by-some h (afterHost bad h left right out) call e) ∙ is e
 
 shut-by : (h : HostJoin) (left right : Words) → (isJoin h ≡ true → badJoin (joinOf h) left right ≡ true) → Shut h left right
-unfolding leftHost rightHost endHost portsHost turnHost runHost
+unfolding leftHost rightHost endHost moveHost portsHost turnHost runHost
 shut-by h left right is = record {
   by-left = λ f. by-bad h left right [] (Refused BadJoin) (λ j. leftCall j left right f) (λ e. left-bad (joinOf h) left right (is e) f);
   by-right = λ f. by-bad h left right [] (Refused BadJoin) (λ j. rightCall j left right f) (λ e. right-bad (joinOf h) left right (is e) f);
   by-end = by-bad h left right [] (Refused BadJoin) (λ j. endCall j left right) (λ e. end-bad (joinOf h) left right (is e));
+  by-move = λ newLeft newRight. by-bad h newLeft newRight [] (Refused BadJoin) (λ j. moveCall j left right newLeft newRight) (λ e. move-bad (joinOf h) left right (is e) newLeft newRight);
   by-ports = λ l r s. unsaid (isCode l && isCode r && isCode s)
       (byJoin h (afterHost (PortsRefused BadJoin) h left right []) (λ j. portsCall j left right (portOf l) (portOf r) (portOf s)))
       (by-bad h left right [] (PortsRefused BadJoin) (λ j. portsCall j left right (portOf l) (portOf r) (portOf s))
@@ -234,6 +242,38 @@ shut-by h left right is = record {
     unsaid : (t : Bool) (x : HostAfter Ported) → x .answer ≡ PortsRefused BadJoin → cond t x (afterHost (PortsRefused BadJoin) h left right []) .answer ≡ PortsRefused BadJoin
     unsaid true x e = e
     unsaid false x e = refl
+
+-- ---- numbers that are no join
+-- What is read as none is no join.
+none-is : (h : HostJoin) → decode h ≡ none → isJoin h ≡ false
+unfolding decode
+none-is h e = go (isJoin h) e
+  where
+    go : (b : Bool) → cond b (some (joinOf h)) none ≡ none → b ≡ false
+    go false x = refl
+    go true x = let z : _≡_ {A = ℕ} 0 1 = cc in absurd (omega arith)
+
+foreign : (h : HostJoin) (left right : Words) → isJoin h ≡ false → NoJoin h left right
+unfolding leftHost rightHost endHost moveHost portsHost turnHost runHost
+foreign h left right e = record {
+  by-left = λ f. by-none h (afterHost (Refused BadJoin) h left right []) (λ j. leftCall j left right f) e;
+  by-right = λ f. by-none h (afterHost (Refused BadJoin) h left right []) (λ j. rightCall j left right f) e;
+  by-end = by-none h (afterHost (Refused BadJoin) h left right []) (λ j. endCall j left right) e;
+  by-move = λ newLeft newRight. by-none h (afterHost (Refused BadJoin) h newLeft newRight []) (λ j. moveCall j left right newLeft newRight) e;
+  by-ports = λ l r s. either-none (isCode l && isCode r && isCode s)
+      (by-none h (afterHost (PortsRefused BadJoin) h left right []) (λ j. portsCall j left right (portOf l) (portOf r) (portOf s)) e);
+  by-turn = λ out. by-none h (afterHost (TurnRefused BadJoin) h left right out) (λ j. turnCall j left right out) e;
+  by-run = λ k out. by-none h (afterHost refusedRun h left right out) (λ j. ranAfter (runCall k j left right out) left right) e;
+}
+  where
+    either-none : {A : Type 0} (t : Bool) {x y : A} → x ≡ y → cond t x y ≡ y
+    either-none true p = p
+    either-none false p = refl
+
+-- A join of another layout is none.
+layout-none : (h : HostJoin) → eqb (h .layout) layoutNow ≡ false → decode h ≡ none
+unfolding decode isJoin
+layout-none h e = rw e
 
 -- Options that are refused meet refusal 1.
 refused-bad : (o : Options) → tookCode (openAnswer o) ≡ 1 → badOptions o ≡ true
@@ -274,15 +314,7 @@ ports-options (Ports a b d) k j left right e = e
 ports-options (PortsRefused n) k j left right e = refl
 
 spoiled-options : (n : Refusal) (j : Join) → spoiled n j .options ≡ j .options
-spoiled-options BadOptions j = refl
-spoiled-options BadJoin j = refl
-spoiled-options Failed j = refl
-spoiled-options Closed j = refl
-spoiled-options BadFrame j = refl
-spoiled-options NoRoom j = refl
-spoiled-options UsedUp j = refl
-spoiled-options LeftOrder j = refl
-spoiled-options RightOrder j = refl
+spoiled-options n j = marked-ind (λ (k : Join). k .options ≡ j .options) n (λ t. refl) (λ a b. refl)
 
 turn-options : (a : Answer) (done : After Answer) (j : Join) (left right out : Words) → done .join .options ≡ j .options → byTurn a done j left right out .join .options ≡ j .options
 turn-options (Wrote s) done j left right out e = e
@@ -327,7 +359,7 @@ module _ (h : HostJoin) (j : Join) (left right : Words) (is : Is h j) where
   said l r s = simp (port-is, port-back)
 
   follow : Follows h j left right
-  unfolding leftHost rightHost endHost turnHost runHost leftCall queued rightCall pushedRight endCall portsCall turnCall turned dequeued dropped
+  unfolding leftHost rightHost endHost moveHost turnHost runHost leftCall queued rightCall pushedRight endCall moveCall portsCall turnCall turned dequeued dropped
   follow = record {
     by-left = λ f. followed h j (afterHost (Refused BadJoin) h left right []) (λ k. leftCall k left right f) is
         (took-options (leftAnswer j left right f) (queued j left right f) j left right refl);
@@ -335,6 +367,8 @@ module _ (h : HostJoin) (j : Join) (left right : Words) (is : Is h j) where
         (took-options (rightAnswer j left right f) (pushedRight j left right f) j left right refl);
     by-end = followed h j (afterHost (Refused BadJoin) h left right []) (λ k. endCall k left right) is
         (took-options (endAnswer j left right) (after Accepted (endedRight j) left right []) j left right refl);
+    by-move = λ newLeft newRight. followed h j (afterHost (Refused BadJoin) h newLeft newRight []) (λ k. moveCall k left right newLeft newRight) is
+        (took-options (moveAnswer j left right newLeft newRight) (after Accepted (atFront j) (leftMoved j left newLeft) (rightMoved j right newRight) []) j newLeft newRight refl);
     by-ports = λ l r s. rw (said l r s)
         (followed h j (afterHost (PortsRefused BadJoin) h left right []) (λ k. portsCall k left right l r s) is
         (ports-options (portsAnswer j left right l r s) (stateAt j (portsState j l s)) j left right refl));
@@ -356,11 +390,14 @@ promises = record {
     by-left = left-kept h left right;
     by-right = right-kept h left right;
     by-end = end-kept h left right;
+    by-move = move-kept h left right;
     by-ports = ports-kept h left right;
     by-turn = turn-kept h left right;
     by-run = run-kept h left right;
   };
   shut = λ o left right e. shut-by (openHost o .join) left right (opened o left right e);
+  no-join = λ h left right e. foreign h left right (none-is h e);
+  other-layout = layout-none;
   opens = opening;
   follows = λ h j left right e. follow h j left right (decoded h j e);
 }

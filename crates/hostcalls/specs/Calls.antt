@@ -6,22 +6,23 @@ use Prim.Native.Nat.{ℕ}
 use Rattle.frames.specs.Cells.{Words}
 use Rattle.node.specs.State.{fresh}
 use Rattle.node.specs.Calls.{After, after, leftCall, rightCall, endCall, portsCall, turnCall}
-use Rattle.feeds.specs.Judged.{openAnswer}
+use Rattle.callrules.specs.Judged.{openAnswer}
+use Rattle.moves.specs.Moves.{moveCall}
 use Rattle.runs.specs.Run.{Ran, runCall}
 use Rattle.node.specs.declared.Join.{Join}
-use Rattle.answers.specs.declared.Refusal.the-variants.{BadOptions, BadJoin}
-use Rattle.answers.specs.declared.Took.{Took}
-use Rattle.answers.specs.declared.Took.the-variants.{Refused}
-use Rattle.answers.specs.declared.Ported.{Ported}
-use Rattle.answers.specs.declared.Ported.the-variants.{Refused as PortsRefused}
-use Rattle.answers.specs.declared.Answer.{Answer}
-use Rattle.answers.specs.declared.Answer.the-variants.{Refused as TurnRefused}
+use Rattle.refusals.specs.declared.Refusal.the-variants.{BadOptions, BadJoin}
+use Rattle.outcomes.specs.declared.Took.{Took}
+use Rattle.outcomes.specs.declared.Took.the-variants.{Refused}
+use Rattle.outcomes.specs.declared.Ported.{Ported}
+use Rattle.outcomes.specs.declared.Ported.the-variants.{Refused as PortsRefused}
+use Rattle.outcomes.specs.declared.Answer.{Answer}
+use Rattle.outcomes.specs.declared.Answer.the-variants.{Refused as TurnRefused}
 use Rattle.codes.specs.Codes.{isCode, portOf}
 use Rattle.convert.specs.Convert.{decodeOptions, decode, encode}
 use Rattle.convert.specs.declared.HostOptions.{HostOptions}
 use Rattle.convert.specs.declared.HostJoin.{HostJoin}
-use Rattle.told.specs.Told.{tookHost, freshHost, Made, refusedRun}
-use Rattle.told.specs.declared.HostTook.{HostTook}
+use Rattle.results.specs.Results.{tookHost, freshHost, Made, refusedRun}
+use Rattle.results.specs.declared.HostTook.{HostTook}
 
 -- Opening: options that cannot be encoded are refused as 1, and so are those that meet 1; the join holds them, with everything else as in a fresh join.
 unfoldable pub openHost : HostOptions → HostTook
@@ -62,6 +63,10 @@ rightHost h left right f = byJoin h (afterHost (Refused BadJoin) h left right []
 -- The end of right.
 unfoldable pub endHost : HostJoin → Words → Words → HostAfter Took
 endHost h left right = byJoin h (afterHost (Refused BadJoin) h left right []) (λ j. endCall j left right)
+
+-- A move to other areas; the words that it leaves are those of the new areas.
+unfoldable pub moveHost : HostJoin → Words → Words → Words → Words → HostAfter Took
+moveHost h left right newLeft newRight = byJoin h (afterHost (Refused BadJoin) h newLeft newRight []) (λ j. moveCall j left right newLeft newRight)
 
 -- A port call: what no port can say is refused like a join that cannot be.
 unfoldable pub portsHost : HostJoin → Words → Words → ℕ → ℕ → ℕ → HostAfter Ported

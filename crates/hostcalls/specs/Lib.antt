@@ -1,3 +1,3 @@
 pub mod Calls
-pub mod Leaves
+pub mod Contracts
 pub mod Promises

@@ -6,15 +6,15 @@ use convert::is_options;
 use convert::join_of;
 use convert::options_of;
 use node::Join;
-use told::HostTook;
-use told::bad_took;
-use told::fresh_host;
-use told::took_host;
-ghost use Rattle.hostcalls.specs.Leaves.{HostOpenLeaves, HostLeftLeaves, HostRightLeaves, HostEndLeaves};
+use results::HostTook;
+use results::bad_took;
+use results::fresh_host;
+use results::took_host;
+ghost use Rattle.hostcalls.specs.Contracts.{HostOpenContract, HostLeftContract, HostRightContract, HostEndContract};
 
 // Opens a join. The join of a refused opening holds the options that came, and every call but a run of no turns answers 2 to it.
 pub fn host_open(h: HostOptions) -> HostTook
-    ensures { λ r. ⌜ HostOpenLeaves h r ⌝ }
+    ensures { λ r. ⌜ HostOpenContract h r ⌝ }
 {
     if is_options(h) {
         return took_host(Join::open(options_of(h)));
@@ -27,7 +27,7 @@ pub fn host_open(h: HostOptions) -> HostTook
 
 // Takes a left frame into the left area, behind those that wait.
 pub fn host_left(h: HostJoin, left: &mut [i64], right: &[i64], frame: &[i64]) -> HostTook
-    ensures { λ r. ⌜ HostLeftLeaves h (now (left .entry)) (now (right .entry)) (now (frame .entry)) r (now (left .exit)) ⌝ }
+    ensures { λ r. ⌜ HostLeftContract h (now (left .entry)) (now (right .entry)) (now (frame .entry)) r (now (left .exit)) ⌝ }
 {
     if is_join(h) {
         return took_host(join_of(h).left(left, right, frame));
@@ -37,7 +37,7 @@ pub fn host_left(h: HostJoin, left: &mut [i64], right: &[i64], frame: &[i64]) ->
 
 // Takes a right frame's rows into the right area, behind the held ones.
 pub fn host_right(h: HostJoin, left: &[i64], right: &mut [i64], frame: &[i64]) -> HostTook
-    ensures { λ r. ⌜ HostRightLeaves h (now (left .entry)) (now (right .entry)) (now (frame .entry)) r (now (right .exit)) ⌝ }
+    ensures { λ r. ⌜ HostRightContract h (now (left .entry)) (now (right .entry)) (now (frame .entry)) r (now (right .exit)) ⌝ }
 {
     if is_join(h) {
         return took_host(join_of(h).right(left, right, frame));
@@ -47,7 +47,7 @@ pub fn host_right(h: HostJoin, left: &[i64], right: &mut [i64], frame: &[i64]) -
 
 // Ends right: no right frame comes any more.
 pub fn host_end_right(h: HostJoin, left: &[i64], right: &[i64]) -> HostTook
-    ensures { λ r. ⌜ HostEndLeaves h (now (left .entry)) (now (right .entry)) r ⌝ }
+    ensures { λ r. ⌜ HostEndContract h (now (left .entry)) (now (right .entry)) r ⌝ }
 {
     if is_join(h) {
         return took_host(join_of(h).end_right(left, right));

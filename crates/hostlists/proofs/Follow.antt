@@ -12,20 +12,20 @@ use Rattle.node.specs.Calls.{After, leftAnswer, leftCall, queued, rightAnswer, 
 use Rattle.node.specs.declared.Join.{Join}
 use Rattle.runs.specs.Run.{runCall}
 use Rattle.runs.proofs.RunLaws.{turn-areas}
-use Rattle.answers.specs.Answers.{portCode}
-use Rattle.answers.specs.declared.PortState.{PortState}
-use Rattle.answers.specs.declared.Took.{Took}
-use Rattle.answers.specs.declared.Took.the-variants.{Accepted, Refused}
-use Rattle.answers.specs.declared.Ported.{Ported}
-use Rattle.answers.specs.declared.Ported.the-variants.{Ports, Refused as PortsRefused}
-use Rattle.answers.specs.declared.Answer.{Answer}
-use Rattle.answers.specs.declared.Refusal.the-variants.{BadJoin}
+use Rattle.outcomes.specs.Answers.{portCode}
+use Rattle.outcomes.specs.declared.PortState.{PortState}
+use Rattle.outcomes.specs.declared.Took.{Took}
+use Rattle.outcomes.specs.declared.Took.the-variants.{Accepted, Refused}
+use Rattle.outcomes.specs.declared.Ported.{Ported}
+use Rattle.outcomes.specs.declared.Ported.the-variants.{Ports, Refused as PortsRefused}
+use Rattle.outcomes.specs.declared.Answer.{Answer}
+use Rattle.refusals.specs.declared.Refusal.the-variants.{BadJoin}
 use Rattle.codes.specs.Codes.{isCode, portOf}
 use Rattle.codes.proofs.CodeLaws.{and-both}
 use Rattle.convert.specs.Convert.{encode, decode}
 use Rattle.convert.proofs.ConvertLaws.{there-and-back}
 use Rattle.convert.specs.declared.HostJoin.{HostJoin}
-use Rattle.told.specs.Told.{tookHost, portedHost, turnedHost, Made, ranHost}
+use Rattle.results.specs.Results.{tookHost, portedHost, turnedHost, Made, ranHost}
 use Rattle.hostcalls.specs.Calls.{HostAfter, afterHost, leftHost, rightHost, endHost, portsHost, turnHost, ranAfter, runHost}
 use Rattle.hostcalls.specs.Promises.{Same, Follows}
 use Rattle.hostcalls.proofs.PromiseLaws.{promises}

@@ -6,7 +6,7 @@ use mathlib.Core.List.{List, [], _∷_, map}
 use Prim.Native.Nat.{ℕ}
 use lib.IntN.{pos, negsuc}
 use Rattle.frames.specs.Cells.{Words}
-use Rattle.frames.proofs.Samples.{keys, frameOf}
+use Rattle.order.proofs.Samples.{keys, frameOf}
 use Rattle.codes.specs.Codes.{areFlags, flagsOf, flagCodes}
 use Rattle.convert.specs.Convert.{isOptions, decodeOptions, isJoin, decode}
 use Rattle.convert.specs.declared.HostOptions.{HostOptions}

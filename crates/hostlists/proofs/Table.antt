@@ -10,29 +10,30 @@ use lib.ListN.{length, take, drop, length-append, take-append-drop, length-drop}
 use lib.Seq.{length-take-le}
 use Rattle.frames.specs.Cells.{Words}
 use Rattle.frames.specs.Frame.{rowCount}
-use Rattle.frames.specs.Options.{badOptions}
-use Rattle.frames.specs.declared.Options.{Options}
+use Rattle.options.specs.Options.{badOptions}
+use Rattle.options.specs.declared.Options.{Options}
 use Rattle.node.specs.Calls.{After, leftCall, rightCall, turnCall}
 use Rattle.node.specs.declared.Join.{Join}
-use Rattle.feeds.specs.Judged.{openAnswer}
+use Rattle.callrules.specs.Judged.{openAnswer}
 use Rattle.runs.specs.Run.{turnWords}
 use Rattle.runs.proofs.RunLaws.{turn-fits, turn-length}
-use Rattle.answers.specs.Answers.{wrote, isDone}
-use Rattle.answers.specs.declared.Answer.{Answer}
-use Rattle.answers.specs.declared.Answer.the-variants.{Wrote, WantsRight, Idle, Refused as TurnRefused}
-use Rattle.answers.specs.declared.Refusal.the-variants.{BadOptions, BadJoin, Failed, Closed, BadFrame, NoRoom, UsedUp, LeftOrder, RightOrder}
-use Rattle.answers.specs.declared.Took.{Took}
-use Rattle.answers.specs.declared.Took.the-variants.{Accepted, Refused}
+use Rattle.outcomes.specs.Answers.{wrote, isDone}
+use Rattle.outcomes.specs.declared.Answer.{Answer}
+use Rattle.outcomes.specs.declared.Answer.the-variants.{Wrote, WantsRight, Idle, Refused as TurnRefused}
+use Rattle.outcomes.specs.declared.Took.{Took}
+use Rattle.outcomes.specs.declared.Took.the-variants.{Accepted, Refused}
 use Rattle.codes.specs.Codes.{isCode, portOf, tookCode, stateOf}
 use Rattle.convert.specs.Convert.{isOptions, optionsOf, decodeOptions}
 use Rattle.convert.proofs.ConvertLaws.{decoded}
 use Rattle.convert.specs.declared.HostOptions.{HostOptions}
 use Rattle.convert.specs.declared.HostJoin.{HostJoin}
-use Rattle.told.specs.Told.{turnedHost}
-use Rattle.told.specs.declared.HostTook.{HostTook}
+use Rattle.results.specs.Results.{turnedHost}
+use Rattle.results.specs.declared.HostTook.{HostTook}
 use Rattle.hostcalls.specs.Calls.{openHost}
 use Rattle.hostcalls.proofs.CallLaws.{open-bad, open-through}
 use Rattle.hostcalls.proofs.PromiseLaws.{promises}
+use Rattle.refusals.specs.declared.Refusal.the-variants.{BadOptions}
+use Rattle.refusals.proofs.RefusalLaws.{number-above}
 use Rattle.lists.specs.Lists.{Call, left as nodeLeft, right as nodeRight, end as nodeEnd, ports as nodePorts, turn as nodeTurn, Event, onLeft as nodeOnLeft, onRight as nodeOnRight, onEnd as nodeOnEnd, onPorts as nodeOnPorts, onTurn as nodeOnTurn, World, start, step, events, final, when, leftFrames, rightFrames, whenWrote, outputIn, outputs, pairUp, writtenIn, matchesIn, rightEnded, nodeDone, backToBack}
 use Rattle.lists.specs.Runs.{turnsOf, answersOf, wordsOf, lentBy, writtenWords}
 use Rattle.lists.proofs.ListLaws.{events-append, left-append, right-append, outputs-append, matches-append, take-more, drop-more}
@@ -46,15 +47,7 @@ use Rattle.hostlists.proofs.Follow.{host-lists}
 -- ---- refusal 0 is acceptance, answer 0 is Wrote
 taken : (a : Took) (xs : List Words) → cond (eqb (tookCode a) 0) xs [] ≡ when a xs
 taken Accepted xs = refl
-taken (Refused BadOptions) xs = refl
-taken (Refused BadJoin) xs = refl
-taken (Refused Failed) xs = refl
-taken (Refused Closed) xs = refl
-taken (Refused BadFrame) xs = refl
-taken (Refused NoRoom) xs = refl
-taken (Refused UsedUp) xs = refl
-taken (Refused LeftOrder) xs = refl
-taken (Refused RightOrder) xs = refl
+taken (Refused n) xs = rw (number-above n) refl
 
 written-by : (a : Answer) (h : HostJoin) (xs : List Words) → cond (eqb (turnedHost a h .answer) 0) xs [] ≡ whenWrote a xs
 written-by (Wrote s) h xs = refl

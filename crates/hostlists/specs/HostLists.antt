@@ -6,17 +6,17 @@ use mathlib.Core.Option.{some}
 use Prim.Native.Nat.{ℕ}
 use lib.ListN.{length, drop}
 use Rattle.frames.specs.Cells.{Words}
-use Rattle.answers.specs.Answers.{portCode}
-use Rattle.answers.specs.declared.Refusal.the-variants.{BadJoin}
-use Rattle.answers.specs.declared.Ported.the-variants.{Refused as PortsRefused}
+use Rattle.outcomes.specs.Answers.{portCode}
+use Rattle.refusals.specs.declared.Refusal.the-variants.{BadJoin}
+use Rattle.outcomes.specs.declared.Ported.the-variants.{Refused as PortsRefused}
 use Rattle.codes.specs.Codes.{isCode, portOf}
 use Rattle.convert.specs.Convert.{encode, decode}
 use Rattle.convert.specs.declared.HostJoin.{HostJoin}
-use Rattle.told.specs.Told.{tookHost, portedHost, turnedHost, ranHost}
-use Rattle.told.specs.declared.HostTook.{HostTook}
-use Rattle.told.specs.declared.HostPorted.{HostPorted}
-use Rattle.told.specs.declared.HostTurned.{HostTurned}
-use Rattle.told.specs.declared.HostRan.{HostRan}
+use Rattle.results.specs.Results.{tookHost, portedHost, turnedHost, ranHost}
+use Rattle.results.specs.declared.HostTook.{HostTook}
+use Rattle.results.specs.declared.HostPorted.{HostPorted}
+use Rattle.results.specs.declared.HostTurned.{HostTurned}
+use Rattle.results.specs.declared.HostRan.{HostRan}
 use Rattle.hostcalls.specs.Calls.{leftHost, rightHost, endHost, portsHost, turnHost, runHost}
 use Rattle.lists.specs.Lists.{Call, left as nodeLeft, right as nodeRight, end as nodeEnd, ports as nodePorts, turn as nodeTurn, Event, onLeft as nodeOnLeft, onRight as nodeOnRight, onEnd as nodeOnEnd, onPorts as nodeOnPorts, onTurn as nodeOnTurn, World, Step, step, final, outputs}
 use Rattle.lists.specs.Runs.{turnsOf, answersOf, wordsOf, stopIn}

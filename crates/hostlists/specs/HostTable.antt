@@ -7,9 +7,9 @@ use lib.Dec.{eqb}
 use lib.ListN.{length, take, drop}
 use Rattle.frames.specs.Cells.{Rows, Words}
 use Rattle.frames.specs.Frame.{rowCount}
-use Rattle.frames.specs.Options.{columns}
-use Rattle.frames.specs.Order.{sorted}
-use Rattle.frames.specs.declared.Options.{Options}
+use Rattle.options.specs.Options.{columns, rightColumns}
+use Rattle.order.specs.Order.{sorted}
+use Rattle.options.specs.declared.Options.{Options}
 use Rattle.matching.specs.Match.{wholeTable}
 use Rattle.runs.specs.Run.{turnWords}
 use Rattle.convert.specs.Convert.{optionsOf}
@@ -92,7 +92,7 @@ module _ (h : HostOptions) (l r : Words) (calls : List HostCall) where
 
   -- The accepted right rows.
   abbrev pub rightRows : Rows
-  rightRows = rowsIn (columns o) (hostRights returned)
+  rightRows = rowsIn (rightColumns o) (hostRights returned)
 
   -- The rows of as many left frames as outputs were written.
   abbrev pub writtenRows : Rows

@@ -4,21 +4,21 @@ use codes::port_of;
 use convert::HostJoin;
 use convert::is_join;
 use convert::join_of;
+use results::HostPorted;
+use results::HostRan;
+use results::HostTurned;
+use results::bad_ported;
+use results::bad_ran;
+use results::bad_turned;
+use results::ported_host;
+use results::ran_host;
+use results::turned_host;
 use runs::run;
-use told::HostPorted;
-use told::HostRan;
-use told::HostTurned;
-use told::bad_ported;
-use told::bad_ran;
-use told::bad_turned;
-use told::ported_host;
-use told::ran_host;
-use told::turned_host;
-ghost use Rattle.hostcalls.specs.Leaves.{HostPortsLeaves, HostTurnLeaves, HostRunLeaves};
+ghost use Rattle.hostcalls.specs.Contracts.{HostPortsContract, HostTurnContract, HostRunContract};
 
 // A port call: l, r and s are what left, right and send come with.
 pub fn host_ports(h: HostJoin, left: &[i64], right: &[i64], l: u64, r: u64, s: u64) -> HostPorted
-    ensures { λ x. ⌜ HostPortsLeaves h (now (left .entry)) (now (right .entry)) l r s x ⌝ }
+    ensures { λ x. ⌜ HostPortsContract h (now (left .entry)) (now (right .entry)) l r s x ⌝ }
 {
     if !are_codes(l, r, s) {
         return bad_ported(h);
@@ -31,7 +31,7 @@ pub fn host_ports(h: HostJoin, left: &[i64], right: &[i64], l: u64, r: u64, s: u
 
 // One turn: the front of the queue is matched with the held rows, and its matches are written into the output.
 pub fn host_turn(h: HostJoin, left: &[i64], right: &[i64], out: &mut [i64]) -> HostTurned
-    ensures { λ r. ⌜ HostTurnLeaves h (now (left .entry)) (now (right .entry)) (now (out .entry)) r (now (out .exit)) ⌝ }
+    ensures { λ r. ⌜ HostTurnContract h (now (left .entry)) (now (right .entry)) (now (out .entry)) r (now (out .exit)) ⌝ }
 {
     if is_join(h) {
         return turned_host(join_of(h).turn(left, right, out));
@@ -41,7 +41,7 @@ pub fn host_turn(h: HostJoin, left: &[i64], right: &[i64], out: &mut [i64]) -> H
 
 // At most k turns, each writing behind the one before; the first that does not write ends it.
 pub fn host_run(h: HostJoin, k: usize, left: &[i64], right: &[i64], out: &mut [i64]) -> HostRan
-    ensures { λ r. ⌜ HostRunLeaves h k (now (left .entry)) (now (right .entry)) (now (out .entry)) r (now (out .exit)) ⌝ }
+    ensures { λ r. ⌜ HostRunContract h k (now (left .entry)) (now (right .entry)) (now (out .entry)) r (now (out .exit)) ⌝ }
 {
     if is_join(h) {
         return ran_host(run(join_of(h), k, left, right, out));

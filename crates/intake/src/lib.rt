@@ -1,35 +1,37 @@
 // Frames that are taken: a left frame waits behind those that wait, the rows of a right frame are held behind those that are.
-use answers::NodeState;
-use answers::Took;
 use area::append;
 use area::push;
-use feeds::FedEnd;
-use feeds::FedLeft;
-use feeds::FedRight;
+use callrules::FedEnd;
+use callrules::FedLeft;
+use callrules::FedRight;
 use framerule::row_count;
 use judges::judge_end;
 use judges::judge_left;
 use judges::judge_right;
+use options::Options;
+use options::right_columns;
+use outcomes::NodeState;
+use outcomes::Took;
 ghost use mathlib.Core.Path.{_≡_};
 ghost use mathlib.Core.Bool.{false};
-ghost use Prim.Native.Nat.{suc};
-ghost use Rattle.feeds.specs.Judged.{EndFed, LeftHolds, LeftFed, RightHolds, RightFed};
+ghost use Rattle.options.specs.Options.{columns, rightColumns};
+ghost use Rattle.callrules.specs.Judged.{EndFed, LeftHolds, LeftFed, RightHolds, RightFed};
 
 // A left frame: where it would pass the end, those that wait move to the front first.
 pub fn feed_left(
     bad: bool,
     failed: bool,
     state: NodeState,
-    by: usize,
+    o: Options,
     start: usize,
     words: usize,
     left: &mut [i64],
     frame: &[i64],
 ) -> FedLeft
-    requires { ⌜ (bad ≡ false → LeftHolds by start words (now left)) ⌝ }
-    ensures { λ r. ⌜ LeftFed bad failed state (suc by) start words (now (left .entry)) (now (frame .entry)) r (now (left .exit)) ⌝ }
+    requires { ⌜ (bad ≡ false → LeftHolds o start words (now left)) ⌝ }
+    ensures { λ r. ⌜ LeftFed bad failed state (columns o) start words (now (left .entry)) (now (frame .entry)) r (now (left .exit)) ⌝ }
 {
-    let answer = judge_left(bad, failed, state, by, words, left, frame);
+    let answer = judge_left(bad, failed, state, o, words, left, frame);
     if let Took::Refused(_) = answer {
         return FedLeft {
             answer: answer,
@@ -52,17 +54,17 @@ pub fn feed_right(
     failed: bool,
     ended: bool,
     state: NodeState,
-    by: usize,
+    o: Options,
     base: usize,
     held: usize,
     pruned: usize,
     right: &mut [i64],
     frame: &[i64],
 ) -> FedRight
-    requires { ⌜ (bad ≡ false → RightHolds by base held pruned (now right)) ⌝ }
-    ensures { λ r. ⌜ RightFed bad failed ended state (suc by) base held pruned (now (right .entry)) (now (frame .entry)) r (now (right .exit)) ⌝ }
+    requires { ⌜ (bad ≡ false → RightHolds o base held pruned (now right)) ⌝ }
+    ensures { λ r. ⌜ RightFed bad failed ended state (rightColumns o) base held pruned (now (right .entry)) (now (frame .entry)) r (now (right .exit)) ⌝ }
 {
-    let answer = judge_right(bad, failed, ended, state, by, held, pruned, right, frame);
+    let answer = judge_right(bad, failed, ended, state, o, held, pruned, right, frame);
     if let Took::Refused(_) = answer {
         return FedRight {
             answer: answer,
@@ -70,7 +72,7 @@ pub fn feed_right(
             held: held,
         };
     }
-    let c = by + 1;
+    let c = right_columns(o);
     let to = push(right, base, held, frame, c);
     let rows = held + row_count(frame);
     FedRight {

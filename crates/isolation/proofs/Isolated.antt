@@ -9,13 +9,13 @@ use lib.IntN.{pos}
 use lib.ListN.{length, take, getD}
 use lib.Seq.{take-all}
 use Rattle.frames.specs.Cells.{Cell, Rows, Words}
-use Rattle.frames.specs.Options.{columns, badOptions}
-use Rattle.frames.specs.Order.{cmpGroup, isEqual, sorted}
-use Rattle.frames.specs.declared.Options.{Options}
-use Rattle.frames.specs.declared.Order.{Order}
-use Rattle.frames.specs.declared.Order.the-variants.{Less, Equal, Greater}
-use Rattle.frames.proofs.OrderLaws.{cmpGroup-is, same-right}
-use Rattle.frames.proofs.SortedLaws.{and-true}
+use Rattle.options.specs.Options.{columns, badOptions}
+use Rattle.order.specs.Order.{cmpGroup, isEqual, sorted}
+use Rattle.options.specs.declared.Options.{Options}
+use Rattle.order.specs.declared.Order.{Order}
+use Rattle.order.specs.declared.Order.the-variants.{Less, Equal, Greater}
+use Rattle.order.proofs.OrderLaws.{cmpGroup-is, same-right}
+use Rattle.frames.proofs.BoolLaws.{and-true}
 use Rattle.matching.specs.Match.{nobody, choose, tolerate, tooFar, matchTable, wholeTable, qualifies}
 use Rattle.matching.specs.Picked.{Picked}
 use Rattle.matching.specs.declared.Choice.{Choice}

@@ -6,8 +6,8 @@ use Prim.Native.Nat.{ℕ, suc, _+_}
 use native.Mathlib.Omega.{arith}
 use lib.ListN.{length, take}
 use Rattle.frames.specs.Cells.{Cell, Rows}
-use Rattle.frames.specs.Options.{strategyOf}
-use Rattle.frames.specs.declared.Options.{Options}
+use Rattle.options.specs.Options.{strategyOf}
+use Rattle.options.specs.declared.Options.{Options}
 use Rattle.matching.specs.Match.{Hit, nobody, hit, meet, choose, takesOver, tooFar, tolerate}
 use Rattle.matching.specs.declared.Choice.{Choice}
 use Rattle.matching.specs.declared.Choice.the-variants.{Row, Nothing}

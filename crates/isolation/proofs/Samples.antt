@@ -5,9 +5,9 @@ use mathlib.Core.List.{List, [], _∷_, map}
 use Prim.Native.Nat.{ℕ}
 use lib.IntN.{pos, negsuc}
 use Rattle.frames.specs.Cells.{Cell, null, value, Rows}
-use Rattle.frames.specs.Order.{cmpFirst}
-use Rattle.frames.proofs.Samples.{options, row, frameOf}
-use Rattle.frames.specs.declared.Options.{Options}
+use Rattle.order.specs.Order.{cmpFirst}
+use Rattle.order.proofs.Samples.{options, row, frameOf}
+use Rattle.options.specs.declared.Options.{Options}
 use Rattle.lists.specs.Lists.{Call, left, right, end, turn, events, final, leftFrames, rightFrames, rowsIn, outputs, Entry, pairUp, writtenIn, matchesIn}
 use Rattle.lists.specs.WholeTables.{matches}
 use Rattle.lists.proofs.Script.{leftArea, rightArea, space, speakAll}

@@ -1,20 +1,23 @@
 // The refusals of opening, of frames, of the end of right and of the start of a turn, in checking order. Nothing is altered here.
-use answers::Answer;
-use answers::NodeState;
-use answers::Refusal;
-use answers::Took;
-use answers::above;
-use answers::is_done;
-use answers::is_running;
 use framerule::is_frame;
 use framerule::row_count;
-use frames::Options;
+use options::Options;
 use options::bad_options;
+use options::left_columns;
+use options::right_columns;
+use outcomes::Answer;
+use outcomes::NodeState;
+use outcomes::Took;
+use outcomes::above;
+use outcomes::is_done;
+use outcomes::is_running;
+use refusals::Refusal;
 ghost use mathlib.Core.Path.{_≡_};
 ghost use mathlib.Core.Bool.{false};
-ghost use Prim.Native.Nat.{suc, _+_, _≤_};
-ghost use Rattle.answers.specs.Answers.{mostRows};
-ghost use Rattle.feeds.specs.Judged.{openAnswer, leftJudged, endJudged, rightJudged, readyJudged};
+ghost use Prim.Native.Nat.{_+_, _≤_};
+ghost use Rattle.options.specs.Options.{columns, rightColumns};
+ghost use Rattle.outcomes.specs.Answers.{mostRows};
+ghost use Rattle.callrules.specs.Judged.{openAnswer, leftJudged, endJudged, rightJudged, readyJudged};
 
 // The greatest number of right rows.
 const MOST_ROWS: usize = 9223372036854775807;
@@ -34,13 +37,13 @@ pub fn judge_left(
     bad: bool,
     failed: bool,
     state: NodeState,
-    by: usize,
+    o: Options,
     words: usize,
     left: &[i64],
     frame: &[i64],
 ) -> Took
-    requires { ⌜ (bad ≡ false → by ≤ 4) ⌝ }
-    ensures { λ r. ⌜ r ≡ leftJudged bad failed state (suc by) words (now (left .entry)) (now (frame .entry)) ⌝ }
+    requires { ⌜ (bad ≡ false → o .by ≤ 4) ⌝ }
+    ensures { λ r. ⌜ r ≡ leftJudged bad failed state (columns o) words (now (left .entry)) (now (frame .entry)) ⌝ }
 {
     if bad {
         return Took::Refused(Refusal::BadJoin);
@@ -51,7 +54,7 @@ pub fn judge_left(
     if !is_running(state) {
         return Took::Refused(Refusal::Closed);
     }
-    let c = by + 1;
+    let c = left_columns(o);
     if !is_frame(frame, c) {
         return Took::Refused(Refusal::BadFrame);
     }
@@ -86,20 +89,20 @@ pub fn judge_right(
     failed: bool,
     ended: bool,
     state: NodeState,
-    by: usize,
+    o: Options,
     held: usize,
     pruned: usize,
     right: &[i64],
     frame: &[i64],
 ) -> Took
-    requires { ⌜ (bad ≡ false → (by ≤ 4) × (pruned + held ≤ mostRows)) ⌝ }
-    ensures { λ r. ⌜ r ≡ rightJudged bad failed ended state (suc by) held pruned (now (right .entry)) (now (frame .entry)) ⌝ }
+    requires { ⌜ (bad ≡ false → (o .by ≤ 4) × (pruned + held ≤ mostRows)) ⌝ }
+    ensures { λ r. ⌜ r ≡ rightJudged bad failed ended state (rightColumns o) held pruned (now (right .entry)) (now (frame .entry)) ⌝ }
 {
     let open = judge_end(bad, failed, ended, state);
     if let Took::Refused(_) = open {
         return open;
     }
-    let c = by + 1;
+    let c = right_columns(o);
     if !is_frame(frame, c) {
         return Took::Refused(Refusal::BadFrame);
     }

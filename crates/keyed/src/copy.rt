@@ -1,10 +1,10 @@
 // A row by value, with the flag that says whether there is one.
-use frames::Row;
+use order::Row;
 ghost use mathlib.Core.Path.{_≡_};
 ghost use lib.IntN.{ℤ};
 ghost use Rattle.frames.specs.Cells.{cellOf, rowFrom, valueWord, markWord};
-ghost use Rattle.frames.specs.Keyed.{noRow, remember};
-ghost use Rattle.frames.specs.Room.{SmallRow};
+ghost use Rattle.order.specs.Keyed.{noRow, remember};
+ghost use Rattle.order.specs.Requires.{SmallRow};
 
 // The value word of a cell: 0 where it is null.
 fn value_word(value: i64, mark: i64) -> i64

@@ -1,13 +1,13 @@
 // Nulls by their marks: of a group, and of the keys of rows. The values beside the marks may be any.
-use frames::Keyed;
-use frames::Options;
+use options::Options;
+use order::Keyed;
 ghost use mathlib.Core.Path.{_≡_};
 ghost use Prim.Native.Nat.{ℕ, _+_, _*_, _≤_, _<_};
 ghost use lib.ListN.{length};
 ghost use Rattle.frames.specs.Cells.{Words, isNull, rowFrom, rowsOf};
-ghost use Rattle.frames.specs.Order.{nullKey, nullGroup};
-ghost use Rattle.frames.specs.Keyed.{firstKeyed, lastKeyed};
-ghost use Rattle.frames.specs.Room.{cellAt, MarkIn, MarksAt, KeysIn};
+ghost use Rattle.order.specs.Order.{nullKey, nullGroup};
+ghost use Rattle.order.specs.Keyed.{firstKeyed, lastKeyed};
+ghost use Rattle.order.specs.Requires.{cellAt, MarkIn, MarksAt, KeysIn};
 
 // Whether the cell at place k is null.
 pub fn null_at(marks: &[i64], k: usize) -> bool

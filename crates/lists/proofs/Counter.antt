@@ -7,8 +7,8 @@ use Prim.Native.Nat.{ℕ, _*_}
 use lib.IntN.{pos, negsuc}
 use lib.ListN.{length, replicate}
 use Rattle.frames.specs.Cells.{null, value, Words}
-use Rattle.frames.proofs.Samples.{options, plain, row, keys, frameOf}
-use Rattle.frames.specs.declared.Options.{Options}
+use Rattle.order.proofs.Samples.{options, plain, row, keys, frameOf}
+use Rattle.options.specs.declared.Options.{Options}
 use Rattle.lists.specs.Lists.{Call, left, right, end, turn, start, final}
 use Rattle.lists.proofs.Script.{Said, ok, refused, wrote, wants, leftArea, rightArea, space, says}
 

@@ -6,11 +6,11 @@ use mathlib.Core.List.{List, [], _∷_, map}
 use Prim.Native.Nat.{ℕ}
 use lib.IntN.{pos}
 use Rattle.frames.specs.Cells.{Words}
-use Rattle.frames.specs.Order.{sorted, cmpRow, cmpFirst, nullIn}
-use Rattle.frames.proofs.Samples.{plain, keys, frameOf}
-use Rattle.frames.specs.declared.Options.{Options}
+use Rattle.order.specs.Order.{sorted, cmpRow, cmpFirst, nullIn}
+use Rattle.order.proofs.Samples.{plain, keys, frameOf}
+use Rattle.options.specs.declared.Options.{Options}
 use Rattle.matching.specs.Match.{choose, takesOver, fits, tolerate, matchTable, wholeTable}
-use Rattle.answers.specs.declared.PortState.the-variants.{Ready, Done as PortDone}
+use Rattle.outcomes.specs.declared.PortState.the-variants.{Ready, Done as PortDone}
 use Rattle.lists.specs.Lists.{Call, left, right, end, ports, turn, start, events, final, leftFrames, rightFrames, rowsIn, outputs, Entry, pairUp, writtenIn, matchesIn}
 use Rattle.lists.specs.WholeTables.{asWritten, lefts, rights, turnedRows, matches}
 use Rattle.lists.proofs.Script.{Said, ok, refused, wrote, wants, idle, ports as said-ports, leftArea, rightArea, space, says, speakAll}

@@ -9,30 +9,33 @@ use borrow.Author.Tests.{ltb-true, ltb-false, eqb-true, eqb-false, le-ltb, ne-eq
 use lib.Dec.{ltb, eqb}
 use lib.IntN.{ℤ}
 use lib.ListN.{length, take, drop, length-append, length-drop}
+use Rattle.callrules.specs.Judged.{leftJudged, endJudged, rightJudged}
+use Rattle.frames.proofs.BoolLaws.{and-true-right}
 use Rattle.frames.specs.Cells.{Rows, Words}
 use Rattle.frames.specs.Frame.{rowCount, isFrame, frameRows, front}
-use Rattle.frames.specs.Options.{columns, badOptions}
-use Rattle.frames.specs.declared.Options.{Options}
+use Rattle.options.specs.Options.{columns, badOptions}
+use Rattle.options.specs.declared.Options.{Options}
 use Rattle.frames.proofs.FrameLaws.{frame-length}
 use Rattle.area.specs.Area.{capacity}
 use Rattle.node.proofs.Good.{left-taken, right-taken}
 use Rattle.node.specs.declared.Join.{Join}
-use Rattle.answers.specs.declared.NodeState.{NodeState}
-use Rattle.answers.specs.declared.NodeState.the-variants.{Running, Flush, Done}
-use Rattle.answers.specs.declared.PortState.{PortState}
-use Rattle.answers.specs.declared.PortState.the-variants.{Blocked, Ready, Done as PortDone}
-use Rattle.answers.specs.declared.Refusal.{Refusal}
-use Rattle.answers.specs.declared.Refusal.the-variants.{BadOptions, BadJoin, Failed, Closed, BadFrame, NoRoom, UsedUp, LeftOrder, RightOrder}
-use Rattle.answers.specs.declared.Answer.{Answer}
-use Rattle.answers.specs.declared.Answer.the-variants.{Wrote, WantsRight, Idle, Refused as TurnRefused}
-use Rattle.answers.specs.declared.Took.{Took}
-use Rattle.answers.specs.declared.Took.the-variants.{Accepted, Refused}
-use Rattle.answers.specs.declared.Ported.{Ported}
-use Rattle.answers.specs.declared.Ported.the-variants.{Ports, Refused as PortsRefused}
-use Rattle.node.specs.State.{fresh, endedRight, stateAt, widthOf, badJoin, overRight, overLeft, overRows, oddSequence, heldOf, waiting}
-use Rattle.answers.specs.Answers.{number, isRunning, isDone, mostRows}
+use Rattle.outcomes.specs.declared.NodeState.{NodeState}
+use Rattle.outcomes.specs.declared.NodeState.the-variants.{Running, Flush, Done}
+use Rattle.outcomes.specs.declared.PortState.{PortState}
+use Rattle.outcomes.specs.declared.PortState.the-variants.{Blocked, Ready, Done as PortDone}
+use Rattle.refusals.specs.declared.Refusal.{Refusal}
+use Rattle.refusals.specs.declared.Refusal.the-variants.{BadOptions, BadJoin, Failed, Closed, BadFrame, NoRoom, UsedUp, LeftOrder, RightOrder}
+use Rattle.outcomes.specs.declared.Answer.{Answer}
+use Rattle.outcomes.specs.declared.Answer.the-variants.{Wrote, WantsRight, Idle, Refused as TurnRefused}
+use Rattle.outcomes.specs.declared.Took.{Took}
+use Rattle.outcomes.specs.declared.Took.the-variants.{Accepted, Refused}
+use Rattle.outcomes.specs.declared.Ported.{Ported}
+use Rattle.outcomes.specs.declared.Ported.the-variants.{Ports, Refused as PortsRefused}
+use Rattle.node.specs.State.{fresh, endedRight, stateAt, leftWidth, rightWidth, badJoin, overRight, overLeft, overRows, oddSequence, heldOf, waiting}
+use Rattle.outcomes.specs.Answers.{isRunning, isDone, mostRows}
+use Rattle.refusals.specs.Refusals.{number}
 use Rattle.node.specs.Calls.{After, leftAnswer, leftCall, queued, rightAnswer, rightCall, pushedRight, endAnswer, endCall, portsAnswer, portsCall, portsState}
-use Rattle.ports.specs.Ports.{portsIn, toFlush, toDone, portDone}
+use Rattle.ports.specs.Ports.{portsIn, toFlush, toDone, portDone, portsJudged}
 use Rattle.lists.specs.Lists.{Call, left, right, end, ports, turn, Event, onLeft, onRight, onEnd, onPorts, onTurn, World, start, step, leftIn, rightIn, leftFrames, rightFrames, rowsIn, outputIn, outputs, endsRight, rightEnded, leftDone, leftEnded, framesWaiting, backToBack, doneBy, nodeDone, refusalIn, tookRefusal, portsRefusal, refusedWith, turnIn, turnsIn}
 use Rattle.lists.proofs.ListLaws.{left-append, right-append, outputs-append, turns-append, ended-append, left-ended-append, refused-append, done-snoc}
 use Rattle.lists.proofs.Stock.{Frames, frames-drop, Stock, stock-same, stock-left, stock-right, waiting-length}
@@ -226,10 +229,6 @@ module _ (o : Options) (l r : Words) (allowed : badOptions o ≡ false) (es : Li
     unbroken = p .not2;
     front = refl;
   }
-    where
-      and-true-right : (b : Bool) → (b && true) ≡ b
-      and-true-right true = refl
-      and-true-right false = refl
 
   quiet-right : (f : Words) (a : Took) → Plain (tookRefusal a) → Adds es j (onRight f a) j
   unfolding doneBy refusedWith
@@ -237,12 +236,12 @@ module _ (o : Options) (l r : Words) (allowed : badOptions o ≡ false) (es : Li
 
   -- ---- a left frame
   left-plain : (f : Words) → Plain (tookRefusal (leftAnswer j (w .left) (w .right) f))
-  unfolding leftAnswer
+  unfolding leftJudged
   left-plain f =
       rw good
       (plain-took (j .failed) (Refused Failed) _ plain3
       (plain-took (not (isRunning (j .state))) (Refused Closed) _ plain4
-      (plain-took (not (isFrame (widthOf j) f)) (Refused BadFrame) _ plain5
+      (plain-took (not (isFrame (leftWidth j) f)) (Refused BadFrame) _ plain5
       (plain-took (ltb (length (w .left)) (j .«queue_words» + length f)) (Refused NoRoom) Accepted plain6 plain0))))
 
   -- What an accepted left frame passed.
@@ -274,13 +273,13 @@ module _ (o : Options) (l r : Words) (allowed : badOptions o ≡ false) (es : Li
 
   -- ---- a right frame
   right-plain : (f : Words) → Plain (tookRefusal (rightAnswer j (w .left) (w .right) f))
-  unfolding rightAnswer
+  unfolding rightJudged
   right-plain f =
       rw good
       (plain-took (j .failed) (Refused Failed) _ plain3
       (plain-took (j .«right_ended» || isDone (j .state)) (Refused Closed) _ plain4
-      (plain-took (not (isFrame (widthOf j) f)) (Refused BadFrame) _ plain5
-      (plain-took (ltb (capacity (widthOf j) (w .right)) (j .held + rowCount f)) (Refused NoRoom) _ plain6
+      (plain-took (not (isFrame (rightWidth j) f)) (Refused BadFrame) _ plain5
+      (plain-took (ltb (capacity (rightWidth j) (w .right)) (j .held + rowCount f)) (Refused NoRoom) _ plain6
       (plain-took (ltb mostRows (j .pruned + j .held + rowCount f)) (Refused UsedUp) Accepted plain7 plain0)))))
 
   -- What an accepted right frame passed.
@@ -316,7 +315,7 @@ module _ (o : Options) (l r : Words) (allowed : badOptions o ≡ false) (es : Li
 
   -- ---- the end of right
   end-plain : Plain (tookRefusal (endAnswer j (w .left) (w .right)))
-  unfolding endAnswer
+  unfolding endJudged
   end-plain =
       rw good
       (plain-took (j .failed) (Refused Failed) _ plain3
@@ -384,7 +383,7 @@ module _ (o : Options) (l r : Words) (allowed : badOptions o ≡ false) (es : Li
       }
 
   ports-plain : (l′ r′ s′ : PortState) → Plain (portsRefusal (portsAnswer j (w .left) (w .right) l′ r′ s′))
-  unfolding portsAnswer
+  unfolding portsJudged
   ports-plain l′ r′ s′ = rw good (go (j .failed) (portsState j l′ s′))
     where
       go : (b : Bool) (t : NodeState) → Plain (portsRefusal (cond b (PortsRefused Failed) (portsIn t l′ r′ s′)))

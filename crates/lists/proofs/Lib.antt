@@ -6,6 +6,7 @@ pub mod ListLaws
 pub mod Stock
 pub mod Invariant
 pub mod Turn
+pub mod Elsewhere
 pub mod Unread
 pub mod SplitKeeps
 pub mod SplitAlone

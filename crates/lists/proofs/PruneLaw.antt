@@ -8,16 +8,16 @@ use native.Mathlib.Omega.{arith}
 use lib.ListN.{length, getD, take, drop, take-append-drop}
 use lib.Seq.{drop-cons, getD-take, length-take-le}
 use Rattle.frames.specs.Cells.{Cell, Rows}
-use Rattle.frames.specs.Options.{strategyOf}
-use Rattle.frames.specs.Order.{cmpGroup, cmpRow, keyOf, sorted}
-use Rattle.frames.proofs.OrderLaws.{AtMost, cmpGroup-is, cmpRow-is, cmpKey-is, cmpKey, less-at-most, equal-at-most, equal-flip, not-both, less-then, group-at-most, row-by-key}
-use Rattle.frames.proofs.SortedLaws.{all-by, sorted-cut, sorted-at}
-use Rattle.frames.proofs.KeyLaws.{Inside, inside, key-less, key-up, nearer-below}
-use Rattle.frames.specs.declared.Options.{Options}
-use Rattle.frames.specs.declared.Order.the-variants.{Less, Equal}
-use Rattle.frames.specs.declared.Strategy.{Strategy}
-use Rattle.frames.specs.declared.Strategy.the-variants.{Backward, Forward, Nearest}
-use Rattle.buffer.proofs.Promise.{Covered, Dropped, Split}
+use Rattle.options.specs.Options.{strategyOf}
+use Rattle.order.specs.Order.{cmpGroup, cmpRow, keyOf, sorted}
+use Rattle.order.proofs.OrderLaws.{AtMost, cmpGroup-is, cmpRow-is, cmpKey-is, cmpKey, less-at-most, equal-at-most, equal-flip, not-both, less-then, group-at-most, row-by-key}
+use Rattle.order.proofs.SortedLaws.{all-by, sorted-cut, sorted-at}
+use Rattle.order.proofs.KeyLaws.{Inside, inside, key-less, key-up, nearer-below}
+use Rattle.options.specs.declared.Options.{Options}
+use Rattle.order.specs.declared.Order.the-variants.{Less, Equal}
+use Rattle.options.specs.declared.Strategy.{Strategy}
+use Rattle.options.specs.declared.Strategy.the-variants.{Backward, Forward, Nearest}
+use Rattle.searching.proofs.Promise.{Covered, Dropped, Split}
 use Rattle.matching.specs.Match.{onSide, takesOver, choose, nobody, tolerate, matchTable}
 use Rattle.matching.proofs.ChoiceLaws.{Wins, choose-skip}
 use Rattle.matching.proofs.MayLaws.{may, May, may-out, may-too, fore-side, nearer-by}

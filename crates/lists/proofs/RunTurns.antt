@@ -8,10 +8,10 @@ use lib.ListN.{length, take, drop, length-append}
 use lib.Seq.{drop-drop, length-take-le}
 use Rattle.frames.specs.Cells.{Words}
 use Rattle.node.specs.Calls.{After, turnCall}
-use Rattle.answers.specs.Answers.{wrote}
+use Rattle.outcomes.specs.Answers.{wrote}
 use Rattle.runs.specs.Run.{Ran, runCall, turnWords}
-use Rattle.answers.specs.declared.Answer.{Answer}
-use Rattle.answers.specs.declared.Answer.the-variants.{Wrote, WantsRight, Idle, Refused}
+use Rattle.outcomes.specs.declared.Answer.{Answer}
+use Rattle.outcomes.specs.declared.Answer.the-variants.{Wrote, WantsRight, Idle, Refused}
 use Rattle.runs.proofs.RunLaws.{turn-fits, turn-length, turn-untouched, turn-areas}
 use Rattle.lists.specs.Lists.{turn, World, step, events, final, whenWrote, outputs, backToBack}
 use Rattle.lists.specs.Runs.{lentBy, stopIn, wordsOf, ranFrom, RunIsTurns, Runs}

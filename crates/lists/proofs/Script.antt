@@ -5,31 +5,33 @@ use mathlib.Core.Option.{Option, none, some}
 use Prim.Native.Nat.{ℕ, zero, suc, _+_, _*_, _%_}
 use lib.IntN.{negsuc, subℕ}
 use lib.ListN.{take, replicate}
+use Rattle.ports.specs.Ports.{portsJudged}
 use Rattle.frames.specs.Cells.{Cell, cellsOf, rowsOf, Words}
-use Rattle.frames.specs.Frame.{rowCount, pairsFine, isFrame, frameRows, front}
-use Rattle.frames.specs.Options.{badOptions}
-use Rattle.frames.specs.Order.{cmpFirst, cmpRow, sorted, nullIn}
-use Rattle.frames.specs.Keyed.{firstFrom, lastBelow, recall, remember, rememberLast}
-use Rattle.frames.specs.declared.Options.{Options}
+use Rattle.frames.specs.Frame.{rowCount, pairsFine, isFrame, frameRows, front, isTable}
+use Rattle.options.specs.Options.{badOptions}
+use Rattle.order.specs.Order.{cmpFirst, cmpRow, sorted, nullIn}
+use Rattle.order.specs.Keyed.{firstFrom, lastBelow, recall, remember, rememberLast}
+use Rattle.options.specs.declared.Options.{Options}
 use Rattle.area.specs.Area.{heldRows, movedRows, pushed}
-use Rattle.buffer.specs.Search.{searchFor, search, find}
-use Rattle.buffer.specs.Reach.{narrowBy, narrow, keyNeedsMore, rowNeedsMore, needMore, splitAt, pruneBy, rowBefore, badSplit}
+use Rattle.searching.specs.Search.{searchFor, search, find}
+use Rattle.searching.specs.Reach.{narrowBy, narrow, keyNeedsMore, rowNeedsMore, needMore, splitAt, pruneBy, rowBefore, badSplit}
 use Rattle.matching.specs.Match.{fits, takesOver, choose, tolerate, matchIn}
 use Rattle.matching.specs.Groups.{joinRun, runs, passes, pass, used, byRuns, matchFrame}
 use Rattle.matching.specs.Answer.{answerWords, answered}
-use Rattle.node.specs.State.{badJoin, heldOf, waiting, widthOf}
-use Rattle.answers.specs.Answers.{number, stateCode, portCode}
+use Rattle.node.specs.State.{badJoin, heldOf, waiting, leftWidth}
+use Rattle.outcomes.specs.Answers.{stateCode, portCode}
+use Rattle.refusals.specs.Refusals.{number}
 use Rattle.node.specs.Calls.{leftAnswer, queued, leftCall, rightAnswer, pushedRight, rightCall, endAnswer, endCall, portsAnswer, portsCall, turnAnswer, dropped, dequeued, turned, turnCall}
-use Rattle.feeds.specs.Judged.{openAnswer}
-use Rattle.prunes.specs.Prunes.{badLeft, badRight, firstPrune, remembered}
+use Rattle.callrules.specs.Judged.{openAnswer, leftJudged, endJudged, rightJudged}
+use Rattle.turnrows.specs.Prunes.{badLeft, badRight, firstPrune, remembered}
 use Rattle.lists.specs.Lists.{Call, Event, onLeft, onRight, onEnd, onPorts, onTurn, World, start, step}
 use Rattle.node.specs.declared.Join.{Join}
-use Rattle.answers.specs.declared.Answer.{Answer}
-use Rattle.answers.specs.declared.Answer.the-variants.{Wrote, WantsRight, Idle, Refused as TurnRefused}
-use Rattle.answers.specs.declared.Took.{Took}
-use Rattle.answers.specs.declared.Took.the-variants.{Accepted, Refused}
-use Rattle.answers.specs.declared.Ported.{Ported}
-use Rattle.answers.specs.declared.Ported.the-variants.{Ports, Refused as PortsRefused}
+use Rattle.outcomes.specs.declared.Answer.{Answer}
+use Rattle.outcomes.specs.declared.Answer.the-variants.{Wrote, WantsRight, Idle, Refused as TurnRefused}
+use Rattle.outcomes.specs.declared.Took.{Took}
+use Rattle.outcomes.specs.declared.Took.the-variants.{Accepted, Refused}
+use Rattle.outcomes.specs.declared.Ported.{Ported}
+use Rattle.outcomes.specs.declared.Ported.the-variants.{Ports, Refused as PortsRefused}
 
 -- An answer: ok; refused N; wrote SEQ and the 2 + 2n words written; wants; idle; ports L R S STATE; no join;
 -- areas: the words of both; state: base, held, pruned, queue start, queue words, state, ended, failed, sequence, and the cells of the left and right remembered row.
@@ -88,8 +90,8 @@ unfoldable pub look : Join → Said
 look j =
     looks
     (j .base ∷ j .held ∷ j .pruned ∷ j .«queue_start» ∷ j .«queue_words» ∷ stateCode (j .state) ∷ flag (j .«right_ended») ∷ flag (j .failed) ∷ j .sequence ∷ [])
-    (recall (widthOf j) (j .«last_left»))
-    (recall (widthOf j) (j .«last_right»))
+    (recall (leftWidth j) (j .«last_left»))
+    (recall (leftWidth j) (j .«last_right»))
 
 -- A line of a script: open with options and areas of so many words; a call; state; the areas' words.
 pub data Line : Type 0 where
@@ -113,7 +115,7 @@ speak none dump = record { said = noJoin; next = none }
 speak (some w) dump = record { said = areas (w .left) (w .right); next = some w }
 
 unfoldable pub speakAll : Option World → List Line → List Said
-unfolding speak look openAnswer step leftCall leftAnswer queued rightCall rightAnswer pushedRight endCall endAnswer portsCall portsAnswer turnCall turnAnswer turned badLeft badRight firstPrune remembered dropped dequeued badJoin heldOf waiting front answered answerWords matchFrame byRuns used pass passes runs joinRun matchIn tolerate choose takesOver fits needMore rowNeedsMore keyNeedsMore narrow narrowBy splitAt pruneBy rowBefore badSplit find search searchFor heldRows movedRows pushed rememberLast remember recall lastBelow firstFrom sorted cmpRow cmpFirst nullIn badOptions isFrame pairsFine frameRows rowsOf cellsOf
+unfolding speak look openAnswer step leftCall leftJudged queued rightCall rightJudged pushedRight endCall endJudged portsCall portsJudged turnCall turnAnswer turned badLeft badRight firstPrune remembered dropped dequeued badJoin heldOf waiting front answered answerWords matchFrame byRuns used pass passes runs joinRun matchIn tolerate choose takesOver fits needMore rowNeedsMore keyNeedsMore narrow narrowBy splitAt pruneBy rowBefore badSplit find search searchFor heldRows movedRows pushed rememberLast remember recall lastBelow firstFrom sorted cmpRow cmpFirst nullIn badOptions isFrame isTable pairsFine frameRows rowsOf cellsOf
 speakAll w [] = []
 speakAll w (l ∷ ls) = let s = speak w l in s .said ∷ speakAll (s .next) ls
 

@@ -12,20 +12,20 @@ use lib.ListN.{length, getD, take, drop, take-append-drop, length-append, length
 use lib.Seq.{take-append-le, drop-append-le, drop-drop, take-add}
 use Rattle.frames.specs.Cells.{Cell, Rows, Words}
 use Rattle.frames.specs.Frame.{rowCount, isFrame, frameRows}
-use Rattle.frames.specs.Options.{columns, isOn}
-use Rattle.frames.specs.Order.{cmpRow, sorted}
-use Rattle.frames.specs.Keyed.{recall, rememberLast, firstKeyed, rowAt, outOfOrder}
-use Rattle.frames.specs.declared.Options.{Options}
-use Rattle.frames.specs.declared.Row.{Row}
-use Rattle.frames.proofs.OrderLaws.{AtMost}
-use Rattle.frames.proofs.SortedLaws.{All, all-at, all-by, all-map, all-cut, all-join, sorted-cut, sorted-at, sorted-drop}
+use Rattle.options.specs.Options.{columns, isOn, rightColumns}
+use Rattle.order.specs.Order.{cmpRow, sorted}
+use Rattle.order.specs.Keyed.{recall, rememberLast, firstKeyed, rowAt, outOfOrder}
+use Rattle.options.specs.declared.Options.{Options}
+use Rattle.order.specs.declared.Row.{Row}
+use Rattle.order.proofs.OrderLaws.{AtMost}
+use Rattle.order.proofs.SortedLaws.{All, all-at, all-by, all-map, all-cut, all-join, sorted-cut, sorted-at, sorted-drop}
 use Rattle.frames.proofs.WordLaws.{map-append}
 use Rattle.frames.proofs.FrameLaws.{frame-rows, frame-wide}
-use Rattle.frames.proofs.KeyedLaws.{Below, below-fine, remember-below}
-use Rattle.buffer.specs.Reach.{needMore, rowNeedsMore, pruneBy, noPrune, splitAt, badSplit}
-use Rattle.buffer.proofs.SplitLaw.{split}
-use Rattle.buffer.proofs.EnoughLaw.{enough}
-use Rattle.buffer.proofs.CheckLaw.{split-fine}
+use Rattle.order.proofs.KeyedLaws.{Below, below-fine, remember-last-below, wide-enough}
+use Rattle.searching.specs.Reach.{needMore, rowNeedsMore, pruneBy, noPrune, splitAt, badSplit}
+use Rattle.searching.proofs.SplitLaw.{split}
+use Rattle.searching.proofs.EnoughLaw.{enough}
+use Rattle.searching.proofs.CheckLaw.{split-fine}
 use Rattle.matching.specs.declared.Choice.{Choice}
 use Rattle.matching.specs.Match.{matchTable}
 use Rattle.matching.specs.Answer.{answered}
@@ -35,12 +35,12 @@ use Rattle.lists.proofs.EnoughLaw.{enough-keeps}
 use Rattle.matching.proofs.GroupLaws.{frame-match}
 use Rattle.node.specs.declared.Join.{Join}
 use Rattle.node.specs.Calls.{dropped, dequeued}
-use Rattle.prunes.specs.Prunes.{badLeft, badRight, firstPrune, remembered, keptRows, lastPrune}
+use Rattle.turnrows.specs.Prunes.{badLeft, badRight, firstPrune, remembered, keptRows, lastPrune}
 use Rattle.lists.specs.Lists.{rowsIn, Entry, writtenIn, matchesIn}
 use Rattle.lists.specs.WholeTables.{asWritten}
 use Rattle.lists.proofs.ListLaws.{rows-in-append, matches-append, take-next, take-more}
 use Rattle.lists.proofs.Stock.{Frames, written-back}
-use Rattle.prunes.proofs.PruneLaws.{first-within, prune-within}
+use Rattle.turnrows.proofs.PruneLaws.{first-within, prune-within}
 use Rattle.lists.proofs.Turn.{leftBy, matchedBy}
 
 -- ---- small laws of lists
@@ -297,7 +297,7 @@ module _ (o : Options) (L R Os : List Words) (ended : Bool) (j : Join) (S : Soun
         wide = all-by (λ r. length r ≡ columns o) rows (λ i l. frame-wide (columns o) f frame i (omega (arith, frame-rows (columns o) f frame)))
 
         go : (b : Bool) → Below o (recall (columns o) (cond b (rememberLast o (j .«last_left») rows) (j .«last_left»))) x
-        go true = remember-below o (columns o) (j .«last_left») rows wide x (c .1) (S .left-below x (c .0))
+        go true = remember-last-below o (j .«last_left») rows (wide-enough o (columns o) (omega arith) rows wide) x (c .1) (S .left-below x (c .0))
         go false = S .left-below x (c .0)
 
     -- The last row with a key of those dropped, or what was remembered, is below every row that is held or comes.
@@ -312,13 +312,13 @@ module _ (o : Options) (L R Os : List Words) (ended : Bool) (j : Join) (S : Soun
         d : All (λ y. AtMost (cmpRow o) y x) (take last (drop first held))
         d = all-parts (λ y. AtMost (cmpRow o) y x) first last held (c .1) .1
 
-        wide : All (λ r. length r ≡ columns o) (take last (drop first held))
+        wide : All (λ r. length r ≡ rightColumns o) (take last (drop first held))
         wide =
-            all-take (λ r. length r ≡ columns o) last (drop first held)
-            (all-drop (λ r. length r ≡ columns o) first held (all-drop (λ r. length r ≡ columns o) (j .pruned) A (rows-in-wide (columns o) R right-frames)))
+            all-take (λ r. length r ≡ rightColumns o) last (drop first held)
+            (all-drop (λ r. length r ≡ rightColumns o) first held (all-drop (λ r. length r ≡ rightColumns o) (j .pruned) A (rows-in-wide (rightColumns o) R right-frames)))
 
         go : (b : Bool) → Below o (recall (columns o) (cond b (rememberLast o (j .«last_right») (take last (drop first held))) (j .«last_right»))) x
-        go true = remember-below o (columns o) (j .«last_right») (take last (drop first held)) wide x d (S .right-below x (c .0))
+        go true = remember-last-below o (j .«last_right») (take last (drop first held)) (wide-enough o (rightColumns o) (omega arith) (take last (drop first held)) wide) x d (S .right-below x (c .0))
         go false = S .right-below x (c .0)
 
     pub sound-turn : (out : Words) → Sound o L R (Os ++ (answered (matchedBy o j rows held) out ∷ [])) ended (leftBy o j rows held (length f))

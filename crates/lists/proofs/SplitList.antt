@@ -9,28 +9,29 @@ use lib.ListN.{length, getD, take, drop, take-append-drop}
 use lib.Seq.{drop-append-le, drop-drop}
 use Rattle.frames.specs.Cells.{Cell, Rows, Words}
 use Rattle.frames.specs.Frame.{frameRows}
-use Rattle.frames.specs.Options.{columns, badOptions, isOn}
-use Rattle.frames.specs.Order.{sorted}
-use Rattle.frames.specs.Keyed.{recall, rememberLast}
-use Rattle.frames.specs.declared.Options.{Options}
-use Rattle.frames.specs.declared.Row.{Row}
-use Rattle.frames.proofs.SortedLaws.{All, all-cut}
-use Rattle.buffer.specs.Reach.{needMore, pruneBy, badSplit}
+use Rattle.options.specs.Options.{columns, badOptions, isOn}
+use Rattle.order.specs.Order.{sorted}
+use Rattle.order.specs.Keyed.{recall, rememberLast}
+use Rattle.options.specs.declared.Options.{Options}
+use Rattle.order.specs.declared.Row.{Row}
+use Rattle.order.proofs.SortedLaws.{All, all-cut}
+use Rattle.searching.specs.Reach.{needMore, pruneBy, badSplit}
 use Rattle.node.specs.declared.Join.{Join}
-use Rattle.answers.specs.declared.PortState.{PortState}
-use Rattle.answers.specs.declared.Refusal.{Refusal}
-use Rattle.answers.specs.declared.Refusal.the-variants.{BadOptions, BadJoin, Failed, Closed, BadFrame, NoRoom, UsedUp, LeftOrder, RightOrder}
-use Rattle.answers.specs.declared.Answer.{Answer}
-use Rattle.answers.specs.declared.Answer.the-variants.{Wrote, WantsRight, Idle, Refused as TurnRefused}
-use Rattle.answers.specs.declared.Took.{Took}
-use Rattle.answers.specs.declared.Took.the-variants.{Accepted, Refused}
-use Rattle.answers.specs.declared.Ported.{Ported}
-use Rattle.answers.specs.declared.Ported.the-variants.{Ports, Refused as PortsRefused}
+use Rattle.outcomes.specs.declared.PortState.{PortState}
+use Rattle.refusals.proofs.RefusalLaws.{marked-ind}
+use Rattle.refusals.specs.declared.Refusal.{Refusal}
+use Rattle.refusals.specs.declared.Refusal.the-variants.{Failed, Closed, NoRoom, UsedUp, LeftOrder, RightOrder}
+use Rattle.outcomes.specs.declared.Answer.{Answer}
+use Rattle.outcomes.specs.declared.Answer.the-variants.{Wrote, WantsRight, Idle, Refused as TurnRefused}
+use Rattle.outcomes.specs.declared.Took.{Took}
+use Rattle.outcomes.specs.declared.Took.the-variants.{Accepted, Refused}
+use Rattle.outcomes.specs.declared.Ported.{Ported}
+use Rattle.outcomes.specs.declared.Ported.the-variants.{Ports, Refused as PortsRefused}
 use Rattle.node.specs.State.{endedRight, stateAt, markedFailed, heldOf}
-use Rattle.answers.specs.Answers.{isDone, lastSequence}
+use Rattle.outcomes.specs.Answers.{isDone, lastSequence}
 use Rattle.node.specs.Calls.{leftAnswer, leftCall, queued, rightAnswer, rightCall, pushedRight, endAnswer, endCall, portsAnswer, portsCall, portsState, turnAnswer, turnCall, turned, dropped, dequeued, spoiled}
-use Rattle.prunes.specs.Prunes.{badLeft, badRight, firstPrune, remembered, keptRows, lastPrune}
-use Rattle.answers.proofs.Tests.{past}
+use Rattle.turnrows.specs.Prunes.{badLeft, badRight, firstPrune, remembered, keptRows, lastPrune}
+use Rattle.outcomes.proofs.Tests.{past}
 use Rattle.matching.specs.Answer.{answered}
 use Rattle.lists.specs.Lists.{Call, left, right, end, ports, turn, Event, onLeft, onRight, onEnd, onPorts, onTurn, World, start, step, events, final, rightIn, rightFrames, rowsIn, leftFrames, outputs, rightEnded}
 use Rattle.lists.specs.SplitAlone.{heldAfter, rememberedAfter, SplitsAlone}
@@ -173,15 +174,10 @@ module _ (o : Options) (l r : Words) (allowed : badOptions o ≡ false) (es : Li
       (λ t. p .need (i .flags .ended ∙ t))))
 
   refuses : (n : Refusal) (out : Words) → LowAt o (es ++ (onTurn (TurnRefused n) out ∷ [])) (record { join = spoiled n j; left = w .left; right = w .right })
-  refuses BadOptions out = quiet (onTurn (TurnRefused BadOptions) out) j (w .left) (w .right) refl refl refl
-  refuses BadJoin out = quiet (onTurn (TurnRefused BadJoin) out) j (w .left) (w .right) refl refl refl
-  refuses Failed out = quiet (onTurn (TurnRefused Failed) out) j (w .left) (w .right) refl refl refl
-  refuses Closed out = quiet (onTurn (TurnRefused Closed) out) j (w .left) (w .right) refl refl refl
-  refuses BadFrame out = quiet (onTurn (TurnRefused BadFrame) out) j (w .left) (w .right) refl refl refl
-  refuses NoRoom out = quiet (onTurn (TurnRefused NoRoom) out) j (w .left) (w .right) refl refl refl
-  refuses UsedUp out = quiet (onTurn (TurnRefused UsedUp) out) j (w .left) (w .right) refl refl refl
-  refuses LeftOrder out = quiet (onTurn (TurnRefused LeftOrder) out) (markedFailed j) (w .left) (w .right) refl refl refl
-  refuses RightOrder out = quiet (onTurn (TurnRefused RightOrder) out) (markedFailed j) (w .left) (w .right) refl refl refl
+  refuses n out =
+      marked-ind (λ (k : Join). LowAt o (es ++ (onTurn (TurnRefused n) out ∷ [])) (record { join = k; left = w .left; right = w .right })) n
+      (λ t. quiet (onTurn (TurnRefused n) out) (markedFailed j) (w .left) (w .right) refl refl refl)
+      (λ not8 not9. quiet (onTurn (TurnRefused n) out) j (w .left) (w .right) refl refl refl)
 
   low-on-turn : (out : Words) → LowAt o (es ++ (step w (turn out) .event ∷ [])) (step w (turn out) .world)
   unfolding step turnCall

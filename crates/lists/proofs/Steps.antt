@@ -10,29 +10,31 @@ use lib.IntN.{ℤ}
 use lib.ListN.{length, take, drop}
 use Rattle.frames.specs.Cells.{Cell, Rows, Words}
 use Rattle.frames.specs.Frame.{frameRows, isFrame}
-use Rattle.frames.specs.Options.{columns, badOptions}
-use Rattle.frames.specs.Order.{sorted}
-use Rattle.frames.specs.Keyed.{recall}
-use Rattle.frames.specs.declared.Options.{Options}
-use Rattle.frames.proofs.SortedLaws.{sorted-cut}
-use Rattle.buffer.specs.Reach.{needMore}
+use Rattle.options.specs.Options.{columns, badOptions}
+use Rattle.order.specs.Order.{sorted}
+use Rattle.order.specs.Keyed.{recall}
+use Rattle.options.specs.declared.Options.{Options}
+use Rattle.order.proofs.SortedLaws.{sorted-cut}
+use Rattle.searching.specs.Reach.{needMore}
 use Rattle.matching.specs.Answer.{answered}
 use Rattle.node.specs.declared.Join.{Join}
-use Rattle.answers.specs.declared.PortState.{PortState}
-use Rattle.answers.specs.declared.Refusal.{Refusal}
-use Rattle.answers.specs.declared.Refusal.the-variants.{BadOptions, BadJoin, Failed, Closed, BadFrame, NoRoom, UsedUp, LeftOrder, RightOrder}
-use Rattle.answers.specs.declared.Answer.{Answer}
-use Rattle.answers.specs.declared.Answer.the-variants.{Wrote, WantsRight, Idle, Refused as TurnRefused}
-use Rattle.answers.specs.declared.Took.{Took}
-use Rattle.answers.specs.declared.Took.the-variants.{Accepted, Refused}
-use Rattle.answers.specs.declared.Ported.{Ported}
-use Rattle.answers.specs.declared.Ported.the-variants.{Ports, Refused as PortsRefused}
+use Rattle.outcomes.specs.declared.PortState.{PortState}
+use Rattle.refusals.specs.Refusals.{marksFailed}
+use Rattle.refusals.proofs.RefusalLaws.{marked-ind}
+use Rattle.refusals.specs.declared.Refusal.{Refusal}
+use Rattle.refusals.specs.declared.Refusal.the-variants.{Failed, Closed}
+use Rattle.outcomes.specs.declared.Answer.{Answer}
+use Rattle.outcomes.specs.declared.Answer.the-variants.{Wrote, WantsRight, Idle, Refused as TurnRefused}
+use Rattle.outcomes.specs.declared.Took.{Took}
+use Rattle.outcomes.specs.declared.Took.the-variants.{Accepted, Refused}
+use Rattle.outcomes.specs.declared.Ported.{Ported}
+use Rattle.outcomes.specs.declared.Ported.the-variants.{Ports, Refused as PortsRefused}
 use Rattle.node.specs.State.{fresh, waiting, heldValues, heldMarks, endedRight, stateAt, markedFailed}
-use Rattle.answers.specs.Answers.{number, isDone, lastSequence}
+use Rattle.outcomes.specs.Answers.{isDone, lastSequence}
 use Rattle.node.specs.Calls.{leftAnswer, leftCall, queued, rightAnswer, rightCall, pushedRight, endAnswer, endCall, portsAnswer, portsCall, portsState, turnAnswer, turnCall, turned, spoiled}
-use Rattle.prunes.specs.Prunes.{badLeft, badRight}
+use Rattle.turnrows.specs.Prunes.{badLeft, badRight}
 use Rattle.lists.specs.Lists.{Call, left, right, end, ports, turn, Event, onLeft, onRight, onEnd, onPorts, onTurn, World, start, step, events, final, leftIn, rightIn, leftFrames, rightFrames, rowsIn, outputIn, outputs, endsRight, rightEnded, turnRefusal, matchesIn, backToBack, leftEnded, doneAfter, refusedWith, turnsIn}
-use Rattle.answers.proofs.Tests.{past}
+use Rattle.outcomes.proofs.Tests.{past}
 use Rattle.lists.proofs.ListLaws.{left-append, right-append, outputs-append, ended-append, rows-in-append}
 use Rattle.lists.proofs.Stock.{Stock, next-frame}
 use Rattle.lists.proofs.Invariant.{Inv, left-passed, right-passed, inv-left, inv-right, inv-end, inv-ports}
@@ -190,7 +192,7 @@ module _ (o : Options) (l r : Words) (allowed : badOptions o ≡ false) (es : Li
         go (f ∷ rest) e = rw (answer-is o l r allowed es w i f rest e out) (judged-ordered o j (rows o l r allowed es w i f rest e) (held o l r allowed es w i) out (no-left-fault f rest e) (no-right-fault f rest e))
 
   -- A refused turn of sorted rows changes nothing: it is not refused for their order.
-  spoils-not : (n : Refusal) (out : Words) → (eqb (number n) 8 || eqb (number n) 9) ≡ true → turnAnswer j (w .left) (w .right) out ≡ TurnRefused n
+  spoils-not : (n : Refusal) (out : Words) → marksFailed n ≡ true → turnAnswer j (w .left) (w .right) out ≡ TurnRefused n
       → SoundAt o (es ++ (onTurn (TurnRefused n) out ∷ [])) (record { join = markedFailed j; left = w .left; right = w .right })
   unfolding leftFrames rightFrames outputs
   spoils-not n out t e =
@@ -203,15 +205,9 @@ module _ (o : Options) (l r : Words) (allowed : badOptions o ≡ false) (es : Li
 
   sound-refused : (n : Refusal) (out : Words) → turnAnswer j (w .left) (w .right) out ≡ TurnRefused n
       → SoundAt o (es ++ (onTurn (TurnRefused n) out ∷ [])) (record { join = spoiled n j; left = w .left; right = w .right })
-  sound-refused BadOptions out e = still (onTurn (TurnRefused BadOptions) out) refl refl refl
-  sound-refused BadJoin out e = still (onTurn (TurnRefused BadJoin) out) refl refl refl
-  sound-refused Failed out e = still (onTurn (TurnRefused Failed) out) refl refl refl
-  sound-refused Closed out e = still (onTurn (TurnRefused Closed) out) refl refl refl
-  sound-refused BadFrame out e = still (onTurn (TurnRefused BadFrame) out) refl refl refl
-  sound-refused NoRoom out e = still (onTurn (TurnRefused NoRoom) out) refl refl refl
-  sound-refused UsedUp out e = still (onTurn (TurnRefused UsedUp) out) refl refl refl
-  sound-refused LeftOrder out e = spoils-not LeftOrder out refl e
-  sound-refused RightOrder out e = spoils-not RightOrder out refl e
+  sound-refused n out e =
+      marked-ind (λ (k : Join). SoundAt o (es ++ (onTurn (TurnRefused n) out ∷ [])) (record { join = k; left = w .left; right = w .right })) n
+      (λ t. spoils-not n out t e) (λ not8 not9. still (onTurn (TurnRefused n) out) refl refl refl)
 
   sound-wrote : (out : Words) (q : ℕ) (f : Words) (rest : List Words) (d : drop (length (outputs es)) (leftFrames es) ≡ f ∷ rest) → turnAnswer j (w .left) (w .right) out ≡ Wrote q
       → SoundAt o (es ++ (onTurn (Wrote (j .sequence)) (answered (matchedBy o j (rows o l r allowed es w i f rest d) (held o l r allowed es w i)) out) ∷ []))

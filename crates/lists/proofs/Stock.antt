@@ -10,9 +10,9 @@ use lib.ListN.{length, take, drop, length-append, length-drop, length-map}
 use lib.Seq.{drop-append-le, drop-drop, drop-at, take-at, length-take-le}
 use Rattle.frames.specs.Cells.{Rows, Words, rowsOf}
 use Rattle.frames.specs.Frame.{rowCount, frameWords, valuesIn, marksIn, isFrame, frameRows, front}
-use Rattle.frames.specs.Options.{columns}
-use Rattle.frames.specs.declared.Options.{Options}
-use Rattle.frames.specs.declared.Row.{Row}
+use Rattle.options.specs.Options.{columns}
+use Rattle.options.specs.declared.Options.{Options}
+use Rattle.order.specs.declared.Row.{Row}
 use Rattle.frames.proofs.WordLaws.{map-append, drop-take, rows-read, rows-append, rows-drop, rows-length}
 use Rattle.frames.proofs.FrameLaws.{frame-length, values-length, marks-length, frame-rows, count-append}
 use Rattle.area.specs.Area.{capacity, heldRows, newBase, pushed, moved, written}
@@ -21,8 +21,8 @@ use Rattle.matching.specs.declared.Choice.{Choice}
 use Rattle.matching.specs.Answer.{answered, numberWord, choiceMark}
 use Rattle.matching.proofs.AnswerLaws.{answered-count, answered-numbers, answered-marks}
 use Rattle.node.specs.declared.Join.{Join}
-use Rattle.node.specs.State.{queueAt, heldAt, nextTurn, widthOf, heldOf, heldValues, heldMarks, waiting}
-use Rattle.answers.specs.Answers.{mostRows}
+use Rattle.node.specs.State.{queueAt, heldAt, nextTurn, heldOf, heldValues, heldMarks, waiting}
+use Rattle.outcomes.specs.Answers.{mostRows}
 use Rattle.node.specs.Calls.{dropped, dequeued, queued, pushedRight}
 use Rattle.lists.specs.Lists.{World, rowsIn, Entry, pairUp, writtenIn, matchesIn, backToBack}
 use Rattle.lists.specs.WholeTables.{asWritten}

@@ -9,28 +9,31 @@ use borrow.Author.Tests.{ltb-false, ne-eqb, eq-eqb, not-true}
 use lib.Dec.{ltb, eqb}
 use lib.IntN.{ℤ}
 use lib.ListN.{length, take, drop, length-append, length-drop}
+use Rattle.frames.proofs.BoolLaws.{and-true-right}
 use Rattle.frames.specs.Cells.{Cell, Rows, Words}
 use Rattle.frames.specs.Frame.{rowCount, isFrame, frameRows, front}
-use Rattle.frames.specs.Options.{columns, badOptions, isOn}
-use Rattle.frames.specs.declared.Options.{Options}
+use Rattle.options.specs.Options.{columns, badOptions, isOn}
+use Rattle.options.specs.declared.Options.{Options}
 use Rattle.frames.proofs.FrameLaws.{frame-length, frame-rows}
-use Rattle.buffer.specs.Reach.{needMore, pruneBy, noPrune, splitAt}
-use Rattle.buffer.proofs.SplitLaw.{split-within}
+use Rattle.searching.specs.Reach.{needMore, pruneBy, noPrune, splitAt}
+use Rattle.searching.proofs.SplitLaw.{split-within}
 use Rattle.matching.specs.Groups.{matchFrame}
 use Rattle.matching.specs.declared.Choice.{Choice}
 use Rattle.matching.specs.Answer.{answered}
 use Rattle.matching.proofs.ChoiceLaws.{cond-ind}
 use Rattle.matching.proofs.GroupLaws.{frame-length as match-length}
 use Rattle.node.specs.declared.Join.{Join}
-use Rattle.answers.specs.declared.Refusal.{Refusal}
-use Rattle.answers.specs.declared.Refusal.the-variants.{BadOptions, BadJoin, Failed, Closed, BadFrame, NoRoom, UsedUp, LeftOrder, RightOrder}
-use Rattle.answers.specs.declared.Answer.{Answer}
-use Rattle.answers.specs.declared.Answer.the-variants.{Wrote, WantsRight, Idle, Refused as TurnRefused}
-use Rattle.node.specs.State.{nextTurn, markedFailed, widthOf, badJoin, heldOf, waiting}
-use Rattle.answers.specs.Answers.{number, isRunning, isDone, lastSequence}
+use Rattle.refusals.specs.Refusals.{marksFailed}
+use Rattle.refusals.proofs.RefusalLaws.{marked-ind}
+use Rattle.refusals.specs.declared.Refusal.{Refusal}
+use Rattle.refusals.specs.declared.Refusal.the-variants.{Failed, Closed, NoRoom, UsedUp, LeftOrder, RightOrder}
+use Rattle.outcomes.specs.declared.Answer.{Answer}
+use Rattle.outcomes.specs.declared.Answer.the-variants.{Wrote, WantsRight, Idle, Refused as TurnRefused}
+use Rattle.node.specs.State.{nextTurn, markedFailed, badJoin, heldOf, waiting}
+use Rattle.outcomes.specs.Answers.{isRunning, isDone, lastSequence}
 use Rattle.node.specs.Calls.{After, after, turnAnswer, turnCall, turned, dropped, dequeued, spoiled}
-use Rattle.prunes.specs.Prunes.{badLeft, badRight, firstPrune, remembered, keptRows, lastPrune}
-use Rattle.prunes.proofs.PruneLaws.{drops-within}
+use Rattle.turnrows.specs.Prunes.{badLeft, badRight, firstPrune, remembered, keptRows, lastPrune}
+use Rattle.turnrows.proofs.PruneLaws.{drops-within}
 use Rattle.lists.specs.Lists.{turn, Event, onTurn, World, step, leftIn, rightIn, leftFrames, rightFrames, rowsIn, outputIn, outputs, backToBack, framesWaiting, doneBy, refusedWith, turnRefusal}
 use Rattle.lists.proofs.ListLaws.{left-append, right-append, outputs-append}
 use Rattle.lists.proofs.Stock.{Stock, stock-same, stock-turn, waiting-length, next-frame, front-next, waits-front, front-room, held-rows}
@@ -107,10 +110,6 @@ fine-judged : (o : Options) (j : Join) (rows held : Rows) (out : Words) → Fine
 fine-judged o j rows held out =
     judged-all Fine o j rows held out (record { not2 = refl; not5 = refl }) (record { not2 = refl; not5 = refl }) (record { not2 = refl; not5 = refl }) (record { not2 = refl; not5 = refl })
     (record { not2 = refl; not5 = refl }) (λ t. record { not2 = refl; not5 = refl }) (λ t. record { not2 = refl; not5 = refl }) (record { not2 = refl; not5 = refl })
-
-and-true-right : (b : Bool) → (b && true) ≡ b
-and-true-right true = refl
-and-true-right false = refl
 
 -- The flags that a turn that writes leaves as they were.
 by-fields : (o : Options) (j : Join) (rows held : Rows) (n : ℕ) → SameFlags j (leftBy o j rows held n)
@@ -224,7 +223,7 @@ module _ (o : Options) (l r : Words) (allowed : badOptions o ≡ false) (es : Li
   pub no-write : (out : Words) (q : ℕ) → drop (length (outputs es)) (leftFrames es) ≡ [] → turnAnswer j (w .left) (w .right) out ≡ Wrote q → ⊥
   no-write out q e h = idle-writes (j .failed) (isDone (j .state)) q (sym (idle-is out e) ∙ h)
 
-  spoils : (n : Refusal) (out : Words) → Fine (TurnRefused n) → (eqb (number n) 8 || eqb (number n) 9) ≡ true → Adds es j (onTurn (TurnRefused n) out) (markedFailed j)
+  spoils : (n : Refusal) (out : Words) → Fine (TurnRefused n) → marksFailed n ≡ true → Adds es j (onTurn (TurnRefused n) out) (markedFailed j)
   unfolding doneBy refusedWith
   spoils n out p t = record {
     ended = sym (or-false (j .«right_ended»));
@@ -239,22 +238,16 @@ module _ (o : Options) (l r : Words) (allowed : badOptions o ≡ false) (es : Li
       → Inv o l r (es ++ (onTurn a out ∷ [])) (record { join = j; left = w .left; right = w .right })
   stays a out p n8 n9 eo = keep o l r allowed es w i (onTurn a out) j refl refl eo s (quiet-turn a out p n8 n9)
 
-  marks : (n : Refusal) (out : Words) → Fine (TurnRefused n) → (eqb (number n) 8 || eqb (number n) 9) ≡ true
+  marks : (n : Refusal) (out : Words) → Fine (TurnRefused n) → marksFailed n ≡ true
       → Inv o l r (es ++ (onTurn (TurnRefused n) out ∷ [])) (record { join = markedFailed j; left = w .left; right = w .right })
   marks n out p t =
       keep o l r allowed es w i (onTurn (TurnRefused n) out) (markedFailed j) refl refl refl
       (stock-same o l r (leftFrames es) (rightFrames es) (outputs es) j (w .left) (w .right) s (markedFailed j) refl refl refl refl refl refl refl) (spoils n out p t)
 
   inv-refused : (n : Refusal) (out : Words) → Fine (TurnRefused n) → Inv o l r (es ++ (onTurn (TurnRefused n) out ∷ [])) (record { join = spoiled n j; left = w .left; right = w .right })
-  inv-refused BadOptions out p = stays (TurnRefused BadOptions) out p refl refl refl
-  inv-refused BadJoin out p = stays (TurnRefused BadJoin) out p refl refl refl
-  inv-refused Failed out p = stays (TurnRefused Failed) out p refl refl refl
-  inv-refused Closed out p = stays (TurnRefused Closed) out p refl refl refl
-  inv-refused BadFrame out p = stays (TurnRefused BadFrame) out p refl refl refl
-  inv-refused NoRoom out p = stays (TurnRefused NoRoom) out p refl refl refl
-  inv-refused UsedUp out p = stays (TurnRefused UsedUp) out p refl refl refl
-  inv-refused LeftOrder out p = marks LeftOrder out p refl
-  inv-refused RightOrder out p = marks RightOrder out p refl
+  inv-refused n out p =
+      marked-ind (λ (k : Join). Inv o l r (es ++ (onTurn (TurnRefused n) out ∷ [])) (record { join = k; left = w .left; right = w .right })) n
+      (marks n out p) (λ not8 not9. stays (TurnRefused n) out p not8 not9 refl)
 
   pub inv-turn : (out : Words) → Inv o l r (es ++ (step w (turn out) .event ∷ [])) (step w (turn out) .world)
   unfolding step turnCall

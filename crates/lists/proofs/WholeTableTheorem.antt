@@ -11,9 +11,9 @@ use lib.ListN.{length, take, drop, take-append-drop, length-append, length-drop}
 use lib.Seq.{take-all, drop-at}
 use Rattle.frames.specs.Cells.{Cell, Rows, Words}
 use Rattle.frames.specs.Frame.{rowCount, frameWords, isFrame, frameRows, front}
-use Rattle.frames.specs.Options.{columns, badOptions}
-use Rattle.frames.specs.Order.{sorted}
-use Rattle.frames.specs.declared.Options.{Options}
+use Rattle.options.specs.Options.{columns, badOptions}
+use Rattle.order.specs.Order.{sorted}
+use Rattle.options.specs.declared.Options.{Options}
 use Rattle.frames.proofs.FrameLaws.{frame-length, count-append}
 use Rattle.matching.specs.Match.{matchTable, wholeTable}
 use Rattle.matching.specs.Answer.{answered}
@@ -21,12 +21,12 @@ use Rattle.matching.specs.declared.Choice.{Choice}
 use Rattle.matching.specs.declared.Choice.the-variants.{Row, Nothing}
 use Rattle.matching.proofs.PickedLaw.{picked-none, picked-row}
 use Rattle.node.specs.declared.Join.{Join}
-use Rattle.answers.specs.declared.Answer.{Answer}
-use Rattle.answers.specs.declared.Answer.the-variants.{Wrote, WantsRight, Idle, Refused as TurnRefused}
-use Rattle.node.specs.State.{waiting, widthOf}
-use Rattle.answers.specs.Answers.{lastSequence, isDone}
+use Rattle.outcomes.specs.declared.Answer.{Answer}
+use Rattle.outcomes.specs.declared.Answer.the-variants.{Wrote, WantsRight, Idle, Refused as TurnRefused}
+use Rattle.node.specs.State.{waiting}
+use Rattle.outcomes.specs.Answers.{lastSequence, isDone}
 use Rattle.node.specs.Calls.{turnAnswer, turnCall, turned}
-use Rattle.prunes.specs.Prunes.{badLeft, badRight}
+use Rattle.turnrows.specs.Prunes.{badLeft, badRight}
 use Rattle.lists.specs.Lists.{Call, turn, Event, onTurn, World, start, step, events, final, leftFrames, rightFrames, rowsIn, outputIn, outputs, Entry, matchesIn, rightEnded, nodeDone, doneBy, refusedWith, backToBack, framesIn, queueRows}
 use Rattle.lists.specs.WholeTables.{asWritten, Correct, isNone, isRow, Each, ends, pairs, ListHolds, WholeTableTheorem}
 use Rattle.lists.proofs.ListLaws.{rows-in-append, matches-append, drop-next, left-append, right-append, outputs-append, ended-append, done-snoc}

@@ -1,5 +1,6 @@
 pub mod Lists
 pub mod WholeTables
 pub mod Runs
+pub mod Elsewhere
 pub mod Unread
 pub mod SplitAlone

@@ -7,19 +7,19 @@ use lib.IntN.{ℤ}
 use lib.ListN.{length, take, drop}
 use Rattle.frames.specs.Cells.{Rows, Words}
 use Rattle.frames.specs.Frame.{rowCount, frameRows, frameWords, front}
-use Rattle.frames.specs.declared.Options.{Options}
-use Rattle.node.specs.State.{fresh, waiting, widthOf}
-use Rattle.answers.specs.Answers.{number}
+use Rattle.options.specs.declared.Options.{Options}
+use Rattle.node.specs.State.{fresh, waiting, leftWidth}
+use Rattle.refusals.specs.Refusals.{number}
 use Rattle.node.specs.Calls.{After, leftCall, rightCall, endCall, portsCall, turnCall}
 use Rattle.ports.specs.Ports.{portDone}
 use Rattle.node.specs.declared.Join.{Join}
-use Rattle.answers.specs.declared.PortState.{PortState}
-use Rattle.answers.specs.declared.Answer.{Answer}
-use Rattle.answers.specs.declared.Answer.the-variants.{Wrote, WantsRight, Idle, Refused as TurnRefused}
-use Rattle.answers.specs.declared.Took.{Took}
-use Rattle.answers.specs.declared.Took.the-variants.{Accepted, Refused}
-use Rattle.answers.specs.declared.Ported.{Ported}
-use Rattle.answers.specs.declared.Ported.the-variants.{Ports, Refused as PortsRefused}
+use Rattle.outcomes.specs.declared.PortState.{PortState}
+use Rattle.outcomes.specs.declared.Answer.{Answer}
+use Rattle.outcomes.specs.declared.Answer.the-variants.{Wrote, WantsRight, Idle, Refused as TurnRefused}
+use Rattle.outcomes.specs.declared.Took.{Took}
+use Rattle.outcomes.specs.declared.Took.the-variants.{Accepted, Refused}
+use Rattle.outcomes.specs.declared.Ported.{Ported}
+use Rattle.outcomes.specs.declared.Ported.the-variants.{Ports, Refused as PortsRefused}
 
 -- A call: a left or right frame of any words, the end of right, ports (left, right, send), a turn with any words as its output.
 pub data Call : Type 0 where
@@ -264,4 +264,4 @@ framesIn (suc fuel) c (w ∷ ws) = front c (w ∷ ws) ∷ framesIn fuel c (drop 
 
 -- The rows in the queue.
 unfoldable pub queueRows : World → Rows
-queueRows w = let ws = waiting (w .join) (w .left) in rowsIn (widthOf (w .join)) (framesIn (length ws) (widthOf (w .join)) ws)
+queueRows w = let ws = waiting (w .join) (w .left) in rowsIn (leftWidth (w .join)) (framesIn (length ws) (leftWidth (w .join)) ws)

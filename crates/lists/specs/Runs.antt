@@ -6,10 +6,10 @@ use Prim.Native.Nat.{ℕ, zero, suc}
 use lib.ListN.{length, take, drop}
 use Rattle.frames.specs.Cells.{Words}
 use Rattle.node.specs.Calls.{turnCall}
-use Rattle.answers.specs.Answers.{wrote}
+use Rattle.outcomes.specs.Answers.{wrote}
 use Rattle.runs.specs.Run.{Ran, runCall, turnWords, stopOf}
-use Rattle.answers.specs.declared.Stop.{Stop}
-use Rattle.answers.specs.declared.Stop.the-variants.{Used}
+use Rattle.outcomes.specs.declared.Stop.{Stop}
+use Rattle.outcomes.specs.declared.Stop.the-variants.{Used}
 use Rattle.lists.specs.Lists.{Call, turn, Event, onLeft, onRight, onEnd, onPorts, onTurn, World, step, events, final, outputs, backToBack}
 
 -- The outputs that a run lends to its turns: each the words behind those that the turn before it wrote. A turn that did not write is the last.

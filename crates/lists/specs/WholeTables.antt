@@ -7,9 +7,9 @@ use lib.IntN.{pos}
 use lib.ListN.{length, take, drop}
 use Rattle.frames.specs.Cells.{Cell, Rows, Words}
 use Rattle.frames.specs.Frame.{rowCount, valuesIn, marksIn}
-use Rattle.frames.specs.Options.{columns, badOptions}
-use Rattle.frames.specs.Order.{sorted}
-use Rattle.frames.specs.declared.Options.{Options}
+use Rattle.options.specs.Options.{columns, badOptions, rightColumns}
+use Rattle.order.specs.Order.{sorted}
+use Rattle.options.specs.declared.Options.{Options}
 use Rattle.matching.specs.Match.{wholeTable}
 use Rattle.matching.specs.Picked.{Picked, NoneQualifies}
 use Rattle.matching.specs.Answer.{numberWord, choiceMark}
@@ -43,7 +43,7 @@ module _ (o : Options) (l r : Words) (calls : List Call) where
 
   -- The accepted right rows.
   abbrev pub rights : Rows
-  rights = rowsIn (columns o) (rightFrames all)
+  rights = rowsIn (rightColumns o) (rightFrames all)
 
   -- SCOPE 15.5: the left rows turned.
   abbrev pub turnedRows : Rows
@@ -113,8 +113,8 @@ module _ (o : Options) (l r : Words) (calls : List Call) where
   WordsKept =
       let w = final (start o l r) calls in
       (waiting (w .join) (w .left) ≡ backToBack waitingFrames)
-      × (heldValues (w .join) (w .right) ≡ drop (w .join .pruned * columns o) (backToBack (map (valuesIn (columns o)) (rightFrames all))))
-      × (heldMarks (w .join) (w .right) ≡ drop (w .join .pruned * columns o) (backToBack (map (marksIn (columns o)) (rightFrames all))))
+      × (heldValues (w .join) (w .right) ≡ drop (w .join .pruned * rightColumns o) (backToBack (map (valuesIn (rightColumns o)) (rightFrames all))))
+      × (heldMarks (w .join) (w .right) ≡ drop (w .join .pruned * rightColumns o) (backToBack (map (marksIn (rightColumns o)) (rightFrames all))))
       × (length (w .left) ≡ length l)
       × (length (w .right) ≡ length r)
 

@@ -10,15 +10,16 @@ use lib.Dec.{ltb}
 use lib.Signed.{leZ}
 use lib.ListN.{getD, length}
 use Rattle.frames.specs.Cells.{Cell, value, isNull, Rows, Words, rowFrom}
-use Rattle.frames.specs.Options.{strategyOf, keyRule}
-use Rattle.frames.specs.Order.{cmpCell, keyOf, nullKey}
-use Rattle.frames.specs.Room.{cellAt, RowsIn}
-use Rattle.frames.proofs.RowLaws.{row-cell, row-room}
-use Rattle.frames.proofs.SortedLaws.{and-true, all-by}
-use Rattle.frames.specs.declared.Options.{Options}
-use Rattle.frames.specs.declared.Strategy.{Strategy}
+use Rattle.options.specs.Options.{strategyOf, keyRule}
+use Rattle.order.specs.Order.{cmpCell, keyOf, nullKey}
+use Rattle.order.specs.Requires.{cellAt, RowsIn}
+use Rattle.order.proofs.RowLaws.{row-cell, row-room}
+use Rattle.order.proofs.SortedLaws.{all-by}
+use Rattle.frames.proofs.BoolLaws.{and-true}
+use Rattle.options.specs.declared.Options.{Options}
+use Rattle.options.specs.declared.Strategy.{Strategy}
 use Rattle.matching.specs.Match.{Hit, nobody, hit, onSide, fits, takesOver, meet, choose, tooFar, tolerate, matchIn}
-use Rattle.matching.specs.Walk.{between, hitAt}
+use Rattle.matching.specs.Stretches.{between, hitAt}
 use Rattle.matching.specs.Inner.{Small, BestIn, TakesOver, Meets, Met}
 use Rattle.matching.specs.declared.Choice.the-variants.{Row, Nothing}
 use Rattle.matching.proofs.ChoiceLaws.{cond-ind, choose-dead}

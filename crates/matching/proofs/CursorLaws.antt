@@ -9,15 +9,15 @@ use native.Mathlib.Decide.{ℕ-discrete}
 use borrow.Author.Tests.{not-true, not-false}
 use lib.IntN.{ℤ, pos, negsuc}
 use Rattle.frames.specs.Cells.{Cell, null, value, isNull}
-use Rattle.frames.specs.Options.{keyRule}
-use Rattle.frames.specs.Order.{cmpCell, distance}
-use Rattle.frames.proofs.OrderLaws.{AtMost, IsOrder, cmpCell-is, cell-equal, three, less-or, less-then, then-less, same-right, less-greater, greater-less, less-at-most}
-use Rattle.frames.proofs.KeyLaws.{gap, distance-gap, key-up, nearer-below, nearer-above, farther-above}
-use Rattle.frames.proofs.SortedLaws.{and-true}
-use Rattle.frames.specs.declared.Order.{Order}
-use Rattle.frames.specs.declared.Order.the-variants.{Less, Equal, Greater}
-use Rattle.frames.specs.declared.Strategy.{Strategy}
-use Rattle.frames.specs.declared.Strategy.the-variants.{Backward, Forward, Nearest}
+use Rattle.options.specs.Options.{keyRule}
+use Rattle.order.specs.Order.{cmpCell, distance}
+use Rattle.order.proofs.OrderLaws.{AtMost, IsOrder, cmpCell-is, cell-equal, three, less-or, less-then, then-less, same-right, less-greater, greater-less, less-at-most}
+use Rattle.order.proofs.KeyLaws.{gap, distance-gap, key-up, nearer-below, nearer-above, farther-above}
+use Rattle.frames.proofs.BoolLaws.{and-true}
+use Rattle.order.specs.declared.Order.{Order}
+use Rattle.order.specs.declared.Order.the-variants.{Less, Equal, Greater}
+use Rattle.options.specs.declared.Strategy.{Strategy}
+use Rattle.options.specs.declared.Strategy.the-variants.{Backward, Forward, Nearest}
 use Rattle.matching.specs.Match.{onSide, nearer}
 use Rattle.matching.specs.Moves.{Rising, fitsKey, passed, movesOn, Behind, Stopped}
 use Rattle.matching.proofs.MayLaws.{never, is-false, back-side, fore-side, nearer-least, nearer-by, nearer-then}
@@ -60,7 +60,7 @@ fore-equal q Greater e h = refl
 
 module _ (q : Bool) where
   -- What is on Backward's side of v is on that of a greater key; and what is at most it is on that of v.
-  back-up : (b v u : Cell) → AtMost (cmpCell keyRule) v u → onSide Backward q (cmpCell keyRule b v) ≡ true → onSide Backward q (cmpCell keyRule b u) ≡ true
+  pub back-up : (b v u : Cell) → AtMost (cmpCell keyRule) v u → onSide Backward q (cmpCell keyRule b v) ≡ true → onSide Backward q (cmpCell keyRule b u) ≡ true
   back-up b v u h e = by (three K b v)
     where
       by : (cmpCell keyRule b v ≡ Less) ⊎ ((cmpCell keyRule b v ≡ Equal) ⊎ (cmpCell keyRule b v ≡ Greater)) → onSide Backward q (cmpCell keyRule b u) ≡ true
@@ -77,7 +77,7 @@ module _ (q : Bool) where
       by (inr (inr g)) = absurd (back-side q (cmpCell keyRule k v) e g)
 
   -- What is on Forward's side of a key is on that of a smaller one.
-  fore-down : (a v u : Cell) → AtMost (cmpCell keyRule) v u → onSide Forward q (cmpCell keyRule a u) ≡ true → onSide Forward q (cmpCell keyRule a v) ≡ true
+  pub fore-down : (a v u : Cell) → AtMost (cmpCell keyRule) v u → onSide Forward q (cmpCell keyRule a u) ≡ true → onSide Forward q (cmpCell keyRule a v) ≡ true
   fore-down a v u h e = by (three K a u)
     where
       by : (cmpCell keyRule a u ≡ Less) ⊎ ((cmpCell keyRule a u ≡ Equal) ⊎ (cmpCell keyRule a u ≡ Greater)) → onSide Forward q (cmpCell keyRule a v) ≡ true

@@ -9,12 +9,12 @@ use borrow.Author.Tests.{eqb-true}
 use lib.Dec.{eqb}
 use lib.ListN.{length, getD, length-append, length-map}
 use Rattle.frames.specs.Cells.{Cell, Rows}
-use Rattle.frames.specs.Order.{cmpFirst, cmpGroup, isLess, isEqual, nullIn, nullGroup, sorted}
-use Rattle.frames.proofs.OrderLaws.{AtMost, cmpGroup-is, equal-at-most, less-at-most, less-greater, greater-less, less-then, then-less, not-less, same-right}
-use Rattle.frames.proofs.SortedLaws.{All, all-map, all-by, all-join}
-use Rattle.frames.specs.declared.Options.{Options}
-use Rattle.frames.specs.declared.Order.{Order}
-use Rattle.frames.specs.declared.Order.the-variants.{Less, Equal, Greater}
+use Rattle.order.specs.Order.{cmpFirst, cmpGroup, isLess, isEqual, nullIn, nullGroup, sorted}
+use Rattle.order.proofs.OrderLaws.{AtMost, cmpGroup-is, equal-at-most, less-at-most, less-greater, greater-less, less-then, then-less, not-less, same-right}
+use Rattle.order.proofs.SortedLaws.{All, all-map, all-by, all-join}
+use Rattle.options.specs.declared.Options.{Options}
+use Rattle.order.specs.declared.Order.{Order}
+use Rattle.order.specs.declared.Order.the-variants.{Less, Equal, Greater}
 use Rattle.matching.specs.Match.{fits, nobody, choose, sameGroup, matchIn, matchTable}
 use Rattle.matching.specs.Groups.{runs, Cursor, headOf, passes, pass, used, byRuns, matchFrame}
 use Rattle.matching.specs.declared.Choice.{Choice}
@@ -47,7 +47,7 @@ only-greater Greater h e = refl
 all-of : (P : List Cell → Type 0) → ((r : List Cell) → P r) → (rs : Rows) → All P rs
 all-of P h rs = all-by P rs (λ i l. h (getD rs i []))
 
-map-same : (f g : List Cell → Choice) (rs : Rows) → All (λ x. f x ≡ g x) rs → map f rs ≡ map g rs
+pub map-same : (f g : List Cell → Choice) (rs : Rows) → All (λ x. f x ≡ g x) rs → map f rs ≡ map g rs
 map-same f g [] h = refl
 map-same f g (r ∷ rs) h = rw (h .0, map-same f g rs (h .1))
 

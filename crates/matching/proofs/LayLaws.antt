@@ -11,11 +11,11 @@ use lib.ListN.{length, take, drop, set, length-append, length-map, length-drop, 
 use lib.Seq.{set-at, length-take-le, drop-drop}
 use Rattle.frames.specs.Cells.{Cell, Rows, Words, rowsOf, rowFrom}
 use Rattle.frames.proofs.WordLaws.{rows-length}
-use Rattle.frames.specs.declared.Options.{Options}
+use Rattle.options.specs.declared.Options.{Options}
 use Rattle.matching.specs.Match.{matchIn}
 use Rattle.matching.specs.Groups.{runs, byRuns, matchFrame}
 use Rattle.matching.specs.Answer.{numberWord, choiceMark, answered}
-use Rattle.matching.specs.Walk.{between, runLength, lay}
+use Rattle.matching.specs.Stretches.{between, runLength, lay}
 use Rattle.matching.specs.Inner.{Serves}
 use Rattle.matching.specs.declared.Right.{Right}
 use Rattle.matching.specs.declared.Choice.{Choice}

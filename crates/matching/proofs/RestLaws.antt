@@ -10,19 +10,20 @@ use borrow.Author.Tests.{ltb-true}
 use lib.IntN.{ℤ}
 use lib.ListN.{length, drop, getD}
 use lib.Seq.{drop-drop}
-use Rattle.frames.specs.Cells.{Cell, value, isNull, Rows, Words, rowsOf, rowFrom}
-use Rattle.frames.specs.Options.{strategyOf, keyRule}
-use Rattle.frames.specs.Order.{cmpCell, cmpGroup, isGreater, keyOf, nullGroup, sorted}
-use Rattle.frames.specs.Room.{RowsIn}
-use Rattle.frames.proofs.OrderLaws.{AtMost, cmpKey, cmpKey-is, cmpGroup-is, at-most, at-most-refl, row-by-key}
-use Rattle.frames.proofs.SortedLaws.{All, all-by, all-map, and-true, not-greater}
-use Rattle.frames.proofs.RowLaws.{rows-from}
-use Rattle.frames.specs.declared.Options.{Options}
-use Rattle.frames.specs.declared.Order.the-variants.{Equal}
-use Rattle.frames.specs.declared.Strategy.{Strategy}
-use Rattle.frames.specs.declared.Strategy.the-variants.{Backward, Forward, Nearest}
+use Rattle.frames.specs.Cells.{Cell, null, value, isNull, Rows, Words, rowsOf, rowFrom}
+use Rattle.options.specs.Options.{strategyOf, keyRule}
+use Rattle.order.specs.Order.{cmpCell, cmpGroup, isGreater, keyOf, nullGroup, sorted}
+use Rattle.order.specs.Requires.{RowsIn}
+use Rattle.order.proofs.OrderLaws.{AtMost, cmpKey, cmpKey-is, cmpGroup-is, at-most, at-most-refl, row-by-key}
+use Rattle.order.proofs.SortedLaws.{All, all-by, all-map, not-greater}
+use Rattle.frames.proofs.BoolLaws.{and-true}
+use Rattle.order.proofs.RowLaws.{rows-from}
+use Rattle.options.specs.declared.Options.{Options}
+use Rattle.order.specs.declared.Order.the-variants.{Equal}
+use Rattle.options.specs.declared.Strategy.{Strategy}
+use Rattle.options.specs.declared.Strategy.the-variants.{Backward, Forward, Nearest}
 use Rattle.matching.specs.Match.{nobody, hit, onSide, fits, takesOver, choose, tolerate, matchIn}
-use Rattle.matching.specs.Walk.{between, hitAt}
+use Rattle.matching.specs.Stretches.{between, hitAt}
 use Rattle.matching.specs.Moves.{keysSorted, keyAt, Rising, fitsKey, movesOn, knownFit, Behind, CursorAt, Stopped}
 use Rattle.matching.specs.declared.Choice.the-variants.{Nothing}
 use Rattle.matching.proofs.ChoiceLaws.{Keeps, Wins, choose-keep, choose-dead, choose-skip}
@@ -64,13 +65,13 @@ run-sorted o r (s ∷ g) n h =
     rw (row-by-key o r s e, run-sorted o s g m t)
 
 module _ (w : ℕ) (vs ms : Words) where
-  between-at : (from to i : ℕ) → i < to - from → getD (between w from to vs ms) i [] ≡ rowFrom w ((from + i) * w) vs ms
+  pub between-at : (from to i : ℕ) → i < to - from → getD (between w from to vs ms) i [] ≡ rowFrom w ((from + i) * w) vs ms
   unfolding between rowFrom
   between-at from to i h =
       let e : (from + i) * w ≡ from * w + i * w = omega arith in
       rows-from w (to - from) i (drop (from * w) vs) (drop (from * w) ms) h ∙ rw (e, drop-drop (i * w) (from * w) vs, drop-drop (i * w) (from * w) ms)
 
-  all-between : (P : List Cell → Type 0) (from to : ℕ) → ((k : ℕ) → from ≤ k → k < to → P (rowFrom w (k * w) vs ms)) → All P (between w from to vs ms)
+  pub all-between : (P : List Cell → Type 0) (from to : ℕ) → ((k : ℕ) → from ≤ k → k < to → P (rowFrom w (k * w) vs ms)) → All P (between w from to vs ms)
   all-between P from to f =
       all-by P (between w from to vs ms) (λ i l.
       let h : i < to - from = omega (arith, l, between-length w vs ms from to) in
@@ -107,6 +108,49 @@ module _ (o : Options) (w : ℕ) (vs ms : Words) where
       by zero l = refl
       by (suc zero) l = refl
       by (suc (suc n)) l = absurd (omega arith)
+
+  -- Rows at the front of which none is greater than the next do not matter.
+  pub keys-on : (from to : ℕ) → RowsIn o w to vs ms → (d : ℕ) → from + d < to → ((k : ℕ) → from ≤ k → k < from + d → isGreater (cmpCell keyRule (keyAt o w vs ms k) (keyAt o w vs ms (k + 1))) ≡ false)
+      → keysSorted o (between w from to vs ms) ≡ keysSorted o (between w (from + d) to vs ms)
+  keys-on from to p zero h n = let z : from + 0 ≡ from = omega arith in rw z
+  keys-on from to p (suc d) h n =
+      let z : from + suc d ≡ from + d + 1 = omega arith in
+      let e : keysSorted o (between w (from + d) to vs ms) ≡ keysSorted o (between w (from + d + 1) to vs ms) = keys-more (from + d) to p (omega arith) ∙ rw (n (from + d) (omega arith) (omega arith)) in
+      rw z (keys-on from to p d (omega arith) (λ k g l. n k g (omega arith)) ∙ e)
+
+  -- The first row that is greater than the next decides; where there is none the rows are sorted.
+  module _ (from to : ℕ) (p : RowsIn o w to vs ms) (i : ℕ) (l : from ≤ i) (n : (k : ℕ) → from ≤ k → k < i → isGreater (cmpCell keyRule (keyAt o w vs ms k) (keyAt o w vs ms (k + 1))) ≡ false) where
+    keys-at : i < to → keysSorted o (between w from to vs ms) ≡ keysSorted o (between w i to vs ms)
+    keys-at h =
+        let z : from + (i - from) ≡ i = omega arith in
+        rw z at (keys-on from to p (i - from) (omega arith) (λ k g m. n k g (omega arith)))
+
+    pub keys-fall : i + 1 < to → isGreater (cmpCell keyRule (keyAt o w vs ms i) (keyAt o w vs ms (i + 1))) ≡ true → keysSorted o (between w from to vs ms) ≡ false
+    keys-fall h e = keys-at (omega arith) ∙ keys-more i to p h ∙ rw e
+
+    pub keys-rose : i + 1 ≡ to → keysSorted o (between w from to vs ms) ≡ true
+    keys-rose e = keys-at (omega arith) ∙ keys-few i to (omega arith)
+
+  -- Nulls come first.
+  module _ (from to : ℕ) (p : RowsIn o w to vs ms) (i : ℕ) (l : from ≤ i) (n : (k : ℕ) → from ≤ k → k < i → isNull (keyAt o w vs ms k) ≡ true) where
+    null-first : (x y : Cell) → isNull x ≡ true → isGreater (cmpCell keyRule x y) ≡ false
+    null-first null null e = refl
+    null-first null (value b) e = refl
+    null-first (value a) y e = cc
+
+    pub keys-nulls : i < to → keysSorted o (between w from to vs ms) ≡ keysSorted o (between w i to vs ms)
+    keys-nulls h =
+        let z : from + (i - from) ≡ i = omega arith in
+        rw z at (keys-on from to p (i - from) (omega arith) (λ k g m. null-first (keyAt o w vs ms k) (keyAt o w vs ms (k + 1)) (n k g (omega arith))))
+
+    pub keys-none : i ≡ to → keysSorted o (between w from to vs ms) ≡ true
+    keys-none e = by (decLt from to)
+      where
+        by : Dec (from < to) → keysSorted o (between w from to vs ms) ≡ true
+        by (yes h) =
+            let z : from + (to - 1 - from) ≡ to - 1 = omega arith in
+            rw z at (keys-on from to p (to - 1 - from) (omega arith) (λ k g m. null-first (keyAt o w vs ms k) (keyAt o w vs ms (k + 1)) (n k g (omega arith)))) ∙ keys-few (to - 1) to (omega arith)
+        by (no h) = keys-few from to (omega arith)
 
 -- ---- one move of the cursor
 pub cursor-on : (o : Options) (s : Strategy) (w at end : ℕ) (vs ms : Words) (v : ℤ) (c : ℕ) → CursorAt o s w at end vs ms v c → c + 1 < end

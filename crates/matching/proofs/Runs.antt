@@ -6,12 +6,12 @@ use mathlib.Core.List.{List, [], _∷_, _++_, flatten}
 use Prim.Native.Nat.{ℕ, zero, suc, _<_}
 use native.Mathlib.Omega.{arith}
 use Rattle.frames.specs.Cells.{Cell, Rows, cell}
-use Rattle.frames.specs.Order.{cmpGroup, cmpRow, isEqual, nullIn, nullGroup, sorted}
-use Rattle.frames.proofs.OrderLaws.{AtMost, cmpGroup-is, group-equal, group-at-most, less-then}
-use Rattle.frames.proofs.SortedLaws.{All, all-map, Ordered, ordered}
-use Rattle.frames.specs.declared.Options.{Options}
-use Rattle.frames.specs.declared.Order.{Order}
-use Rattle.frames.specs.declared.Order.the-variants.{Less, Equal, Greater}
+use Rattle.order.specs.Order.{cmpGroup, cmpRow, isEqual, nullIn, nullGroup, sorted}
+use Rattle.order.proofs.OrderLaws.{AtMost, cmpGroup-is, group-equal, group-at-most, less-then}
+use Rattle.order.proofs.SortedLaws.{All, all-map, Ordered, ordered}
+use Rattle.options.specs.declared.Options.{Options}
+use Rattle.order.specs.declared.Order.{Order}
+use Rattle.order.specs.declared.Order.the-variants.{Less, Equal, Greater}
 use Rattle.matching.specs.Groups.{sameRun, joinRun, runs, headOf}
 use Rattle.matching.proofs.ChoiceLaws.{cond-ind}
 

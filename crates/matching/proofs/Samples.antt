@@ -5,9 +5,9 @@ use mathlib.Core.List.{[], _∷_}
 use Prim.Native.Nat.{_^_, _-_}
 use lib.IntN.{pos, negsuc}
 use Rattle.frames.specs.Cells.{null, value}
-use Rattle.frames.specs.Order.{cmpFirst, nullIn}
-use Rattle.frames.proofs.Samples.{options, plain, row, keys}
-use Rattle.frames.specs.declared.Options.{Options}
+use Rattle.order.specs.Order.{cmpFirst, nullIn}
+use Rattle.order.proofs.Samples.{options, plain, row, keys}
+use Rattle.options.specs.declared.Options.{Options}
 use Rattle.matching.specs.Match.{fits, takesOver, choose, tolerate, matchIn, matchTable, wholeTable}
 use Rattle.matching.specs.Groups.{matchFrame, byRuns, runs, joinRun, pass, passes, used}
 use Rattle.matching.specs.declared.Choice.the-variants.{Row, Nothing}

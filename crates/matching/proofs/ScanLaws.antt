@@ -11,12 +11,14 @@ use lib.Dec.{ltb, eqb, leb·zero}
 use lib.IntN.{ℤ, pos, negsuc}
 use lib.Signed.{ltZ, leZ}
 use Rattle.frames.specs.Cells.{Cell, null, value, isZero, cellOf, isNull}
-use Rattle.frames.specs.Order.{cmpZ, cmpGroup, nullGroup, isLess, isEqual}
-use Rattle.frames.specs.declared.Options.{Options}
-use Rattle.frames.specs.declared.Order.{Order}
-use Rattle.frames.specs.declared.Order.the-variants.{Less, Equal, Greater}
-use Rattle.frames.proofs.Order.{the-type}
-use Rattle.frames.proofs.RowLaws.{next-stop}
+use Rattle.options.specs.Options.{keyRule}
+use Rattle.order.specs.Order.{cmpZ, cmpCell, cmpGroup, nullGroup, isLess, isEqual, isGreater}
+use Rattle.options.specs.declared.Options.{Options}
+use Rattle.order.specs.declared.Order.{Order}
+use Rattle.order.specs.declared.Order.the-variants.{Less, Equal, Greater}
+use Rattle.order.proofs.Order.{the-type}
+use Rattle.order.proofs.OrderLaws.{cmpZ-is, less-greater}
+use Rattle.order.proofs.RowLaws.{next-stop}
 use Rattle.matching.specs.Groups.{sameRun}
 
 -- A cell that is not null is its value.
@@ -26,6 +28,26 @@ present v m = by (isZero m)
     by : (z : Bool) → isNull (cond z null (value v)) ≡ false → cond z null (value v) ≡ value v
     by true e = cc
     by false e = refl
+
+-- ---- two neighbouring keys, of which the first is there: whether it is greater than the second
+falls-null : (x y : Cell) → isNull x ≡ false → isNull y ≡ true → isGreater (cmpCell keyRule x y) ≡ true
+falls-null null y e f = cc
+falls-null (value a) null e f = refl
+falls-null (value a) (value b) e f = cc
+
+module _ (va ma vb mb : ℤ) (k : isNull (cellOf va ma) ≡ false) where
+  pub falls-end : isNull (cellOf vb mb) ≡ true → isGreater (cmpCell keyRule (cellOf va ma) (cellOf vb mb)) ≡ true
+  falls-end n = falls-null (cellOf va ma) (cellOf vb mb) k n
+
+  pub falls-less : isNull (cellOf vb mb) ≡ false → ltZ vb va ≡ true → isGreater (cmpCell keyRule (cellOf va ma) (cellOf vb mb)) ≡ true
+  falls-less n h = rw (present va ma k, present vb mb n, less-greater cmpZ-is vb va (rw h))
+
+  pub falls-not : isNull (cellOf vb mb) ≡ false → ltZ vb va ≡ false → isGreater (cmpCell keyRule (cellOf va ma) (cellOf vb mb)) ≡ false
+  falls-not n h = rw (present va ma k, present vb mb n, h) (below (ltZ va vb))
+    where
+      below : (t : Bool) → isGreater (cond t Less Equal) ≡ false
+      below true = refl
+      below false = refl
 
 -- ---- two distances, and what decides a tie
 module _ (x y : ℕ) (z : Bool) where

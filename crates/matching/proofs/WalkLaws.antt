@@ -7,14 +7,14 @@ use native.Mathlib.Omega.{arith}
 use lib.ListN.{length, take, drop}
 use lib.Seq.{drop-drop, take-at, drop-at}
 use Rattle.frames.specs.Cells.{Cell, Rows, Words, rowsOf, rowFrom}
-use Rattle.frames.specs.Order.{cmpGroup, nullGroup, isLess}
+use Rattle.order.specs.Order.{cmpGroup, nullGroup, isLess}
 use Rattle.frames.proofs.WordLaws.{rows-length}
-use Rattle.frames.specs.declared.Options.{Options}
-use Rattle.frames.specs.declared.Order.{Order}
-use Rattle.frames.specs.declared.Order.the-variants.{Less, Equal, Greater}
+use Rattle.options.specs.declared.Options.{Options}
+use Rattle.order.specs.declared.Order.{Order}
+use Rattle.order.specs.declared.Order.the-variants.{Less, Equal, Greater}
 use Rattle.matching.specs.Match.{matchIn}
 use Rattle.matching.specs.Groups.{Cursor, sameRun, joinRun, runs, headOf, passes, pass, used, byRuns}
-use Rattle.matching.specs.Walk.{between, runOn, runLength, standing}
+use Rattle.matching.specs.Stretches.{between, runOn, runLength, standing}
 use Rattle.matching.specs.Inner.{Passed, Serves}
 use Rattle.matching.specs.declared.Right.{Right}
 use Rattle.matching.specs.declared.Choice.{Choice}

@@ -6,14 +6,14 @@ use Prim.Native.Nat.{ℕ, _+_, _-_, _*_, _^_, _≤_, _<_}
 use lib.IntN.{ℤ}
 use lib.ListN.{length}
 use Rattle.frames.specs.Cells.{Cell, value, Rows, Words, rowFrom}
-use Rattle.frames.specs.Options.{strategyOf}
-use Rattle.frames.specs.Order.{keyOf, nullKey}
-use Rattle.frames.specs.Room.{RowAt, RowsIn}
-use Rattle.frames.specs.declared.Options.{Options}
-use Rattle.frames.specs.declared.Strategy.{Strategy}
+use Rattle.options.specs.Options.{strategyOf}
+use Rattle.order.specs.Order.{keyOf, nullKey}
+use Rattle.order.specs.Requires.{RowAt, RowsIn}
+use Rattle.options.specs.declared.Options.{Options}
+use Rattle.options.specs.declared.Strategy.{Strategy}
 use Rattle.matching.specs.Match.{fits, takesOver, meet, matchIn}
 use Rattle.matching.specs.Groups.{runs, pass, used, headOf, byRuns}
-use Rattle.matching.specs.Walk.{between, runLength, hitAt}
+use Rattle.matching.specs.Stretches.{between, runLength, hitAt}
 use Rattle.matching.specs.declared.Choice.{Choice}
 use Rattle.matching.specs.declared.Choice.the-variants.{Row, Nothing}
 use Rattle.matching.specs.declared.Right.{Right}

@@ -2,7 +2,7 @@ pub mod Match
 pub mod Picked
 pub mod Groups
 pub mod Answer
-pub mod Room
-pub mod Walk
+pub mod Requires
+pub mod Stretches
 pub mod Inner
 pub mod Moves

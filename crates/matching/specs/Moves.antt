@@ -6,15 +6,15 @@ use Prim.Native.Nat.{ℕ, _+_, _-_, _*_, _^_, _≤_, _<_}
 use lib.Dec.{ltb}
 use lib.IntN.{ℤ}
 use Rattle.frames.specs.Cells.{Cell, value, isNull, Rows, Words, rowFrom}
-use Rattle.frames.specs.Options.{strategyOf, keyRule}
-use Rattle.frames.specs.Order.{cmpCell, isGreater, keyOf}
-use Rattle.frames.specs.Room.{cellAt, RowAt, RowsIn}
-use Rattle.frames.specs.declared.Options.{Options}
-use Rattle.frames.specs.declared.Order.the-variants.{Greater}
-use Rattle.frames.specs.declared.Strategy.{Strategy}
-use Rattle.frames.specs.declared.Strategy.the-variants.{Backward, Forward, Nearest}
+use Rattle.options.specs.Options.{strategyOf, keyRule}
+use Rattle.order.specs.Order.{cmpCell, isGreater, keyOf}
+use Rattle.order.specs.Requires.{cellAt, RowAt, RowsIn}
+use Rattle.options.specs.declared.Options.{Options}
+use Rattle.order.specs.declared.Order.the-variants.{Greater}
+use Rattle.options.specs.declared.Strategy.{Strategy}
+use Rattle.options.specs.declared.Strategy.the-variants.{Backward, Forward, Nearest}
 use Rattle.matching.specs.Match.{onSide, nearer, matchIn}
-use Rattle.matching.specs.Walk.{between}
+use Rattle.matching.specs.Stretches.{between}
 use Rattle.matching.specs.Inner.{RunRoom}
 use Rattle.matching.specs.declared.Step.{Step}
 
@@ -23,6 +23,13 @@ unfoldable pub keysSorted : Options → Rows → Bool
 keysSorted o [] = true
 keysSorted o (r ∷ []) = true
 keysSorted o (r ∷ s ∷ rs) = not (isGreater (cmpCell keyRule (keyOf o r) (keyOf o s))) && keysSorted o (s ∷ rs)
+
+-- Row r is the first of from..to that has a key, or none has one and r is `to`.
+pub record FirstKey (o : Options) (w from to : ℕ) (ms : Words) (r : ℕ) : Type 0 where
+  pub start : from ≤ r
+  pub within : r ≤ to
+  pub before : (vs : Words) (k : ℕ) → from ≤ k → k < r → isNull (cellAt (k * w + o .by) vs ms) ≡ true
+  pub keyed : (vs : Words) → r < to → isNull (cellAt (r * w + o .by) vs ms) ≡ false
 
 -- Whether the right cursor moves on from a row with the key a to the next one, with the key b, for the left key v. Backward: b is null or on v's side. Forward: a does not fit v. Nearest: a is null, or b takes its place.
 abbrev pub movesOn : Strategy → Bool → Cell → Cell → Cell → Bool

@@ -7,22 +7,23 @@ use borrow.Author.Tests.{ltb-false, eqb-false, not-false}
 use lib.Dec.{ltb}
 use lib.Signed.{ltZ}
 use lib.ListN.{length}
+use Rattle.callrules.specs.Judged.{leftJudged, endJudged, rightJudged}
 use Rattle.frames.specs.Cells.{Words}
 use Rattle.frames.specs.Frame.{rowCount, isFrame}
-use Rattle.frames.specs.Options.{badOptions}
-use Rattle.frames.specs.Room.{HasCount}
-use Rattle.frames.specs.declared.Options.{Options}
+use Rattle.options.specs.Options.{badOptions}
+use Rattle.frames.specs.Front.{HasCount}
+use Rattle.options.specs.declared.Options.{Options}
 use Rattle.frames.proofs.FrontLaws.{frame-parts}
 use Rattle.area.specs.Area.{capacity}
-use Rattle.feeds.proofs.FeedLaws.{or-both, few-columns}
-use Rattle.node.specs.State.{fresh, widthOf, badJoin, overRight, overLeft, overRows, oddSequence}
-use Rattle.answers.specs.Answers.{isRunning, isDone, mostRows}
+use Rattle.callrules.proofs.FeedLaws.{or-both, few-columns}
+use Rattle.node.specs.State.{fresh, leftWidth, rightWidth, badJoin, overRight, overLeft, overRows, oddSequence}
+use Rattle.outcomes.specs.Answers.{isRunning, isDone, mostRows}
 use Rattle.node.specs.Calls.{leftAnswer, rightAnswer, endAnswer}
 use Rattle.node.specs.declared.Join.{Join}
-use Rattle.answers.specs.declared.Refusal.{Refusal}
-use Rattle.answers.specs.declared.Refusal.the-variants.{BadJoin, Failed, Closed, BadFrame, NoRoom, UsedUp}
-use Rattle.answers.specs.declared.Took.{Took}
-use Rattle.answers.specs.declared.Took.the-variants.{Accepted, Refused}
+use Rattle.refusals.specs.declared.Refusal.{Refusal}
+use Rattle.refusals.specs.declared.Refusal.the-variants.{BadJoin, Failed, Closed, BadFrame, NoRoom, UsedUp}
+use Rattle.outcomes.specs.declared.Took.{Took}
+use Rattle.outcomes.specs.declared.Took.the-variants.{Accepted, Refused}
 
 -- ---- tests
 -- A chain of refusals that came to Accepted did not stop at its first.
@@ -34,7 +35,7 @@ passed false n t e = (refl, e)
 pub record Good (j : Join) (left right : Words) : Type 0 where
   pub options : badOptions (j .options) ≡ false
   pub few : j .options .by ≤ 4
-  pub right-room : j .base + j .held ≤ capacity (widthOf j) right
+  pub right-room : j .base + j .held ≤ capacity (rightWidth j) right
   pub left-room : j .«queue_start» + j .«queue_words» ≤ length left
   pub rows : j .pruned + j .held ≤ mostRows
   pub even : j .sequence % 2 ≡ 0
@@ -50,7 +51,7 @@ good j left right h =
     record {
       options = s .0;
       few = few-columns (j .options) (s .0);
-      right-room = ltb-false (capacity (widthOf j) right) (j .base + j .held) (s .1);
+      right-room = ltb-false (capacity (rightWidth j) right) (j .base + j .held) (s .1);
       left-room = ltb-false (length left) (j .«queue_start» + j .«queue_words») (r .1);
       rows = ltb-false mostRows (j .pruned + j .held) (q .1);
       even = let n = eqb-false (j .sequence % 2) 1 (p .1) in omega (arith, n);
@@ -76,7 +77,7 @@ module _ (j : Join) (left right : Words) where
     pub unended : (j .«right_ended» || isDone (j .state)) ≡ false
 
   pub end-taken : endAnswer j left right ≡ Accepted → EndTaken
-  unfolding endAnswer
+  unfolding endJudged
   end-taken e =
       let p2 = passed (badJoin j left right) BadJoin _ e in
       let p3 = passed (j .failed) Failed _ (p2 .1) in
@@ -87,22 +88,22 @@ module _ (j : Join) (left right : Words) where
     pub good : Good j left right
     pub unfailed : j .failed ≡ false
     pub running : isRunning (j .state) ≡ true
-    pub frame : isFrame (widthOf j) f ≡ true
+    pub frame : isFrame (leftWidth j) f ≡ true
     pub room : j .«queue_words» + length f ≤ length left
 
   pub left-taken : (f : Words) → leftAnswer j left right f ≡ Accepted → LeftTaken f
-  unfolding leftAnswer
+  unfolding leftJudged
   left-taken f e =
       let p2 = passed (badJoin j left right) BadJoin _ e in
       let p3 = passed (j .failed) Failed _ (p2 .1) in
       let p4 = passed (not (isRunning (j .state))) Closed _ (p3 .1) in
-      let p5 = passed (not (isFrame (widthOf j) f)) BadFrame _ (p4 .1) in
+      let p5 = passed (not (isFrame (leftWidth j) f)) BadFrame _ (p4 .1) in
       let p6 = passed (ltb (length left) (j .«queue_words» + length f)) NoRoom Accepted (p5 .1) in
       record {
         good = good j left right (p2 .0);
         unfailed = p3 .0;
         running = not-false (isRunning (j .state)) (p4 .0);
-        frame = not-false (isFrame (widthOf j) f) (p5 .0);
+        frame = not-false (isFrame (leftWidth j) f) (p5 .0);
         room = ltb-false (length left) (j .«queue_words» + length f) (p6 .0);
       }
 
@@ -110,24 +111,24 @@ module _ (j : Join) (left right : Words) where
     pub good : Good j left right
     pub unfailed : j .failed ≡ false
     pub unended : (j .«right_ended» || isDone (j .state)) ≡ false
-    pub frame : isFrame (widthOf j) f ≡ true
-    pub room : j .held + rowCount f ≤ capacity (widthOf j) right
+    pub frame : isFrame (rightWidth j) f ≡ true
+    pub room : j .held + rowCount f ≤ capacity (rightWidth j) right
     pub rows : j .pruned + j .held + rowCount f ≤ mostRows
 
   pub right-taken : (f : Words) → rightAnswer j left right f ≡ Accepted → RightTaken f
-  unfolding rightAnswer
+  unfolding rightJudged
   right-taken f e =
       let p2 = passed (badJoin j left right) BadJoin _ e in
       let p3 = passed (j .failed) Failed _ (p2 .1) in
       let p4 = passed (j .«right_ended» || isDone (j .state)) Closed _ (p3 .1) in
-      let p5 = passed (not (isFrame (widthOf j) f)) BadFrame _ (p4 .1) in
-      let p6 = passed (ltb (capacity (widthOf j) right) (j .held + rowCount f)) NoRoom _ (p5 .1) in
+      let p5 = passed (not (isFrame (rightWidth j) f)) BadFrame _ (p4 .1) in
+      let p6 = passed (ltb (capacity (rightWidth j) right) (j .held + rowCount f)) NoRoom _ (p5 .1) in
       let p7 = passed (ltb mostRows (j .pruned + j .held + rowCount f)) UsedUp Accepted (p6 .1) in
       record {
         good = good j left right (p2 .0);
         unfailed = p3 .0;
         unended = p4 .0;
-        frame = not-false (isFrame (widthOf j) f) (p5 .0);
-        room = ltb-false (capacity (widthOf j) right) (j .held + rowCount f) (p6 .0);
+        frame = not-false (isFrame (rightWidth j) f) (p5 .0);
+        room = ltb-false (capacity (rightWidth j) right) (j .held + rowCount f) (p6 .0);
         rows = ltb-false mostRows (j .pruned + j .held + rowCount f) (p7 .0);
       }

@@ -2,19 +2,20 @@
 use mathlib.Core.Path.{_≡_, refl, sym, ap, _∙_}
 use Prim.Native.Nat.{ℕ}
 use native.Mathlib.Omega.{arith}
+use Rattle.ports.specs.Ports.{portsJudged}
 use Rattle.frames.specs.Cells.{Words}
 use Rattle.node.specs.State.{badJoin}
 use Rattle.node.specs.Calls.{portsState, portsAnswer, portsCall}
-use Rattle.node.specs.Leaves.{PortsLeaves}
+use Rattle.node.specs.Contracts.{PortsContract}
 use Rattle.node.specs.declared.Join.{Join}
 use Rattle.node.specs.declared.PortedJoin.{PortedJoin}
-use Rattle.answers.specs.declared.NodeState.{NodeState}
-use Rattle.answers.specs.declared.PortState.{PortState}
-use Rattle.answers.specs.declared.Refusal.{Refusal}
-use Rattle.answers.specs.declared.Refusal.the-variants.{BadJoin, Failed}
-use Rattle.answers.specs.declared.Ported.{Ported}
-use Rattle.answers.specs.declared.Ported.the-variants.{Ports, Refused}
-use Rattle.answers.proofs.Tests.{past}
+use Rattle.outcomes.specs.declared.NodeState.{NodeState}
+use Rattle.outcomes.specs.declared.PortState.{PortState}
+use Rattle.refusals.specs.declared.Refusal.{Refusal}
+use Rattle.refusals.specs.declared.Refusal.the-variants.{BadJoin, Failed}
+use Rattle.outcomes.specs.declared.Ported.{Ported}
+use Rattle.outcomes.specs.declared.Ported.the-variants.{Ports, Refused}
+use Rattle.outcomes.proofs.Tests.{past}
 use Rattle.ports.proofs.PortRule.{Moved, Told, three, moved-rule, told-rule}
 
 pub record PortsMeet (j : Join) (l r s : PortState) (u : NodeState) (a b d : PortState) : Type 0 where
@@ -22,9 +23,9 @@ pub record PortsMeet (j : Join) (l r s : PortState) (u : NodeState) (a b d : Por
   pub told : Told u (three l r s) (three a b d)
 
 -- Every port call that is not refused meets the rule.
-pub ports-meet : (j : Join) (areaL areaR : Words) (l r s : PortState) (x : PortedJoin) → PortsLeaves j areaL areaR l r s x
+pub ports-meet : (j : Join) (areaL areaR : Words) (l r s : PortState) (x : PortedJoin) → PortsContract j areaL areaR l r s x
     → (a b d : PortState) → x .answer ≡ Ports a b d → PortsMeet j l r s (x .join .state) a b d
-unfolding portsCall portsAnswer
+unfolding portsCall portsJudged
 ports-meet j areaL areaR l r s x h a b d is = go (portsAnswer j areaL areaR l r s) refl
   where
     apart : (n : Refusal) (a b d : PortState) → Refused n ≡ Ports a b d → ⊥

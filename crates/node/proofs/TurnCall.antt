@@ -13,33 +13,34 @@ use Rattle.frames.specs.declared.Front.{Front}
 use Rattle.frames.specs.declared.Front.the-variants.{Words as Long, Nothing}
 use Rattle.frames.proofs.FrontLaws.{Fronted, front-told}
 use Rattle.area.specs.Area.{capacity, heldRows}
-use Rattle.buffer.specs.Reach.{needMore}
+use Rattle.searching.specs.Reach.{needMore}
 use Rattle.area.proofs.PushLaws.{capacity-room}
 use Rattle.area.proofs.AreaLaws.{rows-words}
 use Rattle.matching.specs.Groups.{matchFrame}
 use Rattle.matching.specs.Answer.{answered}
 use Rattle.matching.proofs.ChoiceLaws.{cond-ind}
-use Rattle.node.specs.State.{widthOf, badJoin, heldOf, waiting}
-use Rattle.answers.specs.Answers.{isDone, lastSequence, wrote}
+use Rattle.node.specs.State.{markedFailed, leftWidth, rightWidth, badJoin, heldOf, waiting}
+use Rattle.outcomes.specs.Answers.{isDone, lastSequence, wrote}
 use Rattle.node.specs.Calls.{after, turnAnswer, dropped, dequeued, turned, spoiled, turnCall}
-use Rattle.prunes.specs.Prunes.{firstPrune, badLeft, badRight, keptRows, lastPrune}
+use Rattle.turnrows.specs.Prunes.{firstPrune, badLeft, badRight, keptRows, lastPrune}
 use Rattle.node.specs.Inner.{readyAnswer, partOf, joinWith}
-use Rattle.node.specs.Leaves.{TurnLeaves}
+use Rattle.node.specs.Contracts.{TurnContract}
 use Rattle.node.proofs.Good.{Good, good}
-use Rattle.answers.proofs.Tests.{past}
-use Rattle.prunes.proofs.PruneLaws.{split-known}
+use Rattle.outcomes.proofs.Tests.{past}
+use Rattle.turnrows.proofs.PruneLaws.{split-known}
 use Rattle.node.specs.declared.Join.{Join}
-use Rattle.answers.specs.declared.Refusal.{Refusal}
-use Rattle.answers.specs.declared.Refusal.the-variants.{BadOptions, BadJoin, Failed, Closed, BadFrame, NoRoom, UsedUp, LeftOrder, RightOrder}
-use Rattle.answers.specs.declared.Answer.{Answer}
-use Rattle.answers.specs.declared.Answer.the-variants.{Wrote, WantsRight, Idle, Refused}
-use Rattle.feeds.specs.Judged.{readyJudged}
-use Rattle.parts.specs.Part.{roomAnswer, orderAnswer, leftPart}
-use Rattle.parts.specs.declared.Part.{Part}
-use Rattle.turns.specs.Turns.{left as unmoved, rowsAnswer, rowsTurn, spoiledPart, RowsTurned}
-use Rattle.queue.specs.Queue.{waitingIn, frontTurn, queueTurn, QueueTurned}
-use Rattle.queue.proofs.QueueLaws.{front-here, front-frame}
-use Rattle.turns.specs.declared.TurnedPart.{TurnedPart}
+use Rattle.refusals.specs.Refusals.{marksFailed}
+use Rattle.refusals.specs.declared.Refusal.{Refusal}
+use Rattle.refusals.specs.declared.Refusal.the-variants.{BadJoin, Failed, Closed, BadFrame, NoRoom, UsedUp, LeftOrder, RightOrder}
+use Rattle.outcomes.specs.declared.Answer.{Answer}
+use Rattle.outcomes.specs.declared.Answer.the-variants.{Wrote, WantsRight, Idle, Refused}
+use Rattle.callrules.specs.Judged.{readyJudged}
+use Rattle.turnparts.specs.Part.{roomAnswer, orderAnswer, leftPart, failedPart}
+use Rattle.turnparts.specs.declared.Part.{Part}
+use Rattle.turnfront.specs.Turns.{left as unmoved, rowsAnswer, rowsTurn, spoiledPart, RowsTurned}
+use Rattle.turncall.specs.Queue.{waitingIn, frontTurn, queueTurn, QueueTurned}
+use Rattle.turncall.proofs.QueueLaws.{front-here, front-frame}
+use Rattle.turnfront.specs.declared.TurnedPart.{TurnedPart}
 
 -- The answers by rows are one chain.
 through : (a b c : Bool) (s : ℕ) (x : Answer) →
@@ -93,15 +94,11 @@ stopped j (Refused n) = spoiled n j
 
 -- The part of a join that a refusal spoils is the join that it spoils.
 part-spoiled : (j : Join) (n : Refusal) → joinWith j (spoiledPart n (partOf j)) ≡ spoiled n j
-part-spoiled j BadOptions = refl
-part-spoiled j BadJoin = refl
-part-spoiled j Failed = refl
-part-spoiled j Closed = refl
-part-spoiled j BadFrame = refl
-part-spoiled j NoRoom = refl
-part-spoiled j UsedUp = refl
-part-spoiled j LeftOrder = refl
-part-spoiled j RightOrder = refl
+part-spoiled j n = go (marksFailed n)
+  where
+    go : (b : Bool) → joinWith j (cond b (failedPart (partOf j)) (partOf j)) ≡ cond b (markedFailed j) j
+    go true = refl
+    go false = refl
 
 module _ (j : Join) (left right out : Words) where
   -- ---- ready
@@ -140,7 +137,7 @@ module _ (j : Join) (left right out : Words) where
       is-ready (ready-all (λ a. wrote a ≡ true → a ≡ Wrote (j .sequence)) (λ x. cc) (λ x. cc) (λ x. cc) (λ x. cc) (λ x. refl) (sym (ap wrote e) ∙ g))
 
   -- A turn that is not ready answers so and changes nothing.
-  stops : (a : Answer) → turnAnswer j left right out ≡ a → wrote a ≡ false → TurnLeaves j left right out (record { answer = a; join = stopped j a }) out
+  stops : (a : Answer) → turnAnswer j left right out ≡ a → wrote a ≡ false → TurnContract j left right out (record { answer = a; join = stopped j a }) out
   unfolding turnCall
   stops (Wrote s) e g = let z : _≡_ {A = ℕ} 0 1 = cc in absurd (omega arith)
   stops WantsRight e g = record { answer = rw (e, turnCall); join = rw (e, turnCall); words = rw (e, turnCall) }
@@ -151,7 +148,7 @@ module _ (j : Join) (left right out : Words) where
   unfolding turnAnswer readyJudged
   unready g = stays-at (badJoin j left right) (j .failed) (isDone (j .state)) (eqb (j .«queue_words») 0) (j .sequence) _ g
 
-  ready-stops : (t : Answer) → t ≡ readyAnswer j left right → wrote t ≡ false → TurnLeaves j left right out (record { answer = t; join = j }) out
+  ready-stops : (t : Answer) → t ≡ readyAnswer j left right → wrote t ≡ false → TurnContract j left right out (record { answer = t; join = j }) out
   ready-stops t e g =
       let same : stopped j t ≡ j = rw e (ready-all (λ a. stopped j a ≡ j) refl refl refl refl refl) in
       rw same at (stops t (unready (sym (ap wrote e) ∙ g) ∙ sym e) g)
@@ -161,26 +158,26 @@ module _ (j : Join) (left right out : Words) where
     kept-good : Good j left right
     kept-good = good j left right (r .unbroken)
 
-    module _ (f : Words) (fronted : front (widthOf j) (waiting j left) ≡ f) where
-      front-answer : isFrame (widthOf j) f ≡ false → turnAnswer j left right out ≡ Refused BadFrame
+    module _ (f : Words) (fronted : front (leftWidth j) (waiting j left) ≡ f) where
+      front-answer : isFrame (leftWidth j) f ≡ false → turnAnswer j left right out ≡ Refused BadFrame
       unfolding turnAnswer
       front-answer e = rw (r .unbroken, fronted, r .unfailed, r .undone, r .some, e)
 
-      answer-rows : isFrame (widthOf j) f ≡ true → turnAnswer j left right out ≡ rowsAnswer (partOf j) (frameRows (widthOf j) f) (heldOf j right) (length out)
+      answer-rows : isFrame (leftWidth j) f ≡ true → turnAnswer j left right out ≡ rowsAnswer (partOf j) (frameRows (leftWidth j) f) (heldOf j right) (length out)
       unfolding turnAnswer
       answer-rows e =
           rw fronted
-          (comes-to (badJoin j left right) (j .failed) (isDone (j .state)) (eqb (j .«queue_words») 0) (isFrame (widthOf j) f) _ (r .unbroken) (r .unfailed) (r .undone) (r .some) e
-          ∙ sym (chain (partOf j) (frameRows (widthOf j) f) (heldOf j right) (length out)))
+          (comes-to (badJoin j left right) (j .failed) (isDone (j .state)) (eqb (j .«queue_words») 0) (isFrame (leftWidth j) f) _ (r .unbroken) (r .unfailed) (r .undone) (r .some) e
+          ∙ sym (chain (partOf j) (frameRows (leftWidth j) f) (heldOf j right) (length out)))
 
       turned-rows : turned j left right out ≡ after (Wrote (j .sequence))
-          (joinWith j (leftPart (partOf j) (frameRows (widthOf j) f) (keptRows (j .options) (frameRows (widthOf j) f) (heldOf j right)) (firstPrune (j .options) (frameRows (widthOf j) f) (heldOf j right)) (lastPrune (j .options) (frameRows (widthOf j) f) (heldOf j right)) (length f)))
-          left right (answered (matchFrame (j .options) (j .pruned + firstPrune (j .options) (frameRows (widthOf j) f) (heldOf j right)) (keptRows (j .options) (frameRows (widthOf j) f) (heldOf j right)) (frameRows (widthOf j) f)) out)
+          (joinWith j (leftPart (partOf j) (frameRows (leftWidth j) f) (keptRows (j .options) (frameRows (leftWidth j) f) (heldOf j right)) (firstPrune (j .options) (frameRows (leftWidth j) f) (heldOf j right)) (lastPrune (j .options) (frameRows (leftWidth j) f) (heldOf j right)) (length f)))
+          left right (answered (matchFrame (j .options) (j .pruned + firstPrune (j .options) (frameRows (leftWidth j) f) (heldOf j right)) (keptRows (j .options) (frameRows (leftWidth j) f) (heldOf j right)) (frameRows (leftWidth j) f)) out)
       unfolding turned dropped dequeued leftPart keptRows lastPrune
       turned-rows = rw fronted
 
-      turns : isFrame (widthOf j) f ≡ true → (a : Answer) → rowsAnswer (partOf j) (frameRows (widthOf j) f) (heldOf j right) (length out) ≡ a → (x : TurnedPart) (out′ : Words)
-          → RowsTurned (partOf j) (frameRows (widthOf j) f) (heldOf j right) (length f) out x out′ → TurnLeaves j left right out (record { answer = x .answer; join = joinWith j (x .part) }) out′
+      turns : isFrame (leftWidth j) f ≡ true → (a : Answer) → rowsAnswer (partOf j) (frameRows (leftWidth j) f) (heldOf j right) (length out) ≡ a → (x : TurnedPart) (out′ : Words)
+          → RowsTurned (partOf j) (frameRows (leftWidth j) f) (heldOf j right) (length f) out x out′ → TurnContract j left right out (record { answer = x .answer; join = joinWith j (x .part) }) out′
       unfolding turnCall rowsTurn
       turns frame (Wrote q) e x out′ h =
           let t = answer-rows frame ∙ e in
@@ -195,12 +192,12 @@ module _ (j : Join) (left right out : Words) where
           let t = answer-rows frame ∙ e in
           record { answer = rw (t, turnCall) (rw (e, rowsTurn) at (h .answer)); join = rw (t, turnCall) (ap (joinWith j) (rw (e, rowsTurn) at (h .part)) ∙ part-spoiled j n); words = rw (t, turnCall) (rw (e, rowsTurn) at (h .words)) }
 
-    front-stops : frontOf (widthOf j) (waiting j left) ≡ Nothing → TurnLeaves j left right out (record { answer = Refused BadFrame; join = j }) out
-    front-stops e = stops (Refused BadFrame) (front-answer (front (widthOf j) (waiting j left)) refl (front-broken (widthOf j) (waiting j left) e)) refl
+    front-stops : frontOf (leftWidth j) (waiting j left) ≡ Nothing → TurnContract j left right out (record { answer = Refused BadFrame; join = j }) out
+    front-stops e = stops (Refused BadFrame) (front-answer (front (leftWidth j) (waiting j left)) refl (front-broken (leftWidth j) (waiting j left) e)) refl
 
-    frame-turns : (k : ℕ) → frontOf (widthOf j) (waiting j left) ≡ Long k → (x : TurnedPart) (out′ : Words)
-        → RowsTurned (partOf j) (frameRows (widthOf j) (take k (drop (j .«queue_start») left))) (heldRows (widthOf j) (j .base) (j .held) right) (length (take k (drop (j .«queue_start») left))) out x out′
-        → TurnLeaves j left right out (record { answer = x .answer; join = joinWith j (x .part) }) out′
+    frame-turns : (k : ℕ) → frontOf (leftWidth j) (waiting j left) ≡ Long k → (x : TurnedPart) (out′ : Words)
+        → RowsTurned (partOf j) (frameRows (leftWidth j) (take k (drop (j .«queue_start») left))) (heldRows (rightWidth j) (j .base) (j .held) right) (length (take k (drop (j .«queue_start») left))) out x out′
+        → TurnContract j left right out (record { answer = x .answer; join = joinWith j (x .part) }) out′
     unfolding heldOf waiting
     frame-turns k told x out′ h =
         turns (take k (drop (j .«queue_start») left)) (front-here (partOf j) left right k told) (front-frame (partOf j) left right k told) _ refl x out′ h
@@ -211,13 +208,13 @@ module _ (j : Join) (left right out : Words) where
     known = rw is at h
 
     abbrev Goal : Type 0
-    Goal = TurnLeaves j left right out (record { answer = x .answer; join = joinWith j (x .part) }) out′
+    Goal = TurnContract j left right out (record { answer = x .answer; join = joinWith j (x .part) }) out′
 
     -- A turn that changes nothing.
-    unchanged : (a : Answer) → queueTurn (badJoin j left right) (j .state) (partOf j) left right out ≡ unmoved a (partOf j) out → TurnLeaves j left right out (record { answer = a; join = j }) out → Goal
+    unchanged : (a : Answer) → queueTurn (badJoin j left right) (j .state) (partOf j) left right out ≡ unmoved a (partOf j) out → TurnContract j left right out (record { answer = a; join = j }) out → Goal
     unchanged a e z = record { answer = rw e at (known .answer) ∙ z .answer; join = ap (joinWith j) (rw e at (known .part)) ∙ z .join; words = rw e at (known .words) ∙ z .words }
 
-    fronted : Ready → (s : ℕ) → readyAnswer j left right ≡ Wrote s → (f : Front) → frontOf (widthOf j) (waiting j left) ≡ f → Goal
+    fronted : Ready → (s : ℕ) → readyAnswer j left right ≡ Wrote s → (f : Front) → frontOf (leftWidth j) (waiting j left) ≡ f → Goal
     unfolding queueTurn frontTurn waiting
     fronted r s e Nothing n = unchanged (Refused BadFrame) (rw (e, queueTurn, n, frontTurn)) (front-stops r n)
     fronted r s e (Long k) n =
@@ -228,7 +225,7 @@ module _ (j : Join) (left right out : Words) where
     queue-turns = go (readyAnswer j left right) refl
       where
         go : (a : Answer) → readyAnswer j left right ≡ a → Goal
-        go (Wrote s) e = fronted (ready-goes (readyAnswer j left right) refl (ap wrote e)) s e (frontOf (widthOf j) (waiting j left)) refl
+        go (Wrote s) e = fronted (ready-goes (readyAnswer j left right) refl (ap wrote e)) s e (frontOf (leftWidth j) (waiting j left)) refl
         go WantsRight e = unchanged WantsRight (rw (e, queueTurn)) (ready-stops WantsRight (sym e) refl)
         go Idle e = unchanged Idle (rw (e, queueTurn)) (ready-stops Idle (sym e) refl)
         go (Refused n) e = unchanged (Refused n) (rw (e, queueTurn)) (ready-stops (Refused n) (sym e) refl)

@@ -1,30 +1,32 @@
 -- The calls: what each answers, and the join and the words that it leaves. Assumes nothing.
-use mathlib.Core.Bool.{cond, not, _&&_, _||_}
-use mathlib.Core.List.{[]}
-use Prim.Native.Nat.{ℕ, _+_, _-_, _*_}
-use lib.Dec.{ltb, eqb}
+use mathlib.Core.Bool.{cond, not}
+use mathlib.Core.List.{[], _∷_, _++_}
+use Prim.Native.Nat.{ℕ, _+_, _-_}
 use lib.ListN.{length, drop, take}
 use Rattle.frames.specs.Cells.{Words}
 use Rattle.frames.specs.Frame.{rowCount, isFrame, frameRows, front}
 use Rattle.area.specs.Area.{capacity, newBase, pushed, moved, written}
-use Rattle.buffer.specs.Reach.{needMore, pruneBy}
+use Rattle.searching.specs.Reach.{pruneBy}
 use Rattle.matching.specs.Groups.{matchFrame}
 use Rattle.matching.specs.Answer.{answered}
-use Rattle.ports.specs.Ports.{toFlush, toDone, portsIn}
-use Rattle.prunes.specs.Prunes.{badLeft, badRight, firstPrune, remembered}
-use Rattle.node.specs.State.{queueAt, heldAt, stateAt, endedRight, markedFailed, nextTurn, widthOf, badJoin, heldOf, waiting}
-use Rattle.answers.specs.Answers.{isRunning, isDone, mostRows, lastSequence}
+use Rattle.ports.specs.Ports.{toFlush, toDone, portsJudged}
+use Rattle.turnrows.specs.Prunes.{badLeft, badRight, firstPrune, remembered}
+use Rattle.node.specs.State.{queueAt, heldAt, stateAt, endedRight, markedFailed, nextTurn, leftWidth, rightWidth, badJoin, heldOf, waiting}
 use Rattle.node.specs.declared.Join.{Join}
-use Rattle.answers.specs.declared.NodeState.{NodeState}
-use Rattle.answers.specs.declared.PortState.{PortState}
-use Rattle.answers.specs.declared.Refusal.{Refusal}
-use Rattle.answers.specs.declared.Refusal.the-variants.{BadOptions, BadJoin, Failed, Closed, BadFrame, NoRoom, UsedUp, LeftOrder, RightOrder}
-use Rattle.answers.specs.declared.Answer.{Answer}
-use Rattle.answers.specs.declared.Answer.the-variants.{Wrote, WantsRight, Idle, Refused as TurnRefused}
-use Rattle.answers.specs.declared.Took.{Took}
-use Rattle.answers.specs.declared.Took.the-variants.{Accepted, Refused}
-use Rattle.answers.specs.declared.Ported.{Ported}
-use Rattle.answers.specs.declared.Ported.the-variants.{Ports, Refused as PortsRefused}
+use Rattle.outcomes.specs.declared.NodeState.{NodeState}
+use Rattle.outcomes.specs.declared.PortState.{PortState}
+use Rattle.refusals.specs.Refusals.{marksFailed}
+use Rattle.refusals.specs.Tests.{test, firstOf}
+use Rattle.callrules.specs.Judged.{leftJudged, endJudged, rightJudged, readyTests}
+use Rattle.turnparts.specs.Part.{roomTests, orderTests}
+use Rattle.refusals.specs.declared.Refusal.{Refusal}
+use Rattle.refusals.specs.declared.Refusal.the-variants.{BadFrame}
+use Rattle.outcomes.specs.declared.Answer.{Answer}
+use Rattle.outcomes.specs.declared.Answer.the-variants.{Wrote, WantsRight, Idle, Refused as TurnRefused}
+use Rattle.outcomes.specs.declared.Took.{Took}
+use Rattle.outcomes.specs.declared.Took.the-variants.{Accepted, Refused}
+use Rattle.outcomes.specs.declared.Ported.{Ported}
+use Rattle.outcomes.specs.declared.Ported.the-variants.{Ports, Refused as PortsRefused}
 
 -- What a call leaves: its answer, the join handed back, and the words of the two areas and of the output (of a call that is lent one).
 pub record After (A : Type 0) : Type 0 where
@@ -39,15 +41,9 @@ abbrev pub after : {A : Type 0} → A → Join → Words → Words → Words →
 after a j l r out = record { answer = a; join = j; left = l; right = r; out = out }
 
 -- ---- a left frame
--- SCOPE 16.3: a chain in checking order.
-unfoldable pub leftAnswer : Join → Words → Words → Words → Took
-leftAnswer j left right f =
-    cond (badJoin j left right) (Refused BadJoin)
-    (cond (j .failed) (Refused Failed)
-    (cond (not (isRunning (j .state))) (Refused Closed)
-    (cond (not (isFrame (widthOf j) f)) (Refused BadFrame)
-    (cond (ltb (length left) (j .«queue_words» + length f)) (Refused NoRoom)
-    Accepted))))
+-- SCOPE 16.3: its tests are those of a left frame, by the numbers of the join.
+abbrev pub leftAnswer : Join → Words → Words → Words → Took
+leftAnswer j left right f = leftJudged (badJoin j left right) (j .failed) (j .state) (leftWidth j) (j .«queue_words») left f
 
 -- SCOPE 5.8, 5.9: an accepted left frame.
 unfoldable pub queued : Join → Words → Words → Words → After Took
@@ -65,22 +61,15 @@ leftCall j left right f =
     ]
 
 -- ---- a right frame
--- SCOPE 16.3: a chain in checking order.
-unfoldable pub rightAnswer : Join → Words → Words → Words → Took
-rightAnswer j left right f =
-    cond (badJoin j left right) (Refused BadJoin)
-    (cond (j .failed) (Refused Failed)
-    (cond (j .«right_ended» || isDone (j .state)) (Refused Closed)
-    (cond (not (isFrame (widthOf j) f)) (Refused BadFrame)
-    (cond (ltb (capacity (widthOf j) right) (j .held + rowCount f)) (Refused NoRoom)
-    (cond (ltb mostRows (j .pruned + j .held + rowCount f)) (Refused UsedUp)
-    Accepted)))))
+-- SCOPE 16.3: its tests are those of a right frame.
+abbrev pub rightAnswer : Join → Words → Words → Words → Took
+rightAnswer j left right f = rightJudged (badJoin j left right) (j .failed) (j .«right_ended») (j .state) (rightWidth j) (j .held) (j .pruned) right f
 
 -- SCOPE 5.8, 5.9: an accepted right frame.
 unfoldable pub pushedRight : Join → Words → Words → Words → After Took
 pushedRight j left right f =
-    let base = newBase (j .base) (j .held) (rowCount f) (capacity (widthOf j) right) in
-    after Accepted (heldAt j base (j .held + rowCount f) (j .pruned)) left (pushed (widthOf j) (j .base) (j .held) f right) []
+    let base = newBase (j .base) (j .held) (rowCount f) (capacity (rightWidth j) right) in
+    after Accepted (heldAt j base (j .held + rowCount f) (j .pruned)) left (pushed (rightWidth j) (j .base) (j .held) f right) []
 
 -- A right call: refused, it changes nothing.
 unfoldable pub rightCall : Join → Words → Words → Words → After Took
@@ -91,13 +80,9 @@ rightCall j left right f =
     ]
 
 -- ---- the end of right
--- SCOPE 16.3: a chain in checking order.
-unfoldable pub endAnswer : Join → Words → Words → Took
-endAnswer j left right =
-    cond (badJoin j left right) (Refused BadJoin)
-    (cond (j .failed) (Refused Failed)
-    (cond (j .«right_ended» || isDone (j .state)) (Refused Closed)
-    Accepted))
+-- SCOPE 16.3: its tests are those of an end of right.
+abbrev pub endAnswer : Join → Words → Words → Took
+endAnswer j left right = endJudged (badJoin j left right) (j .failed) (j .«right_ended») (j .state)
 
 -- An end-of-right call: refused, it changes nothing.
 unfoldable pub endCall : Join → Words → Words → After Took
@@ -113,11 +98,8 @@ abbrev pub portsState : Join → PortState → PortState → NodeState
 portsState j l s = toDone (toFlush (j .state) l s) (j .«queue_words»)
 
 -- Refusals: 2, 3.
-unfoldable pub portsAnswer : Join → Words → Words → PortState → PortState → PortState → Ported
-portsAnswer j left right l r s =
-    cond (badJoin j left right) (PortsRefused BadJoin)
-    (cond (j .failed) (PortsRefused Failed)
-    (portsIn (portsState j l s) l r s))
+abbrev pub portsAnswer : Join → Words → Words → PortState → PortState → PortState → Ported
+portsAnswer j left right l r s = portsJudged (badJoin j left right) (j .failed) (j .state) l r s (j .«queue_words»)
 
 -- A port call: refused, it changes nothing.
 unfoldable pub portsCall : Join → Words → Words → PortState → PortState → PortState → After Ported
@@ -128,24 +110,19 @@ portsCall j left right l r s =
     ]
 
 -- ---- a turn
--- SCOPE 16.3: a chain in checking order, in which Idle and Wants right have their places; past all of
--- them the answer is Wrote, with the sequence from before the turn.
+-- SCOPE 16.3: the tests of a turn in checking order, Idle and Wants right at their places. Past all of them the answer is Wrote, with the sequence from before the turn.
 unfoldable pub turnAnswer : Join → Words → Words → Words → Answer
 turnAnswer j left right out =
-    let f = front (widthOf j) (waiting j left) in
-    let rows = frameRows (widthOf j) f in
+    let f = front (leftWidth j) (waiting j left) in
+    let rows = frameRows (leftWidth j) f in
     let held = heldOf j right in
-    cond (badJoin j left right) (TurnRefused BadJoin)
-    (cond (j .failed) (TurnRefused Failed)
-    (cond (isDone (j .state)) (TurnRefused Closed)
-    (cond (eqb (j .«queue_words») 0) Idle
-    (cond (not (isFrame (widthOf j) f)) (TurnRefused BadFrame)
-    (cond (not (j .«right_ended») && needMore (j .options) rows held) WantsRight
-    (cond (ltb (length out) (2 + 2 * length rows)) (TurnRefused NoRoom)
-    (cond (eqb (j .sequence) lastSequence) (TurnRefused UsedUp)
-    (cond (badLeft (j .options) (j .«last_left») rows) (TurnRefused LeftOrder)
-    (cond (badRight (j .options) (j .«last_right») rows held) (TurnRefused RightOrder)
-    (Wrote (j .sequence)))))))))))
+    firstOf (
+    readyTests (badJoin j left right) (j .failed) (j .state) (j .«queue_words»)
+    ++ test (not (isFrame (leftWidth j) f)) (TurnRefused BadFrame)
+    ∷ roomTests (j .options) (j .«right_ended») (j .sequence) rows held (length out)
+    ++ orderTests (badLeft (j .options) (j .«last_left») rows) (badRight (j .options) (j .«last_right») rows held)
+    )
+    (Wrote (j .sequence))
 
 -- SCOPE 5.10: the join without its first n held rows.
 unfoldable pub dropped : Join → ℕ → Join
@@ -158,8 +135,8 @@ dequeued j n = queueAt j (j .«queue_start» + n) (j .«queue_words» - n)
 -- SCOPE 12.4, 12.5: a turn that writes.
 unfoldable pub turned : Join → Words → Words → Words → After Answer
 turned j left right out =
-    let f = front (widthOf j) (waiting j left) in
-    let rows = frameRows (widthOf j) f in
+    let f = front (leftWidth j) (waiting j left) in
+    let rows = frameRows (leftWidth j) f in
     let held = heldOf j right in
     let first = firstPrune (j .options) rows held in
     let kept = drop first held in
@@ -170,15 +147,7 @@ turned j left right out =
 
 -- SCOPE 16.2: what a refusal changes in the join.
 abbrev pub spoiled : Refusal → Join → Join
-spoiled BadOptions j = j
-spoiled BadJoin j = j
-spoiled Failed j = j
-spoiled Closed j = j
-spoiled BadFrame j = j
-spoiled NoRoom j = j
-spoiled UsedUp j = j
-spoiled LeftOrder j = markedFailed j
-spoiled RightOrder j = markedFailed j
+spoiled n j = cond (marksFailed n) (markedFailed j) j
 
 -- SCOPE 12.2, 12.3: a turn.
 unfoldable pub turnCall : Join → Words → Words → Words → After Answer

@@ -4,14 +4,14 @@ use Prim.Native.Nat.{ℕ, _+_, _*_, _%_}
 use lib.Dec.{ltb, eqb}
 use lib.ListN.{length, take, drop}
 use Rattle.frames.specs.Cells.{Rows, Words}
-use Rattle.frames.specs.Options.{badOptions, columns}
-use Rattle.frames.specs.Keyed.{noRow}
-use Rattle.frames.specs.declared.Options.{Options}
-use Rattle.frames.specs.declared.Row.{Row}
+use Rattle.options.specs.Options.{badOptions, columns, rightColumns}
+use Rattle.order.specs.Keyed.{noRow}
+use Rattle.options.specs.declared.Options.{Options}
+use Rattle.order.specs.declared.Row.{Row}
 use Rattle.area.specs.Area.{capacity, heldRows}
-use Rattle.answers.specs.Answers.{mostRows}
-use Rattle.answers.specs.declared.NodeState.{NodeState}
-use Rattle.answers.specs.declared.NodeState.the-variants.{Running}
+use Rattle.outcomes.specs.Answers.{mostRows}
+use Rattle.outcomes.specs.declared.NodeState.{NodeState}
+use Rattle.outcomes.specs.declared.NodeState.the-variants.{Running}
 use Rattle.node.specs.declared.Join.{Join}
 
 -- A join from all that it is.
@@ -65,13 +65,17 @@ abbrev pub nextTurn : Join → Row → Row → Join
 nextTurn j l r =
     joinOf (j .options) (j .base) (j .held) (j .pruned) (j .«queue_start») (j .«queue_words») (j .state) (j .«right_ended») (j .failed) (j .sequence + 2) l r
 
--- SCOPE 2.5: c of this join.
-abbrev pub widthOf : Join → ℕ
-widthOf j = columns (j .options)
+-- SCOPE 2.5: the columns of this join's left frames.
+abbrev pub leftWidth : Join → ℕ
+leftWidth j = columns (j .options)
+
+-- SCOPE 2.5: the columns of its right frames and held rows.
+abbrev pub rightWidth : Join → ℕ
+rightWidth j = rightColumns (j .options)
 
 -- SCOPE 16, number 2: the held rows do not fit the right area.
 abbrev pub overRight : Join → Words → Bool
-overRight j right = ltb (capacity (widthOf j) right) (j .base + j .held)
+overRight j right = ltb (capacity (rightWidth j) right) (j .base + j .held)
 
 -- The waiting words do not fit the left area.
 abbrev pub overLeft : Join → Words → Bool
@@ -91,15 +95,15 @@ badJoin j left right = badOptions (j .options) || overRight j right || overLeft 
 
 -- SCOPE 5.5, 5.6: the held rows; row i has the right number pruned + i.
 unfoldable pub heldOf : Join → Words → Rows
-heldOf j right = heldRows (widthOf j) (j .base) (j .held) right
+heldOf j right = heldRows (rightWidth j) (j .base) (j .held) right
 
 -- The words of the held rows: their values, and their marks.
 unfoldable pub heldValues : Join → Words → Words
-heldValues j right = take (j .held * widthOf j) (drop (j .base * widthOf j) right)
+heldValues j right = take (j .held * rightWidth j) (drop (j .base * rightWidth j) right)
 
 -- Their marks.
 unfoldable pub heldMarks : Join → Words → Words
-heldMarks j right = take (j .held * widthOf j) (drop ((capacity (widthOf j) right + j .base) * widthOf j) right)
+heldMarks j right = take (j .held * rightWidth j) (drop ((capacity (rightWidth j) right + j .base) * rightWidth j) right)
 
 -- SCOPE 5.7: the words that wait.
 unfoldable pub waiting : Join → Words → Words

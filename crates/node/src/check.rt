@@ -1,11 +1,11 @@
 // Whether a join and its areas hold together, for any field values and any areas.
 use crate::Join;
-use holds::bad_numbers;
+use consistency::bad_numbers;
 ghost use mathlib.Core.Path.{_≡_};
 ghost use Rattle.node.specs.State.{badJoin};
 
 // Whether the join, with these areas, meets refusal 2.
-pub(crate) fn bad_join(j: Join, left: &[i64], right: &[i64]) -> bool
+pub fn bad_join(j: Join, left: &[i64], right: &[i64]) -> bool
     ensures { λ r. ⌜ r ≡ badJoin j (now (left .entry)) (now (right .entry)) ⌝ }
 {
     let o = j.options;

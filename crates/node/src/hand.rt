@@ -1,9 +1,9 @@
 // The join in another state, and the part of it that a turn works on.
 use crate::Join;
 use crate::TurnedJoin;
-use answers::NodeState;
-use parts::Part;
-use turns::TurnedPart;
+use outcomes::NodeState;
+use turnfront::TurnedPart;
+use turnparts::Part;
 ghost use mathlib.Core.Path.{_≡_};
 ghost use Rattle.node.specs.State.{stateAt};
 ghost use Rattle.node.specs.Inner.{partOf, joinWith};

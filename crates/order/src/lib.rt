@@ -1,8 +1,21 @@
-// Order: cells and rows compared.
-mod compare;
+// Order: cells, groups and rows compared, sorted rows, rows with a key and the row that a side remembers: their definitions and laws. The code is in crates compare and keyed.
 
-pub use compare::cmp_cell;
-pub use compare::cmp_group;
-pub use compare::cmp_row;
-pub use compare::distance;
-pub use compare::is_sorted;
+// How two compare.
+pub enum Order {
+    Less,
+    Equal,
+    Greater,
+}
+
+// A row that a side remembers, or none.
+pub struct Row {
+    pub some: bool,
+    pub values: [i64; 5],
+    pub marks: [i64; 5],
+}
+
+// The first or the last row with a key, or none.
+pub enum Keyed {
+    At(usize),
+    Nothing,
+}

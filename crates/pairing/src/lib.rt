@@ -9,7 +9,7 @@ ghost use lib.ListN.{length};
 ghost use Rattle.tables.specs.Lay.{CellRoom, flat, layCells};
 ghost use Rattle.spans.specs.Span.{pairRow};
 ghost use Rattle.spans.specs.Port.{upFrom};
-ghost use Rattle.spans.specs.Room.{PointsIn, IntervalsIn, ported, StretchRoom, PairsRoom};
+ghost use Rattle.spans.specs.Requires.{PointsIn, IntervalsIn, ported, StretchRoom, PairsRoom};
 
 // How many pairs there are.
 pub fn count_pairs(

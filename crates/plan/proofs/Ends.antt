@@ -8,13 +8,13 @@ use borrow.Author.Tests.{le-ltb}
 use lib.ListN.{length, take, length-append, length-map, take-append-drop}
 use Rattle.frames.specs.Cells.{Rows, Words}
 use Rattle.frames.specs.Frame.{rowCount, frameRows}
-use Rattle.frames.specs.Options.{columns, badOptions}
-use Rattle.frames.specs.declared.Options.{Options}
+use Rattle.options.specs.Options.{columns, badOptions}
+use Rattle.options.specs.declared.Options.{Options}
 use Rattle.frames.proofs.FrameLaws.{frame-rows}
-use Rattle.buffer.specs.Reach.{needMore}
+use Rattle.searching.specs.Reach.{needMore}
 use Rattle.matching.specs.Match.{wholeTable}
-use Rattle.answers.specs.declared.Answer.the-variants.{Wrote, WantsRight}
-use Rattle.answers.specs.declared.Took.the-variants.{Accepted}
+use Rattle.outcomes.specs.declared.Answer.the-variants.{Wrote, WantsRight}
+use Rattle.outcomes.specs.declared.Took.the-variants.{Accepted}
 use Rattle.node.specs.Calls.{rightAnswer, turnAnswer}
 use Rattle.lists.specs.Lists.{Call, left, right, end, turn, Event, onEnd, World, start, step, events, final, leftFrames, rightFrames, rowsIn, outputs, matchesIn}
 use Rattle.lists.specs.WholeTables.{asWritten}

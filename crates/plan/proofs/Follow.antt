@@ -8,23 +8,24 @@ use borrow.Author.Tests.{le-ltb, ne-eqb}
 use lib.Dec.{ltb, eqb}
 use lib.ListN.{length, drop, length-append, length-drop}
 use lib.Seq.{drop-drop}
+use Rattle.callrules.specs.Judged.{endJudged, rightJudged}
 use Rattle.frames.specs.Cells.{Rows, Words}
 use Rattle.frames.specs.Frame.{rowCount, frameRows}
-use Rattle.frames.specs.Options.{columns, badOptions}
-use Rattle.frames.specs.Order.{sorted}
-use Rattle.frames.specs.declared.Options.{Options}
+use Rattle.options.specs.Options.{columns, badOptions}
+use Rattle.order.specs.Order.{sorted}
+use Rattle.options.specs.declared.Options.{Options}
 use Rattle.frames.proofs.FrameLaws.{frame-rows}
-use Rattle.frames.proofs.SortedLaws.{sorted-cut}
+use Rattle.order.proofs.SortedLaws.{sorted-cut}
 use Rattle.area.specs.Area.{capacity}
-use Rattle.buffer.specs.Reach.{needMore}
+use Rattle.searching.specs.Reach.{needMore}
 use Rattle.node.specs.declared.Join.{Join}
-use Rattle.answers.specs.declared.Refusal.the-variants.{NoRoom}
-use Rattle.answers.specs.declared.Answer.the-variants.{Wrote, WantsRight}
-use Rattle.answers.specs.declared.Took.the-variants.{Accepted, Refused}
+use Rattle.refusals.specs.declared.Refusal.the-variants.{NoRoom}
+use Rattle.outcomes.specs.declared.Answer.the-variants.{Wrote, WantsRight}
+use Rattle.outcomes.specs.declared.Took.the-variants.{Accepted, Refused}
 use Rattle.node.specs.State.{endedRight}
-use Rattle.answers.specs.Answers.{isDone, lastSequence, mostRows}
+use Rattle.outcomes.specs.Answers.{isDone, lastSequence, mostRows}
 use Rattle.node.specs.Calls.{rightAnswer, rightCall, pushedRight, endAnswer, endCall, turnAnswer, turnCall, turned, dropped, dequeued}
-use Rattle.prunes.specs.Prunes.{badLeft, badRight, firstPrune, lastPrune}
+use Rattle.turnrows.specs.Prunes.{badLeft, badRight, firstPrune, lastPrune}
 use Rattle.lists.specs.Lists.{Call, left, right, end, turn, Event, onRight, onEnd, onTurn, World, step, events, leftFrames, rightFrames, rowsIn, outputs, rightEnded, nodeDone, doneBy}
 use Rattle.lists.specs.WholeTables.{Each, pairs}
 use Rattle.lists.proofs.ListLaws.{rows-in-append, drop-more, drop-next}
@@ -204,7 +205,7 @@ module _ (o : Options) (l r : Words) (allowed : badOptions o ≡ false) where
 
     -- It is judged by its room alone.
     pub right-answers : rightAnswer (w .join) (w .left) (w .right) f ≡ cond (ltb (capacity (columns o) r) (w .join .held + rowCount f)) (Refused NoRoom) Accepted
-    unfolding rightAnswer
+    unfolding rightJudged
     right-answers =
         let i = a .inv in
         let en : w .join .«right_ended» ≡ false = i .flags .ended ∙ a .ended in
@@ -250,7 +251,7 @@ module _ (o : Options) (l r : Words) (allowed : badOptions o ≡ false) where
   -- ---- the end of right
   module _ (es : List Event) (w : World) (ls outs : List Words) (a : At es w false [] ls outs) where
     end-answers : endAnswer (w .join) (w .left) (w .right) ≡ Accepted
-    unfolding endAnswer
+    unfolding endJudged
     end-answers =
         let i = a .inv in
         let en : w .join .«right_ended» ≡ false = i .flags .ended ∙ a .ended in

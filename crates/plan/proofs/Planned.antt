@@ -6,15 +6,16 @@ use Prim.Native.Nat.{ℕ, zero, suc, _+_, _≤_}
 use native.Mathlib.Omega.{arith}
 use borrow.Author.Tests.{le-ltb}
 use lib.ListN.{length, drop, length-append, length-map}
+use Rattle.callrules.specs.Judged.{leftJudged}
 use Rattle.frames.specs.Cells.{Rows, Words}
 use Rattle.frames.specs.Frame.{isFrame, frameRows}
-use Rattle.frames.specs.Options.{columns, badOptions}
-use Rattle.frames.specs.Order.{sorted}
-use Rattle.frames.specs.declared.Options.{Options}
-use Rattle.frames.proofs.SortedLaws.{sorted-cut}
+use Rattle.options.specs.Options.{columns, badOptions}
+use Rattle.order.specs.Order.{sorted}
+use Rattle.options.specs.declared.Options.{Options}
+use Rattle.order.proofs.SortedLaws.{sorted-cut}
 use Rattle.area.specs.Area.{capacity}
-use Rattle.answers.specs.declared.Took.the-variants.{Accepted}
-use Rattle.answers.specs.Answers.{isRunning}
+use Rattle.outcomes.specs.declared.Took.the-variants.{Accepted}
+use Rattle.outcomes.specs.Answers.{isRunning}
 use Rattle.node.specs.Calls.{leftAnswer, leftCall, queued}
 use Rattle.lists.specs.Lists.{Call, left, right, end, turn, Event, onLeft, onEnd, World, start, step, events, final, rightIn, leftFrames, rightFrames, rowsIn, outputIn, outputs, backToBack, rightEnded, leftEnded, nodeDone, doneAfter, doneBy, turnIn}
 use Rattle.lists.proofs.ListLaws.{rows-in-append, words-append, final-append, left-ended-append}
@@ -76,7 +77,7 @@ module _ (o : Options) (l r : Words) (allowed : badOptions o ≡ false) where
           ∙ rw (a .outs, a .lefts) refl
 
       left-answers : leftAnswer (w .join) (w .left) (w .right) f ≡ Accepted
-      unfolding leftAnswer
+      unfolding leftJudged
       left-answers =
           rw (good o l r allowed es w (a .inv), unfailed, running, a .inv .stock .options, frame, le-ltb (length (w .left)) (w .join .«queue_words» + length f) (omega (arith, a .inv .stock .left-length, waiting-words))) refl
 

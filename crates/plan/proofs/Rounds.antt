@@ -9,14 +9,14 @@ use borrow.Author.Tests.{lt-ltb, le-ltb}
 use lib.ListN.{length, length-append}
 use Rattle.frames.specs.Cells.{Rows, Words}
 use Rattle.frames.specs.Frame.{rowCount, frameRows}
-use Rattle.frames.specs.Options.{columns, badOptions}
-use Rattle.frames.specs.declared.Options.{Options}
+use Rattle.options.specs.Options.{columns, badOptions}
+use Rattle.options.specs.declared.Options.{Options}
 use Rattle.frames.proofs.FrameLaws.{frame-rows}
 use Rattle.area.specs.Area.{capacity}
-use Rattle.buffer.specs.Reach.{needMore}
-use Rattle.answers.specs.declared.Refusal.the-variants.{NoRoom}
-use Rattle.answers.specs.declared.Answer.the-variants.{Wrote, WantsRight}
-use Rattle.answers.specs.declared.Took.the-variants.{Accepted, Refused}
+use Rattle.searching.specs.Reach.{needMore}
+use Rattle.refusals.specs.declared.Refusal.the-variants.{NoRoom}
+use Rattle.outcomes.specs.declared.Answer.the-variants.{Wrote, WantsRight}
+use Rattle.outcomes.specs.declared.Took.the-variants.{Accepted, Refused}
 use Rattle.node.specs.Calls.{rightAnswer, turnAnswer, turned}
 use Rattle.lists.specs.Lists.{Call, right, end, turn, Event, onRight, onEnd, onTurn, World, step, events, final, rightIn, rightFrames, outputIn, outputs, turnIn, turnsIn}
 use Rattle.lists.specs.WholeTables.{Each, ends, pairs}

@@ -5,8 +5,8 @@ use mathlib.Core.List.{List, [], _∷_}
 use Prim.Native.Nat.{ℕ}
 use lib.IntN.{pos, negsuc}
 use Rattle.frames.specs.Cells.{Words}
-use Rattle.frames.proofs.Samples.{plain, keys, frameOf}
-use Rattle.prunes.specs.Prunes.{keptRows, lastPrune}
+use Rattle.order.proofs.Samples.{plain, keys, frameOf}
+use Rattle.turnrows.specs.Prunes.{keptRows, lastPrune}
 use Rattle.lists.specs.Lists.{start, events, final, leftFrames, rightFrames, outputs, turnsIn}
 use Rattle.lists.proofs.Script.{leftArea, rightArea, space, speakAll}
 use Rattle.plan.specs.Schedule.{rounds, schedule, mostHeld, turnCalls, rightsTaken, meetsNoRoom}

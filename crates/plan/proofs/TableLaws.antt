@@ -9,8 +9,8 @@ use lib.Dec.{leb, eqb}
 use lib.ListN.{length, take, drop, length-append, length-drop, take-append-drop, replicate}
 use lib.Seq.{length-take-le, take-at, drop-at}
 use Rattle.frames.specs.Cells.{Words, rowsOf}
-use Rattle.frames.specs.Frame.{frameWords, pairFine, pairsFine, valuesIn, marksIn, isFrame, frameRows}
-use Rattle.frames.proofs.SortedLaws.{and-true}
+use Rattle.frames.specs.Frame.{frameWords, pairFine, pairsFine, valuesIn, marksIn, isFrame, frameRows, isTable}
+use Rattle.frames.proofs.BoolLaws.{and-true}
 use Rattle.frames.proofs.WordLaws.{rows-append}
 use Rattle.lists.specs.Lists.{rowsIn}
 use Rattle.plan.specs.Plan.{AllFrames}
@@ -44,7 +44,7 @@ module _ (c n : ℕ) (vs ms : Words) (lv : length vs ≡ n * c) (lm : length ms 
   rows-from = rw (values-from, marks-from) refl
 
   pub frame-from : n ≤ 4096 → pairsFine vs ms ≡ true → isFrame c (frameFrom c n vs ms) ≡ true
-  unfolding isFrame
+  unfolding isFrame isTable
   frame-from h p =
       let k = length-append vs ms in
       let e₁ : leb 2 (suc (suc (length (vs ++ ms)))) ≡ true = le-leb 2 (suc (suc (length (vs ++ ms)))) (omega arith) in
@@ -52,7 +52,7 @@ module _ (c n : ℕ) (vs ms : Words) (lv : length vs ≡ n * c) (lm : length ms 
       let e₃ : leb n 4096 ≡ true = le-leb n 4096 h in
       let e₄ : eqb c c ≡ true = eq-eqb c c refl in
       let e₅ : eqb (suc (suc (length (vs ++ ms)))) (frameWords n c) ≡ true = eq-eqb (suc (suc (length (vs ++ ms)))) (frameWords n c) (omega (arith, k, lv, lm)) in
-      rw (values-from, marks-from, e₁, e₂, e₃, e₄, e₅) p
+      rw (values-from, marks-from, e₁, e₂, e₃, e₄, e₅) (rw p refl)
 
 -- Each height is at most 4,096.
 abbrev pub AllFew : List ℕ → Type 0

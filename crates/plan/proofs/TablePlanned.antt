@@ -12,12 +12,12 @@ use lib.ListN.{length, drop, getD, length-drop}
 use lib.Seq.{length-take-le}
 use Rattle.frames.specs.Cells.{Words}
 use Rattle.frames.specs.Frame.{sameZ, rowCount, frameWords, pairsFine, valuesIn, marksIn, frameRows}
-use Rattle.frames.specs.Options.{columns, badOptions}
-use Rattle.frames.specs.Order.{sorted}
-use Rattle.frames.specs.declared.Options.{Options}
-use Rattle.frames.proofs.SortedLaws.{and-true}
+use Rattle.options.specs.Options.{columns, badOptions}
+use Rattle.order.specs.Order.{sorted}
+use Rattle.options.specs.declared.Options.{Options}
+use Rattle.frames.proofs.BoolLaws.{and-true}
 use Rattle.frames.proofs.WordLaws.{rows-length}
-use Rattle.answers.specs.Answers.{mostRows}
+use Rattle.outcomes.specs.Answers.{mostRows}
 use Rattle.lists.specs.Lists.{rowsIn}
 use Rattle.plan.specs.Plan.{AllFrames, Planned}
 use Rattle.plan.specs.Table.{isTable, framesBy, total, anyBad, heightsOf, badHeights}

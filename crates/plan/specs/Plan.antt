@@ -6,13 +6,13 @@ use Prim.Native.Nat.{ℕ, zero, suc, _+_, _*_, _^_, _≤_, _<_, max}
 use lib.ListN.{length, drop}
 use Rattle.frames.specs.Cells.{Rows, Words}
 use Rattle.frames.specs.Frame.{rowCount, isFrame, frameRows}
-use Rattle.frames.specs.Options.{columns, badOptions}
-use Rattle.frames.specs.Order.{sorted}
-use Rattle.frames.specs.declared.Options.{Options}
+use Rattle.options.specs.Options.{columns, badOptions, rightColumns}
+use Rattle.order.specs.Order.{sorted}
+use Rattle.options.specs.declared.Options.{Options}
 use Rattle.area.specs.Area.{capacity}
-use Rattle.buffer.specs.Reach.{needMore}
-use Rattle.answers.specs.Answers.{mostRows}
-use Rattle.prunes.specs.Prunes.{firstPrune, lastPrune}
+use Rattle.searching.specs.Reach.{needMore}
+use Rattle.outcomes.specs.Answers.{mostRows}
+use Rattle.turnrows.specs.Prunes.{firstPrune, lastPrune}
 use Rattle.lists.specs.Lists.{start, events, rowsIn, outputs, backToBack}
 use Rattle.lists.specs.WholeTables.{Each}
 use Rattle.plan.specs.Schedule.{schedule, mostHeld, turnCalls, rightsTaken, meetsNoRoom}
@@ -61,18 +61,18 @@ AllFrames c (f ∷ fs) = (isFrame c f ≡ true) × AllFrames c fs
 pub record Planned (o : Options) (l : Words) (lefts rights outs : List Words) : Type 0 where
   pub allowed : badOptions o ≡ false
   pub left-frames : AllFrames (columns o) lefts
-  pub right-frames : AllFrames (columns o) rights
+  pub right-frames : AllFrames (rightColumns o) rights
   pub left-sorted : sorted o (rowsIn (columns o) lefts) ≡ true
-  pub right-sorted : sorted o (rowsIn (columns o) rights) ≡ true
+  pub right-sorted : sorted o (rowsIn (rightColumns o) rights) ≡ true
   pub left-room : length (backToBack lefts) ≤ length l
   pub outputs : Each (λ f out. 2 + 2 * rowCount f ≤ length out) lefts outs
-  pub few-rights : length (rowsIn (columns o) rights) ≤ mostRows
+  pub few-rights : length (rowsIn (rightColumns o) rights) ≤ mostRows
   pub few-lefts : length lefts < 2 ^ 63
 
 module _ (o : Options) (l r : Words) (lefts rights outs : List Words) where
   -- The plan, from the frames' rows.
   abbrev pub figures : Figures
-  figures = plan o (map (frameRows (columns o)) lefts) (map (frameRows (columns o)) rights)
+  figures = plan o (map (frameRows (columns o)) lefts) (map (frameRows (rightColumns o)) rights)
 
   -- With room for as many right rows as the first figure says, no right frame is refused by 6, every left frame gets written, and the schedule has these figures.
   pub record Holds : Type 0 where
@@ -88,5 +88,5 @@ module _ (o : Options) (l r : Words) (lefts rights outs : List Words) where
 
 -- The first figure is exact: with room for so many right rows no right frame is refused by 6, with room for fewer one is.
 pub record Plans : Type 0 where
-  pub enough : (o : Options) (l r : Words) (lefts rights outs : List Words) → Planned o l lefts rights outs → figures o l r lefts rights outs .rows ≤ capacity (columns o) r → Holds o l r lefts rights outs
-  pub short : (o : Options) (l r : Words) (lefts rights outs : List Words) → Planned o l lefts rights outs → capacity (columns o) r < figures o l r lefts rights outs .rows → Short o l r lefts rights outs
+  pub enough : (o : Options) (l r : Words) (lefts rights outs : List Words) → Planned o l lefts rights outs → figures o l r lefts rights outs .rows ≤ capacity (rightColumns o) r → Holds o l r lefts rights outs
+  pub short : (o : Options) (l r : Words) (lefts rights outs : List Words) → Planned o l lefts rights outs → capacity (rightColumns o) r < figures o l r lefts rights outs .rows → Short o l r lefts rights outs

@@ -5,9 +5,9 @@ use Prim.Native.Nat.{ℕ, zero, suc, _+_, max}
 use lib.Dec.{eqb}
 use lib.ListN.{length}
 use Rattle.frames.specs.Cells.{Words}
-use Rattle.frames.specs.declared.Options.{Options}
+use Rattle.options.specs.declared.Options.{Options}
 use Rattle.node.specs.Calls.{turnAnswer}
-use Rattle.answers.specs.declared.Answer.the-variants.{Wrote, WantsRight, Idle, Refused}
+use Rattle.outcomes.specs.declared.Answer.the-variants.{Wrote, WantsRight, Idle, Refused}
 use Rattle.lists.specs.Lists.{Call, left, right, end, turn, Event, onLeft, onRight, onEnd, onPorts, onTurn, World, start, step, final, rightFrames, tookRefusal, turnsIn}
 
 -- Right ends as soon as no right frame is left.

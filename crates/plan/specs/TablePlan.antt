@@ -6,12 +6,12 @@ use Prim.Native.Nat.{ℕ, _+_, _*_, _^_, _≤_, _<_}
 use lib.ListN.{length}
 use Rattle.frames.specs.Cells.{Words}
 use Rattle.frames.specs.Frame.{rowCount, valuesIn, marksIn, frameRows}
-use Rattle.frames.specs.Options.{columns, badOptions}
-use Rattle.frames.specs.Order.{sorted}
-use Rattle.frames.specs.declared.Options.{Options}
+use Rattle.options.specs.Options.{columns, badOptions, rightColumns}
+use Rattle.order.specs.Order.{sorted}
+use Rattle.options.specs.declared.Options.{Options}
 use Rattle.area.specs.Area.{capacity}
 use Rattle.matching.specs.Match.{wholeTable}
-use Rattle.answers.specs.Answers.{mostRows}
+use Rattle.outcomes.specs.Answers.{mostRows}
 use Rattle.lists.specs.Lists.{start, events, outputs, matchesIn, backToBack}
 use Rattle.lists.specs.WholeTables.{asWritten, Each}
 use Rattle.plan.specs.Schedule.{schedule}
@@ -23,8 +23,8 @@ use Rattle.plan.specs.Table.{isTable, framesBy, heightsOf, badHeights}
 unfoldable pub planAnswer : Options → Words → Words → Words → Words → ℕ
 planAnswer o left right hl hr =
     cond (badOptions o) 1
-    (cond (not (isTable (columns o) left && isTable (columns o) right)) 5
-    (cond (not (sorted o (frameRows (columns o) left) && sorted o (frameRows (columns o) right))) 14
+    (cond (not (isTable (columns o) left && isTable (rightColumns o) right)) 5
+    (cond (not (sorted o (frameRows (columns o) left) && sorted o (frameRows (rightColumns o) right))) 14
     (cond (badHeights (rowCount left) hl || badHeights (rowCount right) hr) 17
     0)))
 
@@ -46,10 +46,10 @@ module _ (o : Options) (left right hl hr l r : Words) (outs : List Words) where
 
   -- The schedule over these frames: with R at least the first figure, with less, and what it writes.
   pub record Told : Type 0 where
-    pub enough : tableFigures .rows ≤ capacity (columns o) r → Holds o l r (cutInto o left hl) (cutInto o right hr) outs
-    pub short : capacity (columns o) r < tableFigures .rows → Short o l r (cutInto o left hl) (cutInto o right hr) outs
-    pub written : tableFigures .rows ≤ capacity (columns o) r
-        → matchesIn (outputs (events (start o l r) (schedule o l r (cutInto o left hl) (cutInto o right hr) outs))) ≡ map (λ x. asWritten (wholeTable o (frameRows (columns o) right) x)) (frameRows (columns o) left)
+    pub enough : tableFigures .rows ≤ capacity (rightColumns o) r → Holds o l r (cutInto o left hl) (cutInto o right hr) outs
+    pub short : capacity (rightColumns o) r < tableFigures .rows → Short o l r (cutInto o left hl) (cutInto o right hr) outs
+    pub written : tableFigures .rows ≤ capacity (rightColumns o) r
+        → matchesIn (outputs (events (start o l r) (schedule o l r (cutInto o left hl) (cutInto o right hr) outs))) ≡ map (λ x. asWritten (wholeTable o (frameRows (rightColumns o) right) x)) (frameRows (columns o) left)
 
 -- Whatever is not refused is told so.
 abbrev pub TablePlans : Type 0

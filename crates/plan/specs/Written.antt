@@ -4,8 +4,8 @@ use mathlib.Core.Path.{_≡_}
 use mathlib.Core.List.{List, map}
 use Prim.Native.Nat.{_≤_}
 use Rattle.frames.specs.Cells.{Words}
-use Rattle.frames.specs.Options.{columns}
-use Rattle.frames.specs.declared.Options.{Options}
+use Rattle.options.specs.Options.{columns, rightColumns}
+use Rattle.options.specs.declared.Options.{Options}
 use Rattle.area.specs.Area.{capacity}
 use Rattle.matching.specs.Match.{wholeTable}
 use Rattle.lists.specs.Lists.{start, events, rowsIn, outputs, matchesIn}
@@ -16,5 +16,5 @@ use Rattle.plan.specs.Plan.{Planned, figures}
 -- With room for the first figure, the matches that the schedule writes are those of all left rows over all right rows, the frames that it never took included.
 abbrev pub Writes : Type 0
 Writes =
-    (o : Options) (l r : Words) (lefts rights outs : List Words) → Planned o l lefts rights outs → figures o l r lefts rights outs .rows ≤ capacity (columns o) r
-    → matchesIn (outputs (events (start o l r) (schedule o l r lefts rights outs))) ≡ map (λ x. asWritten (wholeTable o (rowsIn (columns o) rights) x)) (rowsIn (columns o) lefts)
+    (o : Options) (l r : Words) (lefts rights outs : List Words) → Planned o l lefts rights outs → figures o l r lefts rights outs .rows ≤ capacity (rightColumns o) r
+    → matchesIn (outputs (events (start o l r) (schedule o l r lefts rights outs))) ≡ map (λ x. asWritten (wholeTable o (rowsIn (rightColumns o) rights) x)) (rowsIn (columns o) lefts)

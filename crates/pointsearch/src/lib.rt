@@ -1,21 +1,21 @@
 // The points: whether they are in order, the searches among them, and those inside the bounds of one interval.
-use buffer::Seek;
-use buffer::Stretch;
-use frames::Order;
+use bisect::find;
+use compare::cmp_cell;
 use keyed::null_at;
-use order::cmp_cell;
-use seek::find;
+use order::Order;
+use searching::Seek;
+use searching::Stretch;
 use spans::Bounds;
 ghost use mathlib.Core.Path.{_≡_};
 ghost use mathlib.Core.Bool.{not, _&&_};
 ghost use Prim.Native.Nat.{_+_, _≤_};
 ghost use Rattle.frames.specs.Cells.{isNull, rowsOf};
-ghost use Rattle.frames.specs.Options.{keyRule};
-ghost use Rattle.frames.specs.Order.{cmpCell, isGreater};
-ghost use Rattle.frames.specs.Room.{cellAt};
+ghost use Rattle.options.specs.Options.{keyRule};
+ghost use Rattle.order.specs.Order.{cmpCell, isGreater};
+ghost use Rattle.order.specs.Requires.{cellAt};
 ghost use Rattle.spans.specs.Span.{ascendingPoints};
 ghost use Rattle.spans.specs.Port.{seekLower, seekUpper, searchSorted};
-ghost use Rattle.spans.specs.Room.{PointsIn, BoundsIn, Matched};
+ghost use Rattle.spans.specs.Requires.{PointsIn, BoundsIn, Matched};
 
 // Whether point i is not null and not greater than the next.
 fn before_next(values: &[i64], marks: &[i64], i: usize) -> bool

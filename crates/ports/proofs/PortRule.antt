@@ -7,14 +7,14 @@ use Prim.Native.Nat.{ℕ}
 use native.Mathlib.Omega.{arith}
 use borrow.Author.Tests.{eqb-true, eqb-false, eq-eqb, ne-eqb, not-true}
 use lib.Dec.{eqb}
-use Rattle.frames.proofs.SortedLaws.{and-true}
-use Rattle.answers.specs.Answers.{stateCode, portCode}
-use Rattle.answers.specs.declared.NodeState.{NodeState}
-use Rattle.answers.specs.declared.NodeState.the-variants.{Running, Flush, Done}
-use Rattle.answers.specs.declared.PortState.{PortState}
-use Rattle.answers.specs.declared.PortState.the-variants.{Blocked, Ready, Done as PortDone}
-use Rattle.answers.specs.declared.Ported.{Ported}
-use Rattle.answers.specs.declared.Ported.the-variants.{Ports, Refused}
+use Rattle.frames.proofs.BoolLaws.{and-true}
+use Rattle.outcomes.specs.Answers.{stateCode, portCode}
+use Rattle.outcomes.specs.declared.NodeState.{NodeState}
+use Rattle.outcomes.specs.declared.NodeState.the-variants.{Running, Flush, Done}
+use Rattle.outcomes.specs.declared.PortState.{PortState}
+use Rattle.outcomes.specs.declared.PortState.the-variants.{Blocked, Ready, Done as PortDone}
+use Rattle.outcomes.specs.declared.Ported.{Ported}
+use Rattle.outcomes.specs.declared.Ported.the-variants.{Ports, Refused}
 use Rattle.ports.specs.Ports.{toFlush, toDone, portsIn}
 
 -- ---- a test of each in a list

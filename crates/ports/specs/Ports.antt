@@ -1,16 +1,18 @@
 -- The ports: where a port call takes the node, and what each port is told there. Assumes nothing.
 use mathlib.Core.Path.{_≡_}
+use mathlib.Core.List.{[], _∷_}
 use mathlib.Core.Bool.{Bool, true, false, cond, _&&_, _||_}
 use Prim.Native.Nat.{ℕ}
 use lib.Dec.{eqb}
-use Rattle.answers.specs.Answers.{isRunning}
-use Rattle.answers.specs.declared.NodeState.{NodeState}
-use Rattle.answers.specs.declared.NodeState.the-variants.{Running, Flush, Done}
-use Rattle.answers.specs.declared.PortState.{PortState}
-use Rattle.answers.specs.declared.PortState.the-variants.{Blocked, Ready, Done as PortDone}
-use Rattle.answers.specs.declared.Ported.{Ported}
-use Rattle.answers.specs.declared.Ported.the-variants.{Ports, Refused}
-use Rattle.answers.specs.declared.Refusal.the-variants.{BadJoin, Failed}
+use Rattle.outcomes.specs.Answers.{isRunning}
+use Rattle.outcomes.specs.declared.NodeState.{NodeState}
+use Rattle.outcomes.specs.declared.NodeState.the-variants.{Running, Flush, Done}
+use Rattle.outcomes.specs.declared.PortState.{PortState}
+use Rattle.outcomes.specs.declared.PortState.the-variants.{Blocked, Ready, Done as PortDone}
+use Rattle.outcomes.specs.declared.Ported.{Ported}
+use Rattle.outcomes.specs.declared.Ported.the-variants.{Ports, Refused}
+use Rattle.refusals.specs.Tests.{test, firstOf}
+use Rattle.refusals.specs.declared.Refusal.the-variants.{BadJoin, Failed}
 use Rattle.ports.specs.declared.PortsMoved.{PortsMoved}
 
 -- A port that came Done.
@@ -49,9 +51,7 @@ portsIn Done l r s = Ports PortDone PortDone PortDone
 -- A port call by the numbers of a join: refused by 2 or 3, or what the ports are told in the node's next state, with so many words waiting.
 unfoldable pub portsJudged : Bool → Bool → NodeState → PortState → PortState → PortState → ℕ → Ported
 portsJudged bad failed state l r s words =
-    cond bad (Refused BadJoin)
-    (cond failed (Refused Failed)
-    (portsIn (toDone (toFlush state l s) words) l r s))
+    firstOf (test bad (Refused BadJoin) ∷ test failed (Refused Failed) ∷ []) (portsIn (toDone (toFlush state l s) words) l r s)
 
 -- The node's state afterwards: a refused call leaves it.
 unfoldable pub movedState : Bool → Bool → NodeState → PortState → PortState → ℕ → NodeState

@@ -1,12 +1,12 @@
 // The ports: where a port call takes the node, and what each port is told there.
-use answers::NodeState;
-use answers::PortState;
-use answers::Ported;
-use answers::Refusal;
+use outcomes::NodeState;
+use outcomes::PortState;
+use outcomes::Ported;
+use refusals::Refusal;
 ghost use mathlib.Core.Path.{_≡_};
 ghost use mathlib.Core.Bool.{_||_};
-ghost use Rattle.answers.specs.declared.NodeState.the-variants.{Flush};
-ghost use Rattle.answers.specs.declared.PortState.the-variants.{Ready};
+ghost use Rattle.outcomes.specs.declared.NodeState.the-variants.{Flush};
+ghost use Rattle.outcomes.specs.declared.PortState.the-variants.{Ready};
 ghost use Rattle.ports.specs.Ports.{portBlocked, toFlush, toDone, readyUnless, portsIn, Moves};
 
 // After a port call: what the ports are told, and the node's state.

@@ -140,7 +140,7 @@ fn cell(given: &[i64]) -> [u64; 11] {
     let column = number_at(given, 2) as usize;
     let found = view::read_cell(behind(given, 3), c, row, column);
     match found {
-        Found::Value(v) => [0, order::distance(v, 0), 0, 0, 0, 0, 0, 0, 0, 0, 0],
+        Found::Value(v) => [0, compare::distance(v, 0), 0, 0, 0, 0, 0, 0, 0, 0, 0],
         Found::Null => [1, 0, 0, 0, 0, 0, 0, 0, 0, 0, 0],
         Found::Nothing => [2, 0, 0, 0, 0, 0, 0, 0, 0, 0, 0],
     }

@@ -10,30 +10,30 @@ use lib.ListN.{length, take, drop, length-append, length-drop, take-append-drop,
 use lib.Seq.{take-all, drop-at, length-take-le, take-append-add, drop-append-add}
 use Rattle.frames.specs.Cells.{Rows, Words}
 use Rattle.frames.specs.Frame.{isFrame, frameRows, front}
-use Rattle.frames.specs.Room.{HasCount}
+use Rattle.frames.specs.Front.{HasCount}
 use Rattle.frames.proofs.FrameLaws.{frame-rows}
 use Rattle.frames.proofs.FrontLaws.{frame-few}
-use Rattle.buffer.specs.Reach.{needMore}
+use Rattle.searching.specs.Reach.{needMore}
 use Rattle.matching.specs.Groups.{matchFrame}
 use Rattle.matching.specs.Answer.{answerWords, answered}
 use Rattle.matching.specs.declared.Choice.{Choice}
 use Rattle.matching.proofs.AnswerLaws.{answered-is, answered-rest, answered-count, answer-length}
 use Rattle.matching.proofs.GroupLaws.{frame-length}
-use Rattle.node.specs.State.{widthOf, badJoin, heldOf, waiting}
-use Rattle.answers.specs.Answers.{isDone, wrote}
+use Rattle.node.specs.State.{leftWidth, badJoin, heldOf, waiting}
+use Rattle.outcomes.specs.Answers.{isDone, wrote}
 use Rattle.node.specs.Calls.{After, turnAnswer, turned, turnCall}
-use Rattle.prunes.specs.Prunes.{firstPrune}
+use Rattle.turnrows.specs.Prunes.{firstPrune}
 use Rattle.runs.specs.Run.{Ran, ran, stopOf, turnWords, andThen, runCall}
-use Rattle.node.specs.Leaves.{TurnLeaves}
-use Rattle.runs.specs.RunLeaves.{RunLeaves}
-use Rattle.answers.proofs.Tests.{past}
+use Rattle.node.specs.Contracts.{TurnContract}
+use Rattle.runs.specs.RunContract.{RunContract}
+use Rattle.outcomes.proofs.Tests.{past}
 use Rattle.node.specs.declared.Join.{Join}
-use Rattle.answers.specs.declared.Refusal.{Refusal}
-use Rattle.answers.specs.declared.Refusal.the-variants.{BadJoin, Failed, Closed, BadFrame, NoRoom}
-use Rattle.answers.specs.declared.Answer.{Answer}
-use Rattle.answers.specs.declared.Answer.the-variants.{Wrote, WantsRight, Idle, Refused}
-use Rattle.answers.specs.declared.Stop.{Stop}
-use Rattle.answers.specs.declared.Stop.the-variants.{Used}
+use Rattle.refusals.specs.declared.Refusal.{Refusal}
+use Rattle.refusals.specs.declared.Refusal.the-variants.{BadJoin, Failed, Closed, BadFrame, NoRoom}
+use Rattle.outcomes.specs.declared.Answer.{Answer}
+use Rattle.outcomes.specs.declared.Answer.the-variants.{Wrote, WantsRight, Idle, Refused}
+use Rattle.outcomes.specs.declared.Stop.{Stop}
+use Rattle.outcomes.specs.declared.Stop.the-variants.{Used}
 use Rattle.node.specs.declared.TurnedJoin.{TurnedJoin}
 
 -- ---- what a turn that writes leaves in its output
@@ -59,11 +59,11 @@ apart n s e = let z : _≡_ {A = ℕ} 0 1 = cc in omega arith
 
 module _ (j : Join) (left right out : Words) where
   abbrev rows : Rows
-  rows = frameRows (widthOf j) (front (widthOf j) (waiting j left))
+  rows = frameRows (leftWidth j) (front (leftWidth j) (waiting j left))
 
   -- A turn that answers Wrote had a frame and room.
   pub record Passed : Type 0 where
-    pub frame : isFrame (widthOf j) (front (widthOf j) (waiting j left)) ≡ true
+    pub frame : isFrame (leftWidth j) (front (leftWidth j) (waiting j left)) ≡ true
     pub room : 2 + 2 * length rows ≤ length out
 
   passed : (s : ℕ) → turnAnswer j left right out ≡ Wrote s → Passed
@@ -73,10 +73,10 @@ module _ (j : Join) (left right out : Words) where
       let p3 = past (j .failed) (Refused Failed) _ (Wrote s) (apart Failed s) (p2 .1) in
       let p4 = past (isDone (j .state)) (Refused Closed) _ (Wrote s) (apart Closed s) (p3 .1) in
       let pi = past (eqb (j .«queue_words») 0) Idle _ (Wrote s) (λ x. let z : _≡_ {A = ℕ} 0 1 = cc in omega arith) (p4 .1) in
-      let p5 = past (not (isFrame (widthOf j) (front (widthOf j) (waiting j left)))) (Refused BadFrame) _ (Wrote s) (apart BadFrame s) (pi .1) in
+      let p5 = past (not (isFrame (leftWidth j) (front (leftWidth j) (waiting j left)))) (Refused BadFrame) _ (Wrote s) (apart BadFrame s) (pi .1) in
       let pw = past (not (j .«right_ended») && needMore (j .options) rows (heldOf j right)) WantsRight _ (Wrote s) (λ x. let z : _≡_ {A = ℕ} 0 1 = cc in omega arith) (p5 .1) in
       let p6 = past (ltb (length out) (2 + 2 * length rows)) (Refused NoRoom) _ (Wrote s) (apart NoRoom s) (pw .1) in
-      record { frame = not-false (isFrame (widthOf j) (front (widthOf j) (waiting j left))) (p5 .0); room = ltb-false (length out) (2 + 2 * length rows) (p6 .0) }
+      record { frame = not-false (isFrame (leftWidth j) (front (leftWidth j) (waiting j left))) (p5 .0); room = ltb-false (length out) (2 + 2 * length rows) (p6 .0) }
 
   -- The answer that is written has as many rows as the frame.
   matches : List Choice
@@ -98,7 +98,7 @@ module _ (j : Join) (left right out : Words) where
       go : (a : Answer) → turnAnswer j left right out ≡ a → wrote (turnCall j left right out .answer) ≡ true → Fits out (turnCall j left right out .out)
       go (Wrote s) e = rw (e, turnCall) (λ g.
           let p = passed s e in
-          rw turned-out (answered-fits matches out (omega (arith, matches-length, frame-rows (widthOf j) _ (p .frame), frame-few (widthOf j) _ (p .frame))) (omega (arith, matches-length, p .room))))
+          rw turned-out (answered-fits matches out (omega (arith, matches-length, frame-rows (leftWidth j) _ (p .frame), frame-few (leftWidth j) _ (p .frame))) (omega (arith, matches-length, p .room))))
       go WantsRight e = rw (e, turnCall) (λ g. let z : _≡_ {A = ℕ} 0 1 = cc in absurd (omega arith))
       go Idle e = rw (e, turnCall) (λ g. let z : _≡_ {A = ℕ} 0 1 = cc in absurd (omega arith))
       go (Refused n) e = rw (e, turnCall) (λ g. let z : _≡_ {A = ℕ} 0 1 = cc in absurd (omega arith))
@@ -162,19 +162,19 @@ module _ (k : ℕ) (j₀ : Join) (left right out₀ : Words) where
     pub same : length out ≡ length out₀
     pub rest : runCall k j₀ left right out₀ ≡ andThen made at (take at out) (runCall (k - made) j left right (drop at out))
 
-  pub leaves : (t n : ℕ) (s : Stop) (j : Join) (out : Words) → runCall k j₀ left right out₀ ≡ ran t n s j out → RunLeaves j₀ k left right out₀ (record { turns = t; words = n; stop = s; join = j }) out
+  pub leaves : (t n : ℕ) (s : Stop) (j : Join) (out : Words) → runCall k j₀ left right out₀ ≡ ran t n s j out → RunContract j₀ k left right out₀ (record { turns = t; words = n; stop = s; join = j }) out
   leaves t n s j out e = record { turns = rw e; written = rw e; stop = rw e; join = rw e; words = rw e }
 
   module _ {made at : ℕ} {j : Join} {out : Words} (m : Made made at j out) where
     -- k turns are used.
-    pub run-used : k ≤ made → RunLeaves j₀ k left right out₀ (record { turns = made; words = at; stop = Used; join = j }) out
+    pub run-used : k ≤ made → RunContract j₀ k left right out₀ (record { turns = made; words = at; stop = Used; join = j }) out
     unfolding runCall
     run-used h =
         let z : k - made ≡ 0 = omega (arith, m .few) in
         leaves made at Used j out (rw (z, then-end made at Used j (take at out) (drop at out), take-append-drop at out) at (m .rest))
 
     -- The next turn x, which is lent the output from word `at` on and leaves ys there.
-    module _ (h : made < k) (x : TurnedJoin) (ys : Words) (turned : TurnLeaves j left right (take (length out - at) (drop at out)) x ys) where
+    module _ (h : made < k) (x : TurnedJoin) (ys : Words) (turned : TurnContract j left right (take (length out - at) (drop at out)) x ys) where
       abbrev t : After Answer
       t = turnCall j left right (drop at out)
 
@@ -185,7 +185,7 @@ module _ (k : ℕ) (j₀ : Join) (left right out₀ : Words) where
       lent : take (length out - at) (drop at out) ≡ drop at out
       lent = take-all (length out - at) (drop at out) (omega (arith, length-drop at out))
 
-      leaves-it : TurnLeaves j left right (drop at out) x ys
+      leaves-it : TurnContract j left right (drop at out) x ys
       leaves-it = rw lent at turned
 
       put-is : put ≡ take at out ++ t .out
@@ -207,7 +207,7 @@ module _ (k : ℕ) (j₀ : Join) (left right out₀ : Words) where
       one = omega arith
 
       -- A turn that does not write ends the run.
-      pub run-stops : wrote (x .answer) ≡ false → (s : Stop) → s ≡ stopOf (x .answer) → RunLeaves j₀ k left right out₀ (record { turns = made; words = at; stop = s; join = x .join }) put
+      pub run-stops : wrote (x .answer) ≡ false → (s : Stop) → s ≡ stopOf (x .answer) → RunContract j₀ k left right out₀ (record { turns = made; words = at; stop = s; join = x .join }) put
       unfolding runCall
       run-stops g s is =
           let q : wrote (t .answer) ≡ false = rw (leaves-it .answer) at g in

@@ -1,2 +1,2 @@
 pub mod Run
-pub mod RunLeaves
+pub mod RunContract

@@ -6,12 +6,12 @@ use lib.ListN.{take, drop}
 use Rattle.frames.specs.Cells.{Words}
 use Rattle.frames.specs.Frame.{rowCount}
 use Rattle.node.specs.Calls.{turnCall}
-use Rattle.answers.specs.Answers.{wrote}
+use Rattle.outcomes.specs.Answers.{wrote}
 use Rattle.node.specs.declared.Join.{Join}
-use Rattle.answers.specs.declared.Answer.{Answer}
-use Rattle.answers.specs.declared.Answer.the-variants.{Wrote, WantsRight, Idle, Refused}
-use Rattle.answers.specs.declared.Stop.{Stop}
-use Rattle.answers.specs.declared.Stop.the-variants.{Used, WantsRight as StopWants, Idle as StopIdle, Refused as StopRefused}
+use Rattle.outcomes.specs.declared.Answer.{Answer}
+use Rattle.outcomes.specs.declared.Answer.the-variants.{Wrote, WantsRight, Idle, Refused}
+use Rattle.outcomes.specs.declared.Stop.{Stop}
+use Rattle.outcomes.specs.declared.Stop.the-variants.{Used, WantsRight as StopWants, Idle as StopIdle, Refused as StopRefused}
 
 -- What a run leaves: how many turns it made, how many words they wrote, the answer that stopped it, the join and the output.
 pub record Ran : Type 0 where

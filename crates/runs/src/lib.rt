@@ -1,13 +1,13 @@
 // A run of turns: what it made, and what ends it.
-use answers::Answer;
-use answers::goes_on;
 use framerule::row_count;
 use node::Join;
+use outcomes::Answer;
+use outcomes::goes_on;
 ghost use mathlib.Core.Path.{_≡_};
-ghost use Rattle.frames.specs.Room.{HasCount};
+ghost use Rattle.frames.specs.Front.{HasCount};
 ghost use Rattle.runs.specs.Run.{stopOf, turnWords};
-ghost use Rattle.runs.specs.RunLeaves.{RunLeaves};
-pub use answers::Stop;
+ghost use Rattle.runs.specs.RunContract.{RunContract};
+pub use outcomes::Stop;
 
 // What a run made: the turns that wrote, the words that they wrote back to back, what ended it, and the join.
 pub struct RanJoin {
@@ -39,7 +39,7 @@ fn turn_words(out: &[i64]) -> usize
 
 // Makes at most k turns, each writing behind the one before; it ends with the first that does not write.
 pub fn run(mut join: Join, k: usize, left: &[i64], right: &[i64], out: &mut [i64]) -> RanJoin
-    ensures { λ r. ⌜ RunLeaves join k (now (left .entry)) (now (right .entry)) (now (out .entry)) r (now (out .exit)) ⌝ }
+    ensures { λ r. ⌜ RunContract join k (now (left .entry)) (now (right .entry)) (now (out .entry)) r (now (out .exit)) ⌝ }
 {
     let mut made = 0;
     let mut at = 0;

@@ -2,22 +2,22 @@
 use fits::fits_key;
 use fits::takes_over;
 use fits::too_far;
-use frames::Options;
-use frames::Strategy;
 use keyed::null_at;
 use matching::Choice;
+use options::Options;
+use options::Strategy;
 use options::strategy_of;
 ghost use mathlib.Core.Path.{_≡_};
 ghost use mathlib.Core.List.{List};
 ghost use Prim.Native.Nat.{ℕ, _+_, _<_, _≤_};
 ghost use Rattle.frames.specs.Cells.{Cell, value, rowFrom};
-ghost use Rattle.frames.specs.Options.{strategyOf};
-ghost use Rattle.frames.specs.Order.{keyOf};
-ghost use Rattle.frames.specs.Room.{RowsIn};
+ghost use Rattle.options.specs.Options.{strategyOf};
+ghost use Rattle.order.specs.Order.{keyOf};
+ghost use Rattle.order.specs.Requires.{RowsIn};
 ghost use Rattle.matching.specs.Match.{nobody, fits, choose, matchIn};
-ghost use Rattle.matching.specs.Walk.{between, hitAt};
+ghost use Rattle.matching.specs.Stretches.{between, hitAt};
 ghost use Rattle.matching.specs.Inner.{BestIn, Meets, Met};
-ghost use Rattle.matching.specs.Room.{RowRoom};
+ghost use Rattle.matching.specs.Requires.{RowRoom};
 
 // The best of what was the best and row j, which stands behind it; `to` stands for none.
 fn meet_row(

@@ -9,12 +9,12 @@ use lib.Dec.{ltb, eqb}
 use lib.ListN.{length}
 use Rattle.frames.specs.Cells.{Rows, Words, rowsOf}
 use Rattle.frames.specs.Frame.{isFrame, rowCount, frameRows, valuesIn, marksIn}
-use Rattle.frames.specs.Room.{RowsIn}
+use Rattle.order.specs.Requires.{RowsIn}
 use Rattle.frames.proofs.FrameLaws.{values-length, marks-length}
 use Rattle.frames.proofs.FrontLaws.{frame-few}
 use Rattle.frames.proofs.WordLaws.{rows-length}
 use Rattle.matching.specs.Match.{matchIn}
-use Rattle.matching.specs.Walk.{between, lay}
+use Rattle.matching.specs.Stretches.{between, lay}
 use Rattle.matching.specs.Inner.{RunRoom}
 use Rattle.matching.specs.Moves.{keysSorted, Counted}
 use Rattle.matching.proofs.WalkLaws.{between-all}

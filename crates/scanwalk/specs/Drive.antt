@@ -8,10 +8,10 @@ use lib.IntN.{negsuc}
 use lib.ListN.{length}
 use Rattle.frames.specs.Cells.{Rows, Words}
 use Rattle.frames.specs.Frame.{isFrame, rowCount, frameRows}
-use Rattle.frames.specs.declared.Check.the-variants.{Off}
-use Rattle.frames.specs.declared.Options.{Options}
+use Rattle.options.specs.declared.Check.the-variants.{Off}
+use Rattle.options.specs.declared.Options.{Options}
 use Rattle.matching.specs.Match.{matchIn}
-use Rattle.matching.specs.Walk.{lay}
+use Rattle.matching.specs.Stretches.{lay}
 use Rattle.matching.specs.Moves.{keysSorted, Counted}
 use Rattle.scanwalk.specs.declared.Driven.{Driven}
 

@@ -1,16 +1,20 @@
 // Scan and walk of the same two frames of one key column, for the program that compares their times. The join does not use it.
+use cursor::keys_sorted;
 use framerule::is_frame;
 use framerule::row_count;
-use frames::Check;
-use frames::Options;
-use lay::both_sorted;
-use lay::scan_run;
-use lay::walk_run;
+use matchrun::scan_run;
+use matchrun::walk_run;
+use options::Check;
+use options::Options;
 ghost use mathlib.Core.Path.{_≡_};
-ghost use mathlib.Core.Bool.{true, false};
+ghost use mathlib.Core.Bool.{true, false, _&&_};
+ghost use Prim.Native.Nat.{_≤_};
 ghost use lib.ListN.{length};
 ghost use Rattle.frames.specs.Cells.{rowsOf};
 ghost use Rattle.frames.specs.Frame.{frameRows};
+ghost use Rattle.order.specs.Requires.{RowsIn};
+ghost use Rattle.matching.specs.Stretches.{between};
+ghost use Rattle.matching.specs.Moves.{keysSorted};
 ghost use Rattle.scanwalk.specs.Drive.{keyOptions, judged, unsorted, refusalOf, Drives, PartsIn};
 
 // What a call answers: 0 or the refusal's number, and how often the cursors of a walk moved.
@@ -52,6 +56,29 @@ fn judge(strategy: u8, left: &[i64], right: &[i64], room: usize) -> u64
         return 6;
     }
     0
+}
+
+// Whether left rows from..to and right rows at..end are both sorted by key.
+fn both_sorted(
+    lv: &[i64],
+    lm: &[i64],
+    from: usize,
+    to: usize,
+    wl: usize,
+    rv: &[i64],
+    rm: &[i64],
+    at: usize,
+    end: usize,
+    wr: usize,
+    o: Options,
+) -> bool
+    requires { ⌜ RowsIn o wl to (now lv) (now lm) × (from ≤ to) × RowsIn o wr end (now rv) (now rm) × (at ≤ end) ⌝ }
+    ensures { λ r. ⌜ r ≡ (keysSorted o (between wl from to (now (lv .entry)) (now (lm .entry))) && keysSorted o (between wr at end (now (rv .entry)) (now (rm .entry)))) ⌝ }
+{
+    if !keys_sorted(lv, lm, from, to, wl, o) {
+        return false;
+    }
+    keys_sorted(rv, rm, at, end, wr, o)
 }
 
 // n left rows over m right rows: each by a scan, or all by a walk, which wants both sorted and else refuses by 14.

@@ -6,10 +6,10 @@ use mathlib.Core.List.{List, [], _∷_}
 use mathlib.Core.Option.{none, some}
 use lib.IntN.{ℤ, pos, negsuc}
 use Rattle.frames.specs.Cells.{null, value}
-use Rattle.frames.proofs.Samples.{options}
+use Rattle.order.proofs.Samples.{options}
 use Rattle.lists.specs.Lists.{left, right, end, ports, turn}
 use Rattle.lists.proofs.Script.{ok, refused, wrote, wants, idle, noJoin, looks, areas, opens, call, state, dump, space, script, ports as said-ports}
-use Rattle.answers.specs.declared.PortState.the-variants.{Blocked, Ready, Done as PortDone}
+use Rattle.outcomes.specs.declared.PortState.the-variants.{Blocked, Ready, Done as PortDone}
 
 list-1 : script
     (opens (options 2 1 false (negsuc 0) true (false ∷ false ∷ []) (false ∷ false ∷ [])) 22 84

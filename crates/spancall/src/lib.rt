@@ -4,13 +4,13 @@ use framerule::row_count;
 use pairing::count_pairs;
 use pairing::put_pairs;
 use pointsearch::ascending_points;
+use refusals::Refusal;
 use spans::Bounds;
-use tables::Refusal;
 use tables::Written;
 use tables::put_head;
-ghost use Rattle.spans.specs.Inner.{CoverLeaves};
-ghost use Rattle.spans.specs.Calls.{SpanLeaves};
-ghost use Rattle.spans.specs.Room.{PointsIn, IntervalsIn};
+ghost use Rattle.spans.specs.Inner.{CoverContract};
+ghost use Rattle.spans.specs.Calls.{SpanContract};
+ghost use Rattle.spans.specs.Requires.{PointsIn, IntervalsIn};
 
 // The pairs of n points and m intervals, written as a table; refused by 16 where the points cannot be searched, by 6 where the output is too short.
 fn cover(
@@ -24,7 +24,7 @@ fn cover(
     out: &mut [i64],
 ) -> Written
     requires { ⌜ PointsIn n (now pv) (now pm) × IntervalsIn m (now iv) (now im) ⌝ }
-    ensures { λ r. ⌜ CoverLeaves b n (now (pv .entry)) (now (pm .entry)) m (now (iv .entry)) (now (im .entry)) (now (out .entry)) r (now (out .exit)) ⌝ }
+    ensures { λ r. ⌜ CoverContract b n (now (pv .entry)) (now (pm .entry)) m (now (iv .entry)) (now (im .entry)) (now (out .entry)) r (now (out .exit)) ⌝ }
 {
     if !ascending_points(pv, pm, n) {
         return Written::Refused(Refusal::BadPoints);
@@ -40,13 +40,13 @@ fn cover(
 
 // Lists which points each interval covers: a table of the numbers of the two rows, interval by interval.
 pub fn spans(points: &[i64], intervals: &[i64], b: Bounds, out: &mut [i64]) -> Written
-    ensures { λ r. ⌜ SpanLeaves b (now (points .entry)) (now (intervals .entry)) (now (out .entry)) r (now (out .exit)) ⌝ }
+    ensures { λ r. ⌜ SpanContract b (now (points .entry)) (now (intervals .entry)) (now (out .entry)) r (now (out .exit)) ⌝ }
 {
     if !is_frame(points, 1) {
-        return Written::Refused(Refusal::BadTable);
+        return Written::Refused(Refusal::BadFrame);
     }
     if !is_frame(intervals, 2) {
-        return Written::Refused(Refusal::BadTable);
+        return Written::Refused(Refusal::BadFrame);
     }
     let n = row_count(points);
     let m = row_count(intervals);

@@ -6,16 +6,16 @@ use borrow.Author.Tests.{not-true, not-false}
 use Rattle.frames.specs.Cells.{Words}
 use Rattle.codes.specs.Codes.{isFlag, flagOf}
 use Rattle.tables.specs.Table.{After}
-use Rattle.tables.specs.declared.Refusal.{Refusal}
-use Rattle.tables.specs.declared.Refusal.the-variants.{BadOptions}
+use Rattle.refusals.specs.declared.Refusal.{Refusal}
+use Rattle.refusals.specs.declared.Refusal.the-variants.{BadOptions}
 use Rattle.tables.specs.declared.Written.{Written}
 use Rattle.tables.specs.declared.Written.the-variants.{Refused}
-use Rattle.spans.specs.Calls.{spanCall, SpanLeaves}
+use Rattle.spans.specs.Calls.{spanCall, SpanContract}
 use Rattle.spans.proofs.PromiseLaws.{promises}
 use Rattle.spans.specs.declared.Bounds.{Bounds}
-use Rattle.written.specs.Numbers.{writtenHost}
-use Rattle.written.specs.declared.HostWritten.{HostWritten}
-use Rattle.spanhost.specs.Call.{boundsOf, spansHost, HostSpanLeaves, Kept}
+use Rattle.tableresults.specs.Numbers.{writtenHost}
+use Rattle.tableresults.specs.declared.HostWritten.{HostWritten}
+use Rattle.spanhost.specs.Call.{boundsOf, spansHost, HostSpanContract, Kept}
 
 module _ (lower upper : ℕ) (points intervals out : Words) where
   refused : (isFlag lower && isFlag upper) ≡ false → spansHost lower upper points intervals out ≡ record { answer = Refused BadOptions; out = out }
@@ -31,17 +31,17 @@ module _ (lower upper : ℕ) (points intervals out : Words) where
     both-are : (isFlag lower && isFlag upper) ≡ z
     both-are = sym (e ∙ rw (p, q))
 
-    pub host-refused : not z ≡ true → (r : HostWritten) → r ≡ writtenHost (Refused BadOptions) → HostSpanLeaves lower upper points intervals out r out
+    pub host-refused : not z ≡ true → (r : HostWritten) → r ≡ writtenHost (Refused BadOptions) → HostSpanContract lower upper points intervals out r out
     host-refused t r h =
         let g = refused (both-are ∙ not-true z t) in
         record { result = h ∙ ap (λ (a : After). writtenHost (a .answer)) (sym g); words = ap (λ (a : After). a .out) (sym g) }
 
     pub host-through : not z ≡ false → (l u : Bool) → l ≡ flagOf lower → u ≡ flagOf upper → (w : Written) (r : HostWritten) (out′ : Words)
-        → SpanLeaves (record { «lower_in» = l; «upper_in» = u }) points intervals out w out′ → r ≡ writtenHost w
-        → HostSpanLeaves lower upper points intervals out r out′
+        → SpanContract (record { «lower_in» = l; «upper_in» = u }) points intervals out w out′ → r ≡ writtenHost w
+        → HostSpanContract lower upper points intervals out r out′
     host-through t l u a b w r out′ s h =
         let g = through (both-are ∙ not-false z t) in
-        let k : SpanLeaves (boundsOf lower upper) points intervals out w out′ = rw (a, b) at s in
+        let k : SpanContract (boundsOf lower upper) points intervals out w out′ = rw (a, b) at s in
         record {
           result = h ∙ ap writtenHost (k .answer) ∙ ap (λ (a : After). writtenHost (a .answer)) (sym g);
           words = k .words ∙ ap (λ (a : After). a .out) (sym g);

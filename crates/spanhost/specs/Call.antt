@@ -5,13 +5,13 @@ use Prim.Native.Nat.{ℕ}
 use Rattle.frames.specs.Cells.{Words}
 use Rattle.codes.specs.Codes.{isFlag, flagOf}
 use Rattle.tables.specs.Table.{After}
-use Rattle.tables.specs.declared.Refusal.{Refusal}
-use Rattle.tables.specs.declared.Refusal.the-variants.{BadOptions}
+use Rattle.refusals.specs.declared.Refusal.{Refusal}
+use Rattle.refusals.specs.declared.Refusal.the-variants.{BadOptions}
 use Rattle.tables.specs.declared.Written.the-variants.{Refused}
 use Rattle.spans.specs.Calls.{spanCall}
 use Rattle.spans.specs.declared.Bounds.{Bounds}
-use Rattle.written.specs.Numbers.{writtenHost}
-use Rattle.written.specs.declared.HostWritten.{HostWritten}
+use Rattle.tableresults.specs.Numbers.{writtenHost}
+use Rattle.tableresults.specs.declared.HostWritten.{HostWritten}
 
 -- What two flags say of the bounds: 1 is inclusive.
 abbrev pub boundsOf : ℕ → ℕ → Bounds
@@ -24,7 +24,7 @@ spansHost lower upper points intervals out =
     (record { answer = Refused BadOptions; out = out })
 
 -- The contract: the answer in numbers, and the words of the output afterwards.
-pub record HostSpanLeaves (lower upper : ℕ) (points intervals out : Words) (r : HostWritten) (out′ : Words) : Type 0 where
+pub record HostSpanContract (lower upper : ℕ) (points intervals out : Words) (r : HostWritten) (out′ : Words) : Type 0 where
   pub result : r ≡ writtenHost (spansHost lower upper points intervals out .answer)
   pub words : out′ ≡ spansHost lower upper points intervals out .out
 

@@ -2,13 +2,13 @@
 use codes::both;
 use codes::flag_of;
 use codes::is_flag;
+use refusals::Refusal;
 use spancall::spans;
 use spans::Bounds;
-use tables::Refusal;
+use tableresults::HostWritten;
+use tableresults::written_host;
 use tables::Written;
-use written::HostWritten;
-use written::written_host;
-ghost use Rattle.spanhost.specs.Call.{HostSpanLeaves};
+ghost use Rattle.spanhost.specs.Call.{HostSpanContract};
 
 // Lists which points each interval covers. A choice of bounds that is neither 0 nor 1 is refused by 1, before any word is looked at.
 pub fn spans_host(
@@ -18,7 +18,7 @@ pub fn spans_host(
     upper: u64,
     out: &mut [i64],
 ) -> HostWritten
-    ensures { λ r. ⌜ HostSpanLeaves lower upper (now (points .entry)) (now (intervals .entry)) (now (out .entry)) r (now (out .exit)) ⌝ }
+    ensures { λ r. ⌜ HostSpanContract lower upper (now (points .entry)) (now (intervals .entry)) (now (out .entry)) r (now (out .exit)) ⌝ }
 {
     if !both(is_flag(lower), is_flag(upper)) {
         return written_host(Written::Refused(Refusal::BadOptions));

@@ -13,14 +13,14 @@ use Rattle.frames.proofs.FrameLaws.{values-length, marks-length, frame-length}
 use Rattle.frames.proofs.FrontLaws.{frame-few}
 use Rattle.tables.specs.Table.{After, leave, laid, tableOf}
 use Rattle.tables.specs.Lay.{flat, layCells}
-use Rattle.tables.specs.declared.Refusal.the-variants.{BadTable, BadPoints, NoRoom}
+use Rattle.refusals.specs.declared.Refusal.the-variants.{BadFrame, BadPoints, NoRoom}
 use Rattle.tables.specs.declared.Written.{Written}
 use Rattle.tables.specs.declared.Written.the-variants.{Rows as Wrote, Refused}
 use Rattle.tables.proofs.LayLaws.{lay-table}
 use Rattle.spans.specs.Span.{pairs, ascendingPoints}
-use Rattle.spans.specs.Calls.{pairsIn, spanAnswer, spanCall, SpanLeaves}
-use Rattle.spans.specs.Inner.{coverAnswer, CoverLeaves}
-use Rattle.spans.specs.Room.{PointsIn, IntervalsIn, ported}
+use Rattle.spans.specs.Calls.{pairsIn, spanAnswer, spanCall, SpanContract}
+use Rattle.spans.specs.Inner.{coverAnswer, CoverContract}
+use Rattle.spans.specs.Requires.{PointsIn, IntervalsIn, ported}
 use Rattle.spans.specs.declared.Bounds.{Bounds}
 use Rattle.spans.proofs.SpanLaw.{ported-is-all}
 use Rattle.spans.proofs.WalkLaws.{flat-wide}
@@ -32,14 +32,14 @@ module _ (b : Bounds) (n : ℕ) (pv pm : Words) (m : ℕ) (iv im out : Words) wh
   abbrev is : Rows
   is = rowsOf 2 m iv im
 
-  leaves : (w : Written) → coverAnswer b ps is out ≡ w → CoverLeaves b n pv pm m iv im out w (leave 2 (pairs b ps is) w out .out)
+  leaves : (w : Written) → coverAnswer b ps is out ≡ w → CoverContract b n pv pm m iv im out w (leave 2 (pairs b ps is) w out .out)
   leaves w e = record { answer = sym e; words = ap (λ (z : Written). leave 2 (pairs b ps is) z out .out) (sym e) }
 
   answer-points : ascendingPoints ps ≡ false → coverAnswer b ps is out ≡ Refused BadPoints
   unfolding coverAnswer
   answer-points e = rw e
 
-  pub cover-points : ascendingPoints ps ≡ false → CoverLeaves b n pv pm m iv im out (Refused BadPoints) out
+  pub cover-points : ascendingPoints ps ≡ false → CoverContract b n pv pm m iv im out (Refused BadPoints) out
   cover-points e = leaves (Refused BadPoints) (answer-points e)
 
   module _ (e : ascendingPoints ps ≡ true) (k : ℕ) (h : k ≡ length (ported b n pv pm m iv im)) where
@@ -57,11 +57,11 @@ module _ (b : Bounds) (n : ℕ) (pv pm : Words) (m : ℕ) (iv im out : Words) wh
     unfolding coverAnswer
     answer-wrote l = rw (e, le-ltb (length out) (frameWords (length (pairs b ps is)) 2) (omega (arith, count)), count)
 
-    pub cover-short : length out < 2 + 4 * k → CoverLeaves b n pv pm m iv im out (Refused NoRoom) out
+    pub cover-short : length out < 2 + 4 * k → CoverContract b n pv pm m iv im out (Refused NoRoom) out
     cover-short l = leaves (Refused NoRoom) (answer-short l)
 
     pub cover-wrote : 2 + 4 * k ≤ length out → (out₁ out₂ : Words) → out₁ ≡ layCells (2 * k) 0 (flat (ported b n pv pm m iv im)) out → out₂ ≡ set (set out₁ 0 (pos k)) 1 (pos 2)
-        → CoverLeaves b n pv pm m iv im out (Wrote k) out₂
+        → CoverContract b n pv pm m iv im out (Wrote k) out₂
     cover-wrote l out₁ out₂ p q =
         let w = leaves (Wrote k) (answer-wrote l) in
         let f : length (flat (pairs b ps is)) ≡ 2 * k = ap (λ (z : Rows). length (flat z)) (sym all-pairs) ∙ flat-wide b ps 0 is ∙ ap (λ (z : ℕ). 2 * z) (sym h) in
@@ -73,18 +73,18 @@ module _ (b : Bounds) (n : ℕ) (pv pm : Words) (m : ℕ) (iv im out : Words) wh
 
 -- ---- the frames
 module _ (b : Bounds) (points intervals out : Words) where
-  bad : (isFrame 1 points && isFrame 2 intervals) ≡ false → spanAnswer b points intervals out ≡ Refused BadTable
+  bad : (isFrame 1 points && isFrame 2 intervals) ≡ false → spanAnswer b points intervals out ≡ Refused BadFrame
   unfolding spanAnswer
   bad e = rw e
 
-  pub span-bad : (isFrame 1 points && isFrame 2 intervals) ≡ false → SpanLeaves b points intervals out (Refused BadTable) out
+  pub span-bad : (isFrame 1 points && isFrame 2 intervals) ≡ false → SpanContract b points intervals out (Refused BadFrame) out
   unfolding spanCall
   span-bad e = record {
     answer = by (spanAnswer b points intervals out) (bad e);
     words = ap (λ (z : Written). leave 2 (pairsIn b points intervals) z out .out) (sym (bad e));
   }
     where
-      by : (w : Written) → w ≡ Refused BadTable → Refused BadTable ≡ leave 2 (pairsIn b points intervals) w out .answer
+      by : (w : Written) → w ≡ Refused BadFrame → Refused BadFrame ≡ leave 2 (pairsIn b points intervals) w out .answer
       by (Wrote n) d = sym d
       by (Refused r) d = sym d
 
@@ -94,8 +94,8 @@ module _ (b : Bounds) (points intervals out : Words) where
   fine p q = rw (p, q)
 
   pub span-covers : isFrame 1 points ≡ true → isFrame 2 intervals ≡ true → (r : Written) (out′ : Words)
-      → CoverLeaves b (rowCount points) (valuesIn 1 points) (marksIn 1 points) (rowCount intervals) (valuesIn 2 intervals) (marksIn 2 intervals) out r out′
-      → SpanLeaves b points intervals out r out′
+      → CoverContract b (rowCount points) (valuesIn 1 points) (marksIn 1 points) (rowCount intervals) (valuesIn 2 intervals) (marksIn 2 intervals) out r out′
+      → SpanContract b points intervals out r out′
   unfolding spanCall pairsIn frameRows
   span-covers p q r out′ c = record {
     answer = c .answer ∙ sym (fine p q) ∙ by (spanAnswer b points intervals out);

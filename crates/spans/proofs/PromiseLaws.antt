@@ -8,12 +8,12 @@ use borrow.Author.Tests.{ltb-true, ltb-false}
 use lib.Dec.{ltb}
 use lib.ListN.{length, take, drop, length-append, length-map}
 use Rattle.frames.specs.Cells.{Cell, Rows, Words}
-use Rattle.frames.specs.Frame.{isFrame, rowCount, frameRows, frameWords, valuesIn, marksIn}
-use Rattle.frames.proofs.SortedLaws.{All, all-join}
+use Rattle.frames.specs.Frame.{isFrame, rowCount, frameRows, frameWords, valuesIn, marksIn, isTable}
+use Rattle.order.proofs.SortedLaws.{All, all-join}
 use Rattle.frames.proofs.WordLaws.{rows-length, part-behind}
-use Rattle.tables.specs.Table.{isTable, tableRows, tableOf, laid, leave}
-use Rattle.tables.specs.declared.Refusal.{Refusal}
-use Rattle.tables.specs.declared.Refusal.the-variants.{BadTable, BadPoints, NoRoom}
+use Rattle.tables.specs.Table.{tableRows, tableOf, laid, leave}
+use Rattle.refusals.specs.declared.Refusal.{Refusal}
+use Rattle.refusals.specs.declared.Refusal.the-variants.{BadFrame, BadPoints, NoRoom}
 use Rattle.tables.specs.declared.Written.{Written}
 use Rattle.tables.specs.declared.Written.the-variants.{Rows as Wrote, Refused}
 use Rattle.tables.proofs.TableLaws.{Wide, table-is, table-rows, table-length, laid-take}
@@ -50,13 +50,13 @@ pairs-few b points i (r ∷ rs) =
     omega (arith, a, m, covered-few b r 0 points, pairs-few b points (suc i) rs)
 
 -- ---- what the answer says
-wrote-means : (f a t : Bool) (m k : ℕ) → cond f (Refused BadTable) (cond a (Refused BadPoints) (cond t (Refused NoRoom) (Wrote m))) ≡ Wrote k → (t ≡ false) × (m ≡ k)
+wrote-means : (f a t : Bool) (m k : ℕ) → cond f (Refused BadFrame) (cond a (Refused BadPoints) (cond t (Refused NoRoom) (Wrote m))) ≡ Wrote k → (t ≡ false) × (m ≡ k)
 wrote-means true a t m k e = (cc, cc)
 wrote-means false true t m k e = (cc, cc)
 wrote-means false false true m k e = (cc, cc)
 wrote-means false false false m k e = (refl, cc)
 
-short-means : (f a t : Bool) (m : ℕ) → cond f (Refused BadTable) (cond a (Refused BadPoints) (cond t (Refused NoRoom) (Wrote m))) ≡ Refused NoRoom → t ≡ true
+short-means : (f a t : Bool) (m : ℕ) → cond f (Refused BadFrame) (cond a (Refused BadPoints) (cond t (Refused NoRoom) (Wrote m))) ≡ Refused NoRoom → t ≡ true
 short-means true a t m e = cc
 short-means false true t m e = cc
 short-means false false true m e = refl

@@ -5,11 +5,11 @@ use mathlib.Core.List.{List, [], _∷_, map}
 use Prim.Native.Nat.{ℕ}
 use lib.IntN.{pos, negsuc}
 use Rattle.frames.specs.Cells.{Cell, null, value, Rows, Words, rowsOf, cellsOf}
-use Rattle.frames.specs.Frame.{isFrame, frameRows, pairsFine}
-use Rattle.frames.proofs.Samples.{row, keys, frameOf}
-use Rattle.buffer.specs.Search.{find, search, searchFor}
+use Rattle.frames.specs.Frame.{isFrame, frameRows, pairsFine, isTable}
+use Rattle.order.proofs.Samples.{row, keys, frameOf}
+use Rattle.searching.specs.Search.{find, search, searchFor}
 use Rattle.tables.specs.Table.{wordsOf, tableOf, laid, After}
-use Rattle.tables.specs.declared.Refusal.the-variants.{BadTable, BadPoints, NoRoom}
+use Rattle.refusals.specs.declared.Refusal.the-variants.{BadFrame, BadPoints, NoRoom}
 use Rattle.tables.specs.declared.Written.{Written}
 use Rattle.tables.specs.declared.Written.the-variants.{Rows as Wrote, Refused}
 use Rattle.spans.specs.Span.{covered, pairRow, pairsFrom, pairs, ascendingPoints}
@@ -53,7 +53,7 @@ ported = refl
 pub words :
     spanCall (bounds true false) (frameOf 1 (keys (10 ∷ 20 ∷ []))) (frameOf 2 ((null ∷ value (pos 20) ∷ []) ∷ row (10 ∷ 20 ∷ []) ∷ [])) (pos 9 ∷ pos 9 ∷ pos 9 ∷ pos 9 ∷ pos 9 ∷ pos 9 ∷ pos 9 ∷ [])
     ≡ record { answer = Wrote 1; out = pos 1 ∷ pos 2 ∷ pos 1 ∷ pos 0 ∷ pos 1 ∷ pos 1 ∷ pos 9 ∷ [] }
-unfolding spanCall spanAnswer pairsIn isFrame pairsFine frameRows rowsOf cellsOf ascendingPoints pairsFrom covered wordsOf tableOf laid
+unfolding spanCall spanAnswer pairsIn isFrame isTable pairsFine frameRows rowsOf cellsOf ascendingPoints pairsFrom covered wordsOf tableOf laid
 words = refl
 
 -- The refusals: intervals of another c 5; a null among the points 16, points out of order 16; no room 6; no pair needs two words.
@@ -61,6 +61,6 @@ pub refusals :
     spanAnswer (bounds true true) (frameOf 1 (keys (20 ∷ 10 ∷ []))) (frameOf 1 []) [] ∷ spanAnswer (bounds true true) (frameOf 1 ((value (pos 10) ∷ []) ∷ (null ∷ []) ∷ [])) (frameOf 2 []) []
     ∷ spanAnswer (bounds true true) (frameOf 1 (keys (20 ∷ 10 ∷ []))) (frameOf 2 []) [] ∷ spanAnswer (bounds true true) (frameOf 1 (keys (10 ∷ []))) (frameOf 2 (row (10 ∷ 10 ∷ []) ∷ [])) (pos 0 ∷ pos 0 ∷ [])
     ∷ spanAnswer (bounds true false) (frameOf 1 (keys (10 ∷ []))) (frameOf 2 (row (10 ∷ 10 ∷ []) ∷ [])) (pos 0 ∷ pos 0 ∷ []) ∷ []
-    ≡ Refused BadTable ∷ Refused BadPoints ∷ Refused BadPoints ∷ Refused NoRoom ∷ Wrote 0 ∷ []
-unfolding spanAnswer pairsIn isFrame pairsFine frameRows rowsOf cellsOf ascendingPoints pairsFrom covered
+    ≡ Refused BadFrame ∷ Refused BadPoints ∷ Refused BadPoints ∷ Refused NoRoom ∷ Wrote 0 ∷ []
+unfolding spanAnswer pairsIn isFrame isTable pairsFine frameRows rowsOf cellsOf ascendingPoints pairsFrom covered
 refusals = refl

@@ -11,17 +11,18 @@ use lib.IntN.{ℤ, pos, negsuc}
 use lib.Signed.{ltZ, leZ}
 use lib.ListN.{length, getD}
 use Rattle.frames.specs.Cells.{Cell, null, value, cell, isNull, Rows}
-use Rattle.frames.specs.Options.{keyRule}
-use Rattle.frames.specs.Order.{cmpZ, cmpCell, isLess, isGreater}
-use Rattle.frames.specs.declared.Order.{Order}
-use Rattle.frames.specs.declared.Order.the-variants.{Less, Equal, Greater}
-use Rattle.frames.proofs.OrderLaws.{AtMost, flip, cmpCell-is, cmpZ-is, at-most, at-most-refl, on}
-use Rattle.frames.proofs.SortedLaws.{and-true, not-greater}
-use Rattle.buffer.specs.Search.{find, meets}
-use Rattle.buffer.specs.declared.Seek.{Seek}
-use Rattle.buffer.specs.declared.Seek.the-variants.{AtLeast, Above}
-use Rattle.buffer.proofs.SearchLaws.{Cut, search-cut, before-or}
-use Rattle.buffer.proofs.Bounds.{meets-later}
+use Rattle.options.specs.Options.{keyRule}
+use Rattle.order.specs.Order.{cmpZ, cmpCell, isLess, isGreater}
+use Rattle.order.specs.declared.Order.{Order}
+use Rattle.order.specs.declared.Order.the-variants.{Less, Equal, Greater}
+use Rattle.order.proofs.OrderLaws.{AtMost, flip, cmpCell-is, cmpZ-is, at-most, at-most-refl, on}
+use Rattle.order.proofs.SortedLaws.{not-greater}
+use Rattle.frames.proofs.BoolLaws.{and-true}
+use Rattle.searching.specs.Search.{find, meets}
+use Rattle.searching.specs.declared.Seek.{Seek}
+use Rattle.searching.specs.declared.Seek.the-variants.{AtLeast, Above}
+use Rattle.searching.proofs.SearchLaws.{Cut, search-cut, before-or}
+use Rattle.searching.proofs.Bounds.{meets-later}
 use Rattle.spans.specs.Span.{covers, coversRow, covered, pairRow, pairsFrom, ascendingPoints}
 use Rattle.spans.specs.Port.{seekLower, seekUpper, searchSorted, upFrom, stretch, matchesOf, portedFrom, PortedIsAll}
 use Rattle.spans.specs.declared.Bounds.{Bounds}

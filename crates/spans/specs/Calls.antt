@@ -7,7 +7,7 @@ use lib.ListN.{length}
 use Rattle.frames.specs.Cells.{Rows, Words}
 use Rattle.frames.specs.Frame.{isFrame, frameRows, frameWords}
 use Rattle.tables.specs.Table.{After, leave}
-use Rattle.tables.specs.declared.Refusal.the-variants.{BadTable, BadPoints, NoRoom}
+use Rattle.refusals.specs.declared.Refusal.the-variants.{BadFrame, BadPoints, NoRoom}
 use Rattle.tables.specs.declared.Written.{Written}
 use Rattle.tables.specs.declared.Written.the-variants.{Rows as Wrote, Refused}
 use Rattle.spans.specs.Span.{pairs, ascendingPoints}
@@ -21,7 +21,7 @@ pairsIn b points intervals = pairs b (frameRows 1 points) (frameRows 2 intervals
 -- fewer words than the table of the pairs. Else the number of pairs.
 unfoldable pub spanAnswer : Bounds → Words → Words → Words → Written
 spanAnswer b points intervals out =
-    cond (not (isFrame 1 points && isFrame 2 intervals)) (Refused BadTable)
+    cond (not (isFrame 1 points && isFrame 2 intervals)) (Refused BadFrame)
     (cond (not (ascendingPoints (frameRows 1 points))) (Refused BadPoints)
     (cond (ltb (length out) (frameWords (length (pairsIn b points intervals)) 2)) (Refused NoRoom)
     (Wrote (length (pairsIn b points intervals)))))
@@ -31,6 +31,6 @@ unfoldable pub spanCall : Bounds → Words → Words → Words → After
 spanCall b points intervals out = leave 2 (pairsIn b points intervals) (spanAnswer b points intervals out) out
 
 -- The contract of the call: its answer, and the words of the output afterwards.
-pub record SpanLeaves (b : Bounds) (points intervals out : Words) (r : Written) (out′ : Words) : Type 0 where
+pub record SpanContract (b : Bounds) (points intervals out : Words) (r : Written) (out′ : Words) : Type 0 where
   pub answer : r ≡ spanCall b points intervals out .answer
   pub words : out′ ≡ spanCall b points intervals out .out

@@ -7,7 +7,7 @@ use lib.ListN.{length}
 use Rattle.frames.specs.Cells.{Rows, Words, rowsOf}
 use Rattle.frames.specs.Frame.{frameWords}
 use Rattle.tables.specs.Table.{After, leave}
-use Rattle.tables.specs.declared.Refusal.the-variants.{BadPoints, NoRoom}
+use Rattle.refusals.specs.declared.Refusal.the-variants.{BadPoints, NoRoom}
 use Rattle.tables.specs.declared.Written.{Written}
 use Rattle.tables.specs.declared.Written.the-variants.{Rows as Wrote, Refused}
 use Rattle.spans.specs.Span.{pairs, ascendingPoints}
@@ -21,6 +21,6 @@ coverAnswer b points intervals out =
     (Wrote (length (pairs b points intervals))))
 
 -- What the part behind the frame rule leaves: n points and m intervals by their values and marks.
-pub record CoverLeaves (b : Bounds) (n : ℕ) (pv pm : Words) (m : ℕ) (iv im out : Words) (r : Written) (out′ : Words) : Type 0 where
+pub record CoverContract (b : Bounds) (n : ℕ) (pv pm : Words) (m : ℕ) (iv im out : Words) (r : Written) (out′ : Words) : Type 0 where
   pub answer : r ≡ coverAnswer b (rowsOf 1 n pv pm) (rowsOf 2 m iv im) out
   pub words : out′ ≡ leave 2 (pairs b (rowsOf 1 n pv pm) (rowsOf 2 m iv im)) (coverAnswer b (rowsOf 1 n pv pm) (rowsOf 2 m iv im) out) out .out

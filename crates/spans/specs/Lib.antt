@@ -2,5 +2,5 @@ pub mod Span
 pub mod Port
 pub mod Calls
 pub mod Promises
-pub mod Room
+pub mod Requires
 pub mod Inner

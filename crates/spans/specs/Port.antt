@@ -6,10 +6,10 @@ use Prim.Native.Nat.{ℕ, zero, suc, _-_}
 use lib.IntN.{ℤ}
 use lib.ListN.{length}
 use Rattle.frames.specs.Cells.{Cell, null, value, cell, Rows}
-use Rattle.frames.specs.Options.{keyRule}
-use Rattle.buffer.specs.Search.{find}
-use Rattle.buffer.specs.declared.Seek.{Seek}
-use Rattle.buffer.specs.declared.Seek.the-variants.{AtLeast, Above}
+use Rattle.options.specs.Options.{keyRule}
+use Rattle.searching.specs.Search.{find}
+use Rattle.searching.specs.declared.Seek.{Seek}
+use Rattle.searching.specs.declared.Seek.the-variants.{AtLeast, Above}
 use Rattle.spans.specs.Span.{pairRow, pairs, ascendingPoints}
 use Rattle.spans.specs.declared.Bounds.{Bounds}
 

@@ -5,8 +5,8 @@ use Prim.Native.Nat.{ℕ, suc}
 use lib.IntN.{ℤ, pos}
 use lib.Signed.{leZ, ltZ}
 use Rattle.frames.specs.Cells.{Cell, null, value, cell, isNull, Rows}
-use Rattle.frames.specs.Options.{keyRule}
-use Rattle.frames.specs.Order.{cmpCell, isGreater}
+use Rattle.options.specs.Options.{keyRule}
+use Rattle.order.specs.Order.{cmpCell, isGreater}
 use Rattle.spans.specs.declared.Bounds.{Bounds}
 
 -- The point v lies between the bounds l and u; a bound itself counts where it is inclusive.

@@ -11,10 +11,11 @@ use lib.Signed.{leZ}
 use lib.ListN.{length, take, drop, getD, length-append, length-map}
 use lib.Seq.{take-at, drop-at, take-length}
 use Rattle.frames.specs.Cells.{Cell, null, value, valueWord, markWord, cellsOf, rowsOf, Rows, Words}
-use Rattle.frames.specs.Frame.{sameZ, rowCount, frameWords, pairFine, pairsFine, valuesIn, marksIn, isFrame, frameRows}
-use Rattle.frames.proofs.SortedLaws.{All, and-true}
+use Rattle.frames.specs.Frame.{sameZ, rowCount, frameWords, pairFine, pairsFine, valuesIn, marksIn, isFrame, frameRows, isTable}
+use Rattle.order.proofs.SortedLaws.{All}
+use Rattle.frames.proofs.BoolLaws.{and-true}
 use Rattle.frames.proofs.WordLaws.{cells-back, part-copied}
-use Rattle.tables.specs.Table.{isTable, wordsOf, tableOf, laid}
+use Rattle.tables.specs.Table.{wordsOf, tableOf, laid}
 
 -- Each row has c cells.
 abbrev pub Wide : ℕ → Rows → Type 0
@@ -117,23 +118,3 @@ module _ (c : ℕ) (rs : Rows) (h : Wide c rs) where
   laid-take out l =
       rw (← table-length)
       (part-copied out 0 (tableOf c rs) (length (tableOf c rs)) (omega arith) (omega arith) ∙ take-length (tableOf c rs))
-
--- A frame is a table of at most 4,096 rows.
-pub frame-is-table : (c : ℕ) (f : Words) → isFrame c f ≡ (isTable c f && leZ (getD f 0 (pos 0)) (pos 4096))
-unfolding isFrame isTable
-frame-is-table c f =
-    by (leb 2 (length f)) (leZ (pos 0) (getD f 0 (pos 0))) (leZ (getD f 0 (pos 0)) (pos 4096)) (sameZ (getD f 1 (pos 0)) (pos c)) (eqb (length f) (frameWords (rowCount f) c)) (pairsFine (valuesIn c f) (marksIn c f))
-  where
-    and-false : (a : Bool) → (a && false) ≡ false
-    and-false true = refl
-    and-false false = refl
-
-    and-true′ : (a : Bool) → (a && true) ≡ a
-    and-true′ true = refl
-    and-true′ false = refl
-
-    by : (a b k d e g : Bool) → (a && (b && k) && d && e && g) ≡ ((a && b && d && e && g) && k)
-    by false b k d e g = refl
-    by true false k d e g = refl
-    by true true false d e g = sym (and-false (d && e && g))
-    by true true true d e g = sym (and-true′ (d && e && g))

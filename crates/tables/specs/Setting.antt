@@ -1,28 +1,14 @@
--- What the functions over tables know of the options, and their refusals by number. Assumes nothing.
+-- What the functions over tables know of the options. Assumes nothing.
 use mathlib.Core.Bool.{Bool, true, _&&_, cond}
 use mathlib.Core.List.{List, [], _∷_}
 use Prim.Native.Nat.{ℕ, suc, _+_}
 use lib.Dec.{ltb}
 use Rattle.frames.specs.Cells.{Cell, Rows}
-use Rattle.frames.specs.Options.{badOptions}
-use Rattle.frames.specs.declared.Options.{Options}
-use Rattle.tables.specs.declared.Refusal.{Refusal}
-use Rattle.tables.specs.declared.Refusal.the-variants.{BadOptions, TooManyCarried, BadRanks, BadTable, UnknownCode, BadColumns, Unsorted, Beyond, BadPoints, NoRoom}
+use Rattle.options.specs.Options.{badOptions}
+use Rattle.options.specs.declared.Options.{Options}
+use Rattle.refusals.specs.declared.Refusal.the-variants.{BadOptions, TooManyCarried, BadRanks}
 use Rattle.tables.specs.declared.Written.{Written}
 use Rattle.tables.specs.declared.Written.the-variants.{Refused}
-
--- The refusals' numbers, in checking order.
-abbrev pub number : Refusal → ℕ
-number BadOptions = 1
-number TooManyCarried = 10
-number BadRanks = 11
-number BadTable = 5
-number UnknownCode = 12
-number BadColumns = 13
-number Unsorted = 14
-number Beyond = 15
-number BadPoints = 16
-number NoRoom = 6
 
 -- The options, and beside them what they do not hold yet: p carried columns; whether the rank list is one that 11 refuses; and whether a row's by-value in the
 -- ranked column is on that list, where there is one. The order of rows is that of the options, known by its laws alone.

@@ -1,23 +1,13 @@
--- The rule of tables, for any words; a table's words from its rows. Assumes nothing.
-use mathlib.Core.Bool.{Bool, _&&_}
+-- A table's words from its rows, and what a call over tables leaves. Assumes nothing.
 use mathlib.Core.List.{List, [], _∷_, _++_, map}
 use Prim.Native.Nat.{ℕ}
-use lib.Dec.{leb, eqb}
 use lib.IntN.{ℤ, pos}
-use lib.Signed.{leZ}
-use lib.ListN.{length, getD}
+use lib.ListN.{length}
 use lib.Seq.{paste}
 use Rattle.frames.specs.Cells.{Cell, valueWord, markWord, Rows, Words}
-use Rattle.frames.specs.Frame.{sameZ, rowCount, frameWords, pairsFine, valuesIn, marksIn, frameRows}
+use Rattle.frames.specs.Frame.{frameRows}
 use Rattle.tables.specs.declared.Written.{Written}
 use Rattle.tables.specs.declared.Written.the-variants.{Rows as Wrote, Refused}
-
--- The frame rule without its limit of 4,096 rows: n is not below 0, the column count is c, there are exactly 2 + 2nc words, and each mark fits its value. Words
--- that break it are refused by 5.
-unfoldable pub isTable : ℕ → Words → Bool
-isTable c f =
-    leb 2 (length f) && leZ (pos 0) (getD f 0 (pos 0)) && sameZ (getD f 1 (pos 0)) (pos c)
-    && eqb (length f) (frameWords (rowCount f) c) && pairsFine (valuesIn c f) (marksIn c f)
 
 -- The rows of a table of c columns: those of a frame, however many.
 abbrev pub tableRows : ℕ → Words → Rows

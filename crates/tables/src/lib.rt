@@ -1,23 +1,10 @@
 // Tables: frames of any number of rows; how their cells are written, and what the functions over them answer.
+use refusals::Refusal;
 ghost use mathlib.Core.Path.{_≡_};
 ghost use Prim.Native.Nat.{_+_};
 ghost use lib.IntN.{pos};
 ghost use lib.ListN.{set};
 ghost use Rattle.tables.specs.Lay.{CellRoom, HeadRoom};
-
-// The refusals of the functions over tables, in checking order; their numbers are in specs/Setting.antt.
-pub enum Refusal {
-    BadOptions,
-    TooManyCarried,
-    BadRanks,
-    BadTable,
-    UnknownCode,
-    BadColumns,
-    Unsorted,
-    Beyond,
-    BadPoints,
-    NoRoom,
-}
 
 // A table of so many rows was written; or the call was refused, and nothing was.
 pub enum Written {

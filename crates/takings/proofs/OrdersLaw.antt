@@ -4,7 +4,7 @@ use mathlib.Core.Bool.{Bool, true, false, cond, not, _&&_, _||_}
 use mathlib.Core.List.{List, [], _∷_, _++_, map}
 use mathlib.Core.Option.{Option, none, some}
 use Prim.Native.Nat.{ℕ, zero, suc, _+_, _*_, _≤_}
-use Rattle.frames.specs.Order.{nullIn}
+use Rattle.order.specs.Order.{nullIn}
 use native.Mathlib.Omega.{arith}
 use borrow.Author.Tests.{ltb-false, le-ltb, not-true}
 use lib.Dec.{ltb, eqb}
@@ -12,16 +12,17 @@ use lib.IntN.{ℤ, pos, natAbs, _+ℤ_, +ℤ-assoc, +ℤ-comm, +ℤ-idl, +ℤ-id
 use lib.ListN.{length, take, getD, length-append, length-map, List·getD-append}
 use lib.Seq.{take-at, getD-at, getD-append-add, getD-take, length-take-le}
 use Rattle.frames.specs.Cells.{Cell, null, value, cell, isNull, Rows, Words}
-use Rattle.frames.specs.Frame.{rowCount, frameWords, isFrame, frameRows}
-use Rattle.frames.specs.Options.{badOptions}
-use Rattle.frames.specs.declared.Options.{Options}
-use Rattle.frames.proofs.SortedLaws.{and-true, all-by}
+use Rattle.frames.specs.Frame.{rowCount, frameWords, isFrame, frameRows, isTable}
+use Rattle.options.specs.Options.{badOptions}
+use Rattle.options.specs.declared.Options.{Options}
+use Rattle.order.proofs.SortedLaws.{all-by}
+use Rattle.frames.proofs.BoolLaws.{and-true}
 use Rattle.frames.proofs.FrameLaws.{frame-rows, frame-wide}
 use Rattle.tables.specs.Setting.{Setting, leftWidth, allKnown}
-use Rattle.tables.specs.Table.{isTable, tableOf, laid}
+use Rattle.tables.specs.Table.{tableOf, laid}
 use Rattle.tables.proofs.TableLaws.{Wide, table-rows, table-is, laid-take}
-use Rattle.tables.specs.declared.Refusal.{Refusal}
-use Rattle.tables.specs.declared.Refusal.the-variants.{BadOptions, TooManyCarried, BadRanks, BadTable, UnknownCode, BadColumns, Unsorted, Beyond, NoRoom}
+use Rattle.refusals.specs.declared.Refusal.{Refusal}
+use Rattle.refusals.specs.declared.Refusal.the-variants.{BadOptions, TooManyCarried, BadRanks, BadFrame, UnknownCode, BadColumns, Unsorted, Beyond, NoRoom}
 use Rattle.takings.specs.Subtotals.{Subtotal, addAll, totalFor, countFor, rowOf, subtotalsOf, hasNull, anyNull, mostAmount, mostSales, beyondRow, beyondRows, salesIn, beyondNumber, Tells}
 use Rattle.takings.specs.Sales.{Sale, salesOf, withAmount, amountsOf, nullsOf, beyondAmounts, matched}
 use Rattle.takings.specs.Calls.{After, tableWidth, tableWords, columnsIn, anyFrame, answerColumns, rowsIn, subtotalsIn, fineSubtotals, salesBy, unless, result, leave, addAnswer, addCall, joinAnswer, joinCall}
@@ -272,7 +273,7 @@ module _ (s : Setting) where
   unfolding addAnswer
   add-told table k left answer out e =
       let five = isTable (tableWidth s) table && isFrame (leftWidth s) left && anyFrame answer && eqb (rowCount left) (rowCount answer) in
-      let p = passed (not five) BadTable _ (past _ e) in
+      let p = passed (not five) BadFrame _ (past _ e) in
       let q = passed (not (allKnown s (rowsIn s table) && allKnown s (frameRows (leftWidth s) left))) UnknownCode _ (p .1) in
       let r = passed (not (answerColumns s (columnsIn answer))) BadColumns _ (q .1) in
       let u = passed (not (fineSubtotals s table)) Unsorted _ (r .1) in
@@ -286,7 +287,7 @@ module _ (s : Setting) where
       → Result (addAll (s .options) (subtotalsIn s table) (subtotalsIn s other)) (natAbs k + natAbs l) out n m
   unfolding joinAnswer
   join-told table k other l out e =
-      let p = passed (not (isTable (tableWidth s) table && isTable (tableWidth s) other)) BadTable _ (past _ e) in
+      let p = passed (not (isTable (tableWidth s) table && isTable (tableWidth s) other)) BadFrame _ (past _ e) in
       let q = passed (not (allKnown s (rowsIn s table) && allKnown s (rowsIn s other))) UnknownCode _ (p .1) in
       let r = passed (eqb (s .carried) 0) BadColumns _ (q .1) in
       let u = passed (not (fineSubtotals s table && fineSubtotals s other)) Unsorted _ (r .1) in

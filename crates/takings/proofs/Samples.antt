@@ -8,13 +8,13 @@ use lib.Dec.{ltb}
 use lib.IntN.{pos, negsuc}
 use lib.ListN.{replicate}
 use Rattle.frames.specs.Cells.{Cell, null, value, cell, Rows, Words, rowsOf, cellsOf}
-use Rattle.frames.specs.Frame.{isFrame, frameRows, pairsFine}
-use Rattle.frames.specs.Options.{badOptions}
-use Rattle.frames.specs.Order.{cmpFirst, nullIn}
-use Rattle.frames.proofs.Samples.{options, row, frameOf}
+use Rattle.frames.specs.Frame.{isFrame, frameRows, pairsFine, isTable}
+use Rattle.options.specs.Options.{badOptions}
+use Rattle.order.specs.Order.{cmpFirst, nullIn}
+use Rattle.order.proofs.Samples.{options, row, frameOf}
 use Rattle.tables.specs.Setting.{Setting, allKnown}
-use Rattle.tables.specs.Table.{isTable, wordsOf, tableOf, laid}
-use Rattle.tables.specs.declared.Refusal.the-variants.{BadTable, UnknownCode, BadColumns, Unsorted, Beyond, NoRoom}
+use Rattle.tables.specs.Table.{wordsOf, tableOf, laid}
+use Rattle.refusals.specs.declared.Refusal.the-variants.{BadFrame, UnknownCode, BadColumns, Unsorted, Beyond, NoRoom}
 use Rattle.takings.specs.Subtotals.{insert, addAll, ascending, subtotalsOf, hasNull, anyNull, beyondRow, beyondRows, salesIn}
 use Rattle.takings.specs.Sales.{salesOf, amountsOf, nullsOf, beyondAmounts}
 use Rattle.takings.specs.Calls.{fineSubtotals, salesBy, result, addAnswer, addCall, joinAnswer, joinCall}
@@ -88,7 +88,7 @@ pub refusals :
     ∷ add 1 (frameOf 3 (row (1 ∷ 5 ∷ 1 ∷ []) ∷ row (1 ∷ 5 ∷ 1 ∷ []) ∷ [])) sale (price 5)
     ∷ add 1 empty sale (price 1000000001) ∷ add 1 (frameOf 3 (row (1 ∷ 0 ∷ 0 ∷ []) ∷ [])) sale (price 5) ∷ add 1 (frameOf 3 (row (1 ∷ 1000000001 ∷ 1 ∷ []) ∷ [])) sale (price 5)
     ∷ addAnswer (with 1) empty (negsuc 0) sale (price 5) [] ∷ add 1 (frameOf 3 (row (1 ∷ 1000000000 ∷ 1 ∷ []) ∷ [])) sale (price 1000000000) ∷ []
-    ≡ Refused BadTable ∷ Refused UnknownCode ∷ Refused BadColumns ∷ Refused BadColumns ∷ Refused Unsorted ∷ Refused Unsorted ∷ Refused Beyond ∷ Refused Beyond ∷ Refused Beyond
+    ≡ Refused BadFrame ∷ Refused UnknownCode ∷ Refused BadColumns ∷ Refused BadColumns ∷ Refused Unsorted ∷ Refused Unsorted ∷ Refused Beyond ∷ Refused Beyond ∷ Refused Beyond
     ∷ Refused Beyond ∷ Refused NoRoom ∷ []
 unfolding addAnswer salesBy fineSubtotals result badOptions isTable isFrame pairsFine frameRows rowsOf cellsOf allKnown anyNull hasNull ascending subtotalsOf beyondRows beyondRow beyondAmounts salesIn salesOf amountsOf nullsOf addAll insert cmpFirst nullIn
 refusals = refl

@@ -13,12 +13,12 @@ use lib.IntN.{ℤ, pos, negsuc, natAbs, subℕ, _+ℤ_, _-ℤ_, +ℤ-assoc, +ℤ
 use lib.ListN.{length, getD}
 use lib.Seq.{ext-getD}
 use Rattle.frames.specs.Cells.{Cell, null}
-use Rattle.frames.specs.Order.{cmpGroup, isLess, isEqual}
-use Rattle.frames.specs.declared.Options.{Options}
-use Rattle.frames.specs.declared.Order.{Order}
-use Rattle.frames.specs.declared.Order.the-variants.{Less, Equal, Greater}
-use Rattle.frames.proofs.OrderLaws.{flip, cmpGroup-is, greater-less, less-greater, three, group-equal}
-use Rattle.frames.proofs.SortedLaws.{and-true}
+use Rattle.order.specs.Order.{cmpGroup, isLess, isEqual}
+use Rattle.options.specs.declared.Options.{Options}
+use Rattle.order.specs.declared.Order.{Order}
+use Rattle.order.specs.declared.Order.the-variants.{Less, Equal, Greater}
+use Rattle.order.proofs.OrderLaws.{flip, cmpGroup-is, greater-less, less-greater, three, group-equal}
+use Rattle.frames.proofs.BoolLaws.{and-true}
 use Rattle.takings.specs.Subtotals.{Subtotal, cmpSub, plus, insert, addAll, totalFor, countFor, ascending, eachSold, salesIn, mostAmount, Tells}
 
 -- ---- what holds of each subtotal

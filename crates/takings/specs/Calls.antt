@@ -6,12 +6,12 @@ use lib.Dec.{ltb, eqb}
 use lib.IntN.{ℤ, pos, natAbs}
 use lib.ListN.{length, getD}
 use Rattle.frames.specs.Cells.{Rows, Words}
-use Rattle.frames.specs.Frame.{rowCount, frameWords, isFrame, frameRows}
-use Rattle.frames.specs.Options.{badOptions}
-use Rattle.frames.specs.declared.Options.{Options}
+use Rattle.frames.specs.Frame.{rowCount, frameWords, isFrame, frameRows, isTable}
+use Rattle.options.specs.Options.{badOptions}
+use Rattle.options.specs.declared.Options.{Options}
 use Rattle.tables.specs.Setting.{Setting, leftWidth, allKnown}
-use Rattle.tables.specs.Table.{isTable, tableRows, tableOf, laid}
-use Rattle.tables.specs.declared.Refusal.the-variants.{BadOptions, TooManyCarried, BadRanks, BadTable, UnknownCode, BadColumns, Unsorted, Beyond, NoRoom}
+use Rattle.tables.specs.Table.{tableRows, tableOf, laid}
+use Rattle.refusals.specs.declared.Refusal.the-variants.{BadOptions, TooManyCarried, BadRanks, BadFrame, UnknownCode, BadColumns, Unsorted, Beyond, NoRoom}
 use Rattle.takings.specs.Subtotals.{Subtotal, addAll, ascending, rowOf, subtotalsOf, anyNull, mostSales, beyondRows, salesIn, beyondNumber}
 use Rattle.takings.specs.Sales.{Sale, salesOf, amountsOf, nullsOf, beyondAmounts}
 use Rattle.takings.specs.declared.Taken.{Taken}
@@ -80,7 +80,7 @@ unfoldable pub addAnswer : Setting → Words → ℤ → Words → Words → Wor
 addAnswer s table k left answer out =
     let sales = salesBy s left answer in
     unless s
-    (cond (not (isTable (tableWidth s) table && isFrame (leftWidth s) left && anyFrame answer && eqb (rowCount left) (rowCount answer))) (Refused BadTable)
+    (cond (not (isTable (tableWidth s) table && isFrame (leftWidth s) left && anyFrame answer && eqb (rowCount left) (rowCount answer))) (Refused BadFrame)
     (cond (not (allKnown s (rowsIn s table) && allKnown s (frameRows (leftWidth s) left))) (Refused UnknownCode)
     (cond (not (answerColumns s (columnsIn answer))) (Refused BadColumns)
     (cond (not (fineSubtotals s table)) (Refused Unsorted)
@@ -95,7 +95,7 @@ addCall s table k left answer out =
 unfoldable pub joinAnswer : Setting → Words → ℤ → Words → ℤ → Words → Taken
 joinAnswer s table k other l out =
     unless s
-    (cond (not (isTable (tableWidth s) table && isTable (tableWidth s) other)) (Refused BadTable)
+    (cond (not (isTable (tableWidth s) table && isTable (tableWidth s) other)) (Refused BadFrame)
     (cond (not (allKnown s (rowsIn s table) && allKnown s (rowsIn s other))) (Refused UnknownCode)
     (cond (eqb (s .carried) 0) (Refused BadColumns)
     (cond (not (fineSubtotals s table && fineSubtotals s other)) (Refused Unsorted)

@@ -7,9 +7,8 @@ use Prim.Native.Nat.{ℕ}
 use lib.IntN.{ℤ, pos}
 use lib.ListN.{take}
 use Rattle.frames.specs.Cells.{Words}
-use Rattle.frames.specs.Frame.{frameWords}
+use Rattle.frames.specs.Frame.{frameWords, isTable}
 use Rattle.tables.specs.Setting.{Setting}
-use Rattle.tables.specs.Table.{isTable}
 use Rattle.takings.specs.Subtotals.{Subtotal, beyondRows, beyondNumber, Tells}
 use Rattle.takings.specs.Sales.{Sale, amountsOf, nullsOf}
 use Rattle.takings.specs.Calls.{After, tableWidth, tableWords, rowsIn, fineSubtotals, salesBy, addCall, joinCall}

@@ -8,10 +8,10 @@ use lib.IntN.{ℤ, pos, natAbs, _+ℤ_}
 use lib.Signed.{ltZ}
 use lib.ListN.{take}
 use Rattle.frames.specs.Cells.{Cell, null, value, cell, isNull, Rows}
-use Rattle.frames.specs.Order.{cmpGroup, isLess, isEqual}
-use Rattle.frames.specs.declared.Options.{Options}
-use Rattle.frames.specs.declared.Order.{Order}
-use Rattle.frames.specs.declared.Order.the-variants.{Less, Equal, Greater}
+use Rattle.order.specs.Order.{cmpGroup, isLess, isEqual}
+use Rattle.options.specs.declared.Options.{Options}
+use Rattle.order.specs.declared.Order.{Order}
+use Rattle.order.specs.declared.Order.the-variants.{Less, Equal, Greater}
 
 -- The by-values of a group, its total and its sale count. A sale with an amount is a subtotal of count 1.
 pub record Subtotal : Type 0 where

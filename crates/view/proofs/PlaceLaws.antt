@@ -12,7 +12,7 @@ use lib.Seq.{getD-take, getD-drop}
 use Rattle.frames.specs.Cells.{Words, cellOf, rowFrom}
 use Rattle.frames.specs.Frame.{isFrame, rowCount, frameWords, valuesIn, marksIn, frameRows}
 use Rattle.frames.proofs.FrameLaws.{frame-length, frame-rows, frame-wide, values-length}
-use Rattle.frames.proofs.RowLaws.{row-room, rows-from, row-cell}
+use Rattle.order.proofs.RowLaws.{row-room, rows-from, row-cell}
 use Rattle.view.specs.View.{Inside, valueAt, markAt, told, foundIn, foundAt}
 use Rattle.view.specs.declared.Found.the-variants.{Nothing}
 

@@ -3,20 +3,20 @@ use cursor::known;
 use cursor::moves;
 use fits::fits_key;
 use fits::too_far;
-use frames::Options;
-use frames::Strategy;
 use keyed::null_at;
 use matching::Choice;
 use matching::Step;
+use options::Options;
+use options::Strategy;
 ghost use mathlib.Core.Path.{_≡_};
 ghost use mathlib.Core.List.{List};
 ghost use Prim.Native.Nat.{ℕ, _+_, _-_, _*_, _^_, _<_, _≤_};
 ghost use Rattle.frames.specs.Cells.{Cell, value};
-ghost use Rattle.frames.specs.Order.{keyOf};
-ghost use Rattle.frames.specs.Room.{RowsIn};
-ghost use Rattle.frames.specs.declared.Strategy.the-variants.{Backward, Forward};
+ghost use Rattle.order.specs.Order.{keyOf};
+ghost use Rattle.order.specs.Requires.{RowsIn};
+ghost use Rattle.options.specs.declared.Strategy.the-variants.{Backward, Forward};
 ghost use Rattle.matching.specs.Match.{matchIn};
-ghost use Rattle.matching.specs.Walk.{between};
+ghost use Rattle.matching.specs.Stretches.{between};
 ghost use Rattle.matching.specs.Moves.{fitsKey, keyAt, CursorAt, Came, Rests, Stepped, WalkAt, WalkedRow};
 
 // The right cursor moves on from row c for the left key v, row by row, to the last of the rows below `end` at most.

@@ -173,13 +173,15 @@ pub enum Difference {
 
 /// Whether SCOPE refuses the call by 1 to 7, a run in its first turn: the Rust has no counterpart.
 pub fn no_counterpart(answer: &Answer) -> bool {
-    matches!(answer, Answer::Refused(1..=7) | Answer::State(_) | Answer::NoJoin)
+    matches!(answer, Answer::Refused(1..=7) | Answer::State(_) | Answer::Areas(..) | Answer::NoJoin)
         || matches!(answer, Answer::Ran(Ran { turns: 0, stop: Stop::Refused(1..=7), .. }))
 }
 
 /// Whether the Rust went another way than SCOPE from here on: it knows no areas and no outputs, so it took what SCOPE refused.
-pub fn parted(answer: &Answer) -> bool {
-    matches!(answer, Answer::Refused(2 | 6 | 7) | Answer::Ran(Ran { stop: Stop::Refused(2 | 6 | 7), .. }))
+/// A move changes nothing for it, refused or not.
+pub fn parted(call: &Call, answer: &Answer) -> bool {
+    !matches!(call, Call::Move(..))
+        && matches!(answer, Answer::Refused(2 | 6 | 7) | Answer::Ran(Ran { stop: Stop::Refused(2 | 6 | 7), .. }))
 }
 
 /// Whether the Rust's answer is this one. Where SCOPE refuses a later turn of a run by 1 to 7 the Rust may go on: its first
@@ -225,7 +227,7 @@ fn run_both(calls: &[Call], ways: Ways, tally: &mut Tally) -> Result<(), Differe
             tally.count(&ruled, state);
         }
         answers.push(ruled);
-        if answers.last().is_some_and(parted) {
+        if answers.last().is_some_and(|answer| parted(call, answer)) {
             break;
         }
         let (is, should) = (rust_inside(&rust), rules_inside(&pulled));

@@ -88,6 +88,7 @@ impl Judge for Pulled {
             Call::Open(o) => {
                 return self.rules.call(&Call::Open(Open { left_words: ROOM, right_words: ROOM, ..o.clone() }));
             },
+            Call::Move(..) => {},
             Call::Right(words) if self.right_open() => self.waiting.push_back(words.clone()),
             Call::Turn(output) => return self.turn(*output),
             Call::Run(k, output) => return Answer::Ran(self.run(*k, *output)),

@@ -350,13 +350,15 @@ impl Join {
         Some((wrote, spoiled))
     }
 
-    /// The answer to a call on an open join. Where SCOPE refuses, the Rust has no counterpart: `left`, `right` and `end`
-    /// say ok and nothing changes; `turn`, `run` and `ports` say nothing.
+    /// The answer to a call on an open join. Where SCOPE refuses, the Rust has no counterpart: `left`, `right`, `end` and
+    /// `move` say ok and nothing changes; `turn`, `run` and `ports` say nothing.
     pub fn call(&mut self, call: &Call) -> Answer {
         match call {
             Call::Left(w) => self.left(w),
             Call::Right(w) => self.right(w),
             Call::End => self.end(),
+            // Its buffers know no areas.
+            Call::Move(..) => {},
             Call::Ports(p) if !self.failed() => return self.ports(*p),
             Call::Turn(_) if self.turns() => return self.turn(),
             Call::Run(k, _) if *k == 0 || self.turns() => return Answer::Ran(self.run(*k)),

@@ -46,7 +46,7 @@ fn cases(text: &str) -> Step {
             return Err(format!("{call}: wanted {want}, the Rust says {said}, the rules say {ruled}"));
         }
         asked += known as usize;
-        parted |= compare::parted(&ruled);
+        parted |= compare::parted(call, &ruled);
     }
     Ok(format!("{} calls, {asked} of them answered by the Rust", calls.len()))
 }
@@ -59,6 +59,11 @@ pub fn counter_cases() -> Step {
 /// SCOPE 17: runs.
 pub fn run_cases() -> Step {
     cases(include_str!("../runs.txt"))
+}
+
+/// SCOPE 5.14: moves.
+pub fn move_cases() -> Step {
+    cases(include_str!("../moves.txt"))
 }
 
 /// SCOPE 2.2: a frame has at most 4,096 rows.
@@ -417,6 +422,7 @@ pub fn all(seed: u64, count: u64) -> bool {
     run(vec![
         ("worked cases", Box::new(counter_cases)),
         ("runs", Box::new(run_cases)),
+        ("moves", Box::new(move_cases)),
         ("longest frames", Box::new(longest_frames)),
         ("findings", Box::new(crate::findings::all)),
         ("all short scripts", Box::new(short_scripts)),

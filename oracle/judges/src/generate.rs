@@ -507,8 +507,8 @@ fn other_word(r: &mut Random, at: usize, old: i64) -> i64 {
     const NEAR: [i64; 6] = [-2, -1, 1, 2, 3, 4];
     const ENDS: [i64; 8] = [i64::MIN, i64::MIN + 1, i64::MAX, i64::MAX - 1, i64::MAX - 3, -1, -2, -4];
     match (at, r.below(10)) {
-        (15 | 21, 0..=4) => r.pick(&ENDS),
-        (2 | 4..=12 | 18..=20 | 22 | 33, 0..=7) => r.below(2) as i64,
+        (16 | 22, 0..=4) => r.pick(&ENDS),
+        (3 | 5..=13 | 19..=21 | 23 | 34, 0..=7) => r.below(2) as i64,
         (_, 0) => r.pick(&ENDS),
         (_, 1..=6) => old.wrapping_add(r.pick(&NEAR)),
         _ => r.below(8) as i64,
@@ -519,9 +519,9 @@ fn other_word(r: &mut Random, at: usize, old: i64) -> i64 {
 fn alter_join(r: &mut Random, d: &mut Draft, c: usize) {
     let Some((words, ..)) = d.rules.all_words() else { return };
     let at = match r.below(10) {
-        0..=4 => 13 + r.below(9),
-        5 | 6 => r.below(13),
-        _ => 22 + r.below(22),
+        0..=4 => 14 + r.below(9),
+        5 | 6 => r.below(14),
+        _ => 23 + r.below(22),
     };
     d.push(Call::Put(Place::Join, at, other_word(r, at, words[at])));
     if d.rules.broken() {
@@ -534,7 +534,7 @@ fn alter_join(r: &mut Random, d: &mut Draft, c: usize) {
 
 /// The host lays down a remembered row that no turn has left there, so that the check against it decides alone.
 fn alter_row(r: &mut Random, d: &mut Draft) {
-    let first = r.pick(&[22, 33, 33]);
+    let first = r.pick(&[23, 34, 34]);
     let keys = [0, 1, 2, 5, 11, i64::MIN, i64::MAX];
     d.push(Call::Put(Place::Join, first, 1));
     for j in 0..5 {
@@ -626,11 +626,11 @@ fn run_output(r: &mut Random, rules: &Rules, k: usize, short: usize, spare: usiz
 fn alter_for_run(r: &mut Random, rules: &Rules) -> Vec<Call> {
     let Some((words, left, _)) = rules.all_words() else { return vec![] };
     let put = |at: usize, word: i64| Call::Put(Place::Join, at, word);
-    if left.get(words[16] as usize) == Some(&0) && r.percent(70) {
-        let row = (0..11).map(|j| put(33 + j, if (1..=5).contains(&j) { i64::MAX } else { 1 }));
-        return row.chain([put(4, 1), put(19, 1)]).collect();
+    if left.get(words[17] as usize) == Some(&0) && r.percent(70) {
+        let row = (0..11).map(|j| put(34 + j, if (1..=5).contains(&j) { i64::MAX } else { 1 }));
+        return row.chain([put(5, 1), put(20, 1)]).collect();
     }
-    vec![put(21, r.pick(&[-2, -4, -4, -6, -8]))]
+    vec![put(22, r.pick(&[-2, -4, -4, -6, -8]))]
 }
 
 /// A script that gets runs in it, the rules' join beside it.
@@ -690,6 +690,42 @@ fn with_runs(r: &mut Random, kind: Kind, calls: Vec<Call>) -> Vec<Call> {
     out.calls
 }
 
+/// Where a move goes in a script whose areas have room: to areas at least as long as the opened ones, for a moment to ones
+/// that are just enough, or to none, since one of the two is a word too short.
+fn move_with_room(r: &mut Random, o: &Open, rules: &Rules, short: bool) -> Vec<Call> {
+    const MORE: [usize; 6] = [0, 0, 1, 2, 7, 50];
+    let Some(look) = rules.look() else { return vec![] };
+    let full = Call::Move(o.left_words + r.pick(&MORE), o.right_words + r.pick(&MORE));
+    let (waiting, held) = (look.queue_words, 2 * (o.b + 1) * look.held);
+    match r.below(10) {
+        0 | 1 => vec![Call::Move(waiting, held), full],
+        2 if short && waiting > 0 => vec![Call::Move(waiting - 1, o.right_words)],
+        3 if short && held > 0 => vec![Call::Move(o.left_words, held - 1)],
+        _ => vec![full],
+    }
+}
+
+/// A script with moves in it. One that is to find no room moves to areas of any lengths; one for the whole-table rule makes
+/// no move that is refused.
+fn with_moves(r: &mut Random, kind: Kind, calls: Vec<Call>) -> Vec<Call> {
+    let Some(Call::Open(o)) = calls.first().cloned() else { unreachable!() };
+    let (mut out, mut rules) = (vec![], Rules::default());
+    for call in calls {
+        rules.call(&call);
+        out.push(call);
+        if !r.percent(8) {
+            continue;
+        }
+        let moves = match with_room(kind) {
+            true => move_with_room(r, &o, &rules, kind != Kind::Whole),
+            false => vec![Call::Move(r.below(o.left_words + 8), r.below(o.right_words + 8))],
+        };
+        moves.iter().for_each(|call| drop(rules.call(call)));
+        out.extend(moves);
+    }
+    out
+}
+
 /// The calls of a kind's script over areas that are large enough, save for kinds that are to find no room.
 fn calls(r: &mut Random, kind: Kind) -> Vec<Call> {
     let large = kind == Kind::Large;
@@ -723,8 +759,8 @@ pub fn script(kind: Kind, seed: u64, number: u64) -> Vec<Call> {
     calls
 }
 
-/// The same script with runs in the place of turns. One for the whole-table rule has outputs enough, and turns at its end
-/// what still waits; so does one with large tables.
+/// The same script with runs in the place of turns, and with moves in half of all. One for the whole-table rule has outputs
+/// enough, and turns at its end what still waits; so does one with large tables.
 pub fn script_with_runs(kind: Kind, seed: u64, number: u64) -> Vec<Call> {
     let r = &mut Random::new(seed, kind, number);
     let calls = calls(r, kind);
@@ -735,5 +771,5 @@ pub fn script_with_runs(kind: Kind, seed: u64, number: u64) -> Vec<Call> {
     if with_room(kind) && r.percent(50) {
         tighten(r, &mut calls);
     }
-    calls
+    if r.percent(50) { with_moves(r, kind, calls) } else { calls }
 }

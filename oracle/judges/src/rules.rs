@@ -276,6 +276,16 @@ pub struct Join {
     fault: Option<Fault>,
 }
 
+/// The words with which scripts begin a left area of this length.
+fn new_left(length: usize) -> Vec<i64> {
+    (0..length as i64).map(|i| (7 * i) % 11 - 5).collect()
+}
+
+/// The words with which scripts begin a right area of this length.
+fn new_right(length: usize) -> Vec<i64> {
+    (0..length as i64).map(|i| (5 * i) % 13 - 6).collect()
+}
+
 impl Join {
     /// "A fresh join is Running, right not ended, not failed, no row remembered, counters 0"; the areas' words are
     /// those that scripts begin with.
@@ -296,8 +306,7 @@ impl Join {
             left: None,
             right: None,
         };
-        let left_area = (0..o.left_words as i64).map(|i| (7 * i) % 11 - 5).collect();
-        let right_area = (0..o.right_words as i64).map(|i| (5 * i) % 13 - 6).collect();
+        let (left_area, right_area) = (new_left(o.left_words), new_right(o.right_words));
         let rows = [[0; 11]; 2];
         Some(Join { o: o.clone(), left_area, right_area, look, rows, strange: None, fault: None })
     }
@@ -429,6 +438,26 @@ impl Join {
             return Answer::Refused(4);
         }
         self.look.ended = true;
+        Answer::Ok
+    }
+
+    /// A move: refusal 6, then "the words that wait stand from word 0 of the new left area on; the values of the held rows
+    /// from word 0 of the new right area on, their marks from word R × c on … All other words of both stay."
+    fn move_to(&mut self, left_words: usize, right_words: usize) -> Answer {
+        let (c, held, waiting) = (self.c(), self.look.held, self.look.queue_words);
+        let (rows, new_rows) = (self.capacity(), right_words / (2 * c));
+        if waiting > left_words || held > new_rows {
+            return Answer::Refused(6);
+        }
+        let (mut left, mut right) = (new_left(left_words), new_right(right_words));
+        let (start, base) = (self.look.queue_start, self.look.base);
+        left[..waiting].copy_from_slice(&self.left_area[start..start + waiting]);
+        for i in 0..held * c {
+            right[i] = self.right_area[base * c + i];
+            right[new_rows * c + i] = self.right_area[(rows + base) * c + i];
+        }
+        (self.left_area, self.right_area) = (left, right);
+        (self.look.queue_start, self.look.base) = (0, 0);
         Answer::Ok
     }
 
@@ -579,7 +608,7 @@ impl Join {
         Ran { turns, count: words.len() as u64, stop, words }
     }
 
-    /// "numbers in checking order": 2 and 3 come first in every call; in a run, in each of its turns.
+    /// "numbers in checking order": 2 and 3 come first in every call; in a run, in each of its turns. A move asks no 3.
     fn call(&mut self, call: &Call) -> Answer {
         if let Some(answer) = self.host(call) {
             return answer;
@@ -587,6 +616,8 @@ impl Join {
             return Answer::Ran(self.run(k, output));
         } else if self.broken() {
             return Answer::Refused(2);
+        } else if let Call::Move(left, right) = *call {
+            return self.move_to(left, right);
         } else if self.look.failed {
             return Answer::Refused(3);
         }
@@ -597,7 +628,7 @@ impl Join {
             Call::Ports(ports) => self.ports(*ports),
             Call::Turn(output) => self.turn(*output),
             Call::Open(_) | Call::Run(..) | Call::State | Call::Areas | Call::Words | Call::Put(..) => unreachable!(),
-            Call::Spans(_) => unreachable!(),
+            Call::Spans(_) | Call::Move(..) => unreachable!(),
         }
     }
 }

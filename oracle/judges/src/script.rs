@@ -37,6 +37,8 @@ pub enum Call {
     Turn(usize),
     /// At most so many turns, and the length of the output in words.
     Run(usize, usize),
+    /// To new areas of so many words, left and right.
+    Move(usize, usize),
     State,
     /// Needs no open join.
     Spans(Spans),
@@ -56,9 +58,9 @@ pub enum Place {
     Right,
 }
 
-/// The words of a join as the C interface lays them out (include/rowkeeper.h): 13 of options, 9 of counters and flags,
-/// and 11 for each remembered row.
-pub type JoinWords = [i64; 44];
+/// The words of a join as the C interface lays them out (include/rowkeeper.h): the layout's, 13 of options, 9 of counters
+/// and flags, and 11 for each remembered row.
+pub type JoinWords = [i64; 45];
 
 /// What `state` tells of a join.
 #[derive(Clone, Debug, PartialEq)]
@@ -208,6 +210,7 @@ impl fmt::Display for Call {
             Call::Ports([l, r, s]) => write!(f, "ports {l} {r} {s}"),
             Call::Turn(o) => write!(f, "turn {o}"),
             Call::Run(k, o) => write!(f, "run {k} {o}"),
+            Call::Move(l, r) => write!(f, "move {l} {r}"),
             Call::State => write!(f, "state"),
             Call::Spans(s) => write!(f, "{s}"),
             Call::Areas => write!(f, "areas"),
@@ -305,6 +308,7 @@ pub fn parse_line(line: &str) -> Result<Option<Call>, String> {
         ("ports", a) => Call::Ports(parse_ports(a)?),
         ("turn", [o]) => Call::Turn(count(*o)?),
         ("run", [k, o]) => Call::Run(count(*k)?, count(*o)?),
+        ("move", [l, r]) => Call::Move(count(*l)?, count(*r)?),
         ("end", []) => Call::End,
         ("state", []) => Call::State,
         ("areas", []) => Call::Areas,
@@ -312,7 +316,7 @@ pub fn parse_line(line: &str) -> Result<Option<Call>, String> {
         ("put", a) => parse_put(Place::Join, a)?,
         ("put-left", a) => parse_put(Place::Left, a)?,
         ("put-right", a) => parse_put(Place::Right, a)?,
-        ("turn" | "run" | "end" | "state" | "areas" | "words", a) => {
+        ("turn" | "run" | "move" | "end" | "state" | "areas" | "words", a) => {
             return Err(format!("{name} does not take {} words", a.len()));
         },
         _ => return Err(format!("{name} is no call")),

@@ -174,6 +174,9 @@ fn sorted_part(o: &Open, calls: &[Call], answers: &[Answer]) -> (usize, Vec<Row>
 /// How far the answers to a script are judged.
 struct Judged<'a> {
     o: &'a Open,
+    /// The lengths of the areas: those of the opening, or of the last move.
+    left_words: usize,
+    right_words: usize,
     /// The right rows of the whole table, while the calls are in the part of the script that is sorted.
     table: Option<Vec<Row>>,
     right: Side,
@@ -205,7 +208,7 @@ impl<'a> Judged<'a> {
             _ if self.failed => 3,
             _ if self.left_done || self.done => 4,
             _ if !keeps_rule(self.o, words) => 5,
-            _ if self.waiting_words + words.len() > self.o.left_words => 6,
+            _ if self.waiting_words + words.len() > self.left_words => 6,
             _ => 0,
         };
         if refusal > 0 {
@@ -227,12 +230,22 @@ impl<'a> Judged<'a> {
         if refusal > 0 {
             return due(*answer == Answer::Refused(refusal), &format!("{refusal} is due"));
         }
-        let (n, room) = (words[0] as usize, self.o.right_words / (2 * self.o.b + 2));
+        let (n, room) = (words[0] as usize, self.right_words / (2 * self.o.b + 2));
         if *answer == Answer::Refused(6) {
             return due(self.right.rows.len() + n > room, "all rows would fit");
         }
         self.right.add(self.o, words);
         due(*answer == Answer::Ok && n <= room, "the frame is to be taken, or 6 is due")
+    }
+
+    /// A move to areas of these lengths: 6 or taken, whatever came before. How many rows are held is not known.
+    fn moved(&mut self, left_words: usize, right_words: usize, answer: &Answer) -> Verdict {
+        let (short, room) = (self.waiting_words > left_words, right_words / (2 * self.o.b + 2));
+        if *answer == Answer::Refused(6) {
+            return due(short || self.right.rows.len() > room, "everything would fit");
+        }
+        (self.left_words, self.right_words) = (left_words, right_words);
+        due(*answer == Answer::Ok && !short, "the join is to be moved, or 6 is due")
     }
 
     /// The end of right: 3, 4 or taken.
@@ -363,6 +376,7 @@ impl<'a> Judged<'a> {
             (Call::Ports(ports), _) => self.ports(*ports, answer),
             (Call::Turn(output), _) => self.turn(*output, answer),
             (Call::Run(k, output), Answer::Ran(ran)) => self.run(*k, *output, ran),
+            (Call::Move(left, right), _) => self.moved(*left, *right, answer),
             (Call::State | Call::Areas | Call::Words, _) => Ok(()),
             _ => due(false, "no such answer is due"),
         }
@@ -382,6 +396,8 @@ pub fn judge(calls: &[Call], answers: &[Answer]) -> Result<Counts, String> {
     let (until, table) = sorted_part(o, rest, &answers[1..]);
     let mut judged = Judged {
         o,
+        left_words: o.left_words,
+        right_words: o.right_words,
         table: Some(table),
         right: Side::default(),
         waiting: Default::default(),

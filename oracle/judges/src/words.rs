@@ -1,13 +1,16 @@
-//! A join as words, in the order of include/rowkeeper.h: options, counters and flags, the two remembered rows.
+//! A join as words, in the order of include/rowkeeper.h: layout, options, counters and flags, the two remembered rows.
 use crate::rules::Row;
 use crate::script::{JoinWords, Look, Open};
 
 /// A remembered row's words: whether there is one, five values, five marks.
 pub type RowWords = [i64; 11];
 
+/// The first word of every join: the bytes "rowkeep", then the layout's version.
+const LAYOUT: i64 = 0x726f_776b_6565_7001;
+
 /// The place of the first counter, of the left remembered row and of the right one.
-const COUNTERS: usize = 13;
-const ROWS: [usize; 2] = [22, 33];
+const COUNTERS: usize = 14;
+const ROWS: [usize; 2] = [23, 34];
 
 /// A row that is remembered: "value and mark 1, or 0 and 0, zeros up to five words".
 pub fn row_words(row: &Row) -> RowWords {
@@ -51,8 +54,9 @@ pub fn options(o: &Open) -> [i64; 13] {
 
 /// A join's words.
 pub fn encode(o: &Open, l: &Look, rows: &[RowWords; 2]) -> JoinWords {
-    let mut out = [0; 44];
-    out[..COUNTERS].copy_from_slice(&options(o));
+    let mut out = [0; 45];
+    out[0] = LAYOUT;
+    out[1..COUNTERS].copy_from_slice(&options(o));
     let counters = [l.base as i64, l.held as i64, l.pruned as i64, l.queue_start as i64, l.queue_words as i64];
     let flags = [l.state as i64, l.ended as i64, l.failed as i64, l.sequence as i64];
     out[COUNTERS..COUNTERS + 5].copy_from_slice(&counters);
@@ -63,32 +67,35 @@ pub fn encode(o: &Open, l: &Look, rows: &[RowWords; 2]) -> JoinWords {
     out
 }
 
-/// The join of these words, or none where no join has them: a node state or a flag that there is not, or a strategy that is
-/// no byte.
+/// The join of these words, or none where no join has them: another layout, a node state or a flag that there is not, or a
+/// strategy that is no byte.
 pub fn decode(w: &JoinWords) -> Option<(Open, Look, [RowWords; 2])> {
+    if w[0] != LAYOUT {
+        return None;
+    }
     let o = Open {
-        b: w[0] as usize,
-        strategy: u8::try_from(w[1]).ok()?.into(),
-        eq: flag(w[2])?,
-        tolerance: w[3],
-        check: flag(w[4])?,
-        descending: flags(&w[5..9])?,
-        nulls_last: flags(&w[9..13])?,
+        b: w[1] as usize,
+        strategy: u8::try_from(w[2]).ok()?.into(),
+        eq: flag(w[3])?,
+        tolerance: w[4],
+        check: flag(w[5])?,
+        descending: flags(&w[6..10])?,
+        nulls_last: flags(&w[10..14])?,
         left_words: 0,
         right_words: 0,
     };
     let rows = ROWS.map(|at| w[at..at + 11].try_into().unwrap());
     let c = o.b.saturating_add(1);
     let look = Look {
-        base: w[13] as usize,
-        held: w[14] as usize,
-        pruned: w[15] as u64,
-        queue_start: w[16] as usize,
-        queue_words: w[17] as usize,
-        state: u8::try_from(w[18]).ok().filter(|s| *s <= 2)?,
-        ended: flag(w[19])?,
-        failed: flag(w[20])?,
-        sequence: w[21] as u64,
+        base: w[14] as usize,
+        held: w[15] as usize,
+        pruned: w[16] as u64,
+        queue_start: w[17] as usize,
+        queue_words: w[18] as usize,
+        state: u8::try_from(w[19]).ok().filter(|s| *s <= 2)?,
+        ended: flag(w[20])?,
+        failed: flag(w[21])?,
+        sequence: w[22] as u64,
         left: row_cells(c, &rows[0])?,
         right: row_cells(c, &rows[1])?,
     };

@@ -49,6 +49,16 @@ struct Host {
     wrong: Option<&'static str>,
 }
 
+/// A left area as scripts begin one.
+fn new_left(length: usize) -> Guarded {
+    Guarded::new((0..length as i64).map(|i| (7 * i) % 11 - 5))
+}
+
+/// A right area as scripts begin one.
+fn new_right(length: usize) -> Guarded {
+    Guarded::new((0..length as i64).map(|i| (5 * i) % 13 - 6))
+}
+
 /// The refusal of a number; one that there is not stays visible.
 fn refused(number: u64) -> Answer {
     Answer::Refused(u8::try_from(number).unwrap_or(u8::MAX))
@@ -69,8 +79,7 @@ impl Host {
             nulls_last: flags(9),
         };
         let took = raw::rowkeeper_open(options);
-        let left = Guarded::new((0..o.left_words as i64).map(|i| (7 * i) % 11 - 5));
-        let right = Guarded::new((0..o.right_words as i64).map(|i| (5 * i) % 13 - 6));
+        let (left, right) = (new_left(o.left_words), new_right(o.right_words));
         if took.refusal == 0 { Ok(Host { join: took.join, left, right, wrong: None }) } else { Err(took.refusal) }
     }
 
@@ -96,6 +105,22 @@ impl Host {
             safe::right(self.join, self.left.get(), self.right.get_mut(), frame.get())
         };
         self.note(!frame.intact() || frame.get() != words, "the frame was altered");
+        self.took(took)
+    }
+
+    /// A move to new areas of these lengths. Where it is refused they must be as they were, and the host keeps its own.
+    fn move_to(&mut self, left_words: usize, right_words: usize) -> Answer {
+        let (mut left, mut right) = (new_left(left_words), new_right(right_words));
+        let old = (self.left.get().to_vec(), self.right.get().to_vec());
+        let took = safe::move_join(self.join, self.left.get(), self.right.get(), left.get_mut(), right.get_mut());
+        self.note(!left.intact() || !right.intact(), "a guard word of a new area was altered");
+        self.note(old != (self.left.get().to_vec(), self.right.get().to_vec()), "an old area was altered");
+        if took.refusal == 0 {
+            (self.left, self.right) = (left, right);
+        } else {
+            let same = left.get() == new_left(left_words).get() && right.get() == new_right(right_words).get();
+            self.note(!same, "a refused move altered a new area");
+        }
         self.took(took)
     }
 
@@ -192,6 +217,7 @@ impl Host {
                 let took = safe::end_right(self.join, self.left.get(), self.right.get());
                 self.took(took)
             },
+            Call::Move(left, right) => self.move_to(*left, *right),
             Call::Ports(ports) => self.ports(*ports),
             Call::Turn(length) => self.turn(*length),
             Call::Run(k, length) => Answer::Ran(self.run(*k, *length)),

@@ -22,6 +22,8 @@ const SPENT: Duration = Duration::from_secs(20);
 pub struct Counts {
     pub tally: Tally,
     pub refused: [u64; 10],
+    /// Moves that were made, refused by 2 and refused by 6.
+    pub moves: [u64; 3],
     /// Calls that the host made on words that it altered itself.
     pub altered: u64,
 }
@@ -31,11 +33,18 @@ impl Counts {
     pub fn add(&mut self, other: &Counts) {
         self.tally.add(&other.tally);
         self.altered += other.altered;
+        (0..3).for_each(|n| self.moves[n] += other.moves[n]);
         (0..10).for_each(|n| self.refused[n] += other.refused[n]);
     }
 
-    /// Counts one answer, given in this node state.
-    fn count(&mut self, answer: &Answer, state: u8) {
+    /// Counts a call's answer, given in this node state.
+    fn count(&mut self, call: &Call, answer: &Answer, state: u8) {
+        match (call, answer) {
+            (Call::Move(..), Answer::Ok) => self.moves[0] += 1,
+            (Call::Move(..), Answer::Refused(2)) => self.moves[1] += 1,
+            (Call::Move(..), Answer::Refused(6)) => self.moves[2] += 1,
+            _ => {},
+        }
         self.tally.calls += 1;
         self.tally.count(answer, state);
         if let Answer::Refused(n) = answer {
@@ -47,7 +56,9 @@ impl Counts {
 impl fmt::Display for Counts {
     /// The counts on one line.
     fn fmt(&self, f: &mut fmt::Formatter<'_>) -> fmt::Result {
-        write!(f, "{}; refused by 1 to 9: {:?}; {} words altered", self.tally, &self.refused[1..], self.altered)
+        write!(f, "{}; refused by 1 to 9: {:?}; ", self.tally, &self.refused[1..])?;
+        let [made, bad, short] = self.moves;
+        write!(f, "{made} moves, {bad} refused by 2, {short} by 6; {} words altered", self.altered)
     }
 }
 
@@ -69,7 +80,7 @@ impl Beside {
             return Ok(false);
         }
         let rust = self.rust.call(call);
-        self.parted = parted(said);
+        self.parted = parted(call, said);
         if no_counterpart(said) {
             return Ok(false);
         } else if !agrees(&rust, said) {
@@ -114,7 +125,7 @@ fn run(calls: &[Call], kind: Kind, counts: &mut Counts) -> Result<(), String> {
         }
         counts.tally.compared += beside.differs(call, &said).map_err(differs)? as u64;
         counts.altered += matches!(call, Call::Put(..)) as u64;
-        counts.count(&said, state);
+        counts.count(call, &said, state);
         answers.push(said);
     }
     counts.tally.scripts += 1;

@@ -71,9 +71,11 @@ fn missing(all: &Counts) -> Option<String> {
     let runs = &tally.runs;
     let stopped = STOPS.iter().find(|(_, at)| runs.stops[*at] == 0).map(|(what, _)| format!("runs stopped by {what}"));
     let after = STOPS.iter().find(|(_, at)| LATER.contains(at) && runs.after[*at] == 0);
+    let moves = ["moves", "moves refused by 2", "moves refused by 6"].iter().zip(all.moves).find(|(_, n)| *n == 0);
     none.or_else(|| (1..10).find(|n| all.refused[*n] == 0).map(|n| format!("refusals by {n}")))
         .or(stopped)
         .or(after.map(|(what, _)| format!("runs stopped by {what} after a turn")))
+        .or(moves.map(|(what, _)| what.to_string()))
 }
 
 /// Runs COUNT scripts, the kinds in turn; whether there was no difference and everything was met.

@@ -42,13 +42,16 @@ both-requires-4 c κs = search needs
 both-requires-5 : tie.Need-both-requires-5
 both-requires-5 c κs = search needs
 
+both-requires-6 : tie.Need-both-requires-6
+both-requires-6 c κs = search needs
+
 returns : tie.Need-returns
 unfolding isJoin
 returns c =
-    let r = c .before .before in
-    let f = c .before .before .before .before .before in
-    let s = c .before .before .before .before .before .before .before .before in
-    rw (c .both5 .ensures, c .before .both4 .ensures, r .both3 .ensures, r .before .is-flag4 .ensures, r .before .before .is-flag3 .ensures, f .both2 .ensures, f .before .is-flag2 .ensures, f .before .before .is-flag .ensures, s .both .ensures, s .before .is-code .ensures, s .before .before .is-options .ensures)
+    let r = c .before .before .before .before in
+    let f = r .before .before .before in
+    let s = f .before .before .before in
+    rw (c .both6 .ensures, c .before .both5 .ensures, c .before .before .both4 .ensures, r .both3 .ensures, r .before .is-flag4 .ensures, r .before .before .is-flag3 .ensures, f .both2 .ensures, f .before .is-flag2 .ensures, f .before .before .is-flag .ensures, s .both .ensures, s .before .is-code .ensures, s .before .before .is-options .ensures)
 
 pub is-join-spec : {M : Type 1} → statement M
 is-join-spec =
@@ -65,4 +68,5 @@ is-join-spec =
     both-requires-3
     both-requires-4
     both-requires-5
+    both-requires-6
     returns)

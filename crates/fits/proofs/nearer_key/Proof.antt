@@ -1,6 +1,6 @@
 use mathlib.Core.Bool.{true, false, not}
 use mir.Facts.{toZ-ofZ}
-use Rattle.frames.specs.Order.{cmpZ, isLess}
+use Rattle.order.specs.Order.{cmpZ, isLess}
 use Rattle.frames.proofs.Signed.{lt-flag}
 use Rattle.matching.proofs.ScanLaws.{near-first, near-behind, near-tie, not-less}
 use borrow.Author.Needs.{needs}

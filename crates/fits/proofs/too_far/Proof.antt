@@ -1,5 +1,5 @@
 use mir.Facts.{toZ-ofZ}
-use Rattle.frames.proofs.Apart.{whole}
+use Rattle.order.proofs.Apart.{whole}
 use Rattle.matching.proofs.ScanLaws.{far-none, far-some}
 use borrow.Author.Needs.{needs}
 use Rattle.fits.proofs.too_far.Statement.{statement}

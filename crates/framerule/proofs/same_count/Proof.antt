@@ -1,7 +1,7 @@
 -- `framerule::same_count` meets its contract. Assumes nothing.
 use mathlib.Core.Path.{sym}
 use mir.Facts.{toZ-ofZ}
-use Rattle.frames.proofs.Apart.{whole}
+use Rattle.order.proofs.Apart.{whole}
 use Rattle.frames.proofs.FrontLaws.{same-negative, same-from-zero}
 use Rattle.framerule.proofs.same_count.Statement.{statement}
 use Rattle.framerule.proofs.same_count.Tie as tie

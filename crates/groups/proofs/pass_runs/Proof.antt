@@ -4,11 +4,11 @@ use native.Mathlib.Omega.{arith}
 use borrow.Author.Needs.{needs}
 use denote.Ref.{now}
 use Rattle.frames.specs.Cells.{rowFrom}
-use Rattle.frames.specs.declared.Order.{Order}
-use Rattle.frames.specs.declared.Order.the-variants.{Less, Equal, Greater}
-use Rattle.frames.proofs.RowLaws.{row-room}
+use Rattle.order.specs.declared.Order.{Order}
+use Rattle.order.specs.declared.Order.the-variants.{Less, Equal, Greater}
+use Rattle.order.proofs.RowLaws.{row-room}
 use Rattle.matching.specs.Groups.{runs, pass}
-use Rattle.matching.specs.Walk.{between, standing}
+use Rattle.matching.specs.Stretches.{between, standing}
 use Rattle.matching.specs.Inner.{RunAt}
 use Rattle.matching.proofs.WalkLaws.{run-up, run-within, pass-on, pass-stop, pass-end, used-run, used-none, used-end}
 use Rattle.groups.proofs.pass_runs.Statement.{statement}

@@ -5,9 +5,9 @@ use native.Mathlib.Omega.{arith}
 use borrow.Author.Tests.{not-true, not-false}
 use denote.Ref.{now}
 use Rattle.frames.specs.Cells.{rowFrom}
-use Rattle.frames.proofs.RowLaws.{row-room}
+use Rattle.order.proofs.RowLaws.{row-room}
 use Rattle.matching.specs.Groups.{sameRun}
-use Rattle.matching.specs.Walk.{between, runOn, runLength}
+use Rattle.matching.specs.Stretches.{between, runOn, runLength}
 use Rattle.matching.proofs.WalkLaws.{run-past, on-first, on-more, on-stop, on-end}
 use Rattle.groups.proofs.run_end.Statement.{statement}
 use Rattle.groups.proofs.run_end.Tie as tie

@@ -6,9 +6,9 @@ use native.Mathlib.Decide.{ℕ-discrete}
 use borrow.Author.Tests.{not-false}
 use denote.Ref.{now}
 use Rattle.frames.specs.Cells.{rowFrom}
-use Rattle.frames.specs.Room.{cellAt}
-use Rattle.frames.proofs.OrderLaws.{equal-group}
-use Rattle.frames.proofs.RowLaws.{row-cell}
+use Rattle.order.specs.Requires.{cellAt}
+use Rattle.order.proofs.OrderLaws.{equal-group}
+use Rattle.order.proofs.RowLaws.{row-cell}
 use Rattle.groups.proofs.same_values.Statement.{statement}
 use Rattle.groups.proofs.same_values.Tie as tie
 

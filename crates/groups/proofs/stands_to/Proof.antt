@@ -1,7 +1,7 @@
 use mathlib.Core.Path.{sym, _∙_}
 use native.Mathlib.Omega.{arith}
 use denote.Ref.{now}
-use Rattle.matching.specs.Walk.{standing}
+use Rattle.matching.specs.Stretches.{standing}
 use borrow.Author.Needs.{needs}
 use Rattle.groups.proofs.stands_to.Statement.{statement}
 use Rattle.groups.proofs.stands_to.Tie as tie

@@ -5,8 +5,8 @@ use Rattle.hostfeed.proofs.host_open.Statement.{statement}
 use Rattle.hostfeed.proofs.host_open.Tie as tie
 use Rattle.hostfeed.proofs.host_open.Reads as reads
 use Rattle.hostfeed.proofs.host_open.Lts as lts
-use Rattle.told.proofs.fresh_host.Reads as fresh-host-reads
-use Rattle.told.proofs.took_host.Reads as took-host-reads
+use Rattle.results.proofs.fresh_host.Reads as fresh-host-reads
+use Rattle.results.proofs.took_host.Reads as took-host-reads
 use Rattle.convert.proofs.is_options.Reads as is-options-reads
 use Rattle.convert.proofs.options_of.Reads as options-of-reads
 use Rattle.node.proofs.Join.open.Reads as open-reads

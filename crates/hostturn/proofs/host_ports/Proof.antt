@@ -6,8 +6,8 @@ use Rattle.hostturn.proofs.host_ports.Statement.{statement}
 use Rattle.hostturn.proofs.host_ports.Tie as tie
 use Rattle.hostturn.proofs.host_ports.Reads as reads
 use Rattle.hostturn.proofs.host_ports.Lts as lts
-use Rattle.told.proofs.bad_ported.Reads as bad-ported-reads
-use Rattle.told.proofs.ported_host.Reads as ported-host-reads
+use Rattle.results.proofs.bad_ported.Reads as bad-ported-reads
+use Rattle.results.proofs.ported_host.Reads as ported-host-reads
 use Rattle.codes.proofs.are_codes.Reads as are-codes-reads
 use Rattle.codes.proofs.port_of.Reads as port-of-reads
 use Rattle.convert.proofs.is_join.Reads as is-join-reads

@@ -5,8 +5,8 @@ use Rattle.hostturn.proofs.host_run.Statement.{statement}
 use Rattle.hostturn.proofs.host_run.Tie as tie
 use Rattle.hostturn.proofs.host_run.Reads as reads
 use Rattle.hostturn.proofs.host_run.Lts as lts
-use Rattle.told.proofs.bad_ran.Reads as bad-ran-reads
-use Rattle.told.proofs.ran_host.Reads as ran-host-reads
+use Rattle.results.proofs.bad_ran.Reads as bad-ran-reads
+use Rattle.results.proofs.ran_host.Reads as ran-host-reads
 use Rattle.convert.proofs.is_join.Reads as is-join-reads
 use Rattle.convert.proofs.join_of.Reads as join-of-reads
 use Rattle.runs.proofs.run.Reads as run-reads

@@ -5,8 +5,8 @@ use Rattle.hostturn.proofs.host_turn.Statement.{statement}
 use Rattle.hostturn.proofs.host_turn.Tie as tie
 use Rattle.hostturn.proofs.host_turn.Reads as reads
 use Rattle.hostturn.proofs.host_turn.Lts as lts
-use Rattle.told.proofs.bad_turned.Reads as bad-turned-reads
-use Rattle.told.proofs.turned_host.Reads as turned-host-reads
+use Rattle.results.proofs.bad_turned.Reads as bad-turned-reads
+use Rattle.results.proofs.turned_host.Reads as turned-host-reads
 use Rattle.convert.proofs.is_join.Reads as is-join-reads
 use Rattle.convert.proofs.join_of.Reads as join-of-reads
 use Rattle.node.proofs.Join.turn.Reads as turn-reads

@@ -1,5 +1,5 @@
 use mathlib.Core.Path.{sym, _∙_}
-use Rattle.feeds.specs.Judged.{endJudged, taken}
+use Rattle.callrules.specs.Judged.{endJudged, taken}
 use borrow.Author.Needs.{needs}
 use Rattle.intake.proofs.feed_end.Statement.{statement}
 use Rattle.intake.proofs.feed_end.Tie as tie

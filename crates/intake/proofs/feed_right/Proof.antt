@@ -1,15 +1,15 @@
 use mathlib.Core.Path.{sym, _∙_}
-use native.Mathlib.Numerals.{add-one}
 use native.Mathlib.Omega.{arith}
-use Prim.Native.Nat.{suc}
+use Rattle.options.specs.Options.{rightColumns}
 use denote.Ref.{now}
-use Rattle.feeds.specs.Judged.{RightHolds}
-use Rattle.feeds.proofs.FeedLaws.{RightTaken, right-taken, right-refused, right-accepted, has-count}
+use Rattle.callrules.specs.Judged.{RightHolds}
+use Rattle.callrules.proofs.FeedLaws.{RightTaken, right-taken, right-refused, right-accepted, has-count}
 use borrow.Author.Needs.{needs}
 use Rattle.intake.proofs.feed_right.Statement.{statement}
 use Rattle.intake.proofs.feed_right.Tie as tie
 use Rattle.intake.proofs.feed_right.Reads as reads
 use Rattle.intake.proofs.feed_right.Lts as lts
+use Rattle.options.proofs.right_columns.Reads as right-columns-reads
 use Rattle.area.proofs.push.Reads as push-reads
 use Rattle.framerule.proofs.row_count.Reads as row-count-reads
 use Rattle.judges.proofs.judge_right.Reads as judge-right-reads
@@ -30,26 +30,26 @@ enum-told-2 : tie.Need-enum-told-2
 enum-told-2 c = search needs
 
 -- What an accepted frame has: the join holds together, and there is room for the rows and numbers for them.
-taken : (c : tie.After-enum-told2) → let a = c .before .before .before .before .args in RightTaken (a .bad) (a .failed) (a .ended) (a .state) (suc (a .by)) (a .held) (a .pruned) (now (a .right)) (now (a .frame))
+taken : (c : tie.After-enum-told2) → let a = c .before .before .before .before .args in RightTaken (a .bad) (a .failed) (a .ended) (a .state) (rightColumns (a .o)) (a .held) (a .pruned) (now (a .right)) (now (a .frame))
 taken c = right-taken _ _ _ _ _ _ _ _ _ (sym (c .before .before .judge-right .ensures) ∙ c .enum-told2 .given .1)
 
-holds : (c : tie.After-enum-told2) → let a = c .before .before .before .before .args in RightHolds (a .by) (a .base) (a .held) (a .pruned) (now (a .right))
+holds : (c : tie.After-enum-told2) → let a = c .before .before .before .before .args in RightHolds (a .o) (a .base) (a .held) (a .pruned) (now (a .right))
 holds c = c .before .before .before .before .pre (taken c .unbroken)
 
-add-c : tie.Need-add-c
-add-c c = omega (arith, holds c .few)
+right-columns-requires : tie.Need-right-columns-requires
+right-columns-requires c κs = holds c .few
 
 push-requires : tie.Need-push-requires
 push-requires c κs =
-    let t = taken (c .before) in
-    let h = holds (c .before) in
-    rw add-one (record { columns = record { some = omega arith; few = omega (arith, h .few) }; frame = t .frame; within = h .room; room = t .room })
+    let t = taken (c .before .before) in
+    let h = holds (c .before .before) in
+    rw (c .before .right-columns .ensures) (record { columns = record { some = omega arith; few = omega (arith, h .few) }; frame = t .frame; within = h .room; room = t .room })
 
 row-count-requires : tie.Need-row-count-requires
-row-count-requires c κs = has-count _ _ (taken (c .before .before .before) .frame)
+row-count-requires c κs = has-count _ _ (taken (c .before .before .before .before) .frame)
 
 add-rows : tie.Need-add-rows
-add-rows c = omega (arith, c .row-count .ensures, taken (c .before .before .before .before) .rows)
+add-rows c = omega (arith, c .row-count .ensures, taken (c .before .before .before .before .before) .rows)
 
 same-length-2 : tie.Need-same-length-2
 same-length-2 c = search needs
@@ -57,8 +57,8 @@ same-length-2 c = search needs
 returns-2 : tie.Need-returns-2
 returns-2 c =
     let p = c .before .before in
-    let t = p .before .before in
-    let put = rw add-one at (p .push .ensures) in
+    let t = p .before .before .before in
+    let put = rw (p .before .before .right-columns .ensures) at (p .push .ensures) in
     right-accepted _ _ _ _ _ _ _ _ _ _ _ (t .before .before .judge-right .ensures) (t .enum-told2 .given .1) _ _ _ (c .row-count .ensures) (put .base-is) (put .area-is)
 
 pub feed-right-spec : {M : Type 1} → statement M
@@ -70,7 +70,7 @@ feed-right-spec =
     same-length
     returns
     enum-told-2
-    add-c
+    right-columns-requires
     push-requires
     row-count-requires
     add-rows

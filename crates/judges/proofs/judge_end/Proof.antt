@@ -1,10 +1,10 @@
-use Rattle.feeds.specs.Judged.{endJudged}
+use Rattle.callrules.specs.Judged.{endJudged}
 use borrow.Author.Needs.{needs}
 use Rattle.judges.proofs.judge_end.Statement.{statement}
 use Rattle.judges.proofs.judge_end.Tie as tie
 use Rattle.judges.proofs.judge_end.Reads as reads
 use Rattle.judges.proofs.judge_end.Lts as lts
-use Rattle.answers.proofs.is_done.Reads as is-done-reads
+use Rattle.outcomes.proofs.is_done.Reads as is-done-reads
 
 returns : tie.Need-returns
 unfolding endJudged

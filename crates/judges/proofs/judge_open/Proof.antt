@@ -1,4 +1,4 @@
-use Rattle.feeds.specs.Judged.{openAnswer}
+use Rattle.callrules.specs.Judged.{openAnswer}
 use borrow.Author.Needs.{needs}
 use Rattle.judges.proofs.judge_open.Statement.{statement}
 use Rattle.judges.proofs.judge_open.Tie as tie

@@ -1,11 +1,11 @@
 use borrow.Author.Tests.{eq-eqb, ne-eqb}
-use Rattle.feeds.specs.Judged.{readyJudged}
+use Rattle.callrules.specs.Judged.{readyJudged}
 use borrow.Author.Needs.{needs}
 use Rattle.judges.proofs.judge_ready.Statement.{statement}
 use Rattle.judges.proofs.judge_ready.Tie as tie
 use Rattle.judges.proofs.judge_ready.Reads as reads
 use Rattle.judges.proofs.judge_ready.Lts as lts
-use Rattle.answers.proofs.is_done.Reads as is-done-reads
+use Rattle.outcomes.proofs.is_done.Reads as is-done-reads
 
 returns : tie.Need-returns
 unfolding readyJudged

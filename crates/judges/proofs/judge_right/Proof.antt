@@ -1,16 +1,16 @@
 use mathlib.Core.Path.{_≡_, sym, _∙_}
-use Prim.Native.Nat.{suc, _+_, _≤_}
-use native.Mathlib.Numerals.{add-one}
+use Prim.Native.Nat.{_+_, _≤_}
 use native.Mathlib.Omega.{arith}
 use borrow.Author.Tests.{not-false}
 use denote.Ref.{now}
 use lib.Dec.{ltb}
 use Rattle.frames.specs.Frame.{isFrame, rowCount}
+use Rattle.options.specs.Options.{rightColumns}
 use Rattle.area.specs.Area.{capacity}
-use Rattle.answers.specs.Answers.{mostRows}
-use Rattle.answers.specs.declared.Took.the-variants.{Accepted}
-use Rattle.feeds.specs.Judged.{endJudged, rightJudged}
-use Rattle.feeds.proofs.FeedLaws.{rightRest, end-taken, right-shut, right-open, has-count}
+use Rattle.outcomes.specs.Answers.{mostRows}
+use Rattle.outcomes.specs.declared.Took.the-variants.{Accepted}
+use Rattle.callrules.specs.Judged.{endJudged, rightJudged}
+use Rattle.callrules.proofs.FeedLaws.{rightRest, end-taken, right-shut, right-open, has-count}
 use borrow.Author.Needs.{needs}
 use Rattle.judges.proofs.judge_right.Statement.{statement}
 use Rattle.judges.proofs.judge_right.Tie as tie
@@ -18,7 +18,8 @@ use Rattle.judges.proofs.judge_right.Reads as reads
 use Rattle.judges.proofs.judge_right.Lts as lts
 use Rattle.framerule.proofs.is_frame.Reads as is-frame-reads
 use Rattle.framerule.proofs.row_count.Reads as row-count-reads
-use Rattle.answers.proofs.above.Reads as above-reads
+use Rattle.options.proofs.right_columns.Reads as right-columns-reads
+use Rattle.outcomes.proofs.above.Reads as above-reads
 use Rattle.judges.proofs.judge_end.Reads as judge-end-reads
 
 judge-end-requires : tie.Need-judge-end-requires
@@ -38,39 +39,39 @@ unended : (c : tie.After-enum-told2) → let a = c .before .before .before .args
 unended c = sym (c .before .before .judge-end .ensures) ∙ c .enum-told2 .given .1
 
 judged : (c : tie.After-enum-told2) → let a = c .before .before .before .args in
-    rightJudged (a .bad) (a .failed) (a .ended) (a .state) (suc (a .by)) (a .held) (a .pruned) (now (a .right)) (now (a .frame)) ≡ rightRest (suc (a .by)) (a .held) (a .pruned) (now (a .right)) (now (a .frame))
+    rightJudged (a .bad) (a .failed) (a .ended) (a .state) (rightColumns (a .o)) (a .held) (a .pruned) (now (a .right)) (now (a .frame)) ≡ rightRest (rightColumns (a .o)) (a .held) (a .pruned) (now (a .right)) (now (a .frame))
 judged c = right-open _ _ _ _ _ _ _ _ _ (unended c)
 
 -- The join is not bad.
-holds : (c : tie.After-enum-told2) → let a = c .before .before .before .args in (a .by ≤ 4) × (a .pruned + a .held ≤ mostRows)
+holds : (c : tie.After-enum-told2) → let a = c .before .before .before .args in (a .o .by ≤ 4) × (a .pruned + a .held ≤ mostRows)
 holds c = c .before .before .before .pre (end-taken _ _ _ _ (unended c) .unbroken)
 
-add-c : tie.Need-add-c
-add-c c = omega (arith, holds c .0)
+right-columns-requires : tie.Need-right-columns-requires
+right-columns-requires c κs = holds c .0
 
 is-frame-requires : tie.Need-is-frame-requires
 is-frame-requires c κs = search needs
 
 -- What the calls say, by the definitions' names.
-frame : (c : tie.After-is-frame) → let a = c .before .before .before .before .args in c .is-frame .result ≡ isFrame (suc (a .by)) (now (a .frame))
-frame c = rw add-one at (c .is-frame .ensures)
+frame : (c : tie.After-is-frame) → let a = c .before .before .before .before .before .args in c .is-frame .result ≡ isFrame (rightColumns (a .o)) (now (a .frame))
+frame c = rw (c .before .right-columns .ensures) at (c .is-frame .ensures)
 
-room : (c : tie.After-above) → let a = c .before .before .before .before .before .before .before .args in
-    c .above .result ≡ ltb (capacity (suc (a .by)) (now (a .right))) (a .held + rowCount (now (a .frame)))
-room c = rw (add-one, c .before .row-count .ensures) at (c .above .ensures)
+room : (c : tie.After-above) → let a = c .before .before .before .before .before .before .before .before .args in
+    c .above .result ≡ ltb (capacity (rightColumns (a .o)) (now (a .right))) (a .held + rowCount (now (a .frame)))
+room c = rw (c .before .before .before .before .right-columns .ensures, c .before .row-count .ensures) at (c .above .ensures)
 
-numbers : (c : tie.After-above2) → let a = c .before .before .before .before .before .before .before .before .before .args in
+numbers : (c : tie.After-above2) → let a = c .before .before .before .before .before .before .before .before .before .before .args in
     c .above2 .result ≡ ltb mostRows (a .pruned + a .held + rowCount (now (a .frame)))
 numbers c = rw (c .before .before .before .row-count .ensures) at (c .above2 .ensures)
 
 returns-2 : tie.Need-returns-2
-returns-2 c = let o = c .before .before in simp (judged o, ← frame (c .before), c .if1 .taken)
+returns-2 c = let o = c .before .before .before in simp (judged o, ← frame (c .before), c .if1 .taken)
 
 row-count-requires : tie.Need-row-count-requires
 row-count-requires c κs = has-count _ _ (sym (frame (c .before)) ∙ not-false (c .before .is-frame .result) (c .if1 .left))
 
 mul-above : tie.Need-mul-above
-mul-above c = omega (arith, holds (c .before .before .before) .0)
+mul-above c = omega (arith, c .before .before .before .right-columns .ensures, holds (c .before .before .before .before) .0)
 
 div-above : tie.Need-div-above
 div-above c = search needs
@@ -81,12 +82,12 @@ above-requires c κs = search needs
 returns-3 : tie.Need-returns-3
 returns-3 c =
     let f = c .before .before .before in
-    let o = f .before .before in
+    let o = f .before .before .before in
     simp (judged o, ← frame (f .before), f .if1 .left, ← room (c .before), c .if2 .taken)
 
 add-above : tie.Need-add-above
 add-above c =
-    let o = c .before .before .before .before .before in
+    let o = c .before .before .before .before .before .before in
     omega (arith, holds o .1)
 
 above-requires-2 : tie.Need-above-requires-2
@@ -96,14 +97,14 @@ returns-4 : tie.Need-returns-4
 returns-4 c =
     let r = c .before .before in
     let f = r .before .before .before in
-    let o = f .before .before in
+    let o = f .before .before .before in
     simp (judged o, ← frame (f .before), f .if1 .left, ← room (r .before), r .if2 .left, ← numbers (c .before), c .if3 .taken)
 
 returns-5 : tie.Need-returns-5
 returns-5 c =
     let r = c .before .before in
     let f = r .before .before .before in
-    let o = f .before .before in
+    let o = f .before .before .before in
     simp (judged o, ← frame (f .before), f .if1 .left, ← room (r .before), r .if2 .left, ← numbers (c .before), c .if3 .left)
 
 pub judge-right-spec : {M : Type 1} → statement M
@@ -114,7 +115,7 @@ judge-right-spec =
     enum-told
     returns
     enum-told-2
-    add-c
+    right-columns-requires
     is-frame-requires
     returns-2
     row-count-requires

@@ -1,6 +1,6 @@
 -- `options::bad_options` meets its contract. Assumes nothing.
 use borrow.Author.Tests.{lt-ltb, le-ltb, eq-eqb, ne-eqb}
-use Rattle.frames.specs.Options.{badOptions}
+use Rattle.options.specs.Options.{badOptions}
 use Rattle.frames.proofs.Signed.{back}
 use Rattle.options.proofs.bad_options.Statement.{statement}
 use Rattle.options.proofs.bad_options.Tie as tie

@@ -4,7 +4,7 @@ use native.Mathlib.Omega.{arith}
 use native.Mathlib.Nat.{mul-le-mul-right}
 use denote.Ref.{now}
 use lib.ListN.{length}
-use Rattle.spans.specs.Room.{ported}
+use Rattle.spans.specs.Requires.{ported}
 use Rattle.spans.specs.Port.{portedFrom}
 use Rattle.frames.specs.Cells.{rowsOf}
 use Rattle.spans.proofs.WalkLaws.{rest, from-all, from-none, count-more}

@@ -6,7 +6,7 @@ use denote.Ref.{now}
 use lib.ListN.{length}
 use Rattle.frames.specs.Cells.{Rows, rowsOf}
 use Rattle.tables.specs.Lay.{flat, layCells}
-use Rattle.spans.specs.Room.{ported}
+use Rattle.spans.specs.Requires.{ported}
 use Rattle.spans.specs.Port.{portedFrom}
 use Rattle.spans.proofs.WalkLaws.{rest, from-all, count-more, pairs-more, pairs-done}
 use Rattle.pairing.proofs.put_pairs.Statement.{statement}

@@ -4,7 +4,7 @@ use lib.ListN.{getD}
 use denote.Ref.{now}
 use Prim.Native.Nat.{_+_}
 use Rattle.frames.proofs.Signed.{back}
-use Rattle.frames.proofs.RowLaws.{not-greater-arm}
+use Rattle.order.proofs.RowLaws.{not-greater-arm}
 use borrow.Author.Needs.{needs}
 use Rattle.pointsearch.proofs.before_next.Statement.{statement}
 use Rattle.pointsearch.proofs.before_next.Tie as tie

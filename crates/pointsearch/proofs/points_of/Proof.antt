@@ -7,7 +7,7 @@ use native.Mathlib.Omega.{arith}
 use denote.Ref.{now}
 use lib.IntN.{pos}
 use lib.ListN.{getD}
-use Rattle.frames.specs.Room.{cellAt}
+use Rattle.order.specs.Requires.{cellAt}
 use Rattle.frames.proofs.Signed.{back}
 use Rattle.spans.proofs.WalkLaws.{present, matched-no-start, matched-no-end, matched-some, matched-none}
 use borrow.Author.Needs.{needs}

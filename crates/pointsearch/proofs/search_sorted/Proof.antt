@@ -4,9 +4,9 @@ use denote.Ref.{now}
 use lib.IntN.{pos}
 use mir.Facts.{toZ-ofZ}
 use Rattle.frames.specs.Cells.{value, rowsOf}
-use Rattle.frames.specs.Options.{keyRule}
+use Rattle.options.specs.Options.{keyRule}
 use Rattle.frames.proofs.WordLaws.{rows-length}
-use Rattle.buffer.proofs.Bounds.{find-within}
+use Rattle.searching.proofs.Bounds.{find-within}
 use borrow.Author.Needs.{needs}
 use Rattle.pointsearch.proofs.search_sorted.Statement.{statement}
 use Rattle.pointsearch.proofs.search_sorted.Tie as tie

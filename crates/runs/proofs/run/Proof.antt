@@ -4,7 +4,7 @@ use mathlib.Core.Bool.{true}
 use Prim.Native.Nat.{_-_, _<_}
 use native.Mathlib.Omega.{arith}
 use borrow.Author.Tests.{not-true, not-false}
-use Rattle.answers.specs.Answers.{wrote}
+use Rattle.outcomes.specs.Answers.{wrote}
 use Rattle.runs.proofs.RunLaws.{Made, run-starts, put-length, run-stops, run-count, run-within, run-more, run-used}
 use borrow.Author.Needs.{needs}
 use Rattle.runs.proofs.run.Statement.{statement}

@@ -8,9 +8,9 @@ use borrow.Author.Needs.{needs}
 use denote.Ref.{now}
 use mir.Facts.{toZ-ofZ}
 use Rattle.frames.specs.Cells.{Cell, value}
-use Rattle.frames.specs.Order.{keyOf}
+use Rattle.order.specs.Order.{keyOf}
 use Rattle.matching.specs.Match.{Hit, nobody, fits, choose}
-use Rattle.matching.specs.Walk.{between, hitAt}
+use Rattle.matching.specs.Stretches.{between, hitAt}
 use Rattle.matching.specs.Inner.{BestIn}
 use Rattle.matching.proofs.BestLaws.{hit-none, scan-more, scan-end}
 use Rattle.scan.proofs.best_row.Statement.{statement}

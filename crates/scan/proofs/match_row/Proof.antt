@@ -8,11 +8,11 @@ use lib.IntN.{pos, natAbs, _-ℤ_}
 use lib.ListN.{getD}
 use lib.Signed.{leZ}
 use Rattle.frames.specs.Cells.{value, isNull, rowFrom}
-use Rattle.frames.specs.Order.{keyOf}
+use Rattle.order.specs.Order.{keyOf}
 use Rattle.frames.proofs.Signed.{back}
-use Rattle.frames.proofs.RowLaws.{row-cell, row-room}
+use Rattle.order.proofs.RowLaws.{row-cell, row-room}
 use Rattle.matching.specs.Match.{nobody, fits, choose}
-use Rattle.matching.specs.Walk.{between, hitAt}
+use Rattle.matching.specs.Stretches.{between, hitAt}
 use Rattle.matching.proofs.ScanLaws.{present}
 use Rattle.matching.proofs.BestLaws.{key-at, none-null, none-best, none-far, row-near}
 use borrow.Author.Needs.{needs}

@@ -8,11 +8,11 @@ use lib.IntN.{pos}
 use lib.ListN.{getD}
 use mir.Facts.{toZ-ofZ}
 use Rattle.frames.specs.Cells.{value, isNull}
-use Rattle.frames.specs.Options.{keyRule}
-use Rattle.frames.specs.Order.{cmpCell}
-use Rattle.frames.specs.Room.{cellAt}
+use Rattle.options.specs.Options.{keyRule}
+use Rattle.order.specs.Order.{cmpCell}
+use Rattle.order.specs.Requires.{cellAt}
 use Rattle.frames.proofs.Signed.{back}
-use Rattle.frames.proofs.RowLaws.{row-room}
+use Rattle.order.proofs.RowLaws.{row-room}
 use Rattle.matching.specs.Match.{onSide}
 use Rattle.matching.specs.Inner.{TakesOver}
 use Rattle.matching.proofs.BestLaws.{stays, comes, wins, loses}

@@ -3,8 +3,8 @@ use mathlib.Core.Bool.{Bool, true, _&&_}
 use native.Mathlib.Omega.{arith}
 use borrow.Author.Tests.{not-true, not-false}
 use denote.Ref.{now}
-use Rattle.frames.proofs.SortedLaws.{and-true}
-use Rattle.matching.specs.Walk.{between}
+use Rattle.frames.proofs.BoolLaws.{and-true}
+use Rattle.matching.specs.Stretches.{between}
 use Rattle.matching.specs.Moves.{keysSorted}
 use Rattle.scanwalk.specs.Drive.{keyOptions}
 use Rattle.scanwalk.proofs.DriveLaws.{left-in, right-in, run-room, scanned, unwalked, walks}

@@ -8,7 +8,7 @@ use Rattle.codes.proofs.both.Reads as both-reads
 use Rattle.codes.proofs.flag_of.Reads as flag-of-reads
 use Rattle.codes.proofs.is_flag.Reads as is-flag-reads
 use Rattle.spancall.proofs.spans.Reads as spans-reads
-use Rattle.written.proofs.written_host.Reads as written-host-reads
+use Rattle.tableresults.proofs.written_host.Reads as written-host-reads
 
 is-flag-requires : tie.Need-is-flag-requires
 is-flag-requires c κs = search needs

@@ -7,7 +7,7 @@ use mir.Syntax.{w64}
 use mir.Val.{toZ, ofZ}
 use mir.Facts.{toZ-ofZ}
 use Rattle.frames.specs.Cells.{value}
-use Rattle.frames.proofs.RowLaws.{row-room}
+use Rattle.order.proofs.RowLaws.{row-room}
 use Rattle.matching.specs.Moves.{movesOn, keyAt, CursorAt}
 use Rattle.matching.proofs.RestLaws.{cursor-on}
 use Rattle.walk.proofs.advance.Statement.{statement}

@@ -12,13 +12,13 @@ use lib.ListN.{getD}
 use lib.Signed.{leZ}
 use mir.Facts.{toZ-ofZ}
 use Rattle.frames.specs.Cells.{Cell, value, isNull, rowFrom}
-use Rattle.frames.specs.Order.{keyOf}
-use Rattle.frames.specs.Room.{cellAt}
+use Rattle.order.specs.Order.{keyOf}
+use Rattle.order.specs.Requires.{cellAt}
 use Rattle.frames.proofs.Signed.{back}
-use Rattle.frames.proofs.RowLaws.{row-room}
-use Rattle.frames.proofs.SortedLaws.{and-true}
+use Rattle.order.proofs.RowLaws.{row-room}
+use Rattle.frames.proofs.BoolLaws.{and-true}
 use Rattle.matching.specs.Match.{nobody, fits, choose}
-use Rattle.matching.specs.Walk.{between, hitAt}
+use Rattle.matching.specs.Stretches.{between, hitAt}
 use Rattle.matching.proofs.ScanLaws.{present}
 use Rattle.matching.proofs.BestLaws.{key-at, none-best, none-far, row-near}
 use Rattle.matching.proofs.RestLaws.{rest-hit, rest-none}

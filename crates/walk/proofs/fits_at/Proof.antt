@@ -5,7 +5,7 @@ use native.Mathlib.Omega.{arith}
 use denote.Ref.{now}
 use mir.Facts.{toZ-ofZ}
 use Rattle.frames.specs.Cells.{value}
-use Rattle.frames.proofs.RowLaws.{row-room}
+use Rattle.order.proofs.RowLaws.{row-room}
 use Rattle.matching.specs.Moves.{keyAt}
 use Rattle.matching.proofs.RestLaws.{known-fits}
 use Rattle.walk.proofs.fits_at.Statement.{statement}

@@ -6,11 +6,11 @@ use denote.Ref.{now}
 use lib.IntN.{pos}
 use lib.ListN.{getD}
 use Rattle.frames.specs.Cells.{value, isNull, rowFrom}
-use Rattle.frames.specs.Options.{keyRule}
-use Rattle.frames.specs.Room.{cellAt}
+use Rattle.options.specs.Options.{keyRule}
+use Rattle.order.specs.Requires.{cellAt}
 use Rattle.frames.proofs.Signed.{back}
-use Rattle.frames.proofs.OrderLaws.{at-most-refl, cmpCell-is}
-use Rattle.frames.proofs.RowLaws.{row-cell}
+use Rattle.order.proofs.OrderLaws.{at-most-refl, cmpCell-is}
+use Rattle.order.proofs.RowLaws.{row-cell}
 use Rattle.matching.specs.Moves.{keyAt, CursorAt}
 use Rattle.matching.proofs.ScanLaws.{present}
 use Rattle.matching.proofs.BestLaws.{none-null}

@@ -10,9 +10,9 @@ use mir.Val.{toZ, ofZ}
 use lib.IntN.{pos}
 use lib.ListN.{length, getD, length-set}
 use Rattle.frames.specs.Cells.{rowFrom, valueWord, markWord}
-use Rattle.frames.specs.Keyed.{five, remember}
+use Rattle.order.specs.Keyed.{five, remember}
 use Rattle.frames.proofs.Signed.{back}
-use Rattle.frames.proofs.RowLaws.{copy-none, copy-more}
+use Rattle.order.proofs.RowLaws.{copy-none, copy-more}
 use Rattle.keyed.proofs.copy.copy_row.Statement.{statement}
 use Rattle.keyed.proofs.copy.copy_row.Tie as tie
 

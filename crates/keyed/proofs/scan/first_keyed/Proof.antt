@@ -7,9 +7,9 @@ use borrow.Author.Tests.{not-true, not-false}
 use denote.Ref.{now}
 use lib.ListN.{length}
 use Rattle.frames.specs.Cells.{Words, rowFrom, rowsOf}
-use Rattle.frames.specs.Order.{nullKey}
-use Rattle.frames.specs.Keyed.{firstKeyed, firstFrom}
-use Rattle.frames.proofs.RowLaws.{row-room, rest, rest-all, first-none, first-found, first-passed}
+use Rattle.order.specs.Order.{nullKey}
+use Rattle.order.specs.Keyed.{firstKeyed, firstFrom}
+use Rattle.order.proofs.RowLaws.{row-room, rest, rest-all, first-none, first-found, first-passed}
 use Rattle.keyed.proofs.scan.first_keyed.Statement.{statement}
 use Rattle.keyed.proofs.scan.first_keyed.Tie as tie
 

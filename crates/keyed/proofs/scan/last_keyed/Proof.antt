@@ -8,10 +8,10 @@ use borrow.Author.Tests.{not-true, not-false}
 use denote.Ref.{now}
 use lib.ListN.{length, getD}
 use Rattle.frames.specs.Cells.{Words, rowsOf}
-use Rattle.frames.specs.Order.{nullKey}
-use Rattle.frames.specs.Keyed.{lastKeyed, lastBelow}
+use Rattle.order.specs.Order.{nullKey}
+use Rattle.order.specs.Keyed.{lastKeyed, lastBelow}
 use Rattle.frames.proofs.WordLaws.{rows-length}
-use Rattle.frames.proofs.RowLaws.{row-room, rows-from, one-row, last-none, last-found, last-passed}
+use Rattle.order.proofs.RowLaws.{row-room, rows-from, one-row, last-none, last-found, last-passed}
 use Rattle.keyed.proofs.scan.last_keyed.Statement.{statement}
 use Rattle.keyed.proofs.scan.last_keyed.Tie as tie
 

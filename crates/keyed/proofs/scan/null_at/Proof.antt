@@ -4,7 +4,7 @@ use lib.IntN.{pos}
 use lib.ListN.{getD}
 use denote.Ref.{now}
 use Rattle.frames.proofs.Signed.{zero-flag}
-use Rattle.frames.proofs.RowLaws.{null-mark}
+use Rattle.order.proofs.RowLaws.{null-mark}
 use borrow.Author.Needs.{needs}
 use Rattle.keyed.proofs.scan.null_at.Statement.{statement}
 use Rattle.keyed.proofs.scan.null_at.Tie as tie

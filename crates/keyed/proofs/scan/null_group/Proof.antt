@@ -7,8 +7,8 @@ use borrow.Author.Needs.{needs}
 use denote.Ref.{now}
 use lib.ListN.{length}
 use Rattle.frames.specs.Cells.{Words, rowFrom, cell, isNull}
-use Rattle.frames.specs.Order.{nullIn}
-use Rattle.frames.proofs.RowLaws.{row-cell, null-more, null-found}
+use Rattle.order.specs.Order.{nullIn}
+use Rattle.order.proofs.RowLaws.{row-cell, null-more, null-found}
 use Rattle.keyed.proofs.scan.null_group.Statement.{statement}
 use Rattle.keyed.proofs.scan.null_group.Tie as tie
 

@@ -2,7 +2,7 @@
 use mathlib.Core.Path.{sym, ap, _∙_}
 use denote.Ref.{now}
 use Rattle.frames.specs.Cells.{isNull}
-use Rattle.frames.proofs.RowLaws.{row-cell}
+use Rattle.order.proofs.RowLaws.{row-cell}
 use borrow.Author.Needs.{needs}
 use Rattle.keyed.proofs.scan.null_key.Statement.{statement}
 use Rattle.keyed.proofs.scan.null_key.Tie as tie

@@ -14,13 +14,13 @@ bad-join-requires c κs = search needs
 
 -- A join that is not bad holds together.
 feed-right-requires : tie.Need-feed-right-requires
-feed-right-requires c κs = λ e. let g = good _ _ _ (sym (c .before .bad-join .ensures) ∙ e) in record { few = g .few; room = g .right-room; rows = g .rows }
+feed-right-requires c κs = λ e. let g = good _ _ _ (sym (c .before .before .bad-join .ensures) ∙ e) in record { few = g .few; room = g .right-room; rows = g .rows }
 
 same-length : tie.Need-same-length
 same-length c = search needs
 
 returns : tie.Need-returns
-returns c = right-leaves _ _ _ _ _ (c .before .before .before .bad-join .ensures) _ _ (c .before .feed-right .ensures)
+returns c = right-leaves _ _ _ _ _ (c .before .before .before .before .bad-join .ensures) _ _ (c .before .feed-right .ensures)
 
 pub right-spec : {M : Type 1} → statement M
 right-spec = tie.close (tie.spec bad-join-requires feed-right-requires same-length returns)

@@ -1,4 +1,4 @@
-use Rattle.feeds.specs.Judged.{badNumbers}
+use Rattle.callrules.specs.Judged.{badNumbers}
 use Rattle.node.specs.State.{badJoin}
 use borrow.Author.Needs.{needs}
 use Rattle.node.proofs.check.bad_join.Statement.{statement}

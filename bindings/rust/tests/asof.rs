@@ -1,0 +1,230 @@
+//! The driver: whole tables by any cut and every option, what it asks for and when, areas that grow, and refusals.
+use std::cell::Cell;
+
+use rowkeeper::{ByColumn, Column, Frame, Frames, Options, Refusal, Strategy, asof};
+
+type Row = [Option<i64>; 2];
+type Matches = Vec<Option<u64>>;
+
+/// A source of random numbers (splitmix64).
+struct Random(u64);
+
+impl Random {
+    /// A number below n.
+    fn below(&mut self, n: u64) -> u64 {
+        self.0 = self.0.wrapping_add(0x9E37_79B9_7F4A_7C15);
+        let z = (self.0 ^ (self.0 >> 30)).wrapping_mul(0xBF58_476D_1CE4_E5B9);
+        let z = (z ^ (z >> 27)).wrapping_mul(0x94D0_49BB_1331_11EB);
+        (z ^ (z >> 31)) % n
+    }
+
+    /// A sorted table of up to 40 rows: a group and a key, some of them null.
+    fn table(&mut self) -> Vec<Row> {
+        let count = self.below(41);
+        let mut cell = |n| (self.below(10) > 0).then(|| self.below(n) as i64);
+        let mut rows: Vec<Row> = (0..count).map(|_| [cell(4), cell(12)]).collect();
+        rows.sort();
+        rows
+    }
+
+    /// A table as frames of no more than so many rows, some of them empty.
+    fn cut(&mut self, mut rows: &[Row], most: u64) -> Vec<Frame> {
+        let mut frames = vec![];
+        while !rows.is_empty() {
+            let (frame, rest) = rows.split_at(rows.len().min(self.below(most + 1) as usize));
+            frames.push(Frame::new(2, frame).unwrap());
+            rows = rest;
+        }
+        frames
+    }
+
+    /// Options of every kind, with one by-column.
+    fn options(&mut self) -> Options {
+        let strategy = [Strategy::Backward, Strategy::Forward, Strategy::Nearest][self.below(3) as usize];
+        let allow_eq = strategy == Strategy::Nearest || self.below(2) == 0;
+        let tolerance = (self.below(2) == 0).then(|| self.below(5));
+        Options { strategy, allow_eq, tolerance, check: self.below(2) == 0, by: vec![ByColumn::default()] }
+    }
+}
+
+/// The match of a left row by SCOPE 14's rule, over the whole right table.
+fn plain_match(options: &Options, left: &Row, right: &[Row]) -> Option<u64> {
+    let [Some(group), Some(key)] = *left else { return None };
+    let qualifies = |row: &&(usize, i64)| {
+        let side = match options.strategy {
+            Strategy::Backward => row.1 <= key,
+            Strategy::Forward => row.1 >= key,
+            Strategy::Nearest => true,
+        };
+        side && (options.allow_eq || row.1 != key) && options.tolerance.is_none_or(|t| row.1.abs_diff(key) <= t)
+    };
+    let of_group = |(number, row): (usize, &Row)| match row {
+        [Some(g), Some(k)] if *g == group => Some((number, *k)),
+        _ => None,
+    };
+    let rows: Vec<(usize, i64)> = right.iter().enumerate().filter_map(of_group).collect();
+    let rows = rows.iter().filter(qualifies);
+    let taken = match options.strategy {
+        Strategy::Backward => rows.max_by_key(|(number, k)| (*k, *number)),
+        Strategy::Forward => rows.min_by_key(|(number, k)| (*k, *number)),
+        Strategy::Nearest => rows.max_by_key(|(number, k)| (-(k - key).abs(), *k, *number)),
+    };
+    taken.map(|(number, _)| *number as u64)
+}
+
+/// A frame of keys.
+fn keys(keys: &[i64]) -> Frame {
+    Frame::of_keys(keys).unwrap()
+}
+
+/// All matches of two tables of keys, which no call refuses.
+fn joined(options: &Options, lefts: &[Frame], rights: &[Frame]) -> Matches {
+    asof(options, lefts, rights).unwrap().collect::<Result<_, _>>().unwrap()
+}
+
+/// Both tables in any cut, with every option, give the matches of the whole-table rule.
+#[test]
+fn any_cut_and_options() {
+    let r = &mut Random(1);
+    let mut matched = 0;
+    for _ in 0..3000 {
+        let (options, left, right, most) = (r.options(), r.table(), r.table(), 1 + r.below(20));
+        let want: Matches = left.iter().map(|row| plain_match(&options, row, &right)).collect();
+        let (lefts, rights) = (r.cut(&left, most), r.cut(&right, most));
+        matched += want.iter().flatten().count();
+        assert_eq!(joined(&options, &lefts, &rights), want, "{options:?}, left {lefts:?}, right {rights:?}");
+    }
+    assert!(matched > 10_000, "{matched}");
+}
+
+/// Long columns with nulls first, cut into full frames: a left key takes the right row of the greatest even key not above it.
+#[test]
+fn columns() {
+    let column = |nulls: usize, keys: &[i64]| {
+        ([&vec![-7; nulls], keys].concat(), [vec![false; nulls], vec![true; keys.len()]].concat())
+    };
+    let (left, left_marks) = column(50, &(0..20_000).collect::<Vec<_>>());
+    let (right, right_marks) = column(100, &(0..10_000).map(|i| 2 * i).collect::<Vec<_>>());
+    let lefts = Frames::of_columns(&[Column::with_marks(&left, &left_marks)]).unwrap();
+    let rights = Frames::of_columns(&[Column::with_marks(&right, &right_marks)]).unwrap();
+    let found: Matches = asof(&Options::default(), lefts, rights).unwrap().collect::<Result<_, _>>().unwrap();
+    let want: Matches = (0..50).map(|_| None).chain((0..20_000).map(|key| Some(100 + key / 2))).collect();
+    assert!(found == want);
+}
+
+/// Tables without rows, and without frames.
+#[test]
+fn empty_tables() {
+    let (none, empty, some) = (vec![], vec![keys(&[]), keys(&[])], vec![keys(&[1, 2])]);
+    for lefts in [&none, &empty] {
+        for rights in [&none, &empty, &some] {
+            assert_eq!(joined(&Options::default(), lefts, rights), []);
+        }
+    }
+    for rights in [&none, &empty] {
+        assert_eq!(joined(&Options::default(), &some, rights), [None, None]);
+    }
+}
+
+/// A frame of either side is asked for when it is needed and not before, and no right frame behind the last left row's match.
+#[test]
+fn asked_for_when_needed() {
+    let (lefts_asked, rights_asked) = (Cell::new(0), Cell::new(0));
+    let lefts = [3, 4, 25].iter().map(|key| {
+        lefts_asked.set(lefts_asked.get() + 1);
+        keys(&[*key])
+    });
+    let rights = (0..).map(|tens| {
+        rights_asked.set(rights_asked.get() + 1);
+        keys(&(10 * tens..10 * tens + 10).collect::<Vec<_>>())
+    });
+    let mut matches = asof(&Options::default(), lefts, rights).unwrap();
+    let asked = || (lefts_asked.get(), rights_asked.get());
+    assert_eq!(asked(), (0, 0));
+    assert_eq!((matches.next(), asked()), (Some(Ok(Some(3))), (1, 1)));
+    assert_eq!((matches.next(), asked()), (Some(Ok(Some(4))), (2, 1)));
+    assert_eq!((matches.next(), asked()), (Some(Ok(Some(25))), (3, 3)));
+    assert_eq!((matches.next(), asked()), (None, (3, 3)));
+    assert_eq!((matches.next(), asked()), (None, (3, 3)));
+}
+
+/// The areas grow where right rows must be held, and stay small where they need not be.
+#[test]
+fn areas() {
+    let frame: Vec<i64> = vec![7; 100];
+    let equal: Vec<Frame> = (0..100).map(|_| keys(&frame)).collect();
+    let mut held = asof(&Options::default(), [keys(&[7])], &equal).unwrap();
+    assert_eq!((held.next(), held.next()), (Some(Ok(Some(9999))), None));
+    let words = held.join().right_area().len();
+    assert!((20_000..=80_000).contains(&words), "{words} words for 10,000 rows");
+
+    let rising: Vec<Frame> = (0..1000).map(|i| keys(&(100 * i..100 * i + 100).collect::<Vec<_>>())).collect();
+    let mut passed = asof(&Options::default(), &rising, &rising).unwrap();
+    for row in 0..100_000 {
+        assert_eq!(passed.next(), Some(Ok(Some(row))));
+        assert!(passed.join().held() <= 200);
+    }
+    assert_eq!(passed.next(), None);
+    let (left, right) = (passed.join().left_area().len(), passed.join().right_area().len());
+    assert!(left == 202 && right <= 1000, "{left} and {right} words");
+}
+
+/// Left frames that get higher and lower: the left area and the output grow by doubling.
+#[test]
+fn frames_of_all_heights() {
+    let heights = (1..=64).chain((1..=64).rev()).chain([4096, 0, 4096, 1]);
+    let lefts: Vec<Frame> = heights.map(|height| keys(&vec![5; height])).collect();
+    let rows: usize = lefts.iter().map(|frame| frame[0] as usize).sum();
+    assert_eq!(joined(&Options::default(), &lefts, &[keys(&[1, 5])]), vec![Some(1); rows]);
+}
+
+/// Matches by frames, also behind single ones; what is left is told.
+#[test]
+fn by_frames() {
+    let lefts = [keys(&[1, 2, 3]), keys(&[]), keys(&[4, 5])];
+    let mut matches = asof(&Options::default(), &lefts, [keys(&[2, 4])]).unwrap();
+    assert_eq!(matches.size_hint(), (0, None));
+    assert_eq!((matches.next(), matches.size_hint()), (Some(Ok(None)), (2, None)));
+    let mut frames: Vec<Matches> = vec![];
+    while let Some(frame) = matches.next_matches().unwrap() {
+        frames.push(frame.iter().collect());
+    }
+    assert_eq!(frames, [[Some(0), Some(0)], [Some(1), Some(1)]]);
+    assert_eq!((matches.next(), matches.size_hint()), (None, (0, Some(0))));
+}
+
+/// A refusal is the last item; the matches before it stand. Options are refused at once.
+#[test]
+fn refusals() {
+    let nearest = Options { strategy: Strategy::Nearest, allow_eq: false, ..Options::default() };
+    assert_eq!(asof(&nearest, [keys(&[1])], [keys(&[1])]).unwrap_err(), Refusal::BadOptions);
+    let cases = [
+        (vec![keys(&[1, 2]), keys(&[4, 3])], vec![keys(&[1, 9])], 2, Refusal::LeftOrder),
+        (vec![keys(&[1, 2]), keys(&[1])], vec![keys(&[1, 9])], 2, Refusal::LeftOrder),
+        (vec![keys(&[1]), keys(&[5])], vec![keys(&[1, 3]), keys(&[2, 9])], 1, Refusal::RightOrder),
+        (vec![keys(&[1]), Frame::new(2, &[[Some(1); 2]]).unwrap()], vec![keys(&[1, 9])], 1, Refusal::BadFrame),
+        (vec![keys(&[1])], vec![Frame::new(2, &[[Some(1); 2]]).unwrap()], 0, Refusal::BadFrame),
+    ];
+    for (lefts, rights, before, refusal) in cases {
+        let mut matches = asof(&Options::default(), &lefts, &rights).unwrap();
+        assert!((0..before).all(|_| matches.next() == Some(Ok(Some(0)))));
+        assert_eq!(matches.next(), Some(Err(refusal)), "{lefts:?} {rights:?}");
+        assert_eq!((matches.next(), matches.next_matches()), (None, Ok(None)));
+        let mut matches = asof(&Options::default(), &lefts, &rights).unwrap();
+        let ended = std::iter::from_fn(|| matches.next_matches().map(|frame| frame.map(|_| ())).transpose()).last();
+        assert_eq!(ended, Some(Err(refusal)));
+    }
+}
+
+/// Words that are no frame at all, of either side.
+#[test]
+fn words_that_are_no_frame() {
+    let right = vec![vec![1, 1, 5, 1]];
+    for words in [vec![], vec![1], vec![i64::MAX, 1], vec![-1, 1], vec![1, 1, 5, 2], vec![4097, 1]] {
+        let one = [words];
+        let mut matches = asof(&Options::default(), &one, &right).unwrap();
+        assert_eq!(matches.next(), Some(Err(Refusal::BadFrame)));
+        let mut matches = asof(&Options::default(), &right, &one).unwrap();
+        assert_eq!((matches.next(), matches.next()), (Some(Err(Refusal::BadFrame)), None));
+    }
+}

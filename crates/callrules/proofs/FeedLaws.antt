@@ -1,0 +1,152 @@
+-- The answers by numbers: what is known once a frame is accepted, and what it leaves. Assumes nothing.
+use mathlib.Core.Path.{_≡_, refl, sym, _∙_}
+use mathlib.Core.Bool.{Bool, true, false, cond, not, _||_}
+use Prim.Native.Nat.{ℕ, _+_, _≤_}
+use native.Mathlib.Omega.{arith}
+use borrow.Author.Tests.{ltb-false, not-false}
+use lib.Dec.{ltb}
+use lib.ListN.{length}
+use lib.Signed.{ltZ}
+use Rattle.frames.specs.Cells.{Words}
+use Rattle.frames.specs.Frame.{rowCount, isFrame}
+use Rattle.options.specs.Options.{badOptions}
+use Rattle.frames.specs.Front.{HasCount}
+use Rattle.options.specs.declared.Options.{Options}
+use Rattle.frames.proofs.FrontLaws.{frame-parts}
+use Rattle.area.specs.Area.{capacity, newBase, pushed, moved, written}
+use Rattle.outcomes.specs.Answers.{isRunning, isDone, mostRows}
+use Rattle.outcomes.specs.declared.NodeState.{NodeState}
+use Rattle.refusals.specs.declared.Refusal.{Refusal}
+use Rattle.refusals.specs.declared.Refusal.the-variants.{BadJoin, Failed, Closed, BadFrame, NoRoom, UsedUp}
+use Rattle.outcomes.specs.declared.Took.{Took}
+use Rattle.outcomes.specs.declared.Took.the-variants.{Accepted, Refused}
+use Rattle.callrules.specs.Judged.{leftJudged, endJudged, rightJudged, LeftFed, RightFed}
+
+-- Of an `||` that is false each side is.
+pub or-both : (a b : Bool) → (a || b) ≡ false → (a ≡ false) × (b ≡ false)
+or-both true b e = let z : _≡_ {A = ℕ} 0 1 = cc in absurd (omega arith)
+or-both false b e = (refl, e)
+
+-- At most four by-columns.
+pub few-columns : (o : Options) → badOptions o ≡ false → o .by ≤ 4
+unfolding badOptions
+few-columns o e =
+    let p = or-both (ltb 4 (o .by) || ltb 2 (o .strategy) || ltZ (o .tolerance) _) _ e in
+    let q = or-both (ltb 4 (o .by) || ltb 2 (o .strategy)) _ (p .0) in
+    ltb-false 4 (o .by) (or-both (ltb 4 (o .by)) _ (q .0) .0)
+
+-- A chain of refusals that came to Accepted did not stop at its first.
+pub passed : (b : Bool) (n : Refusal) (t : Took) → cond b (Refused n) t ≡ Accepted → (b ≡ false) × (t ≡ Accepted)
+passed true n t e = let z : _≡_ {A = ℕ} 0 1 = cc in absurd (omega arith)
+passed false n t e = (refl, e)
+
+-- A frame's first word is there and is a number of rows, at most 4,096.
+pub has-count : (c : ℕ) (f : Words) → isFrame c f ≡ true → HasCount f
+has-count c f h = let p = frame-parts c f h in record { long = omega (arith, p .long); few = p .few }
+
+-- ---- a left frame
+module _ (bad failed : Bool) (state : NodeState) (c words : ℕ) (left f : Words) where
+  pub record LeftTaken : Type 0 where
+    pub unbroken : bad ≡ false
+    pub unfailed : failed ≡ false
+    pub running : isRunning state ≡ true
+    pub frame : isFrame c f ≡ true
+    pub room : words + length f ≤ length left
+
+  pub left-taken : leftJudged bad failed state c words left f ≡ Accepted → LeftTaken
+  unfolding leftJudged
+  left-taken e =
+      let p2 = passed bad BadJoin _ e in
+      let p3 = passed failed Failed _ (p2 .1) in
+      let p4 = passed (not (isRunning state)) Closed _ (p3 .1) in
+      let p5 = passed (not (isFrame c f)) BadFrame _ (p4 .1) in
+      let p6 = passed (ltb (length left) (words + length f)) NoRoom Accepted (p5 .1) in
+      record {
+        unbroken = p2 .0;
+        unfailed = p3 .0;
+        running = not-false (isRunning state) (p4 .0);
+        frame = not-false (isFrame c f) (p5 .0);
+        room = ltb-false (length left) (words + length f) (p6 .0);
+      }
+
+  module _ (start : ℕ) (t : Took) (judged : t ≡ leftJudged bad failed state c words left f) where
+    pub left-refused : (n : Refusal) → t ≡ Refused n → LeftFed bad failed state c start words left f (record { answer = t; start = start; words = words }) left
+    left-refused n is = let e = sym judged ∙ is in record { answer = judged; start-is = rw e; words-are = rw e; area = rw e }
+
+    pub left-accepted : t ≡ Accepted → (to : ℕ) (area : Words) → to ≡ newBase start words (length f) (length left) → area ≡ written f (to + words) (moved start to words left)
+        → LeftFed bad failed state c start words left f (record { answer = t; start = to; words = words + length f }) area
+    left-accepted is to area at put = let e = sym judged ∙ is in record { answer = judged; start-is = rw e at; words-are = rw e; area = rw (e, ← at) put }
+
+-- ---- a right frame
+-- What a right frame meets once the end of right would be accepted: its words, its room, its rows' numbers.
+abbrev pub rightRest : ℕ → ℕ → ℕ → Words → Words → Took
+rightRest c held pruned right f =
+    cond (not (isFrame c f)) (Refused BadFrame)
+    (cond (ltb (capacity c right) (held + rowCount f)) (Refused NoRoom)
+    (cond (ltb mostRows (pruned + held + rowCount f)) (Refused UsedUp)
+    Accepted))
+
+module _ (bad failed ended : Bool) (state : NodeState) where
+  pub record EndTaken : Type 0 where
+    pub unbroken : bad ≡ false
+    pub unfailed : failed ≡ false
+    pub unended : (ended || isDone state) ≡ false
+
+  pub end-taken : endJudged bad failed ended state ≡ Accepted → EndTaken
+  unfolding endJudged
+  end-taken e =
+      let p2 = passed bad BadJoin _ e in
+      let p3 = passed failed Failed _ (p2 .1) in
+      let p4 = passed (ended || isDone state) Closed Accepted (p3 .1) in
+      record { unbroken = p2 .0; unfailed = p3 .0; unended = p4 .0 }
+
+  module _ (c held pruned : ℕ) (right f : Words) where
+    -- A right frame is judged as the end of right is, and then by itself.
+    pub right-shut : (n : Refusal) → endJudged bad failed ended state ≡ Refused n → rightJudged bad failed ended state c held pruned right f ≡ Refused n
+    unfolding endJudged rightJudged
+    right-shut n e = stops bad failed (ended || isDone state) (rightRest c held pruned right f) n e
+      where
+        stops : (a b d : Bool) (t : Took) (n : Refusal) → cond a (Refused BadJoin) (cond b (Refused Failed) (cond d (Refused Closed) Accepted)) ≡ Refused n
+            → cond a (Refused BadJoin) (cond b (Refused Failed) (cond d (Refused Closed) t)) ≡ Refused n
+        stops true b d t n e = e
+        stops false true d t n e = e
+        stops false false true t n e = e
+        stops false false false t n e = let z : _≡_ {A = ℕ} 0 1 = cc in absurd (omega arith)
+
+    pub right-open : endJudged bad failed ended state ≡ Accepted → rightJudged bad failed ended state c held pruned right f ≡ rightRest c held pruned right f
+    unfolding rightJudged
+    right-open e = let t = end-taken e in rw (t .unbroken, t .unfailed, t .unended)
+
+    pub record RightTaken : Type 0 where
+      pub unbroken : bad ≡ false
+      pub unfailed : failed ≡ false
+      pub unended : (ended || isDone state) ≡ false
+      pub frame : isFrame c f ≡ true
+      pub room : held + rowCount f ≤ capacity c right
+      pub rows : pruned + held + rowCount f ≤ mostRows
+
+    pub right-taken : rightJudged bad failed ended state c held pruned right f ≡ Accepted → RightTaken
+    unfolding rightJudged
+    right-taken e =
+        let p2 = passed bad BadJoin _ e in
+        let p3 = passed failed Failed _ (p2 .1) in
+        let p4 = passed (ended || isDone state) Closed _ (p3 .1) in
+        let p5 = passed (not (isFrame c f)) BadFrame _ (p4 .1) in
+        let p6 = passed (ltb (capacity c right) (held + rowCount f)) NoRoom _ (p5 .1) in
+        let p7 = passed (ltb mostRows (pruned + held + rowCount f)) UsedUp Accepted (p6 .1) in
+        record {
+          unbroken = p2 .0;
+          unfailed = p3 .0;
+          unended = p4 .0;
+          frame = not-false (isFrame c f) (p5 .0);
+          room = ltb-false (capacity c right) (held + rowCount f) (p6 .0);
+          rows = ltb-false mostRows (pruned + held + rowCount f) (p7 .0);
+        }
+
+    module _ (base : ℕ) (t : Took) (judged : t ≡ rightJudged bad failed ended state c held pruned right f) where
+      pub right-refused : (n : Refusal) → t ≡ Refused n → RightFed bad failed ended state c base held pruned right f (record { answer = t; base = base; held = held }) right
+      right-refused n is = let e = sym judged ∙ is in record { answer = judged; base-is = rw e; held-is = rw e; area = rw e }
+
+      pub right-accepted : t ≡ Accepted → (n to : ℕ) (area : Words) → n ≡ rowCount f → to ≡ newBase base held (rowCount f) (capacity c right) → area ≡ pushed c base held f right
+          → RightFed bad failed ended state c base held pruned right f (record { answer = t; base = to; held = held + n }) area
+      right-accepted is n to area count at put = let e = sym judged ∙ is in record { answer = judged; base-is = rw e at; held-is = rw (e, count); area = rw e put }

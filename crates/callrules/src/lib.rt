@@ -1,0 +1,22 @@
+// What left and right frames, the end of right and opening are answered, by the numbers of a join, and what a frame that is taken leaves: definitions and laws. `bad` says whether the join meets refusal 2.
+use outcomes::Took;
+
+// After a left frame: the answer, where the queue starts and how many words wait.
+pub struct FedLeft {
+    pub answer: Took,
+    pub start: usize,
+    pub words: usize,
+}
+
+// After the end of right: the answer, and whether right has ended.
+pub struct FedEnd {
+    pub answer: Took,
+    pub ended: bool,
+}
+
+// After a right frame: the answer, where the held rows start and how many are held.
+pub struct FedRight {
+    pub answer: Took,
+    pub base: usize,
+    pub held: usize,
+}

@@ -1,0 +1,189 @@
+// The order of cells, groups and rows, and the distance of two keys. A row is told by the place of its first word among values and among marks.
+use options::Options;
+use order::Order;
+ghost use mathlib.Core.Path.{_≡_};
+ghost use Prim.Native.Nat.{ℕ, _+_, _<_};
+ghost use lib.IntN.{natAbs, _-ℤ_};
+ghost use mir.Syntax.{w64};
+ghost use mir.Val.{ofZ};
+ghost use Rattle.frames.specs.Cells.{cellOf, rowFrom, rowsOf};
+ghost use Rattle.options.specs.Options.{byRule, keyRule};
+ghost use Rattle.order.specs.Order.{cmpZ, cmpCell, cmpGroup, cmpRow, keyOf, sorted};
+ghost use Rattle.order.specs.Requires.{cellAt, CellIn, RowAt, RowsIn};
+
+// Two values, as numbers.
+fn cmp_value(a: i64, b: i64) -> Order
+    ensures { λ r. ⌜ r ≡ cmpZ a b ⌝ }
+{
+    if a < b {
+        return Order::Less;
+    }
+    if b < a {
+        return Order::Greater;
+    }
+    Order::Equal
+}
+
+// Two cells, each by its value and its mark.
+pub fn cmp_cell(va: i64, ma: i64, vb: i64, mb: i64, descending: bool, nulls_last: bool) -> Order
+    ensures { λ r. ⌜ r ≡ cmpCell (record { descending = descending; nullsLast = «nulls_last» }) (cellOf va ma) (cellOf vb mb) ⌝ }
+{
+    if ma == 0 {
+        if mb == 0 {
+            return Order::Equal;
+        }
+        if nulls_last {
+            return Order::Greater;
+        }
+        return Order::Less;
+    }
+    if mb == 0 {
+        if nulls_last {
+            return Order::Less;
+        }
+        return Order::Greater;
+    }
+    if descending {
+        return cmp_value(vb, va);
+    }
+    cmp_value(va, vb)
+}
+
+// The cell at place ka of the one side, and that at place kb of the other.
+pub(crate) fn cmp_at(
+    va: &[i64],
+    ma: &[i64],
+    ka: usize,
+    vb: &[i64],
+    mb: &[i64],
+    kb: usize,
+    descending: bool,
+    nulls_last: bool,
+) -> Order
+    requires { ⌜ CellIn ka (now va) (now ma) × CellIn kb (now vb) (now mb) ⌝ }
+    ensures { λ r. ⌜ r ≡ cmpCell (record { descending = descending; nullsLast = «nulls_last» }) (cellAt ka (now (va .entry)) (now (ma .entry))) (cellAt kb (now (vb .entry)) (now (mb .entry))) ⌝ }
+{
+    cmp_cell(va[ka], ma[ka], vb[kb], mb[kb], descending, nulls_last)
+}
+
+// By-column j of the rows at pa and pb.
+fn cmp_column(
+    va: &[i64],
+    ma: &[i64],
+    pa: usize,
+    vb: &[i64],
+    mb: &[i64],
+    pb: usize,
+    j: usize,
+    o: Options,
+) -> Order
+    requires { ⌜ RowAt o pa (now va) (now ma) × RowAt o pb (now vb) (now mb) × (j < o .by) ⌝ }
+    ensures { λ r. ⌜ r ≡ cmpCell (byRule o j) (cellAt (pa + j) (now (va .entry)) (now (ma .entry))) (cellAt (pb + j) (now (vb .entry)) (now (mb .entry))) ⌝ }
+{
+    let descending = o.descending;
+    let last = o.nulls_last;
+    cmp_at(va, ma, pa + j, vb, mb, pb + j, descending[j], last[j])
+}
+
+// The groups of the rows at pa and pb, whatever the rows' widths.
+pub fn cmp_group(
+    va: &[i64],
+    ma: &[i64],
+    pa: usize,
+    vb: &[i64],
+    mb: &[i64],
+    pb: usize,
+    o: Options,
+) -> Order
+    requires { ⌜ RowAt o pa (now va) (now ma) × RowAt o pb (now vb) (now mb) ⌝ }
+    ensures { λ r. ⌜ ((wa wb : ℕ) → o .by < wa → o .by < wb → r ≡ cmpGroup o (rowFrom wa pa (now (va .entry)) (now (ma .entry))) (rowFrom wb pb (now (vb .entry)) (now (mb .entry)))) ⌝ }
+{
+    let by = o.by;
+    let mut j = 0;
+    while j < by {
+        let r = cmp_column(va, ma, pa, vb, mb, pb, j, o);
+        match r {
+            Order::Equal => {}
+            _ => return r,
+        }
+        j += 1;
+    }
+    Order::Equal
+}
+
+// The keys of the rows at pa and pb: ascending, nulls first.
+pub(crate) fn cmp_key(
+    va: &[i64],
+    ma: &[i64],
+    pa: usize,
+    vb: &[i64],
+    mb: &[i64],
+    pb: usize,
+    o: Options,
+) -> Order
+    requires { ⌜ RowAt o pa (now va) (now ma) × RowAt o pb (now vb) (now mb) ⌝ }
+    ensures { λ r. ⌜ ((wa wb : ℕ) → o .by < wa → o .by < wb → r ≡ cmpCell keyRule (keyOf o (rowFrom wa pa (now (va .entry)) (now (ma .entry)))) (keyOf o (rowFrom wb pb (now (vb .entry)) (now (mb .entry))))) ⌝ }
+{
+    let by = o.by;
+    cmp_at(va, ma, pa + by, vb, mb, pb + by, false, false)
+}
+
+// The rows at pa and pb: by group, then by key.
+pub fn cmp_row(
+    va: &[i64],
+    ma: &[i64],
+    pa: usize,
+    vb: &[i64],
+    mb: &[i64],
+    pb: usize,
+    o: Options,
+) -> Order
+    requires { ⌜ RowAt o pa (now va) (now ma) × RowAt o pb (now vb) (now mb) ⌝ }
+    ensures { λ r. ⌜ ((wa wb : ℕ) → o .by < wa → o .by < wb → r ≡ cmpRow o (rowFrom wa pa (now (va .entry)) (now (ma .entry))) (rowFrom wb pb (now (vb .entry)) (now (mb .entry)))) ⌝ }
+{
+    let r = cmp_group(va, ma, pa, vb, mb, pb, o);
+    match r {
+        Order::Equal => cmp_key(va, ma, pa, vb, mb, pb, o),
+        _ => r,
+    }
+}
+
+// Whether no row of n, each w wide, is greater than the next.
+pub fn is_sorted(values: &[i64], marks: &[i64], n: usize, w: usize, o: Options) -> bool
+    requires { ⌜ RowsIn o w n (now values) (now marks) ⌝ }
+    ensures { λ r. ⌜ r ≡ sorted o (rowsOf w n (now (values .entry)) (now (marks .entry))) ⌝ }
+{
+    let mut left = n;
+    let mut p = 0;
+    while 1 < left {
+        let q = p + w;
+        match cmp_row(values, marks, p, values, marks, q, o) {
+            Order::Greater => return false,
+            _ => {}
+        }
+        p = q;
+        left -= 1;
+    }
+    true
+}
+
+// The unsigned image of a: its bits as a number from 0 to 2^64 - 1.
+pub fn image(a: i64) -> u64
+    ensures { λ r. ⌜ r ≡ ofZ w64 a ⌝ }
+{
+    if a < 0 {
+        let n = !a;
+        return !(n as u64);
+    }
+    a as u64
+}
+
+// The distance of two keys: the greater less the smaller, up to 2^64 - 1.
+pub fn distance(a: i64, b: i64) -> u64
+    ensures { λ r. ⌜ r ≡ natAbs (a -ℤ b) ⌝ }
+{
+    if a < b {
+        return std::num::wrapping_sub_u64(image(b), image(a));
+    }
+    std::num::wrapping_sub_u64(image(a), image(b))
+}

@@ -1,0 +1,96 @@
+use mathlib.Core.Path.{_≡_, sym, _∙_}
+use mathlib.Core.Bool.{false}
+use native.Mathlib.Omega.{arith}
+use Prim.Native.Nat.{_+_, _≤_}
+use denote.Ref.{now}
+use lib.Dec.{ltb}
+use Rattle.options.specs.Options.{badOptions, rightColumns}
+use Rattle.area.specs.Area.{capacity}
+use Rattle.callrules.specs.Judged.{badNumbers}
+use Rattle.callrules.proofs.FeedLaws.{few-columns}
+use borrow.Author.Needs.{needs}
+use Rattle.consistency.proofs.bad_numbers.Statement.{statement}
+use Rattle.consistency.proofs.bad_numbers.Tie as tie
+use Rattle.consistency.proofs.bad_numbers.Reads as reads
+use Rattle.consistency.proofs.bad_numbers.Lts as lts
+use Rattle.options.proofs.bad_options.Reads as bad-options-reads
+use Rattle.options.proofs.right_columns.Reads as right-columns-reads
+use Rattle.outcomes.proofs.above.Reads as above-reads
+
+bad-options-requires : tie.Need-bad-options-requires
+bad-options-requires c κs = search needs
+
+returns : tie.Need-returns
+unfolding badNumbers
+returns c = simp (← c .before .bad-options .ensures, c .if1 .taken)
+
+-- The options are not refused, so there are at most four by-columns.
+fine : (c : tie.Else1) → badOptions (c .before .before .args .o) ≡ false
+fine c = sym (c .before .bad-options .ensures) ∙ c .if1 .left
+
+few : (c : tie.Else1) → c .before .before .args .o .by ≤ 4
+few c = few-columns _ (fine c)
+
+-- The first sum that is tested is that of the held rows.
+rows : (c : tie.After-above) → let a = c .before .before .before .before .args in c .above .result ≡ ltb (capacity (rightColumns (a .o)) (now (a .right))) (a .base + a .held)
+rows c = rw (c .before .right-columns .ensures) at (c .above .ensures)
+
+right-columns-requires : tie.Need-right-columns-requires
+right-columns-requires c κs = few c
+
+mul-above : tie.Need-mul-above
+mul-above c = omega (arith, c .right-columns .ensures, few (c .before))
+
+div-above : tie.Need-div-above
+div-above c = search needs
+
+above-requires : tie.Need-above-requires
+above-requires c κs = search needs
+
+returns-2 : tie.Need-returns-2
+unfolding badNumbers
+returns-2 c = simp (fine (c .before .before .before), ← rows (c .before), c .if2 .taken)
+
+above-requires-2 : tie.Need-above-requires-2
+above-requires-2 c κs = search needs
+
+returns-3 : tie.Need-returns-3
+unfolding badNumbers
+returns-3 c =
+    let a = c .before .before .before in
+    simp (fine (a .before .before), ← rows a, c .before .before .if2 .left, ← c .before .above2 .ensures, c .if3 .taken)
+
+above-requires-3 : tie.Need-above-requires-3
+above-requires-3 c κs = search needs
+
+returns-4 : tie.Need-returns-4
+unfolding badNumbers
+returns-4 c =
+    let b = c .before .before .before in
+    let a = b .before .before in
+    simp (fine (a .before .before), ← rows a, b .before .if2 .left, ← b .above2 .ensures, c .before .before .if3 .left, ← c .before .above3 .ensures, c .if4 .taken)
+
+returns-5 : tie.Need-returns-5
+unfolding badNumbers
+returns-5 c =
+    let d = c .before in
+    let b = d .before .before in
+    let a = b .before .before in
+    simp (fine (a .before .before), ← rows a, b .before .if2 .left, ← b .above2 .ensures, d .before .if3 .left, ← d .above3 .ensures, c .if4 .left)
+
+pub bad-numbers-spec : {M : Type 1} → statement M
+bad-numbers-spec =
+    tie.close
+    (tie.spec
+    bad-options-requires
+    returns
+    right-columns-requires
+    mul-above
+    div-above
+    above-requires
+    returns-2
+    above-requires-2
+    returns-3
+    above-requires-3
+    returns-4
+    returns-5)

@@ -1,0 +1,40 @@
+// Whether the numbers of a join hold together and fit its areas, for any numbers and any areas: refusal 2.
+use options::Options;
+use options::bad_options;
+use options::right_columns;
+use outcomes::above;
+ghost use mathlib.Core.Path.{_≡_};
+ghost use Rattle.callrules.specs.Judged.{badNumbers};
+
+// The greatest number of right rows.
+const MOST_ROWS: usize = 9223372036854775807;
+
+// Whether the numbers of a join, with these areas, meet refusal 2.
+pub fn bad_numbers(
+    o: Options,
+    base: usize,
+    held: usize,
+    pruned: usize,
+    start: usize,
+    words: usize,
+    sequence: u64,
+    left: &[i64],
+    right: &[i64],
+) -> bool
+    ensures { λ r. ⌜ r ≡ badNumbers o base held pruned start words sequence (now (left .entry)) (now (right .entry)) ⌝ }
+{
+    if bad_options(o) {
+        return true;
+    }
+    let c = right_columns(o);
+    if above(base, held, right.len() / (2 * c)) {
+        return true;
+    }
+    if above(start, words, left.len()) {
+        return true;
+    }
+    if above(pruned, held, MOST_ROWS) {
+        return true;
+    }
+    sequence % 2 == 1
+}

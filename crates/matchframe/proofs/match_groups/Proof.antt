@@ -1,0 +1,126 @@
+use mathlib.Core.Path.{_≡_, refl, sym, ap, _∙_}
+use mathlib.Core.List.{List}
+use Prim.Native.Nat.{_+_, _-_, _*_, _≤_, _<_}
+use native.Mathlib.Nat.{mul-le-mul-right}
+use native.Mathlib.Omega.{arith}
+use denote.Ref.{now}
+use lib.ListN.{length}
+use Rattle.frames.specs.Cells.{rowsOf}
+use Rattle.order.proofs.RowLaws.{row-room}
+use Rattle.matching.specs.Groups.{runs, byRuns}
+use Rattle.matching.specs.Stretches.{lay}
+use Rattle.matching.specs.Inner.{RunAt}
+use Rattle.matching.specs.declared.Choice.{Choice}
+use Rattle.matching.proofs.WalkLaws.{run-up, run-within}
+use Rattle.matching.proofs.LayLaws.{groupsFrom, groups-all, groups-more, groups-end}
+use Rattle.matchframe.proofs.match_groups.Statement.{statement}
+use Rattle.matchframe.proofs.match_groups.Tie as tie
+
+abbrev Inv-loop : tie.InvT-loop
+Inv-loop lv lm nl wl rv rm nr wr number o out₀ at₀ end₀ i₀ out at end i =
+    (i ≤ nl) × (length out ≡ length out₀) × RunAt o wr nr rv rm at end
+    × (lay nl 0 (byRuns o number (runs o (rowsOf wr nr rv rm)) (runs o (rowsOf wl nl lv lm))) out₀ ≡ lay nl i (groupsFrom o number wl nl lv lm wr nr rv rm at i) out)
+
+abbrev μ-loop : tie.MeasureT-loop
+μ-loop lv lm nl wl rv rm nr wr number o out₀ at₀ end₀ i₀ out at end i = nl - i
+
+-- the left run at row i has a row and ends within the rows
+ahead : (c : tie.After-run-end2 Inv-loop μ-loop) → (c .before .before .loop .i < c .run-end2 .result) × (c .run-end2 .result ≤ c .before .before .before .before .args .nl)
+ahead c =
+    let a = c .before .before .before .before .args in
+    let i = c .before .before .loop .i in
+    let u = run-up (a .o) (a .wl) (a .nl) (now (a .lv)) (now (a .lm)) i (c .before .loop-test .taken) in
+    let v = run-within (a .o) (a .wl) (a .nl) (now (a .lv)) (now (a .lm)) i (c .before .loop-test .taken) in
+    let q = c .run-end2 .ensures in
+    (omega arith, omega arith)
+
+room : (c : tie.After-run-end2 Inv-loop μ-loop) → let a = c .before .before .before .before .args in c .before .before .loop .i * a .wl + a .wl ≤ a .nl * a .wl
+room c = let a = c .before .before .before .before .args in row-room (c .before .before .loop .i) (a .nl) (a .wl) (c .before .loop-test .taken)
+
+run-end-requires : tie.Need-run-end-requires Inv-loop μ-loop
+run-end-requires c κs = record { rows = c .pre .right; within = omega arith }
+
+loop-holds : tie.Need-loop-holds Inv-loop μ-loop
+loop-holds c =
+    let s = c .before in
+    let a = s .args in (
+      omega arith,
+      refl,
+      record { rows = s .pre .right; within = omega arith; run = c .run-end .ensures },
+      ap (λ (ms : List Choice). lay (a .nl) 0 ms (now (a .out))) (groups-all (a .o) (a .number) (a .wl) (a .nl) (now (a .lv)) (now (a .lm)) (a .wr) (a .nr) (now (a .rv)) (now (a .rm))),
+    )
+
+run-end-requires-2 : tie.Need-run-end-requires-2 Inv-loop μ-loop
+run-end-requires-2 c κs = record { rows = c .before .before .before .pre .left; within = c .before .loop .inv .0 }
+
+mul-serve : tie.Need-mul-serve Inv-loop μ-loop
+mul-serve c = let r = room c in let p = c .before .before .before .before .pre .left in omega arith
+
+serve-requires : tie.Need-serve-requires Inv-loop μ-loop
+serve-requires c κs =
+    let r = room c in
+    let p = c .before .before .before .before .pre .left in
+    record { left = record { few = p .few; values = omega arith; marks = omega arith }; right = c .before .before .loop .inv .2 }
+
+match-run-requires : tie.Need-match-run-requires Inv-loop μ-loop
+match-run-requires c κs =
+    let e = c .before .before in
+    let l = e .before .before .loop in
+    let s = e .before .before .before .before in
+    let p = s .pre in
+    let g = c .before .serve .ensures .0 in
+    let u = ahead e in
+    let h = mul-le-mul-right {m = c .before .serve .result .used} {n = s .args .nr} (s .args .wr) (g .within) in
+    record {
+      left = p .left;
+      upward = omega arith;
+      within = u .1;
+      right = record { few = p .right .few; wide = p .right .wide; values = omega (arith, h, p .right .values); marks = omega (arith, h, p .right .marks) };
+      run = g .upward;
+      numbers = omega (arith, g .within, p .numbers);
+      room = omega (arith, p .room, l .inv .1);
+    }
+
+loop-less : tie.Need-loop-less Inv-loop μ-loop
+loop-less c = let u = ahead (c .before .before .before .before) in let t = c .before .before .before .before .before .loop-test .taken in omega arith
+
+loop-again : tie.Need-loop-again Inv-loop μ-loop
+loop-again c =
+    let e = c .before .before .before .before in
+    let l = e .before .before .loop in
+    let s = e .before .before .before .before in
+    let a = s .args in
+    let g = c .before .before .before .serve in
+    let m = groups-more (a .o) (a .number) (a .wl) (a .nl) (now (a .lv)) (now (a .lm)) (a .wr) (a .nr) (now (a .rv)) (now (a .rm)) (l .at) (l .i) (e .run-end2 .result) (g .result) (l .out) (e .before .loop-test .taken) (e .run-end2 .ensures) (g .ensures .1 (a .wl) (s .pre .left .wide)) in (
+      ahead e .1,
+      c .before .match-run .kept .1 .1 .1 .1 .1 .1 .1 .1 .1 .1 .1 .1 .1 .0 ∙ l .inv .1,
+      g .ensures .0 .run,
+      l .inv .3 ∙ rw (c .before .match-run .ensures) m,
+    )
+
+same-length : tie.Need-same-length Inv-loop μ-loop
+same-length c = c .before .loop .inv .1
+
+returns : tie.Need-returns Inv-loop μ-loop
+returns c =
+    let l = c .before .loop in
+    let a = c .before .before .before .args in
+    let e : l .i ≡ a .nl = omega (arith, c .loop-test .left, l .inv .0) in
+    sym (l .inv .3 ∙ rw e (groups-end (a .o) (a .number) (a .wl) (a .nl) (now (a .lv)) (now (a .lm)) (a .wr) (a .nr) (now (a .rv)) (now (a .rm)) (l .at) (l .out)))
+
+pub match-groups-spec : {M : Type 1} → statement M
+match-groups-spec =
+    tie.close
+    (tie.spec
+    Inv-loop
+    μ-loop
+    run-end-requires
+    loop-holds
+    run-end-requires-2
+    mul-serve
+    serve-requires
+    match-run-requires
+    loop-less
+    loop-again
+    same-length
+    returns)

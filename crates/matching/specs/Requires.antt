@@ -1,0 +1,20 @@
+-- What the functions that leave this crate ask of what they are handed. Assumes nothing.
+use Prim.Native.Nat.{ℕ, _+_, _-_, _*_, _^_, _≤_}
+use lib.ListN.{length}
+use Rattle.frames.specs.Cells.{Words}
+use Rattle.order.specs.Requires.{RowAt, RowsIn}
+use Rattle.options.specs.declared.Options.{Options}
+
+-- The left row at p, and right rows from..to, whose numbers an answer has room for.
+pub record RowRoom (o : Options) (p : ℕ) (lv lm : Words) (w from to : ℕ) (rv rm : Words) (number : ℕ) : Type 0 where
+  pub left : RowAt o p lv lm
+  pub right : RowsIn o w to rv rm
+  pub upward : from ≤ to
+  pub numbers : number + to ≤ 2 ^ 63 - 1
+
+-- A frame's rows and the held rows are there, their numbers fit, and the output has room for the answer.
+pub record FrameRoom (o : Options) (wl nl : ℕ) (lv lm : Words) (wr nr : ℕ) (rv rm : Words) (number : ℕ) (out : Words) : Type 0 where
+  pub left : RowsIn o wl nl lv lm
+  pub right : RowsIn o wr nr rv rm
+  pub numbers : number + nr ≤ 2 ^ 63 - 1
+  pub room : 2 + 2 * nl ≤ length out

@@ -1,0 +1,2 @@
+pub mod MoveLists
+pub mod Sample

@@ -1,0 +1,82 @@
+use mathlib.Core.Path.{sym, _∙_}
+use native.Mathlib.Omega.{arith}
+use denote.Ref.{now}
+use Rattle.node.proofs.Good.{good}
+use Rattle.moves.proofs.MoveLaws.{Fits, fits-by, bad-move, no-room-move, done-move}
+use borrow.Author.Needs.{needs}
+use Rattle.moving.proofs.move_join.Statement.{statement}
+use Rattle.moving.proofs.move_join.Tie as tie
+use Rattle.moving.proofs.move_join.Reads as reads
+use Rattle.moving.proofs.move_join.Lts as lts
+use Rattle.moving.proofs.copy_left.Reads as copy-left-reads
+use Rattle.moving.proofs.copy_right.Reads as copy-right-reads
+use Rattle.moving.proofs.no_room.Reads as no-room-reads
+use Rattle.options.proofs.right_columns.Reads as right-columns-reads
+use Rattle.node.proofs.bad_join.Reads as bad-join-reads
+
+bad-join-requires : tie.Need-bad-join-requires
+bad-join-requires c κs = search needs
+
+returns : tie.Need-returns
+returns c = bad-move _ _ _ _ _ (sym (c .before .bad-join .ensures) ∙ c .if1 .taken)
+
+no-room-requires : tie.Need-no-room-requires
+no-room-requires c κs = good _ _ _ (sym (c .before .before .before .bad-join .ensures) ∙ c .before .before .if1 .left) .few
+
+same-length : tie.Need-same-length
+same-length c = search needs
+
+same-length-2 : tie.Need-same-length-2
+same-length-2 c = search needs
+
+returns-2 : tie.Need-returns-2
+returns-2 c =
+    let s = c .before .before .before .before .before in
+    no-room-move _ _ _ _ _ (sym (s .bad-join .ensures) ∙ c .before .before .before .before .if1 .left) (sym (c .before .no-room .ensures) ∙ c .if2 .taken)
+
+-- Past both tests the join holds together, and its words and rows have room.
+fine : (c : tie.Else2) → let a = c .before .before .before .before .before .before .args in Fits (a .j) (now (a .left)) (now (a .right)) (now (a .new-left)) (now (a .new-right))
+fine c =
+    let s = c .before .before .before .before .before in
+    fits-by _ _ _ _ _ (sym (s .bad-join .ensures) ∙ c .before .before .before .before .if1 .left) (sym (c .before .no-room .ensures) ∙ c .if2 .left)
+
+copy-left-requires : tie.Need-copy-left-requires
+copy-left-requires c κs = let t = fine (c .before) in record { within = t .good .left-room; room = t .left-room }
+
+right-columns-requires : tie.Need-right-columns-requires
+right-columns-requires c κs = fine (c .before .before .before) .good .few
+
+copy-right-requires : tie.Need-copy-right-requires
+copy-right-requires c κs =
+    let t = fine (c .before .before .before .before .before) in
+    rw (c .before .right-columns .ensures) (record { columns = record { some = omega arith; few = omega (arith, t .good .few) }; within = t .good .right-room; room = t .right-room })
+
+same-length-3 : tie.Need-same-length-3
+same-length-3 c = search needs
+
+same-length-4 : tie.Need-same-length-4
+same-length-4 c = search needs
+
+returns-3 : tie.Need-returns-3
+returns-3 c =
+    let p = c .before .before .before .before in
+    let e = p .before .before .before .before .before .before in
+    let s = e .before .before .before .before .before in
+    done-move _ _ _ _ _ _ _ (sym (s .bad-join .ensures) ∙ e .before .before .before .before .if1 .left) (sym (e .before .no-room .ensures) ∙ e .if2 .left) (p .before .before .before .before .copy-left .ensures) (rw (p .before .before .right-columns .ensures) at (p .copy-right .ensures))
+
+pub move-join-spec : {M : Type 1} → statement M
+move-join-spec =
+    tie.close
+    (tie.spec
+    bad-join-requires
+    returns
+    no-room-requires
+    same-length
+    same-length-2
+    returns-2
+    copy-left-requires
+    right-columns-requires
+    copy-right-requires
+    same-length-3
+    same-length-4
+    returns-3)

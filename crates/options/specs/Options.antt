@@ -1,0 +1,47 @@
+-- The options that a join is opened with. Assumes nothing.
+use mathlib.Core.Bool.{Bool, true, false, cond, not, _&&_, _||_}
+use Prim.Native.Nat.{ℕ, suc}
+use lib.Dec.{ltb, eqb}
+use lib.IntN.{negsuc}
+use lib.Signed.{ltZ}
+use lib.ListN.{getD}
+use Rattle.options.specs.declared.Options.{Options}
+use Rattle.options.specs.declared.Strategy.{Strategy}
+use Rattle.options.specs.declared.Strategy.the-variants.{Backward, Forward, Nearest}
+use Rattle.options.specs.declared.Check.{Check}
+use Rattle.options.specs.declared.Check.the-variants.{Off, On}
+
+-- SCOPE 3.1: the strategy by its number.
+abbrev pub strategyOf : Options → Strategy
+strategyOf o = cond (eqb (o .strategy) 0) Backward (cond (eqb (o .strategy) 1) Forward Nearest)
+
+-- SCOPE 3.4: whether the order check is on.
+abbrev pub isOn : Check → Bool
+isOn Off = false
+isOn On = true
+
+-- SCOPE 2.5: the columns of a left frame, by-columns and key.
+abbrev pub columns : Options → ℕ
+columns o = suc (o .by)
+
+-- SCOPE 2.5: the columns of a right frame, and of a held row.
+abbrev pub rightColumns : Options → ℕ
+rightColumns o = columns o
+
+-- SCOPE 3.6: the options are invalid.
+unfoldable pub badOptions : Options → Bool
+badOptions o =
+    ltb 4 (o .by) || ltb 2 (o .strategy) || ltZ (o .tolerance) (negsuc 0) || (eqb (o .strategy) 2 && not (o .«allow_eq»))
+
+-- How a column is ordered.
+pub record Rule : Type 0 where
+  pub descending : Bool
+  pub nullsLast : Bool
+
+-- SCOPE 3.5: the flags of by-column j.
+abbrev pub byRule : Options → ℕ → Rule
+byRule o j = record { descending = getD (o .descending) j false; nullsLast = getD (o .«nulls_last») j false }
+
+-- SCOPE 4.3: the key has neither flag.
+abbrev pub keyRule : Rule
+keyRule = record { descending = false; nullsLast = false }

@@ -1,0 +1,7 @@
+pub mod Samples
+pub mod OrderLaws
+pub mod SortedLaws
+pub mod KeyLaws
+pub mod KeyedLaws
+pub mod Apart
+pub mod RowLaws

@@ -1,0 +1,44 @@
+use mathlib.Core.Path.{_≡_}
+use native.Mathlib.Omega.{arith}
+use borrow.Author.Tests.{not-true, not-false}
+use lib.ListN.{length}
+use Rattle.options.specs.Options.{columns}
+use Rattle.splitcheck.proofs.BeforeLaws.{recall-none, recall-some}
+use borrow.Author.Needs.{needs}
+use Rattle.splitcheck.proofs.split.out_of_order.Statement.{statement}
+use Rattle.splitcheck.proofs.split.out_of_order.Tie as tie
+
+returns : tie.Need-returns
+returns c = let a = c .before .before .args in rw (recall-none (columns (a .o)) (a .m) (not-true _ (c .if1 .taken)))
+
+slice-aggregate-above-first : tie.Need-slice-aggregate-above-first
+slice-aggregate-above-first c = search needs
+
+slice-aggregate-above-first-2 : tie.Need-slice-aggregate-above-first-2
+slice-aggregate-above-first-2 c = search needs
+
+-- five words are remembered
+long : (c : tie.Start) → (length (c .args .m .values) ≡ 5) × (length (c .args .m .marks) ≡ 5)
+long c = (search needs, search needs)
+
+above-first-requires : tie.Need-above-first-requires
+above-first-requires c κs =
+    let s = c .before .before .before .before .before .before in
+    let l = long s in
+    (record { few = s .pre .few; values = omega (arith, s .pre .few); marks = omega (arith, s .pre .few) }, s .pre)
+
+returns-2 : tie.Need-returns-2
+returns-2 c =
+    let s = c .before .before .before .before .before .before .before in
+    let a = s .args in
+    rw (recall-some (columns (a .o)) (a .m) (not-false _ (c .before .before .before .before .before .if1 .left))) (c .above-first .ensures (columns (a .o)) (omega arith))
+
+pub out-of-order-spec : {M : Type 1} → statement M
+out-of-order-spec =
+    tie.close
+    (tie.spec
+    returns
+    slice-aggregate-above-first
+    slice-aggregate-above-first-2
+    above-first-requires
+    returns-2)

@@ -1,0 +1,122 @@
+// The check at the split: the row before it, the first row with a key after it, and what is remembered.
+use compare::cmp_row;
+use keyed::copy_row;
+use keyed::first_keyed;
+use keyed::last_keyed;
+use options::Options;
+use options::left_columns;
+use order::Keyed;
+use order::Order;
+use order::Row;
+ghost use mathlib.Core.Path.{_≡_};
+ghost use mathlib.Core.Option.{some};
+ghost use Prim.Native.Nat.{ℕ, _<_};
+ghost use Rattle.frames.specs.Cells.{rowFrom, rowsOf};
+ghost use Rattle.options.specs.Options.{columns};
+ghost use Rattle.order.specs.Order.{isGreater};
+ghost use Rattle.order.specs.Keyed.{firstKeyed, rowAt, recall, rememberLast, outOfOrder};
+ghost use Rattle.order.specs.Requires.{RowAt, RowsIn};
+ghost use Rattle.splitcheck.specs.Split.{wordsBefore, hasBefore, outOfOrderAt};
+ghost use Rattle.splitcheck.specs.Requires.{BeforeIn, SplitIn};
+
+// The row that the first kept one is compared with (SCOPE 11.4), its values or its marks.
+pub(crate) fn before_split<'a>(
+    held: &'a [i64],
+    remembered: &'a [i64],
+    found: Keyed,
+    c: usize,
+    w: usize,
+) -> &'a [i64]
+    requires { ⌜ BeforeIn c w found (now held) (now remembered) ⌝ }
+    ensures { λ r. ⌜ now r ≡ wordsBefore c w (now (held .entry)) (now (remembered .entry)) found ⌝ }
+{
+    let Keyed::At(i) = found else {
+        return &remembered[..c];
+    };
+    let p = i * w;
+    let e = p + w;
+    &held[p..e]
+}
+
+// Whether there is a row before the split.
+fn has_before(found: Keyed, remembered: bool) -> bool
+    ensures { λ r. ⌜ r ≡ hasBefore found remembered ⌝ }
+{
+    match found {
+        Keyed::At(_) => true,
+        Keyed::Nothing => remembered,
+    }
+}
+
+// Whether the first of two rows is the greater one, by their order.
+fn is_greater(order: Order) -> bool
+    ensures { λ r. ⌜ r ≡ isGreater order ⌝ }
+{
+    match order {
+        Order::Less => false,
+        Order::Equal => false,
+        Order::Greater => true,
+    }
+}
+
+// Whether the row at the front of pv and pm is greater than the first row with a key, of n rows that are each w wide.
+fn above_first(
+    pv: &[i64],
+    pm: &[i64],
+    values: &[i64],
+    marks: &[i64],
+    n: usize,
+    w: usize,
+    o: Options,
+) -> bool
+    requires { ⌜ RowAt o 0 (now pv) (now pm) × RowsIn o w n (now values) (now marks) ⌝ }
+    ensures { λ r. ⌜ ((wp : ℕ) → o .by < wp → r ≡ outOfOrder o (some (rowFrom wp 0 (now (pv .entry)) (now (pm .entry)))) (rowAt (rowsOf w n (now (values .entry)) (now (marks .entry))) (firstKeyed o (rowsOf w n (now (values .entry)) (now (marks .entry)))))) ⌝ }
+{
+    let Keyed::At(i) = first_keyed(marks, n, w, o) else {
+        return false;
+    };
+    is_greater(cmp_row(pv, pm, 0, values, marks, i * w, o))
+}
+
+// Whether the remembered row is greater than the first row with a key, of n rows that are each w wide.
+pub fn out_of_order(m: Row, values: &[i64], marks: &[i64], n: usize, w: usize, o: Options) -> bool
+    requires { ⌜ RowsIn o w n (now values) (now marks) ⌝ }
+    ensures { λ r. ⌜ r ≡ outOfOrder o (recall (columns o) m) (rowAt (rowsOf w n (now (values .entry)) (now (marks .entry))) (firstKeyed o (rowsOf w n (now (values .entry)) (now (marks .entry))))) ⌝ }
+{
+    if !m.some {
+        return false;
+    }
+    let lv = m.values;
+    let lm = m.marks;
+    above_first(&lv, &lm, values, marks, n, w, o)
+}
+
+// Whether the row before the split s of n held rows is greater than the first row with a key after it.
+pub fn bad_split(m: Row, s: usize, rv: &[i64], rm: &[i64], n: usize, w: usize, o: Options) -> bool
+    requires { ⌜ SplitIn o s w n (now rv) (now rm) ⌝ }
+    ensures { λ r. ⌜ r ≡ outOfOrderAt o m s (rowsOf w n (now (rv .entry)) (now (rm .entry))) ⌝ }
+{
+    let found = last_keyed(rm, s, w, o);
+    if !has_before(found, m.some) {
+        return false;
+    }
+    let lv = m.values;
+    let lm = m.marks;
+    let c = left_columns(o);
+    let values = before_split(rv, &lv, found, c, w);
+    let marks = before_split(rm, &lm, found, c, w);
+    let p = s * w;
+    above_first(values, marks, &rv[p..], &rm[p..], n - s, w, o)
+}
+
+// What is remembered after n rows, each w wide: the last of them with a key, or the row m where they have none.
+pub fn remember_last(m: Row, values: &[i64], marks: &[i64], n: usize, w: usize, o: Options) -> Row
+    requires { ⌜ RowsIn o w n (now values) (now marks) ⌝ }
+    ensures { λ r. ⌜ r ≡ rememberLast o m (rowsOf w n (now (values .entry)) (now (marks .entry))) ⌝ }
+{
+    let Keyed::At(i) = last_keyed(marks, n, w, o) else {
+        return m;
+    };
+    let c = left_columns(o);
+    copy_row(values, marks, i * w, c)
+}

@@ -1,0 +1,52 @@
+// A turn from its first test on: whether it may look at the queue, the frame at the front, and the turn over it.
+use framerule::front_words;
+use frames::Front;
+use judges::judge_ready;
+use options::left_columns;
+use outcomes::Answer;
+use outcomes::NodeState;
+use outcomes::goes_on;
+use refusals::Refusal;
+use turnfront::TurnedPart;
+use turnfront::turn_frame;
+use turnparts::Part;
+ghost use mathlib.Core.Path.{_≡_};
+ghost use mathlib.Core.Bool.{false};
+ghost use Rattle.turncall.specs.Queue.{QueueIn, QueueTurned};
+
+// What a turn that does not write hands back.
+fn unturned(answer: Answer, j: Part) -> TurnedPart
+    ensures { λ r. ⌜ r ≡ record { answer = answer; part = j } ⌝ }
+{
+    TurnedPart {
+        answer: answer,
+        part: j,
+    }
+}
+
+// A turn of the join in this state: refused, Idle, or over the frame at the front of the queue. `bad` says whether the join meets refusal 2.
+pub fn turn_queue(
+    bad: bool,
+    state: NodeState,
+    j: Part,
+    left: &[i64],
+    right: &[i64],
+    out: &mut [i64],
+) -> TurnedPart
+    requires { ⌜ (bad ≡ false → QueueIn j (now left) (now right)) ⌝ }
+    ensures { λ r. ⌜ QueueTurned bad state j (now (left .entry)) (now (right .entry)) (now (out .entry)) r (now (out .exit)) ⌝ }
+{
+    let starts = judge_ready(bad, j.failed, state, j.queue_words, j.sequence);
+    if !goes_on(starts) {
+        return unturned(starts, j);
+    }
+    let c = left_columns(j.options);
+    let start = j.queue_start;
+    let end = start + j.queue_words;
+    let front = front_words(&left[start..end], c);
+    let Front::Words(k) = front else {
+        return unturned(Answer::Refused(Refusal::BadFrame), j);
+    };
+    let e = start + k;
+    turn_frame(j, &left[start..e], right, out)
+}

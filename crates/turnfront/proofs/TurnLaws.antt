@@ -1,0 +1,219 @@
+-- A turn over plain values: what its answers tell, what its words are, and what it leaves. Assumes nothing.
+use mathlib.Core.Path.{_≡_, refl, sym, ap, _∙_}
+use mathlib.Core.Bool.{true, false, not, _&&_}
+use Prim.Native.Nat.{ℕ, _+_, _-_, _*_, _%_, _^_, _≤_, _<_}
+use native.Mathlib.Nat.{mul-le-mul-right}
+use native.Mathlib.Omega.{arith}
+use borrow.Author.Tests.{ltb-false, eqb-false}
+use lib.Dec.{ltb, eqb}
+use lib.ListN.{length, take, drop, length-take, length-drop}
+use Rattle.frames.specs.Cells.{Rows, Words, rowsOf}
+use Rattle.frames.specs.Frame.{rowCount, frameWords, valuesIn, marksIn, isFrame, frameRows}
+use Rattle.options.specs.Options.{columns, rightColumns}
+use Rattle.order.specs.Requires.{RowsIn}
+use Rattle.frames.specs.Front.{HasCount}
+use Rattle.options.specs.declared.Options.{Options}
+use Rattle.frames.proofs.WordLaws.{rows-length, rows-drop}
+use Rattle.frames.proofs.FrontLaws.{frame-parts, values-part, marks-part}
+use Rattle.area.specs.Requires.{BaseIn}
+use Rattle.area.specs.Area.{capacity, heldRows}
+use Rattle.area.proofs.AreaLaws.{held-in}
+use Rattle.searching.specs.Reach.{needMore, pruneBy}
+use Rattle.matching.proofs.ChoiceLaws.{cond-ind}
+use Rattle.outcomes.specs.Answers.{wrote, lastSequence}
+use Rattle.refusals.specs.declared.Refusal.the-variants.{NoRoom, UsedUp, LeftOrder, RightOrder}
+use Rattle.outcomes.specs.declared.Answer.{Answer}
+use Rattle.outcomes.specs.declared.Answer.the-variants.{Wrote, WantsRight, Idle, Refused}
+use Rattle.outcomes.proofs.Tests.{past}
+use Rattle.turnrows.specs.Prunes.{badLeft, badRightAt, firstPrune, keptRows, lastPrune}
+use Rattle.turnrows.proofs.PruneLaws.{first-within, drops-within}
+use Rattle.turnparts.specs.Part.{roomAnswer, orderAnswer, failedPart, Written, TurnIn, WriteIn}
+use Rattle.turnparts.specs.declared.Part.{Part}
+use Rattle.turnfront.specs.Turns.{rowsAnswer, rowsTurn, spoiledPart, RowsTurned, FrameIn}
+use Rattle.turnfront.specs.declared.TurnedPart.{TurnedPart}
+
+-- After a turn that writes the sequence still fits.
+next-sequence : (s : ℕ) → s % 2 ≡ 0 → (s ≡ lastSequence → ⊥) → s < 2 ^ 64 → s + 2 < 2 ^ 64
+next-sequence s e n h = omega arith
+
+-- A frame's first word is there and is a number of rows, at most 4,096.
+pub has-count : (c : ℕ) (f : Words) → isFrame c f ≡ true → HasCount f
+has-count c f h = let p = frame-parts c f h in record { long = omega (arith, p .long); few = p .few }
+
+-- ---- the answers
+-- The join of a turn that does not write.
+abbrev pub stopped : Part → Answer → Part
+stopped j (Wrote s) = j
+stopped j WantsRight = j
+stopped j Idle = j
+stopped j (Refused n) = spoiledPart n j
+
+module _ (j : Part) (rows held : Rows) where
+  room-all : (P : Answer → Type 0) (room : ℕ) → P WantsRight → P (Refused NoRoom) → P (Refused UsedUp) → P (Wrote (j .sequence)) → P (roomAnswer j rows held room)
+  unfolding roomAnswer
+  room-all P room pw p6 p7 p =
+      cond-ind P (not (j .«right_ended») && needMore (j .options) rows held) (λ t. pw) (λ t.
+      cond-ind P (ltb room (2 + 2 * length rows)) (λ u. p6) (λ u.
+      cond-ind P (eqb (j .sequence) lastSequence) (λ v. p7) (λ v. p)))
+
+  order-all : (P : Answer → Type 0) (s : ℕ) → P (Refused LeftOrder) → P (Refused RightOrder) → P (Wrote (j .sequence)) → P (orderAnswer j rows held s)
+  unfolding orderAnswer
+  order-all P s p8 p9 p =
+      cond-ind P (badLeft (j .options) (j .«last_left») rows) (λ t. p8) (λ t.
+      cond-ind P (badRightAt (j .options) (j .«last_right») (length rows) s held) (λ u. p9) (λ u. p))
+
+  -- A turn that has what it needs, and rows in order, writes at the sequence that it came with.
+  pub room-goes : (room : ℕ) (t : Answer) → t ≡ roomAnswer j rows held room → wrote t ≡ true → roomAnswer j rows held room ≡ Wrote (j .sequence)
+  room-goes room t e g =
+      room-all (λ a. wrote a ≡ true → a ≡ Wrote (j .sequence)) room (λ x. cc) (λ x. cc) (λ x. cc) (λ x. refl) (sym (ap wrote e) ∙ g)
+
+  order-writes : (s : ℕ) (t : Answer) → t ≡ orderAnswer j rows held s → wrote t ≡ true → orderAnswer j rows held s ≡ Wrote (j .sequence)
+  order-writes s t e g = order-all (λ a. wrote a ≡ true → a ≡ Wrote (j .sequence)) s (λ x. cc) (λ x. cc) (λ x. refl) (sym (ap wrote e) ∙ g)
+
+  -- What a turn that has what it needs can count on.
+  pub room-there : (room : ℕ) → roomAnswer j rows held room ≡ Wrote (j .sequence) → (2 + 2 * length rows ≤ room) × (j .sequence ≡ lastSequence → ⊥)
+  unfolding roomAnswer
+  room-there room e =
+      let p = past (not (j .«right_ended») && needMore (j .options) rows held) WantsRight _ (Wrote (j .sequence)) (λ x. let z : _≡_ {A = ℕ} 0 1 = cc in omega arith) e in
+      let q = past (ltb room (2 + 2 * length rows)) (Refused NoRoom) _ (Wrote (j .sequence)) (λ x. let z : _≡_ {A = ℕ} 0 1 = cc in omega arith) (p .1) in
+      let r = past (eqb (j .sequence) lastSequence) (Refused UsedUp) (Wrote (j .sequence)) (Wrote (j .sequence)) (λ x. let z : _≡_ {A = ℕ} 0 1 = cc in omega arith) (q .1) in
+      (ltb-false room (2 + 2 * length rows) (q .0), eqb-false (j .sequence) lastSequence (r .0))
+
+  module _ (k : ℕ) (out : Words) where
+    not-written : (a : Answer) → rowsAnswer j rows held (length out) ≡ a → wrote a ≡ false → RowsTurned j rows held k out (record { answer = a; part = stopped j a }) out
+    unfolding rowsTurn
+    not-written (Wrote s) e g = let z : _≡_ {A = ℕ} 0 1 = cc in absurd (omega arith)
+    not-written WantsRight e g = record { answer = rw (e, rowsTurn); part = rw (e, rowsTurn); words = rw (e, rowsTurn) }
+    not-written Idle e g = record { answer = rw (e, rowsTurn); part = rw (e, rowsTurn); words = rw (e, rowsTurn) }
+    not-written (Refused n) e g = record { answer = rw (e, rowsTurn); part = rw (e, rowsTurn); words = rw (e, rowsTurn) }
+
+    without : (a : Answer) → roomAnswer j rows held (length out) ≡ a → wrote a ≡ false → rowsAnswer j rows held (length out) ≡ a
+    unfolding rowsAnswer
+    without (Wrote s) e g = let z : _≡_ {A = ℕ} 0 1 = cc in absurd (omega arith)
+    without WantsRight e g = rw (e, rowsAnswer)
+    without Idle e g = rw (e, rowsAnswer)
+    without (Refused n) e g = rw (e, rowsAnswer)
+
+    -- Without what it needs it changes nothing.
+    pub room-stops : (t : Answer) → t ≡ roomAnswer j rows held (length out) → wrote t ≡ false → RowsTurned j rows held k out (record { answer = t; part = j }) out
+    room-stops t e g =
+        let same : stopped j t ≡ j = rw e (room-all (λ a. stopped j a ≡ j) (length out) refl refl refl refl) in
+        rw same at (not-written t (without t (sym e) g) g)
+
+    module _ (needs : roomAnswer j rows held (length out) ≡ Wrote (j .sequence)) (s : ℕ) (at : s ≡ lastPrune (j .options) rows held) (t : Answer) (judged : t ≡ orderAnswer j rows held s) where
+      is-order : rowsAnswer j rows held (length out) ≡ t
+      unfolding rowsAnswer
+      is-order = rw (needs, rowsAnswer, judged, at)
+
+      -- Rows that are out of order mark the join failed, and change nothing else.
+      pub order-stops : wrote t ≡ false → RowsTurned j rows held k out (record { answer = t; part = failedPart j }) out
+      order-stops g =
+          let same : wrote t ≡ false → stopped j t ≡ failedPart j = rw judged (order-all (λ a. wrote a ≡ false → stopped j a ≡ failedPart j) s (λ x. refl) (λ x. refl) (λ x. let z : _≡_ {A = ℕ} 0 1 = cc in absurd (omega arith))) in
+          rw (same g) at (not-written t is-order g)
+
+      pub order-goes : wrote t ≡ true → (kept : Rows) (first : ℕ) (r : Part) (out′ : Words) → kept ≡ keptRows (j .options) rows held → first ≡ firstPrune (j .options) rows held
+          → Written j rows kept first s k out r out′ → RowsTurned j rows held k out (record { answer = t; part = r }) out′
+      unfolding rowsTurn
+      order-goes g kept first r out′ ek ef w =
+          let e : rowsAnswer j rows held (length out) ≡ Wrote (j .sequence) = is-order ∙ judged ∙ order-writes s t judged g in
+          record { answer = rw (e, rowsTurn) (judged ∙ order-writes s t judged g); part = rw (e, rowsTurn, ← ek, ← ef, ← at) (w .part); words = rw (e, rowsTurn, ← ek, ← ef) (w .words) }
+
+-- ---- the words
+module _ {j : Part} {c w n : ℕ} {lv lm rv rm : Words} (t : TurnIn j c w n lv lm rv rm) where
+  abbrev o : Options
+  o = j .options
+
+  abbrev rows : Rows
+  rows = rowsOf c n lv lm
+
+  abbrev held : Rows
+  held = rowsOf w (j .held) rv rm
+
+  -- What the first prune leaves.
+  module _ (first : ℕ) (is : first ≡ firstPrune o rows held) where
+    pub first-in : first ≤ j .held
+    first-in = omega (arith, is, first-within o rows held, rows-length w (j .held) rv rm)
+
+    pub first-words : (xs : Words) → j .held * w ≤ length xs → first * w ≤ length xs
+    first-words xs h = omega (arith, mul-le-mul-right {m = first} {n = j .held} w first-in)
+
+    module _ (kv km : Words) (ev : kv ≡ drop (first * w) rv) (em : km ≡ drop (first * w) rm) where
+      pub kept-in : RowsIn o w (j .held - first) kv km
+      kept-in =
+          let e : j .held ≡ first + (j .held - first) = omega (arith, first-in) in
+          let f : j .held * w ≡ (first + (j .held - first)) * w = ap (λ (z : ℕ). z * w) e in
+          record {
+            few = t .right .few;
+            wide = t .right .wide;
+            values = rw (ev, length-drop (first * w) rv) (omega (arith, t .right .values));
+            marks = rw (em, length-drop (first * w) rm) (omega (arith, t .right .marks));
+          }
+
+      pub kept-are : rowsOf w (j .held - first) kv km ≡ keptRows o rows held
+      unfolding keptRows
+      kept-are = rw (ev, em, ← is) (rows-drop w (j .held) first rv rm first-in)
+
+      module _ (s : ℕ) (at : s ≡ pruneBy o (n - 1) rows (rowsOf w (j .held - first) kv km)) where
+        pub last-is : s ≡ lastPrune o rows held
+        unfolding lastPrune
+        last-is = rw (← kept-are, rows-length c n lv lm) at
+
+        pub both-in : first + s ≤ j .held
+        both-in = omega (arith, is, last-is, drops-within o rows held, rows-length w (j .held) rv rm)
+
+        pub write-in : (out : Words) → roomAnswer j rows held (length out) ≡ Wrote (j .sequence) → WriteIn j c w n lv lm first s kv km out
+        write-in out needs =
+            let p = room-there j rows held (length out) needs in
+            record {
+              columns = t .columns;
+              wide = t .wide;
+              left = t .left;
+              kept = kept-in;
+              within = both-in;
+              counts = t .counts;
+              room = rw (rows-length c n lv lm) at (p .0);
+              sequence = next-sequence (j .sequence) (t .counts .even) (p .1) (t .counts .sequence);
+            }
+
+-- ---- the frame at the front
+module _ {j : Part} {f right : Words} (p : FrameIn j f right) (c w n e : ℕ) (narrow : c ≡ columns (j .options)) (wide : w ≡ rightColumns (j .options)) (count : n ≡ rowCount f) (at : e ≡ 2 + n * c) where
+  exact : length f ≡ frameWords n c
+  exact = rw (narrow, count) (frame-parts (columns (j .options)) f (p .frame) .exact)
+
+  pub parts-fit : 2 + 2 * (n * c) ≡ length f
+  parts-fit = sym exact
+
+  left-values : take (e - 2) (drop 2 f) ≡ valuesIn (columns (j .options)) f
+  left-values = values-part (columns (j .options)) f e (rw (at, count, narrow))
+
+  left-marks : take (length f - e) (drop e f) ≡ marksIn (columns (j .options)) f
+  left-marks = marks-part (columns (j .options)) f e (rw (at, count, narrow))
+
+  pub frame-in : TurnIn j c w n (take (e - 2) (drop 2 f)) (take (length f - e) (drop e f)) (drop (j .base * w) right) (drop ((capacity w right + j .base) * w) right)
+  frame-in =
+      let x = exact in
+      record {
+        columns = narrow;
+        wide = wide;
+        left = record {
+          few = p .few;
+          wide = omega (arith, narrow);
+          values = rw (length-take (e - 2) (drop 2 f), length-drop 2 f) (omega arith);
+          marks = rw (length-take (length f - e) (drop e f), length-drop e f) (omega arith);
+        };
+        right = held-in (j .options) w (j .base) (j .held) right (p .few) (omega (arith, wide)) (rw wide (p .held));
+        counts = rw x at (p .counts);
+      }
+
+  pub frame-turned : (out : Words) (r : TurnedPart) (out′ : Words)
+      → RowsTurned j (rowsOf c n (take (e - 2) (drop 2 f)) (take (length f - e) (drop e f))) (rowsOf w (j .held) (drop (j .base * w) right) (drop ((capacity w right + j .base) * w) right)) (frameWords n c) out r out′
+      → RowsTurned j (frameRows (columns (j .options)) f) (heldRows (rightColumns (j .options)) (j .base) (j .held) right) (length f) out r out′
+  unfolding frameRows heldRows
+  frame-turned out r out′ h = rw (exact, narrow, ← left-values, ← left-marks, ← count) (rw (narrow, wide) at h)
+
+-- The held rows start within the capacity.
+pub base-in : {j : Part} {f right : Words} → FrameIn j f right → (w : ℕ) → w ≡ rightColumns (j .options) → BaseIn w (j .base) right
+base-in p w wide = record {
+  columns = record { some = omega (arith, wide); few = omega (arith, wide, p .few) };
+  within = rw wide (omega (arith, p .held));
+}

@@ -1,0 +1,107 @@
+// A turn over the frame at the front of the queue. Inside a turn the answer Wrote is that of one that goes on.
+use area::held_marks;
+use area::held_values;
+use framerule::row_count;
+use options::left_columns;
+use options::right_columns;
+use outcomes::Answer;
+use outcomes::goes_on;
+use turnparts::Part;
+use turnparts::fail;
+use turnparts::judge_order;
+use turnparts::judge_room;
+use turnparts::write_turn;
+use turnrows::first_prune;
+use turnrows::from_row;
+use turnrows::last_prune;
+ghost use mathlib.Core.Path.{_≡_};
+ghost use lib.ListN.{length};
+ghost use Rattle.frames.specs.Cells.{rowsOf};
+ghost use Rattle.frames.specs.Frame.{frameRows, frameWords};
+ghost use Rattle.options.specs.Options.{columns, rightColumns};
+ghost use Rattle.area.specs.Area.{heldRows};
+ghost use Rattle.outcomes.specs.declared.Answer.the-variants.{Wrote};
+ghost use Rattle.turnparts.specs.Part.{roomAnswer, TurnIn};
+ghost use Rattle.turnfront.specs.Turns.{RowsTurned, FrameIn};
+
+// What a turn answers, and what it leaves of its part of the join.
+pub struct TurnedPart {
+    pub answer: Answer,
+    pub part: Part,
+}
+
+// What a turn that does not write hands back.
+fn unturned(answer: Answer, j: Part) -> TurnedPart
+    ensures { λ r. ⌜ r ≡ record { answer = answer; part = j } ⌝ }
+{
+    TurnedPart {
+        answer: answer,
+        part: j,
+    }
+}
+
+// A turn that has what it needs: its prunes, its order, its answer. With the check on, the split of the prune by the last row is checked.
+fn turn_pruned(
+    j: Part,
+    c: usize,
+    w: usize,
+    n: usize,
+    lv: &[i64],
+    lm: &[i64],
+    rv: &[i64],
+    rm: &[i64],
+    out: &mut [i64],
+) -> TurnedPart
+    requires { ⌜ TurnIn j c w n (now lv) (now lm) (now rv) (now rm) × (roomAnswer j (rowsOf c n (now lv) (now lm)) (rowsOf w (j .held) (now rv) (now rm)) (length (now out)) ≡ Wrote (j .sequence)) ⌝ }
+    ensures { λ r. ⌜ RowsTurned j (rowsOf c n (now (lv .entry)) (now (lm .entry))) (rowsOf w (j .held) (now (rv .entry)) (now (rm .entry))) (frameWords n c) (now (out .entry)) r (now (out .exit)) ⌝ }
+{
+    let o = j.options;
+    let first = first_prune(lv, lm, n, rv, rm, j.held, c, w, o);
+    let kv = from_row(rv, first, w);
+    let km = from_row(rm, first, w);
+    let last = last_prune(lv, lm, n, kv, km, j.held - first, c, w, o);
+    let order = judge_order(j, c, w, n, last, lv, lm, rv, rm);
+    if !goes_on(order) {
+        return unturned(order, fail(j));
+    }
+    TurnedPart {
+        answer: order,
+        part: write_turn(j, c, w, n, lv, lm, first, last, kv, km, out),
+    }
+}
+
+// A turn over n left rows and the held rows.
+fn turn_rows(
+    j: Part,
+    c: usize,
+    w: usize,
+    n: usize,
+    lv: &[i64],
+    lm: &[i64],
+    rv: &[i64],
+    rm: &[i64],
+    out: &mut [i64],
+) -> TurnedPart
+    requires { ⌜ TurnIn j c w n (now lv) (now lm) (now rv) (now rm) ⌝ }
+    ensures { λ r. ⌜ RowsTurned j (rowsOf c n (now (lv .entry)) (now (lm .entry))) (rowsOf w (j .held) (now (rv .entry)) (now (rm .entry))) (frameWords n c) (now (out .entry)) r (now (out .exit)) ⌝ }
+{
+    let room = judge_room(j, c, w, n, lv, lm, rv, rm, out.len());
+    if !goes_on(room) {
+        return unturned(room, j);
+    }
+    turn_pruned(j, c, w, n, lv, lm, rv, rm, out)
+}
+
+// A turn over the frame at the front of the queue.
+pub fn turn_frame(j: Part, frame: &[i64], right: &[i64], out: &mut [i64]) -> TurnedPart
+    requires { ⌜ FrameIn j (now frame) (now right) ⌝ }
+    ensures { λ r. ⌜ RowsTurned j (frameRows (columns (j .options)) (now (frame .entry))) (heldRows (rightColumns (j .options)) (j .base) (j .held) (now (right .entry))) (length (now (frame .entry))) (now (out .entry)) r (now (out .exit)) ⌝ }
+{
+    let c = left_columns(j.options);
+    let w = right_columns(j.options);
+    let n = row_count(frame);
+    let e = 2 + n * c;
+    let rv = held_values(right, j.base, w);
+    let rm = held_marks(right, j.base, w);
+    turn_rows(j, c, w, n, &frame[2..e], &frame[e..], rv, rm, out)
+}

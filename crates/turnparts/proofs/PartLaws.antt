@@ -1,0 +1,34 @@
+-- What a turn has and writes, over plain values. Assumes nothing.
+use mathlib.Core.Path.{_≡_}
+use Prim.Native.Nat.{ℕ, _+_, _-_, _*_, _^_, _≤_, _<_}
+use native.Mathlib.Nat.{mul-le-mul-left, mul-le-mul-right}
+use native.Mathlib.Omega.{arith}
+use lib.ListN.{length}
+use Rattle.frames.specs.Cells.{Words, rowsOf}
+use Rattle.frames.specs.Frame.{frameWords}
+use Rattle.order.specs.declared.Row.{Row}
+use Rattle.order.specs.Requires.{RowsIn}
+use Rattle.splitcheck.proofs.BeforeLaws.{rows-take}
+use Rattle.turnrows.specs.Prunes.{remembered}
+use Rattle.turnparts.specs.Part.{leftAt, leftPart, TurnIn, WriteIn}
+use Rattle.turnparts.specs.declared.Part.{Part}
+
+module _ {j : Part} {c w n : ℕ} {lv lm rv rm : Words} (t : TurnIn j c w n lv lm rv rm) where
+  -- The answer's length fits a word.
+  pub rows-fit : 2 + 2 * n < 2 ^ 64
+  rows-fit =
+      let l : j .options .by < c = t .left .wide in
+      let m : n * 1 ≤ n * c = mul-le-mul-left {m = 1} {n = c} n (omega arith) in
+      omega (arith, t .counts .words, t .counts .start)
+
+-- ---- what is written
+module _ {j : Part} {c w n : ℕ} {lv lm : Words} {first last : ℕ} {kv km out : Words} (t : WriteIn j c w n lv lm first last kv km out) where
+  pub kept-last : RowsIn (j .options) w last kv km
+  kept-last =
+      let m = mul-le-mul-right {m = last} {n = j .held - first} w (omega (arith, t .within)) in
+      record { few = t .kept .few; wide = t .kept .wide; values = omega (arith, t .kept .values); marks = omega (arith, t .kept .marks) }
+
+  pub left-as : (l r : Row) (x : Part) → l ≡ remembered (j .options) (j .«last_left») (rowsOf c n lv lm) → r ≡ remembered (j .options) (j .«last_right») (rowsOf w last kv km)
+      → x ≡ leftAt j (first + last) (frameWords n c) l r → x ≡ leftPart j (rowsOf c n lv lm) (rowsOf w (j .held - first) kv km) first last (frameWords n c)
+  unfolding leftPart
+  left-as l r x el er e = rw (rows-take w (j .held - first) last kv km (omega (arith, t .within)), ← el, ← er) e

@@ -1,0 +1,40 @@
+use native.Mathlib.Omega.{arith}
+use borrow.Author.Tests.{lt-ltb, le-ltb, eq-eqb, ne-eqb}
+use Rattle.frames.proofs.WordLaws.{rows-length}
+use Rattle.turnparts.specs.Part.{roomAnswer}
+use Rattle.turnparts.proofs.PartLaws.{rows-fit}
+use borrow.Author.Needs.{needs}
+use Rattle.turnparts.proofs.judge_room.Statement.{statement}
+use Rattle.turnparts.proofs.judge_room.Tie as tie
+use Rattle.turnparts.proofs.judge_room.Reads as reads
+use Rattle.turnparts.proofs.judge_room.Lts as lts
+use Rattle.turnparts.proofs.wants_right.Reads as wants-right-reads
+
+wants-right-requires : tie.Need-wants-right-requires
+wants-right-requires c κs = search needs
+
+returns : tie.Need-returns
+unfolding roomAnswer
+returns c = simp (← c .before .wants-right .ensures, c .if1 .taken)
+
+mul-if2 : tie.Need-mul-if2
+mul-if2 c = omega (arith, rows-fit (c .before .before .pre))
+
+add-if2 : tie.Need-add-if2
+add-if2 c = omega (arith, rows-fit (c .before .before .pre))
+
+returns-2 : tie.Need-returns-2
+unfolding roomAnswer
+returns-2 c = simp (← c .before .before .wants-right .ensures, c .before .if1 .left, rows-length, lt-ltb _ _ (c .if2 .taken))
+
+returns-3 : tie.Need-returns-3
+unfolding roomAnswer
+returns-3 c = let d = c .before .before in simp (← d .before .before .wants-right .ensures, d .before .if1 .left, rows-length, le-ltb _ _ (d .if2 .left), eq-eqb _ _ (c .if3 .taken))
+
+returns-4 : tie.Need-returns-4
+unfolding roomAnswer
+returns-4 c = let d = c .before .before in simp (← d .before .before .wants-right .ensures, d .before .if1 .left, rows-length, le-ltb _ _ (d .if2 .left), ne-eqb _ _ (c .if3 .left))
+
+pub judge-room-spec : {M : Type 1} → statement M
+judge-room-spec =
+    tie.close (tie.spec wants-right-requires returns mul-if2 add-if2 returns-2 returns-3 returns-4)

@@ -1,0 +1,131 @@
+// What a turn asks of rows: whether they are in order, how many its prunes drop, which row is remembered. No join is seen here.
+use compare::is_sorted;
+use narrowing::prune_by;
+use options::Options;
+use options::is_on;
+use order::Row;
+use splitcheck::bad_split;
+use splitcheck::out_of_order;
+use splitcheck::remember_last;
+ghost use mathlib.Core.Path.{_≡_};
+ghost use Prim.Native.Nat.{_-_, _*_, _≤_};
+ghost use lib.ListN.{length, drop};
+ghost use Rattle.frames.specs.Cells.{rowsOf};
+ghost use Rattle.options.specs.Options.{isOn};
+ghost use Rattle.order.specs.Requires.{RowsIn};
+ghost use Rattle.searching.specs.Reach.{pruneBy};
+ghost use Rattle.splitcheck.specs.Requires.{SplitIn};
+ghost use Rattle.turnrows.specs.Prunes.{badLeft, badRightAt, firstPrune, remembered};
+
+// Whether the order of the rows is checked.
+fn checks(o: Options) -> bool
+    ensures { λ r. ⌜ r ≡ isOn (o .check) ⌝ }
+{
+    let check = o.check;
+    is_on(check)
+}
+
+// Whether the left rows are out of order, with the check on: behind the remembered row, or among themselves.
+pub fn bad_left(m: Row, lv: &[i64], lm: &[i64], n: usize, c: usize, o: Options) -> bool
+    requires { ⌜ RowsIn o c n (now lv) (now lm) ⌝ }
+    ensures { λ r. ⌜ r ≡ badLeft o m (rowsOf c n (now (lv .entry)) (now (lm .entry))) ⌝ }
+{
+    if !checks(o) {
+        return false;
+    }
+    if out_of_order(m, lv, lm, n, c, o) {
+        return true;
+    }
+    !is_sorted(lv, lm, n, c, o)
+}
+
+// Whether the held rows are out of order, with the check on: among themselves, or at the split s of a prune by a frame of n rows.
+pub fn bad_right(
+    m: Row,
+    n: usize,
+    s: usize,
+    rv: &[i64],
+    rm: &[i64],
+    held: usize,
+    w: usize,
+    o: Options,
+) -> bool
+    requires { ⌜ SplitIn o s w held (now rv) (now rm) ⌝ }
+    ensures { λ r. ⌜ r ≡ badRightAt o m n s (rowsOf w held (now (rv .entry)) (now (rm .entry))) ⌝ }
+{
+    if !checks(o) {
+        return false;
+    }
+    if !is_sorted(rv, rm, held, w, o) {
+        return true;
+    }
+    if n == 0 {
+        return false;
+    }
+    if held == 0 {
+        return false;
+    }
+    bad_split(m, s, rv, rm, held, w, o)
+}
+
+// How many held rows the prune by row 0 drops, which is made only with the check off.
+pub fn first_prune(
+    lv: &[i64],
+    lm: &[i64],
+    n: usize,
+    rv: &[i64],
+    rm: &[i64],
+    held: usize,
+    c: usize,
+    w: usize,
+    o: Options,
+) -> usize
+    requires { ⌜ RowsIn o c n (now lv) (now lm) × RowsIn o w held (now rv) (now rm) ⌝ }
+    ensures { λ r. ⌜ r ≡ firstPrune o (rowsOf c n (now (lv .entry)) (now (lm .entry))) (rowsOf w held (now (rv .entry)) (now (rm .entry))) ⌝ }
+{
+    if checks(o) {
+        return 0;
+    }
+    prune_by(0, lv, lm, n, c, rv, rm, held, w, o)
+}
+
+// How many held rows the prune by the last row drops; no row, no prune.
+pub fn last_prune(
+    lv: &[i64],
+    lm: &[i64],
+    n: usize,
+    rv: &[i64],
+    rm: &[i64],
+    held: usize,
+    c: usize,
+    w: usize,
+    o: Options,
+) -> usize
+    requires { ⌜ RowsIn o c n (now lv) (now lm) × RowsIn o w held (now rv) (now rm) ⌝ }
+    ensures { λ r. ⌜ r ≡ pruneBy o (n - 1) (rowsOf c n (now (lv .entry)) (now (lm .entry))) (rowsOf w held (now (rv .entry)) (now (rm .entry))) ⌝ }
+{
+    if n == 0 {
+        return 0;
+    }
+    prune_by(n - 1, lv, lm, n, c, rv, rm, held, w, o)
+}
+
+// The row that a side remembers after n rows went by, which it does only with the check on.
+pub fn remembered(m: Row, values: &[i64], marks: &[i64], n: usize, w: usize, o: Options) -> Row
+    requires { ⌜ RowsIn o w n (now values) (now marks) ⌝ }
+    ensures { λ r. ⌜ r ≡ remembered o m (rowsOf w n (now (values .entry)) (now (marks .entry))) ⌝ }
+{
+    if !checks(o) {
+        return m;
+    }
+    remember_last(m, values, marks, n, w, o)
+}
+
+// The words from row i on, of rows that are each w wide.
+pub fn from_row<'a>(words: &'a [i64], i: usize, w: usize) -> &'a [i64]
+    requires { ⌜ i * w ≤ length (now words) ⌝ }
+    ensures { λ r. ⌜ now r ≡ drop (i * w) (now (words .entry)) ⌝ }
+{
+    let p = i * w;
+    &words[p..]
+}
