@@ -25,6 +25,7 @@ keyOptions s = record {
   check = Off;
   descending = false ∷ false ∷ false ∷ false ∷ [];
   «nulls_last» = false ∷ false ∷ false ∷ false ∷ [];
+  carried = 0;
 }
 
 -- The refusals of what is handed in: 1 for a strategy that there is not, 5 where the words are no frames of one column, 6 for too short an output; 0 for none.

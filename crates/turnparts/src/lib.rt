@@ -2,6 +2,7 @@
 use matchframe::match_frame;
 use narrowing::need_more;
 use options::Options;
+use options::answer_columns;
 use order::Row;
 use outcomes::Answer;
 use refusals::Refusal;
@@ -72,7 +73,7 @@ pub fn judge_room(
     if wants_right(j, c, w, n, lv, lm, rv, rm) {
         return Answer::WantsRight;
     }
-    if room < 2 + 2 * n {
+    if room < 2 + 2 * (n * answer_columns(j.options)) {
         return Answer::Refused(Refusal::NoRoom);
     }
     if j.sequence == LAST_SEQUENCE {
