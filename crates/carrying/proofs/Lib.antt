@@ -1,1 +1,2 @@
 pub mod SpreadLaws
+pub mod LaidLaws
