@@ -3,6 +3,8 @@ pub mod Counter
 pub mod EnoughLaw
 pub mod PruneLaw
 pub mod ListLaws
+pub mod EntryLaws
+pub mod Turned
 pub mod Stock
 pub mod Invariant
 pub mod Turn
