@@ -15,6 +15,7 @@ pub mod SplitAlone
 pub mod Sound
 pub mod Steps
 pub mod WholeTableTheorem
+pub mod OldForm
 pub mod Example
 pub mod RunTurns
 pub mod RestWitness
