@@ -17,6 +17,7 @@ pub mod Steps
 pub mod WholeTableTheorem
 pub mod OldForm
 pub mod Example
+pub mod Carried
 pub mod RunTurns
 pub mod RestWitness
 pub mod SplitList
