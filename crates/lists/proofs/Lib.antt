@@ -5,6 +5,7 @@ pub mod PruneLaw
 pub mod ListLaws
 pub mod EntryLaws
 pub mod Turned
+pub mod OptionsKept
 pub mod Stock
 pub mod Invariant
 pub mod Turn
