@@ -273,8 +273,8 @@ impl Carried {
 
     /// More columns than can be carried: one more, or so many that a width that counts them is no 64-bit number.
     fn too_many(&mut self) -> u64 {
-        const MANY: [u64; 9] = [9, 9, 10, 1 << 32, i64::MAX as u64, 1 << 63, u64::MAX - 5, u64::MAX - 1, u64::MAX];
-        self.r.pick(&MANY)
+        const MANY: [u64; 6] = [10, 1 << 32, i64::MAX as u64, 1 << 63, u64::MAX - 5, u64::MAX];
+        if self.r.percent(50) { 9 } else { self.r.pick(&MANY) }
     }
 }
 
@@ -539,7 +539,7 @@ fn small_open(r: &mut Random, d: &mut Draft, carried: &mut Carried) {
         _ => {},
     }
     // Both refusals of an opening too: of two that apply the first counts.
-    if change == 3 || (change < 3 && carried.r.percent(30)) {
+    if change == 3 || change == 4 || (change < 3 && carried.r.percent(30)) {
         (o.carried, d.one_line) = (carried.too_many(), false);
     }
 }
