@@ -27,6 +27,10 @@ choicesFrom m out i (suc n) = choiceAt m out i ∷ choicesFrom m out (suc i) n
 unfoldable pub spread : Options → ℕ → Rows → Rows → ℕ → Words → Words
 spread o number rights lefts m out = layCells m 0 (flat (answerRows o number rights lefts (choicesFrom m out 0 (length lefts)))) out
 
+-- The output afterwards, whatever the n left rows are: no cell of an answer is read off them.
+abbrev pub Spreads : Options → ℕ → Rows → ℕ → ℕ → Words → Words → Type 0
+Spreads o number rights n m out out′ = (lefts : Rows) → length lefts ≡ n → out′ ≡ spread o number rights lefts m out
+
 -- A choice that stands at place i is none, or the number of a right row that is there.
 pub record Numbered (number nr m : ℕ) (out : Words) (i : ℕ) : Type 0 where
   pub whole : isZero (getD out (2 + m + i) (pos 0)) ≡ false → getD out (2 + i) (pos 0) ≡ pos (natAbs (getD out (2 + i) (pos 0)))

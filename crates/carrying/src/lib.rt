@@ -2,11 +2,8 @@
 use options::Options;
 use options::answer_columns;
 use tables::put_cell;
-ghost use mathlib.Core.Path.{_≡_};
-ghost use mathlib.Core.List.{};
-ghost use lib.ListN.{length};
-ghost use Rattle.frames.specs.Cells.{rowsOf, Rows};
-ghost use Rattle.carrying.specs.Spread.{spread, SpreadIn};
+ghost use Rattle.frames.specs.Cells.{rowsOf};
+ghost use Rattle.carrying.specs.Spread.{Spreads, SpreadIn};
 
 // n rows of an answer of m cells, of which the numbers stand at its first places, are spread over all its columns, from the last one on: each number goes to its row, and what the right row of that number carries goes behind it.
 pub fn spread_rows(
@@ -21,7 +18,7 @@ pub fn spread_rows(
     out: &mut [i64],
 )
     requires { ⌜ SpreadIn o n wr nr (now rv) (now rm) number m (now out) ⌝ }
-    ensures { λ _. ⌜ (lefts : Rows) → length lefts ≡ n → now (out .exit) ≡ spread o number (rowsOf wr nr (now (rv .entry)) (now (rm .entry))) lefts m (now (out .entry)) ⌝ }
+    ensures { λ _. ⌜ Spreads o number (rowsOf wr nr (now (rv .entry)) (now (rm .entry))) n m (now (out .entry)) (now (out .exit)) ⌝ }
 {
     let mut i = n;
     while 0 < i {

@@ -6,10 +6,10 @@ ghost use Prim.Native.Nat.{ℕ, _+_, _<_};
 ghost use lib.IntN.{natAbs, _-ℤ_};
 ghost use mir.Syntax.{w64};
 ghost use mir.Val.{ofZ};
-ghost use Rattle.frames.specs.Cells.{cellOf, rowFrom, rowsOf};
+ghost use Rattle.frames.specs.Cells.{cellOf, rowFrom};
 ghost use Rattle.options.specs.Options.{byRule, keyRule};
-ghost use Rattle.order.specs.Order.{cmpZ, cmpCell, cmpGroup, cmpRow, keyOf, sorted};
-ghost use Rattle.order.specs.Requires.{cellAt, CellIn, RowAt, RowsIn};
+ghost use Rattle.order.specs.Order.{cmpZ, cmpCell, cmpGroup, cmpRow, keyOf};
+ghost use Rattle.order.specs.Requires.{cellAt, CellIn, RowAt};
 
 // Two values, as numbers.
 fn cmp_value(a: i64, b: i64) -> Order
@@ -146,25 +146,6 @@ pub fn cmp_row(
         Order::Equal => cmp_key(va, ma, pa, vb, mb, pb, o),
         _ => r,
     }
-}
-
-// Whether no row of n, each w wide, is greater than the next.
-pub fn is_sorted(values: &[i64], marks: &[i64], n: usize, w: usize, o: Options) -> bool
-    requires { ⌜ RowsIn o w n (now values) (now marks) ⌝ }
-    ensures { λ r. ⌜ r ≡ sorted o (rowsOf w n (now (values .entry)) (now (marks .entry))) ⌝ }
-{
-    let mut left = n;
-    let mut p = 0;
-    while 1 < left {
-        let q = p + w;
-        match cmp_row(values, marks, p, values, marks, q, o) {
-            Order::Greater => return false,
-            _ => {}
-        }
-        p = q;
-        left -= 1;
-    }
-    true
 }
 
 // The unsigned image of a: its bits as a number from 0 to 2^64 - 1.

@@ -5,4 +5,3 @@ pub use compare::cmp_cell;
 pub use compare::cmp_group;
 pub use compare::cmp_row;
 pub use compare::distance;
-pub use compare::is_sorted;

@@ -1,53 +1,18 @@
 // Runs of equal groups, and the one right cursor that serves a frame.
 use compare::cmp_group;
-use keyed::null_at;
 use keyed::null_group;
 use matching::Right;
+use neighbours::same_values;
 use options::Options;
 use order::Order;
 ghost use mathlib.Core.Path.{_≡_};
-ghost use mathlib.Core.Bool.{true};
 ghost use Prim.Native.Nat.{ℕ, _+_, _<_};
 ghost use Rattle.frames.specs.Cells.{rowFrom};
 ghost use Rattle.order.specs.Order.{cmpGroup};
-ghost use Rattle.order.specs.Requires.{cellAt, CellIn, RowAt};
-ghost use Rattle.order.specs.declared.Order.the-variants.{Equal};
+ghost use Rattle.order.specs.Requires.{RowAt};
 ghost use Rattle.matching.specs.Groups.{sameRun};
 ghost use Rattle.matching.specs.Stretches.{between, runLength, standing};
 ghost use Rattle.matching.specs.Inner.{Within, PassRoom, Stands, Passed, Serves};
-
-// Whether the cells at a and b have the same value, and neither is null.
-fn same_value(values: &[i64], marks: &[i64], a: usize, b: usize) -> bool
-    requires { ⌜ CellIn a (now values) (now marks) × CellIn b (now values) (now marks) ⌝ }
-    ensures { λ r. ⌜ (r ≡ true → cellAt a (now (values .entry)) (now (marks .entry)) ≡ cellAt b (now (values .entry)) (now (marks .entry))) ⌝ }
-{
-    if null_at(marks, a) {
-        return false;
-    }
-    if null_at(marks, b) {
-        return false;
-    }
-    if values[a] != values[b] {
-        return false;
-    }
-    true
-}
-
-// Whether the rows at p and q have the same by-values, and none of them is null: then they are of one run. Most rows are told so.
-fn same_values(values: &[i64], marks: &[i64], p: usize, q: usize, o: Options) -> bool
-    requires { ⌜ RowAt o p (now values) (now marks) × RowAt o q (now values) (now marks) ⌝ }
-    ensures { λ r. ⌜ (r ≡ true → (w : ℕ) → o .by < w → cmpGroup o (rowFrom w p (now (values .entry)) (now (marks .entry))) (rowFrom w q (now (values .entry)) (now (marks .entry))) ≡ Equal) ⌝ }
-{
-    let by = o.by;
-    let mut j = 0;
-    while j < by {
-        if !same_value(values, marks, p + j, q + j) {
-            return false;
-        }
-        j += 1;
-    }
-    true
-}
 
 // Whether the rows at p and q, which stand one behind the other, are of one run.
 fn same_run(values: &[i64], marks: &[i64], p: usize, q: usize, o: Options) -> bool

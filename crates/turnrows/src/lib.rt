@@ -1,6 +1,6 @@
 // What a turn asks of rows: whether they are in order, how many its prunes drop, which row is remembered. No join is seen here.
-use compare::is_sorted;
 use narrowing::prune_by;
+use neighbours::is_sorted;
 use options::Options;
 use options::is_on;
 use order::Row;

@@ -6,7 +6,7 @@ use Rattle.turnrows.proofs.bad_left.Tie as tie
 use Rattle.turnrows.proofs.bad_left.Reads as reads
 use Rattle.turnrows.proofs.bad_left.Lts as lts
 use Rattle.splitcheck.proofs.out_of_order.Reads as out-of-order-reads
-use Rattle.compare.proofs.is_sorted.Reads as is-sorted-reads
+use Rattle.neighbours.proofs.is_sorted.Reads as is-sorted-reads
 use Rattle.turnrows.proofs.checks.Reads as checks-reads
 
 checks-requires : tie.Need-checks-requires

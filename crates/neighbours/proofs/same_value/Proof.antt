@@ -9,8 +9,8 @@ use mir.Val.{toZ}
 use Rattle.frames.specs.Cells.{value}
 use Rattle.frames.proofs.Signed.{back}
 use Rattle.matching.proofs.ScanLaws.{present}
-use Rattle.groups.proofs.same_value.Statement.{statement}
-use Rattle.groups.proofs.same_value.Tie as tie
+use Rattle.neighbours.proofs.same_value.Statement.{statement}
+use Rattle.neighbours.proofs.same_value.Tie as tie
 
 null-at-requires : tie.Need-null-at-requires
 null-at-requires c κs = search needs

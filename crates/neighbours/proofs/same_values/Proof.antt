@@ -9,8 +9,8 @@ use Rattle.frames.specs.Cells.{rowFrom}
 use Rattle.order.specs.Requires.{cellAt}
 use Rattle.order.proofs.OrderLaws.{equal-group}
 use Rattle.order.proofs.RowLaws.{row-cell}
-use Rattle.groups.proofs.same_values.Statement.{statement}
-use Rattle.groups.proofs.same_values.Tie as tie
+use Rattle.neighbours.proofs.same_values.Statement.{statement}
+use Rattle.neighbours.proofs.same_values.Tie as tie
 
 abbrev Inv-loop : tie.InvT-loop
 Inv-loop values marks p q by j₀ j = (j ≤ by) × ((i : ℕ) → i < j → cellAt (p + i) values marks ≡ cellAt (q + i) values marks)
