@@ -633,6 +633,22 @@ fn alter_area(r: &mut Random, d: &mut Draft) {
     }
 }
 
+/// The host alters a mark of a carried cell that is held, or its value, so that what stands there is no cell of a frame.
+fn alter_carried(r: &mut Random, d: &mut Draft) {
+    let Some((words, _, right)) = d.rules.all_words() else { return };
+    let ([first, width], look) = (columns(&d.open.options), d.rules.look().unwrap());
+    // Only where no width was altered, and so where all held rows are in the area.
+    if words[CARRIED] as usize != width - first || look.held == 0 || d.rules.broken() {
+        return;
+    }
+    let (capacity, row) = (right.len() / (2 * width), look.base + r.below(look.held));
+    if first < width {
+        let at = row * width + first + r.below(width - first);
+        d.push(Call::Put(Place::Right, capacity * width + at, r.pick(&[0, 0, 2, -1, 7, i64::MIN])));
+        d.push(Call::Put(Place::Right, at, r.pick(&[5, -5, i64::MAX])));
+    }
+}
+
 /// Calls on joins and areas that no call has left so.
 fn handed(r: &mut Random, mut d: Draft, carried: &mut Carried) -> Vec<Call> {
     let small = r.percent(50);
@@ -642,6 +658,7 @@ fn handed(r: &mut Random, mut d: Draft, carried: &mut Carried) -> Vec<Call> {
             0..=2 => alter_join(r, &mut d, columns),
             3 | 4 => alter_area(r, &mut d),
             5 => alter_row(r, &mut d),
+            6 | 7 => alter_carried(r, &mut d),
             _ => any_call(r, &mut d, columns),
         }
     }
