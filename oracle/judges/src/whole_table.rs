@@ -135,10 +135,8 @@ fn written(o: &Options, matches: &[Option<usize>], right: &[Row]) -> Vec<i64> {
     let mut values = vec![matches.len() as i64, (width - o.b) as i64];
     let mut marks = vec![];
     for found in matches {
-        values.push(found.unwrap_or(0) as i64);
-        marks.push(found.is_some() as i64);
-        for j in first..width {
-            let cell = found.and_then(|number| right[number][j]);
+        let carried = (first..width).map(|j| found.and_then(|number| right[number][j]));
+        for cell in [found.map(|number| number as i64)].into_iter().chain(carried) {
             values.push(cell.unwrap_or(0));
             marks.push(cell.is_some() as i64);
         }
