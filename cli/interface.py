@@ -3,8 +3,8 @@ import ctypes
 from ctypes import c_int64, c_size_t, c_uint64, c_void_p
 
 # The version of the library that these declarations are of.
-VERSION = '0.1.0'
-VERSION_NUMBER = 1000
+VERSION = '0.2.0'
+VERSION_NUMBER = 2000
 
 # The rows that a frame can have at most.
 MOST_ROWS = 4096
@@ -12,11 +12,14 @@ MOST_ROWS = 4096
 # The by-columns that a join can have at most.
 MOST_BY = 4
 
+# The carried columns that a join can have at most.
+MOST_CARRIED = 8
+
 # options.tolerance if any distance will do.
 NO_TOLERANCE = -1
 
-# join.layout: the bytes "rowkeep" from the highest down, then the layout's version, 1.
-LAYOUT = 0x726f776b65657001
+# join.layout: the bytes "rowkeep" from the highest down, then the layout's version, 2.
+LAYOUT = 0x726f776b65657002
 
 # options.strategy
 BACKWARD = 0
@@ -54,6 +57,7 @@ NO_ROOM = 6
 USED_UP = 7
 LEFT_ORDER = 8
 RIGHT_ORDER = 9
+TOO_MANY_CARRIED = 10
 BAD_POINTS = 16
 
 # What each refusal says.
@@ -67,6 +71,7 @@ REFUSALS = {
     7: 'the numbers of rows or turns are used up',
     8: 'left rows are out of order',
     9: 'right rows are out of order',
+    10: 'there are more than 8 carried columns',
     16: 'a point is null, or greater than the next',
 }
 
@@ -74,7 +79,8 @@ REFUSALS = {
 class Options(ctypes.Structure):
     """What a join is opened with. Flags are 0 or 1, also those past `by`."""
     _fields_ = [('by', c_uint64), ('strategy', c_uint64), ('allow_eq', c_uint64), ('tolerance', c_int64),
-                ('check', c_uint64), ('descending', c_uint64 * 4), ('nulls_last', c_uint64 * 4)]
+                ('check', c_uint64), ('descending', c_uint64 * 4), ('nulls_last', c_uint64 * 4),
+                ('carried', c_uint64)]
 
 
 class Row(ctypes.Structure):
@@ -83,7 +89,7 @@ class Row(ctypes.Structure):
 
 
 class Join(ctypes.Structure):
-    """A join: 45 words, no padding. A host may read every field and need not."""
+    """A join: 46 words, no padding. A host may read every field and need not."""
     _fields_ = [('layout', c_uint64), ('options', Options), ('base', c_uint64), ('held', c_uint64),
                 ('pruned', c_uint64), ('queue_start', c_uint64), ('queue_words', c_uint64), ('state', c_uint64),
                 ('right_ended', c_uint64), ('failed', c_uint64), ('sequence', c_uint64), ('last_left', Row),

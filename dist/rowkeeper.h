@@ -11,7 +11,7 @@
  *
  *     cc host.c $(pkg-config --cflags --libs rowkeeper)
  *
- * From the repository, without installing: `make` writes build/librowkeeper.a and build/librowkeeper.so.0.
+ * From the repository, without installing: `make` writes build/librowkeeper.a and build/librowkeeper.so.1.
  *
  *     cc -Iinclude host.c build/librowkeeper.a
  */
@@ -19,7 +19,7 @@
 /*
  * THE CALLS
  *
- *     rowkeeper_open        opens a join: strategy, equality, tolerance, order check, by-columns
+ *     rowkeeper_open        opens a join: strategy, equality, tolerance, order check, by-columns, carried columns
  *     rowkeeper_left        takes a left frame, which then waits
  *     rowkeeper_right       takes a right frame, whose rows are then held
  *     rowkeeper_end_right   ends right: no right frame will come any more
@@ -53,8 +53,9 @@
  *
  * A frame is 2 + 2nc words of 64 bits: the number of rows n (0 to 4,096), the number of columns c, then n × c values,
  * row by row, then n × c marks, row by row. Mark 1: the value is present. Mark 0: it is null, and the value must be 0. No
- * other mark is allowed. c is by + 1: the by-columns that make up the group (0 to 4 of them), then the key. Two rows of a
- * table with one by-column, (7, 12) and (7, null):
+ * other mark is allowed. A left frame has by + 1 columns: the by-columns that make up the group (0 to 4 of them), then the
+ * key. A right frame has by + 1 + carried columns: behind the key stand the columns that come with a match, such as a price
+ * (0 to 8 of them). Two left rows with one by-column, (7, 12) and (7, null):
  *
  *     2, 2,   7, 12,  7, 0,   1, 1,  1, 0
  *
@@ -62,7 +63,7 @@
  *
  * Both tables, each taken whole over all its frames, must be sorted by the by-columns in order, then by the key. Numbers
  * ascend, or descend in a by-column with the flag `descending`. Nulls come first, or last in a by-column with the flag
- * `nulls_last`. The key ascends, nulls first. If a table is not sorted, nothing is promised about the matches. With `check`
+ * `nulls_last`. The key ascends, nulls first. Carried columns are never compared. If a table is not sorted, nothing is promised about the matches. With `check`
  * on, a turn that finds rows out of order is refused by 8 or 9 (between frames it overlooks rows with a null key).
  *
  * MATCHES
@@ -79,10 +80,12 @@
  * Their words may be anything before the first call. What is needed, in words of 8 bytes:
  *
  *     left    the frames that wait at once: ROWKEEPER_FRAME_WORDS(rows, by) for each
- *     right   the right rows that are held at once: ROWKEEPER_RIGHT_WORDS(rows, by)
- *     output  ROWKEEPER_OUTPUT_WORDS(rows) for the waiting frame that came first; 8,194 words are enough for any
- *             for a run, these for each frame that it turns: ROWKEEPER_RUN_WORDS(turns, rows) if no frame has more
- *             rows; as many words as wait (the join's queue_words) are enough for any number of turns
+ *     right   the right rows that are held at once: ROWKEEPER_RIGHT_WORDS(rows, by, carried)
+ *     output  ROWKEEPER_OUTPUT_WORDS(rows, carried) for the waiting frame that came first; 8,194 words are enough for any
+ *             if nothing is carried, 73,730 if 8 columns are
+ *             for a run, these for each frame that it turns: ROWKEEPER_RUN_WORDS(turns, rows, carried) if no frame has
+ *             more rows; if carried is at most by, as many words as wait (the join's queue_words) are enough for any
+ *             number of turns, and if it is more, 1 + carried times as many are
  *
  * For example, with one by-column, one waiting frame of 4,096 rows and 100,000 held rows: 16,386 words of left area,
  * 400,000 of right area and 8,194 of output, 3.4 MB in all.
@@ -91,7 +94,7 @@
  * If it is smaller, a frame with no room is refused by 6. It can be handed in again after turns have freed room, or be cut
  * into smaller frames, of which the first may fit. But if a turn wants right rows and none fit, only a larger area helps:
  * rowkeeper_move takes the join to one. Held row i (from 0) has its values from word (base + i) × c of the right area and
- * its marks from word (R + base + i) × c; R is the area's length ÷ 2c, rounded down. Waiting frames are stored without gaps
+ * its marks from word (R + base + i) × c, where c is by + 1 + carried; R is the area's length ÷ 2c, rounded down. Waiting frames are stored without gaps
  * in the left area, queue_words words from word queue_start on. All other words of both areas are free: no call reads them,
  * and the host may alter them between calls without changing any answer, match or join (proved: `free-unread` in
  * crates/lists).
@@ -133,9 +136,9 @@
  * Header, library, Rust crate and command have one version, ROWKEEPER_VERSION. Compile a host with the header of the library
  * that it is linked with; rowkeeper_version() is the library's own number. While the first number of the version is 0, a new
  * second number may change calls, structs and the layout of joins; a new third number changes none of them, and the new
- * library can be put in the place of the old one. The number in librowkeeper.so.0 grows with every version for which a host must be compiled anew. CHANGES.md lists every
- * change by what it asks of a host. Refusals may be added in any version, so a host that switches over them needs a case for
- * numbers that it does not know.
+ * library can be put in the place of the old one. The number in librowkeeper.so.1 grows with every version
+ * for which a host must be compiled anew. CHANGES.md lists every change by what it asks of a host. Refusals may be added in
+ * any version, so a host that switches over them needs a case for numbers that it does not know.
  */
 #ifndef ROWKEEPER_H
 #define ROWKEEPER_H
@@ -160,8 +163,8 @@ typedef char rowkeeper_lengths_have_64_bits[sizeof(size_t) == 8 ? 1 : -1];
 /* ---- tools/interface writes: constants */
 /* The version that this header is of: as text, and as a number that grows from version to version
    (1,000,000 × major + 1,000 × minor + patch). */
-#define ROWKEEPER_VERSION "0.1.0"
-#define ROWKEEPER_VERSION_NUMBER 1000
+#define ROWKEEPER_VERSION "0.2.0"
+#define ROWKEEPER_VERSION_NUMBER 2000
 
 /* The rows that a frame can have at most. */
 #define ROWKEEPER_MOST_ROWS 4096
@@ -169,22 +172,26 @@ typedef char rowkeeper_lengths_have_64_bits[sizeof(size_t) == 8 ? 1 : -1];
 /* The by-columns that a join can have at most. */
 #define ROWKEEPER_MOST_BY 4
 
+/* The carried columns that a join can have at most. */
+#define ROWKEEPER_MOST_CARRIED 8
+
 /* options.tolerance if any distance will do. */
 #define ROWKEEPER_NO_TOLERANCE (-1)
 
-/* join.layout: the bytes "rowkeep" from the highest down, then the layout's version, 1. */
-#define ROWKEEPER_LAYOUT ((uint64_t)0x726f776b65657001u)
+/* join.layout: the bytes "rowkeep" from the highest down, then the layout's version, 2. */
+#define ROWKEEPER_LAYOUT ((uint64_t)0x726f776b65657002u)
 
 /* The words of a join. */
-#define ROWKEEPER_JOIN_WORDS 45
+#define ROWKEEPER_JOIN_WORDS 46
 /* ---- tools/interface: end of constants */
 
-/* Lengths in words. A host's own `rows` and `by` are taken as they are: up to 4,096 and 4 nothing can overflow. */
+/* Lengths in words. A host's own `rows`, `by` and `carried` are taken as they are: up to 4,096, 4 and 8 nothing can overflow. */
 #define ROWKEEPER_FRAME_WORDS(rows, by) (2 + 2 * (size_t)(rows) * ((size_t)(by) + 1))
-#define ROWKEEPER_RIGHT_WORDS(rows, by) (2 * (size_t)(rows) * ((size_t)(by) + 1))
-#define ROWKEEPER_OUTPUT_WORDS(rows) (2 + 2 * (size_t)(rows))
+#define ROWKEEPER_RIGHT_FRAME_WORDS(rows, by, carried) (2 + ROWKEEPER_RIGHT_WORDS(rows, by, carried))
+#define ROWKEEPER_RIGHT_WORDS(rows, by, carried) (2 * (size_t)(rows) * ((size_t)(by) + 1 + (size_t)(carried)))
+#define ROWKEEPER_OUTPUT_WORDS(rows, carried) (2 + 2 * (size_t)(rows) * (1 + (size_t)(carried)))
 /* What so many turns write at most if no frame has more rows. The product is the host's own: a huge `turns` overflows. */
-#define ROWKEEPER_RUN_WORDS(turns, rows) ((size_t)(turns) * ROWKEEPER_OUTPUT_WORDS(rows))
+#define ROWKEEPER_RUN_WORDS(turns, rows, carried) ((size_t)(turns) * ROWKEEPER_OUTPUT_WORDS(rows, carried))
 /* What so many pairs of rowkeeper_spans take. There are at most rows of points × rows of intervals of them. */
 #define ROWKEEPER_SPANS_WORDS(pairs) (2 + 4 * (size_t)(pairs))
 
@@ -206,7 +213,7 @@ enum { ROWKEEPER_WROTE = 0, ROWKEEPER_WANTS_RIGHT = 1, ROWKEEPER_IDLE = 2, ROWKE
 enum { ROWKEEPER_TURNS_USED = 0 };
 
 /* refusal. If several apply, the first in checking order is reported; that order is:
-   1 to 5, 16, 6 to 9. */
+   1, 10, 2 to 5, 16, 6 to 9. */
 enum {
     /* Not refused. */
     ROWKEEPER_ACCEPTED = 0,
@@ -214,8 +221,8 @@ enum {
        There is no join then: every call refuses by 2 what is returned beside the refusal, except that a run of no turns tries
        nothing and so refuses nothing. Spans: a flag that is neither 0 nor 1. */
     ROWKEEPER_BAD_OPTIONS = 1,
-    /* The join is inconsistent or does not fit its areas: another layout word, options as in 1, base + held above R, queue_start
-       + queue_words above the left area, pruned + held above 2^63 - 1, an odd sequence, or a state, flag or port code that does
+    /* The join is inconsistent or does not fit its areas: another layout word, options as in 1 or 10, base + held above R,
+       queue_start + queue_words above the left area, pruned + held above 2^63 - 1, an odd sequence, or a state, flag or port code that does
        not exist. */
     ROWKEEPER_BAD_JOIN = 2,
     /* An earlier turn found rows out of order and marked the join failed; every later call is refused by this number. */
@@ -223,7 +230,7 @@ enum {
     /* At the wrong time: a left frame if the node is not Running; a right frame or an end of right if right has ended or the node
        is Done; a turn if the node is Done. */
     ROWKEEPER_CLOSED = 4,
-    /* The words are not a frame of c columns. At a turn: those that wait are not. Spans: the points are not a frame of one
+    /* The words are not a frame of that side's columns. At a turn: those that wait are not. Spans: the points are not a frame of one
        column, or the intervals not one of two. */
     ROWKEEPER_BAD_FRAME = 5,
     /* No room: for the frame in the left area, for its rows in the right area, or for the matches or pairs in the output. */
@@ -234,6 +241,8 @@ enum {
     ROWKEEPER_LEFT_ORDER = 8,
     /* Check on: right rows are out of order. The join is marked failed. */
     ROWKEEPER_RIGHT_ORDER = 9,
+    /* Opening: carried above 8. There is no join then, as with 1. */
+    ROWKEEPER_TOO_MANY_CARRIED = 10,
     /* Spans alone: a point is null, or greater than the next. */
     ROWKEEPER_BAD_POINTS = 16,
     /* The greatest number of a refusal in this version. Later versions may have greater ones. */
@@ -254,6 +263,7 @@ ROWKEEPER_INLINE const char *rowkeeper_refusal_text(uint64_t refusal) {
     case ROWKEEPER_USED_UP: return "the numbers of rows or turns are used up";
     case ROWKEEPER_LEFT_ORDER: return "left rows are out of order";
     case ROWKEEPER_RIGHT_ORDER: return "right rows are out of order";
+    case ROWKEEPER_TOO_MANY_CARRIED: return "there are more than 8 carried columns";
     case ROWKEEPER_BAD_POINTS: return "a point is null, or greater than the next";
     default: return "no refusal of this version has this number";
     }
@@ -263,13 +273,14 @@ ROWKEEPER_INLINE const char *rowkeeper_refusal_text(uint64_t refusal) {
 /* ---- tools/interface writes: structs */
 /* What a join is opened with. Flags are 0 or 1, also those past `by`. */
 typedef struct rowkeeper_options {
-    uint64_t by;            /* by-columns, 0 to 4; rows have by + 1 columns, the key last */
+    uint64_t by;            /* by-columns, 0 to 4; left rows have by + 1 columns, the key last */
     uint64_t strategy;      /* ROWKEEPER_BACKWARD, ROWKEEPER_FORWARD or ROWKEEPER_NEAREST */
     uint64_t allow_eq;      /* whether an equal key matches; Nearest needs it */
     int64_t tolerance;      /* the greatest distance of two keys, or ROWKEEPER_NO_TOLERANCE */
     uint64_t check;         /* whether turns check that rows are in order */
     uint64_t descending[4]; /* for each by-column: whether its numbers descend */
     uint64_t nulls_last[4]; /* for each by-column: whether its nulls come last */
+    uint64_t carried;       /* columns that right rows have behind the key, 0 to 8: they come with the match */
 } rowkeeper_options;
 
 /* A row that the order check remembers, or none. A mark other than 0 means present. */
@@ -279,7 +290,7 @@ typedef struct rowkeeper_row {
     int64_t marks[5];  /* its marks */
 } rowkeeper_row;
 
-/* A join: 45 words, no padding. A host may read every field and need not. */
+/* A join: 46 words, no padding. A host may read every field and need not. */
 typedef struct rowkeeper_join {
     uint64_t layout;           /* ROWKEEPER_LAYOUT */
     rowkeeper_options options; /* what it was opened with */
@@ -336,7 +347,7 @@ typedef struct rowkeeper_written {
 /* ---- tools/interface: end of structs */
 
 /* ---- tools/interface writes: calls */
-/* Opens a join: Running, right not ended, nothing held, waiting or remembered. Refused by 1 alone. */
+/* Opens a join: Running, right not ended, nothing held, waiting or remembered. Refused by 1 and 10 alone. */
 rowkeeper_took rowkeeper_open(rowkeeper_options options);
 
 /* Hands in a left frame. Its words are copied behind those that wait; if they would pass the area's end, the waiting frames
@@ -358,8 +369,8 @@ rowkeeper_took rowkeeper_end_right(rowkeeper_join join, const int64_t *left, siz
    the new right area and the marks to its word R * c, where R is this area's length / 2c, rounded down. All other words of
    the new areas stay as they are; they may be anything. The join comes back with queue_start 0 and base 0, and is otherwise
    as it came. Go on with it and the new areas: the old ones are only read, and belong to nothing any more.
-   Needed, in words: queue_words on the left, ROWKEEPER_RIGHT_WORDS(held, by) on the right; less is refused by 6. Refused by
-   2 before that, if the join does not hold together or does not fit the old areas; 3 and 4 do not apply, so a join that has
+   Needed, in words: queue_words on the left, ROWKEEPER_RIGHT_WORDS(held, by, carried) on the right; less is refused by 6.
+   Refused by 2 before that, if the join does not hold together or does not fit the old areas; 3 and 4 do not apply, so a join that has
    failed or ended is moved too, and stays what it is. A refused move alters no word and returns the join as it came.
    What a move costs is the words that it copies. No later answer or match is another one than without the move, but that a
    frame may find room in the one pair of areas and none in the other (proved: `move-lists` in crates/movelists).
@@ -380,9 +391,10 @@ rowkeeper_ported rowkeeper_ports(rowkeeper_join join, const int64_t *left, size_
 /* A turn, for the waiting frame that came first.
    ROWKEEPER_IDLE: no frame waits. Nothing is changed.
    ROWKEEPER_WANTS_RIGHT: right rows that are still to come might match. Nothing is changed.
-   ROWKEEPER_WROTE: the output has n, 1, then the n numbers of the right rows that match, then n marks, for the frame's n
-   rows in order: mark 1 with a number, or 0 and 0 if no row matches. The words behind these 2 + 2n are untouched. The frame
-   no longer waits, and right rows that no later left row can match are dropped.
+   ROWKEEPER_WROTE: the output begins with a frame of n rows and 1 + carried columns, for the n rows of the frame in order:
+   n, 1 + carried, then the values row by row, then the marks row by row. In a row stand the number of the right row that
+   matches and the carried cells of that row; if no row matches, all of them are null (0 and 0). With nothing carried that is
+   n, 1, n numbers, n marks. The words behind these 2 + 2n(1 + carried) are untouched. The frame no longer waits, and right rows that no later left row can match are dropped.
    ROWKEEPER_REFUSED: by 2 to 9. Both areas are only read in every case. */
 rowkeeper_turned rowkeeper_turn(rowkeeper_join join, const int64_t *left, size_t left_len, const int64_t *right,
                                 size_t right_len, int64_t *out, size_t out_len);
@@ -394,8 +406,8 @@ rowkeeper_turned rowkeeper_turn(rowkeeper_join join, const int64_t *left, size_t
    ROWKEEPER_REFUSED: the next turn was refused, by 2 to 9. It altered no word; 8 or 9 marks the join failed. After 6, if
    what is left of the output is too short for the next frame, go on with another output.
    Whatever ends the run, what the earlier turns wrote stays, and so does the join that they left. The output begins with
-   `words` words: what each turn wrote, in order. The first word of each part is its n, so the next part begins 2 + 2n words
-   further on. The words behind them are untouched. The frames' numbers are not reported: the first is the sequence of the
+   `words` words: what each turn wrote, in order. The first word of each part is its n, so the next part begins
+   2 + 2n(1 + carried) words further on. The words behind them are untouched. The frames' numbers are not reported: the first is the sequence of the
    join that came in, and each further one is 2 more. With `turns` 0 no turn is tried: nothing is refused and the join comes
    back as it came, whatever it is; only numbers that no join has (another layout word, a flag above 1, a state above 2, a
    strategy above 255) are refused by 2. Both areas are only read in every case. No run goes on for ever: each turn takes a

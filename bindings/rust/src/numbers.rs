@@ -93,13 +93,15 @@ pub enum Refusal {
     LeftOrder = 8,
     /// Right rows are out of order. The join is marked failed.
     RightOrder = 9,
+    /// At opening: more than eight carried columns.
+    TooManyCarried = 10,
     /// Spans: a point is null, or greater than the next.
     BadPoints = 16,
 }
 
 impl Refusal {
     /// All refusals, by number.
-    pub const ALL: [Refusal; 10] = [
+    pub const ALL: [Refusal; 11] = [
         Refusal::BadOptions,
         Refusal::BadJoin,
         Refusal::Failed,
@@ -109,6 +111,7 @@ impl Refusal {
         Refusal::UsedUp,
         Refusal::LeftOrder,
         Refusal::RightOrder,
+        Refusal::TooManyCarried,
         Refusal::BadPoints,
     ];
 
@@ -124,6 +127,7 @@ impl Refusal {
             Refusal::UsedUp => "the numbers of rows or turns are used up",
             Refusal::LeftOrder => "left rows are out of order",
             Refusal::RightOrder => "right rows are out of order",
+            Refusal::TooManyCarried => "there are more than 8 carried columns",
             Refusal::BadPoints => "a point is null, or greater than the next",
         }
     }

@@ -2,17 +2,19 @@
 
 // ---- tools/interface writes: structs
 /// The version of the library that these declarations are of.
-pub const VERSION: &str = "0.1.0";
+pub const VERSION: &str = "0.2.0";
 /// The same as a number: 1,000,000 × major + 1,000 × minor + patch.
-pub const VERSION_NUMBER: u64 = 1000;
+pub const VERSION_NUMBER: u64 = 2000;
 /// The rows that a frame can have at most.
 pub const MOST_ROWS: usize = 4096;
 /// The by-columns that a join can have at most.
 pub const MOST_BY: usize = 4;
+/// The carried columns that a join can have at most.
+pub const MOST_CARRIED: usize = 8;
 /// Options.tolerance if any distance will do.
 pub const NO_TOLERANCE: i64 = -1;
-/// Join.layout: the bytes "rowkeep" from the highest down, then the layout's version, 1.
-pub const LAYOUT: u64 = 0x726f776b65657001;
+/// Join.layout: the bytes "rowkeep" from the highest down, then the layout's version, 2.
+pub const LAYOUT: u64 = 0x726f776b65657002;
 /// The last row whose key is not greater.
 pub const BACKWARD: u64 = 0;
 /// The first row whose key is not smaller.
@@ -46,7 +48,7 @@ pub const TURNS_USED: u64 = 0;
 #[repr(C)]
 #[derive(Clone, Copy, Debug, Default, PartialEq, Eq)]
 pub struct Options {
-    /// By-columns, 0 to 4; rows have by + 1 columns, the key last.
+    /// By-columns, 0 to 4; left rows have by + 1 columns, the key last.
     pub by: u64,
     /// BACKWARD, FORWARD or NEAREST.
     pub strategy: u64,
@@ -60,6 +62,8 @@ pub struct Options {
     pub descending: [u64; 4],
     /// For each by-column: whether its nulls come last.
     pub nulls_last: [u64; 4],
+    /// Columns that right rows have behind the key, 0 to 8: they come with the match.
+    pub carried: u64,
 }
 
 /// A row that the order check remembers, or none. A mark other than 0 means present.
@@ -74,7 +78,7 @@ pub struct Row {
     pub marks: [i64; 5],
 }
 
-/// A join: 45 words, no padding. A host may read every field and need not.
+/// A join: 46 words, no padding. A host may read every field and need not.
 #[repr(C)]
 #[derive(Clone, Copy, Debug, Default, PartialEq, Eq)]
 pub struct Join {
@@ -173,7 +177,7 @@ pub struct Written {
 }
 
 /// How many words a join is.
-pub const JOIN_WORDS: usize = 45;
+pub const JOIN_WORDS: usize = 46;
 const _: () = assert!(size_of::<Join>() == 8 * JOIN_WORDS && align_of::<Join>() == 8 && size_of::<usize>() == 8);
 // ---- tools/interface: end of structs
 
@@ -193,7 +197,7 @@ impl Join {
 
 // ---- tools/interface writes: calls
 unsafe extern "C" {
-    /// Opens a join: strategy, equality, tolerance, order check, by-columns. Safe: it is lent nothing.
+    /// Opens a join: strategy, equality, tolerance, order check, by-columns, carried columns. Safe: it is lent nothing.
     pub safe fn rowkeeper_open(options: Options) -> Took;
     /// Takes a left frame, which then waits.
     pub fn rowkeeper_left(

@@ -7,10 +7,10 @@ use Rattle.frames.specs.Cells.{Words}
 use Rattle.frames.specs.Frame.{rowCount, isFrame}
 use Rattle.area.specs.Area.{capacity, moved, written, newBase, pushed}
 
--- b by-columns, 0 to 4, and the key.
+-- b by-columns, 0 to 4, the key, and p carried columns, 0 to 8.
 pub record Columns (c : ℕ) : Type 0 where
   pub some : 1 ≤ c
-  pub few : c ≤ 5
+  pub few : c ≤ 13
 
 -- The held rows start within the capacity.
 pub record BaseIn (c base : ℕ) (area : Words) : Type 0 where

@@ -3,21 +3,20 @@ use mathlib.Core.Path.{_≡_}
 use mathlib.Core.Bool.{true, false}
 use mathlib.Core.List.{List, map}
 use Rattle.frames.specs.Cells.{Rows, Words}
-use Rattle.options.specs.Options.{badOptions}
+use Rattle.options.specs.Options.{refusedOptions}
 use Rattle.order.specs.Order.{sorted}
 use Rattle.options.specs.declared.Options.{Options}
-use Rattle.matching.specs.Match.{wholeTable}
 use Rattle.lists.specs.Lists.{Call}
-use Rattle.lists.specs.WholeTables.{lefts, rights, turnedRows, matches, asWritten, Correct, Each}
+use Rattle.lists.specs.WholeTables.{lefts, rights, turnedRows, matches, dueOver, Correct, Each}
 use Rattle.books.specs.Merge.{merge}
 
 -- Any list of calls whose accepted right rows are the merged table, however it is cut in frames and whatever else the list has: what it writes are the
 -- matches of the whole-table rule over the merged table, and each is right as the whole-table theorem says.
 pub record SeasonOf (o : Options) (l r : Words) (calls : List Call) (house festival : Rows) : Type 0 where
-  pub whole-table : matches o l r calls ≡ map (λ x. asWritten (wholeTable o (merge o house festival) x)) (turnedRows o l r calls)
+  pub whole-table : matches o l r calls ≡ map (dueOver o (merge o house festival)) (turnedRows o l r calls)
   pub none-exactly : Each (Correct o (merge o house festival)) (turnedRows o l r calls) (matches o l r calls)
 
 abbrev pub Season : Type 0
 Season =
-    (o : Options) → badOptions o ≡ false → (l r : Words) (calls : List Call) (house festival : Rows) → sorted o house ≡ true → sorted o festival ≡ true
+    (o : Options) → refusedOptions o ≡ false → (l r : Words) (calls : List Call) (house festival : Rows) → sorted o house ≡ true → sorted o festival ≡ true
     → rights o l r calls ≡ merge o house festival → sorted o (lefts o l r calls) ≡ true → SeasonOf o l r calls house festival

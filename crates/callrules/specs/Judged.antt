@@ -7,13 +7,13 @@ use lib.Dec.{ltb, eqb}
 use lib.ListN.{length}
 use Rattle.frames.specs.Cells.{Words}
 use Rattle.frames.specs.Frame.{rowCount, isFrame}
-use Rattle.options.specs.Options.{badOptions, rightColumns}
+use Rattle.options.specs.Options.{badOptions, manyCarried, refusedOptions, rightColumns}
 use Rattle.options.specs.declared.Options.{Options}
 use Rattle.area.specs.Area.{capacity, newBase, pushed, moved, written}
 use Rattle.outcomes.specs.Answers.{isRunning, isDone, mostRows}
 use Rattle.outcomes.specs.declared.NodeState.{NodeState}
 use Rattle.refusals.specs.Tests.{Test, test, firstOf}
-use Rattle.refusals.specs.declared.Refusal.the-variants.{BadOptions, BadJoin, Failed, Closed, BadFrame, NoRoom, UsedUp}
+use Rattle.refusals.specs.declared.Refusal.the-variants.{BadOptions, TooManyCarried, BadJoin, Failed, Closed, BadFrame, NoRoom, UsedUp}
 use Rattle.outcomes.specs.declared.Took.{Took}
 use Rattle.outcomes.specs.declared.Took.the-variants.{Accepted, Refused}
 use Rattle.outcomes.specs.declared.Answer.{Answer}
@@ -25,11 +25,11 @@ use Rattle.callrules.specs.declared.FedEnd.{FedEnd}
 -- SCOPE 16, number 2, by the numbers of a join.
 unfoldable pub badNumbers : Options → ℕ → ℕ → ℕ → ℕ → ℕ → ℕ → Words → Words → Bool
 badNumbers o base held pruned start words sequence left right =
-    badOptions o || ltb (capacity (rightColumns o) right) (base + held) || ltb (length left) (start + words) || ltb mostRows (pruned + held) || eqb (sequence % 2) 1
+    refusedOptions o || ltb (capacity (rightColumns o) right) (base + held) || ltb (length left) (start + words) || ltb mostRows (pruned + held) || eqb (sequence % 2) 1
 
--- Opening: refusal 1, or a fresh join.
+-- SCOPE 16.3: the answer to opening.
 unfoldable pub openAnswer : Options → Took
-openAnswer o = firstOf (test (badOptions o) (Refused BadOptions) ∷ []) Accepted
+openAnswer o = firstOf (test (badOptions o) (Refused BadOptions) ∷ test (manyCarried o) (Refused TooManyCarried) ∷ []) Accepted
 
 -- SCOPE 16.3: the answer to a left frame, by the numbers of a join.
 unfoldable pub leftJudged : Bool → Bool → NodeState → ℕ → ℕ → Words → Words → Took
@@ -98,6 +98,7 @@ pub record EndFed (bad failed ended : Bool) (state : NodeState) (r : FedEnd) : T
 -- The same on the right: the held rows are there, and are few enough.
 pub record RightHolds (o : Options) (base held pruned : ℕ) (right : Words) : Type 0 where
   pub few : o .by ≤ 4
+  pub carried : o .carried ≤ 8
   pub room : base + held ≤ capacity (rightColumns o) right
   pub rows : pruned + held ≤ mostRows
 

@@ -1,6 +1,6 @@
 // Whether the numbers of a join hold together and fit its areas, for any numbers and any areas: refusal 2.
 use options::Options;
-use options::bad_options;
+use options::refused_options;
 use options::right_columns;
 use outcomes::above;
 ghost use mathlib.Core.Path.{_≡_};
@@ -23,7 +23,7 @@ pub fn bad_numbers(
 ) -> bool
     ensures { λ r. ⌜ r ≡ badNumbers o base held pruned start words sequence (now (left .entry)) (now (right .entry)) ⌝ }
 {
-    if bad_options(o) {
+    if refused_options(o) {
         return true;
     }
     let c = right_columns(o);

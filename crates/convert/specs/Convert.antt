@@ -28,6 +28,7 @@ optionsOf h = record {
   check = checkOf (h .check);
   descending = flagsOf (h .descending);
   «nulls_last» = flagsOf (h .«nulls_last»);
+  carried = h .carried;
 }
 
 -- The numbers of options.
@@ -40,6 +41,7 @@ encodeOptions o = record {
   check = checkCode (o .check);
   descending = flagCodes (o .descending);
   «nulls_last» = flagCodes (o .«nulls_last»);
+  carried = o .carried;
 }
 
 -- Numbers that no options encode are none.
@@ -58,7 +60,7 @@ encodeRow r = record { some = flagCode (r .some); values = r .values; marks = r 
 -- ---- the join
 -- The first word of a join: the bytes "rowkeep", then the layout's version. Joins of another layout have another first word (SCOPE 16.5).
 abbrev pub layoutNow : ℕ
-layoutNow = 0x726f_776b_6565_7001
+layoutNow = 0x726f_776b_6565_7002
 
 -- A join that the library could have written: this layout, one of the three states, and flags that are 0 or 1.
 unfoldable pub isJoin : HostJoin → Bool

@@ -19,7 +19,7 @@ ghost use mathlib.Core.Bool.{true};
 ghost use Rattle.convert.specs.Convert.{isOptions, optionsOf, encodeOptions, rowOf, encodeRow, isJoin, joinOf, encode};
 
 // The layout of a join in numbers: its first word. The bytes "rowkeep", then the layout's version.
-pub const LAYOUT: u64 = 0x726f_776b_6565_7001;
+pub const LAYOUT: u64 = 0x726f_776b_6565_7002;
 
 // The options in numbers. A flag is 0 or 1; check is 0 off, 1 on.
 #[repr(C)]
@@ -31,6 +31,7 @@ pub struct HostOptions {
     pub check: u64,
     pub descending: [u64; 4],
     pub nulls_last: [u64; 4],
+    pub carried: usize,
 }
 
 // A row that a side remembers, where some is 1.
@@ -87,6 +88,7 @@ pub fn options_of(h: HostOptions) -> Options
         check: check_of(h.check),
         descending: descending,
         nulls_last: nulls_last,
+        carried: h.carried,
     }
 }
 
@@ -107,6 +109,7 @@ pub fn encode_options(o: Options) -> HostOptions
         check: check_code(c),
         descending: descending,
         nulls_last: nulls_last,
+        carried: o.carried,
     }
 }
 

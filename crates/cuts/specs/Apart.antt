@@ -5,9 +5,9 @@ use mathlib.Core.Bool.{true, false, cond}
 use mathlib.Core.List.{List, [], _∷_, _++_, map}
 use Prim.Native.Nat.{ℕ, _+_}
 use lib.IntN.{pos, _+ℤ_}
-use lib.ListN.{length}
+use lib.ListN.{length, drop, getD}
 use Rattle.frames.specs.Cells.{Rows, Words, isZero}
-use Rattle.options.specs.Options.{badOptions}
+use Rattle.options.specs.Options.{refusedOptions}
 use Rattle.order.specs.Order.{sorted}
 use Rattle.options.specs.declared.Options.{Options}
 use Rattle.lists.specs.Lists.{Call, Entry}
@@ -39,9 +39,9 @@ pub record Joins (o : Options) (p : Pair) (j : Job) : Type 0 where
 abbrev pub written : Options → Job → List Entry
 written o j = matches o (j .left) (j .right) (j .calls)
 
--- A match of a later pair as it is written: the count of right rows before that pair is added to its number; none stays 0 and 0.
+-- A match of a later pair as it is written: the count of right rows before that pair is added to its number; a row of none stays as it is.
 abbrev pub laterEntry : ℕ → Entry → Entry
-laterEntry n e = cond (isZero (e .mark)) e (record { number = pos n +ℤ e .number; mark = e .mark })
+laterEntry n e = cond (isZero (getD (e .marks) 0 (pos 0))) e (record { values = (pos n +ℤ getD (e .values) 0 (pos 0)) ∷ drop 1 (e .values); marks = e .marks })
 
 -- The answers of jobs appended as one table, where n right rows stand before the first.
 unfoldable pub allWritten : Options → ℕ → List Pair → List Job → List Entry
@@ -52,5 +52,5 @@ allWritten o n (p ∷ ps) (j ∷ js) = map (laterEntry n) (written o j) ++ allWr
 -- Each pair joined apart, the answers appended: what any list of calls writes that joins the uncut tables.
 abbrev pub UncutCalls : Type 0
 UncutCalls =
-    (o : Options) → badOptions o ≡ false → (gs : Rows) (p : Pair) (whole : Job) → Joins o p whole → (js : List Job) → Each (Joins o) (cutBy o gs p) js
+    (o : Options) → refusedOptions o ≡ false → (gs : Rows) (p : Pair) (whole : Job) → Joins o p whole → (js : List Job) → Each (Joins o) (cutBy o gs p) js
     → allWritten o 0 (cutBy o gs p) js ≡ written o whole

@@ -1,16 +1,18 @@
 -- The driver for a list of boundaries, for any words: what is refused, in checking order, and what is written. Assumes nothing.
 use mathlib.Core.Bool.{Bool, true, false, cond, not, _&&_, _||_}
 use mathlib.Core.List.{List, [], _∷_}
-use Prim.Native.Nat.{ℕ, _+_, _*_}
+use Prim.Native.Nat.{ℕ, _+_}
 use lib.Dec.{ltb, eqb}
 use lib.ListN.{length, take, drop}
 use Rattle.frames.specs.Cells.{Rows, Words}
 use Rattle.frames.specs.Frame.{frameWords, isFrame, frameRows}
-use Rattle.options.specs.Options.{columns, badOptions, rightColumns}
+use Rattle.options.specs.Options.{columns, badOptions, manyCarried, rightColumns, answerColumns}
 use Rattle.order.specs.Order.{cmpGroup, isLess, nullGroup, sorted}
 use Rattle.options.specs.declared.Options.{Options}
 use Rattle.area.specs.Area.{capacity}
-use Rattle.matching.specs.Answer.{answered}
+use Rattle.matching.specs.Answer.{answerRows, answered}
+use Rattle.refusals.specs.Refusals.{number}
+use Rattle.refusals.specs.declared.Refusal.the-variants.{BadOptions, TooManyCarried, BadFrame, NoRoom, Unsorted, BadBoundaries}
 use Rattle.plan.specs.Plan.{plan}
 use Rattle.plan.specs.Table.{isTable, fullHeights}
 use Rattle.cuts.specs.Cut.{Pair, cutBy, joined}
@@ -61,17 +63,18 @@ module _ (o : Options) (left right boundaries l r out : Words) where
   abbrev pub groups : Rows
   groups = frameRows (o .by) boundaries
 
-  -- Options 1; tables, then boundaries, 5; an unsorted table 14; boundaries 18; no room for one of the pairs in an area, or for the answer in the output, 6. Else 0.
-  -- (10, 11 and 12 come with carried columns and rank lists: behind 1, and behind 5.)
+  -- Options 1 and 10; tables, then boundaries, 5; an unsorted table 14; boundaries 18; no room for one of the pairs in an area, or for the answer in the output, 6. Else 0.
+  -- (11 and 12 come with rank lists: behind 10, and behind 5.)
   unfoldable pub cutAnswer : ℕ
   cutAnswer =
-      cond (badOptions o) 1
-      (cond (not (isTable (columns o) left && isTable (rightColumns o) right && isFrame (o .by) boundaries)) 5
-      (cond (not (sorted o (tables .left) && sorted o (tables .right))) 14
-      (cond (badBoundaries o groups) 18
-      (cond (anyShort o l r (cutBy o groups tables) || ltb (length out) (2 + 2 * length (tables .left))) 6
-      0))))
+      cond (badOptions o) (number BadOptions)
+      (cond (manyCarried o) (number TooManyCarried)
+      (cond (not (isTable (columns o) left && isTable (rightColumns o) right && isFrame (o .by) boundaries)) (number BadFrame)
+      (cond (not (sorted o (tables .left) && sorted o (tables .right))) (number Unsorted)
+      (cond (badBoundaries o groups) (number BadBoundaries)
+      (cond (anyShort o l r (cutBy o groups tables) || ltb (length out) (frameWords (length (tables .left)) (answerColumns o))) (number NoRoom)
+      0)))))
 
   -- Refused, the output stays; else it is the answer of the uncut tables. The words of both areas are free.
   unfoldable pub cutOutput : Words
-  cutOutput = cond (eqb cutAnswer 0) (answered (joined o tables) out) out
+  cutOutput = cond (eqb cutAnswer 0) (answered o (answerRows o 0 (tables .right) (tables .left) (joined o tables)) out) out

@@ -4,13 +4,13 @@ use mathlib.Core.List.{List, [], _∷_, map}
 use Prim.Native.Nat.{ℕ, _+_, _-_, _*_, _^_, _≤_, _<_}
 use lib.ListN.{length, drop}
 use Rattle.frames.specs.Cells.{Rows, Words, rowsOf}
-use Rattle.frames.specs.Frame.{rowCount, valuesIn, marksIn}
-use Rattle.options.specs.Options.{columns, rightColumns}
+use Rattle.frames.specs.Frame.{rowCount, frameWords, valuesIn, marksIn}
+use Rattle.options.specs.Options.{columns, rightColumns, answerColumns}
 use Rattle.options.specs.declared.Options.{Options}
 use Rattle.outcomes.specs.Answers.{mostRows}
-use Rattle.lists.specs.WholeTables.{asWritten, Each}
+use Rattle.lists.specs.WholeTables.{dueOver, Each}
 use Rattle.plan.specs.Table.{framesBy, fullHeights}
-use Rattle.cuts.specs.Cut.{cutAt, cutBy, joined}
+use Rattle.cuts.specs.Cut.{cutAt, cutBy}
 use Rattle.cuts.specs.Scheduled.{Load, Fits, allScheduled}
 use Rattle.cuts.specs.Driver.{tables, groups, cutAnswer}
 
@@ -44,25 +44,25 @@ pub record Lent : Type 0 where
   pub outs : List Words
 
 -- A pair's load.
-abbrev pub loadOf : ℕ → Stretch → Stretch → Lent → Load
-loadOf c x y e = record { left = e .left; right = e .right; lefts = framesOf c x; rights = framesOf c y; outs = e .outs }
+abbrev pub loadOf : Options → Stretch → Stretch → Lent → Load
+loadOf o x y e = record { left = e .left; right = e .right; lefts = framesOf (columns o) x; rights = framesOf (rightColumns o) y; outs = e .outs }
 
 -- The loads of all pairs, cut by the boundaries in order.
 unfoldable pub loads : Options → Rows → Stretch → Stretch → List Lent → List Load
 loads o gs x y [] = []
-loads o [] x y (e ∷ es) = loadOf (columns o) x y e ∷ []
+loads o [] x y (e ∷ es) = loadOf o x y e ∷ []
 loads o (g ∷ gs) x y (e ∷ es) =
     let a = cutAt o g (rowsWithin (columns o) x) in
     let b = cutAt o g (rowsWithin (rightColumns o) y) in
-    loadOf (columns o) (firstOf a x) (firstOf b y) e ∷ loads o gs (othersOf (columns o) a x) (othersOf (columns o) b y) es
+    loadOf o (firstOf a x) (firstOf b y) e ∷ loads o gs (othersOf (columns o) a x) (othersOf (rightColumns o) b y) es
 
--- The areas keep their lengths, whatever words the pair before left in them, and each output is enough: 2 + 2n words.
+-- The areas keep their lengths, whatever words the pair before left in them, and each output is enough: 2 + 2n(1 + p) words.
 unfoldable pub LentWell : Options → ℕ → ℕ → Rows → Stretch → List Lent → Type 0
 LentWell o l r gs x [] = ⊥
-LentWell o l r [] x (e ∷ es) = (length (e .left) ≡ l) × (length (e .right) ≡ r) × Each (λ f out. 2 + 2 * rowCount f ≤ length out) (framesOf (columns o) x) (e .outs)
+LentWell o l r [] x (e ∷ es) = (length (e .left) ≡ l) × (length (e .right) ≡ r) × Each (λ f out. frameWords (rowCount f) (answerColumns o) ≤ length out) (framesOf (columns o) x) (e .outs)
 LentWell o l r (g ∷ gs) x (e ∷ es) =
     let a = cutAt o g (rowsWithin (columns o) x) in
-    (length (e .left) ≡ l) × (length (e .right) ≡ r) × Each (λ f out. 2 + 2 * rowCount f ≤ length out) (framesOf (columns o) (firstOf a x)) (e .outs)
+    (length (e .left) ≡ l) × (length (e .right) ≡ r) × Each (λ f out. frameWords (rowCount f) (answerColumns o) ≤ length out) (framesOf (columns o) (firstOf a x)) (e .outs)
     × LentWell o l r gs (othersOf (columns o) a x) es
 
 -- Where the driver's answer is 0, every pair's frames fit: so `UncutScheduled` tells what is written.
@@ -70,12 +70,12 @@ abbrev pub DriverFits : Type 0
 DriverFits =
     (o : Options) (left right boundaries l r out : Words) → cutAnswer o left right boundaries l r out ≡ 0 → rowCount left < 2 ^ 63 → rowCount right ≤ mostRows → (es : List Lent)
     → LentWell o (length l) (length r) (groups o left right boundaries l r out) (wholeOf (columns o) left) es
-    → Each (Fits o) (cutBy o (groups o left right boundaries l r out) (tables o left right boundaries l r out)) (loads o (groups o left right boundaries l r out) (wholeOf (columns o) left) (wholeOf (columns o) right) es)
+    → Each (Fits o) (cutBy o (groups o left right boundaries l r out) (tables o left right boundaries l r out)) (loads o (groups o left right boundaries l r out) (wholeOf (columns o) left) (wholeOf (rightColumns o) right) es)
 
 -- So the pairs, each by its schedule in these frames over these areas, write the answer of the uncut tables.
 abbrev pub DriverWrites : Type 0
 DriverWrites =
     (o : Options) (left right boundaries l r out : Words) → cutAnswer o left right boundaries l r out ≡ 0 → rowCount left < 2 ^ 63 → rowCount right ≤ mostRows → (es : List Lent)
     → LentWell o (length l) (length r) (groups o left right boundaries l r out) (wholeOf (columns o) left) es
-    → allScheduled o 0 (cutBy o (groups o left right boundaries l r out) (tables o left right boundaries l r out)) (loads o (groups o left right boundaries l r out) (wholeOf (columns o) left) (wholeOf (columns o) right) es)
-    ≡ map asWritten (joined o (tables o left right boundaries l r out))
+    → allScheduled o 0 (cutBy o (groups o left right boundaries l r out) (tables o left right boundaries l r out)) (loads o (groups o left right boundaries l r out) (wholeOf (columns o) left) (wholeOf (rightColumns o) right) es)
+    ≡ map (dueOver o (tables o left right boundaries l r out .right)) (tables o left right boundaries l r out .left)

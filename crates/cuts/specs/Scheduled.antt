@@ -5,14 +5,14 @@ use mathlib.Core.List.{List, [], _∷_, _++_, map}
 use Prim.Native.Nat.{ℕ, _+_, _≤_}
 use lib.ListN.{length}
 use Rattle.frames.specs.Cells.{Rows, Words}
-use Rattle.options.specs.Options.{columns, rightColumns}
+use Rattle.options.specs.Options.{columns, rightColumns, answerColumns}
 use Rattle.options.specs.declared.Options.{Options}
 use Rattle.area.specs.Area.{capacity}
 use Rattle.lists.specs.Lists.{start, events, rowsIn, Entry, outputs, matchesIn}
-use Rattle.lists.specs.WholeTables.{asWritten, Each}
+use Rattle.lists.specs.WholeTables.{dueOver, Each}
 use Rattle.plan.specs.Schedule.{schedule}
 use Rattle.plan.specs.Plan.{Planned, figures}
-use Rattle.cuts.specs.Cut.{Pair, cutBy, joined}
+use Rattle.cuts.specs.Cut.{Pair, cutBy}
 use Rattle.cuts.specs.Apart.{BothSorted, laterEntry}
 
 -- A pair's frames on either side, with an output for each left frame, and the two areas as they are when its turn comes: any words.
@@ -32,7 +32,7 @@ pub record Fits (o : Options) (p : Pair) (j : Load) : Type 0 where
 
 -- What its schedule writes.
 abbrev pub scheduled : Options → Load → List Entry
-scheduled o j = matchesIn (outputs (events (start o (j .left) (j .right)) (schedule o (j .left) (j .right) (j .lefts) (j .rights) (j .outs))))
+scheduled o j = matchesIn (answerColumns o) (outputs (events (start o (j .left) (j .right)) (schedule o (j .left) (j .right) (j .lefts) (j .rights) (j .outs))))
 
 -- The answers appended as one table, where n right rows stand before the first pair.
 unfoldable pub allScheduled : Options → ℕ → List Pair → List Load → List Entry
@@ -42,4 +42,4 @@ allScheduled o n (p ∷ ps) (j ∷ js) = map (laterEntry n) (scheduled o j) ++ a
 
 -- It is the join of the uncut tables, whatever the boundaries.
 abbrev pub UncutScheduled : Type 0
-UncutScheduled = (o : Options) (gs : Rows) (p : Pair) → BothSorted o p → (js : List Load) → Each (Fits o) (cutBy o gs p) js → allScheduled o 0 (cutBy o gs p) js ≡ map asWritten (joined o p)
+UncutScheduled = (o : Options) (gs : Rows) (p : Pair) → BothSorted o p → (js : List Load) → Each (Fits o) (cutBy o gs p) js → allScheduled o 0 (cutBy o gs p) js ≡ map (dueOver o (p .right)) (p .left)

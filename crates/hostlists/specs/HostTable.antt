@@ -6,17 +6,16 @@ use Prim.Native.Nat.{ℕ, zero, suc, _+_, _*_, _^_, _≤_, _<_}
 use lib.Dec.{eqb}
 use lib.ListN.{length, take, drop}
 use Rattle.frames.specs.Cells.{Rows, Words}
-use Rattle.frames.specs.Frame.{rowCount}
-use Rattle.options.specs.Options.{columns, rightColumns}
+use Rattle.frames.specs.Frame.{rowCount, frameWords}
+use Rattle.options.specs.Options.{columns, rightColumns, answerColumns}
 use Rattle.order.specs.Order.{sorted}
 use Rattle.options.specs.declared.Options.{Options}
-use Rattle.matching.specs.Match.{wholeTable}
 use Rattle.runs.specs.Run.{turnWords}
 use Rattle.convert.specs.Convert.{optionsOf}
 use Rattle.convert.specs.declared.HostOptions.{HostOptions}
 use Rattle.hostcalls.specs.Calls.{openHost}
 use Rattle.lists.specs.Lists.{Entry, rowsIn, matchesIn}
-use Rattle.lists.specs.WholeTables.{asWritten, Each}
+use Rattle.lists.specs.WholeTables.{dueOver, Each}
 use Rattle.hostlists.specs.HostLists.{HostCall, turn, HostEvent, onLeft, onRight, onEnd, onPorts, onTurn, onRun, HostWorld, hostEvents, hostFinal}
 
 -- The host opens a join and lends two areas of any words.
@@ -42,19 +41,19 @@ hostRightIn (onPorts l r s t) = []
 hostRightIn (onTurn t out) = []
 hostRightIn (onRun t out) = []
 
--- The outputs of n turns that wrote back to back: each starts behind the 2 + 2n words of the one before.
-unfoldable pub runOutputs : ℕ → Words → List Words
-runOutputs zero out = []
-runOutputs (suc n) out = out ∷ runOutputs n (drop (turnWords out) out)
+-- The outputs of n turns that wrote rows of c columns back to back: each starts behind the words of the one before.
+unfoldable pub runOutputs : ℕ → ℕ → Words → List Words
+runOutputs c zero out = []
+runOutputs c (suc n) out = out ∷ runOutputs c n (drop (turnWords c out) out)
 
--- What a call wrote: a turn that returned answer 0 its output; a run as many as its turns tell.
-abbrev pub hostOutputIn : HostEvent → List Words
-hostOutputIn (onLeft f t) = []
-hostOutputIn (onRight f t) = []
-hostOutputIn (onEnd t) = []
-hostOutputIn (onPorts l r s t) = []
-hostOutputIn (onTurn t out) = cond (eqb (t .answer) 0) (out ∷ []) []
-hostOutputIn (onRun t out) = runOutputs (t .turns) out
+-- What a call wrote, in rows of c columns: a turn that returned answer 0 its output; a run as many as its turns tell.
+abbrev pub hostOutputIn : ℕ → HostEvent → List Words
+hostOutputIn c (onLeft f t) = []
+hostOutputIn c (onRight f t) = []
+hostOutputIn c (onEnd t) = []
+hostOutputIn c (onPorts l r s t) = []
+hostOutputIn c (onTurn t out) = cond (eqb (t .answer) 0) (out ∷ []) []
+hostOutputIn c (onRun t out) = runOutputs c (t .turns) out
 
 -- The accepted left frames, in call order.
 unfoldable pub hostLefts : List HostEvent → List Words
@@ -67,9 +66,9 @@ hostRights [] = []
 hostRights (e ∷ es) = hostRightIn e ++ hostRights es
 
 -- The outputs written, in call order.
-unfoldable pub hostOutputs : List HostEvent → List Words
-hostOutputs [] = []
-hostOutputs (e ∷ es) = hostOutputIn e ++ hostOutputs es
+unfoldable pub hostOutputs : ℕ → List HostEvent → List Words
+hostOutputs c [] = []
+hostOutputs c (e ∷ es) = hostOutputIn c e ++ hostOutputs c es
 
 -- ---- the theorem
 -- For a list of calls that begins with an opening by these numbers; the areas are arbitrary.
@@ -86,7 +85,11 @@ module _ (h : HostOptions) (l r : Words) (calls : List HostCall) where
   abbrev pub has : HostWorld
   has = hostFinal (hostStart h l r) calls
 
-  -- The accepted left rows, and the accepted right rows.
+  -- What they wrote.
+  abbrev pub wrote : List Words
+  wrote = hostOutputs (answerColumns o) returned
+
+  -- The accepted left rows.
   abbrev pub leftRows : Rows
   leftRows = rowsIn (columns o) (hostLefts returned)
 
@@ -96,15 +99,15 @@ module _ (h : HostOptions) (l r : Words) (calls : List HostCall) where
 
   -- The rows of as many left frames as outputs were written.
   abbrev pub writtenRows : Rows
-  writtenRows = rowsIn (columns o) (take (length (hostOutputs returned)) (hostLefts returned))
+  writtenRows = rowsIn (columns o) (take (length wrote) (hostLefts returned))
 
   -- The frames that wait.
   abbrev pub hostWaiting : List Words
-  hostWaiting = drop (length (hostOutputs returned)) (hostLefts returned)
+  hostWaiting = drop (length wrote) (hostLefts returned)
 
   -- The matches written, in call order.
   abbrev pub hostMatches : List Entry
-  hostMatches = matchesIn (hostOutputs returned)
+  hostMatches = matchesIn (answerColumns o) wrote
 
   -- The rows accepted on a side, in one table, are sorted; so on both sides.
   abbrev pub HostDeclared : Type 0
@@ -112,7 +115,7 @@ module _ (h : HostOptions) (l r : Words) (calls : List HostCall) where
 
   -- The matches written are those of the whole-table rule, over all right rows that were accepted.
   abbrev pub HostWholeTable : Type 0
-  HostWholeTable = HostDeclared → hostMatches ≡ map (λ x. asWritten (wholeTable o rightRows x)) writtenRows
+  HostWholeTable = HostDeclared → hostMatches ≡ map (dueOver o rightRows) writtenRows
 
   -- What further turns return.
   abbrev pub hostFurther : List Words → List HostEvent
@@ -122,10 +125,10 @@ module _ (h : HostOptions) (l r : Words) (calls : List HostCall) where
   -- matches are then those of every accepted left row.
   abbrev pub HostRestWritten : Type 0
   HostRestWritten =
-      HostDeclared → has .join .«right_ended» ≡ 1 → has .join .state < 2 → (outs : List Words) → Each (λ f out. 2 + 2 * rowCount f ≤ length out) hostWaiting outs
+      HostDeclared → has .join .«right_ended» ≡ 1 → has .join .state < 2 → (outs : List Words) → Each (λ f out. frameWords (rowCount f) (answerColumns o) ≤ length out) hostWaiting outs
       → length (hostLefts returned) < 2 ^ 63
-      → (length (hostOutputs (hostFurther outs)) ≡ length outs)
-      × (hostMatches ++ matchesIn (hostOutputs (hostFurther outs)) ≡ map (λ x. asWritten (wholeTable o rightRows x)) leftRows)
+      → (length (hostOutputs (answerColumns o) (hostFurther outs)) ≡ length outs)
+      × (hostMatches ++ matchesIn (answerColumns o) (hostOutputs (answerColumns o) (hostFurther outs)) ≡ map (dueOver o rightRows) leftRows)
 
 -- The two.
 pub record HostTable (h : HostOptions) (l r : Words) (calls : List HostCall) : Type 0 where

@@ -7,7 +7,7 @@ use lib.Dec.{ltb}
 use lib.IntN.{ℤ, pos, negsuc}
 use lib.ListN.{length, take, getD}
 use Rattle.frames.specs.Cells.{Cell, Rows, Words, isZero}
-use Rattle.options.specs.Options.{badOptions}
+use Rattle.options.specs.Options.{refusedOptions}
 use Rattle.order.specs.Order.{cmpGroup, isEqual, nullGroup}
 use Rattle.options.specs.declared.Options.{Options}
 use Rattle.matching.specs.Match.{wholeTable}
@@ -46,9 +46,9 @@ unfoldable pub ownAt : Options → List Cell → Rows → ℤ → Own
 ownAt o g rights (pos n) = cond (ltb n (length rights) && inGroup o g (getD rights n [])) (place (ownBefore o g rights n)) foreign
 ownAt o g rights (negsuc n) = foreign
 
--- Of a match as it is written: a right number and its mark.
+-- Of a match as it is written, by its right number and the number's mark.
 unfoldable pub own : Options → List Cell → Rows → Entry → Own
-own o g rights e = cond (isZero (e .mark)) none (ownAt o g rights (e .number))
+own o g rights e = cond (isZero (getD (e .marks) 0 (pos 0))) none (ownAt o g rights (getD (e .values) 0 (pos 0)))
 
 -- Of a match over the group's own notices alone.
 abbrev pub ownChoice : Choice → Own
@@ -82,8 +82,8 @@ pub record Finished (o : Options) (l r : Words) (calls : List Call) : Type 0 whe
 -- SCOPE 18.2 is `same`, for two lists with areas of their own. SCOPE 18.3 is `alone`, for one list: a match of a group is none or one of
 -- the group's own right rows, the one that the whole-table rule gives over these alone.
 pub record Isolation : Type 0 where
-  pub alone : (o : Options) → badOptions o ≡ false → (g : List Cell) (l r : Words) (calls : List Call) → Alone o g l r calls
-  pub same : (o : Options) → badOptions o ≡ false → (g : List Cell) → nullGroup o g ≡ false
+  pub alone : (o : Options) → refusedOptions o ≡ false → (g : List Cell) (l r : Words) (calls : List Call) → Alone o g l r calls
+  pub same : (o : Options) → refusedOptions o ≡ false → (g : List Cell) → nullGroup o g ≡ false
       → (l₁ r₁ : Words) (calls₁ : List Call) → Finished o l₁ r₁ calls₁ → (l₂ r₂ : Words) (calls₂ : List Call) → Finished o l₂ r₂ calls₂
       → ownLefts o g l₁ r₁ calls₁ ≡ ownLefts o g l₂ r₂ calls₂ → ownRights o g l₁ r₁ calls₁ ≡ ownRights o g l₂ r₂ calls₂
       → ownMatches o g l₁ r₁ calls₁ ≡ ownMatches o g l₂ r₂ calls₂

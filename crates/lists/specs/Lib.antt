@@ -4,3 +4,4 @@ pub mod Runs
 pub mod Elsewhere
 pub mod Unread
 pub mod SplitAlone
+pub mod OldForm

@@ -1,9 +1,8 @@
 -- Lists of calls: what they answer and leave, and what the whole-table theorem reads off them (SCOPE 15). Assumes nothing.
 use mathlib.Core.Bool.{Bool, true, false, _&&_, _||_}
 use mathlib.Core.List.{List, [], _∷_, _++_}
-use Prim.Native.Nat.{ℕ, zero, suc, _+_, _-_}
+use Prim.Native.Nat.{ℕ, zero, suc, _+_, _-_, _*_}
 use lib.Dec.{eqb}
-use lib.IntN.{ℤ}
 use lib.ListN.{length, take, drop}
 use Rattle.frames.specs.Cells.{Rows, Words}
 use Rattle.frames.specs.Frame.{rowCount, frameRows, frameWords, front}
@@ -131,25 +130,24 @@ unfoldable pub outputs : List Event → List Words
 outputs [] = []
 outputs (e ∷ es) = outputIn e ++ outputs es
 
--- The rows that a turn wrote in its output: a right number and its mark each.
+-- A row that a turn wrote in its output, by its words: values and marks.
 pub record Entry : Type 0 where
-  pub number : ℤ
-  pub mark : ℤ
+  pub values : Words
+  pub marks : Words
 
--- Numbers with their marks.
-unfoldable pub pairUp : Words → Words → List Entry
-pairUp [] ms = []
-pairUp (v ∷ vs) [] = []
-pairUp (v ∷ vs) (m ∷ ms) = record { number = v; mark = m } ∷ pairUp vs ms
+-- The first n rows, each c words wide, of values and marks that stand row by row.
+unfoldable pub entriesOf : ℕ → ℕ → Words → Words → List Entry
+entriesOf c zero vs ms = []
+entriesOf c (suc n) vs ms = record { values = take c vs; marks = take c ms } ∷ entriesOf c n (drop c vs) (drop c ms)
 
--- The rows of an output: n numbers from word 2 on, n marks behind them.
-unfoldable pub writtenIn : Words → List Entry
-writtenIn out = pairUp (take (rowCount out) (drop 2 out)) (take (rowCount out) (drop (2 + rowCount out) out))
+-- The rows of an output of c columns: its values from word 2 on, its marks behind them.
+unfoldable pub writtenIn : ℕ → Words → List Entry
+writtenIn c out = entriesOf c (rowCount out) (drop 2 out) (drop (2 + rowCount out * c) out)
 
 -- The matches written, in call order.
-unfoldable pub matchesIn : List Words → List Entry
-matchesIn [] = []
-matchesIn (out ∷ outs) = writtenIn out ++ matchesIn outs
+unfoldable pub matchesIn : ℕ → List Words → List Entry
+matchesIn c [] = []
+matchesIn c (out ∷ outs) = writtenIn c out ++ matchesIn c outs
 
 -- Whether a call was accepted.
 abbrev pub accepted : Took → Bool

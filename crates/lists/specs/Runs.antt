@@ -5,6 +5,7 @@ use mathlib.Core.List.{List, [], _∷_, _++_, map}
 use Prim.Native.Nat.{ℕ, zero, suc}
 use lib.ListN.{length, take, drop}
 use Rattle.frames.specs.Cells.{Words}
+use Rattle.options.specs.Options.{answerColumns}
 use Rattle.node.specs.Calls.{turnCall}
 use Rattle.outcomes.specs.Answers.{wrote}
 use Rattle.runs.specs.Run.{Ran, runCall, turnWords, stopOf}
@@ -17,11 +18,11 @@ unfoldable pub lentBy : ℕ → World → Words → List Words
 lentBy zero w out = []
 lentBy (suc k) w out =
     let t = turnCall (w .join) (w .left) (w .right) out in
-    out ∷ cond (wrote (t .answer)) (lentBy k (step w (turn out) .world) (drop (turnWords (t .out)) (t .out))) []
+    out ∷ cond (wrote (t .answer)) (lentBy k (step w (turn out) .world) (drop (turnWords (answerColumns (w .join .options)) (t .out)) (t .out))) []
 
--- The words that a turn wrote in its output.
-abbrev pub writtenWords : Words → Words
-writtenWords out = take (turnWords out) out
+-- The words that a turn wrote in its output, whose rows have c columns.
+abbrev pub writtenWords : ℕ → Words → Words
+writtenWords c out = take (turnWords c out) out
 
 -- What an event ends a run with: a turn that did not write ends it by its answer, anything else leaves it to what comes after.
 abbrev pub stopBy : Event → Stop → Stop
@@ -47,7 +48,7 @@ module _ (k : ℕ) (w : World) (out : Words) where
 
   -- What they wrote, back to back.
   abbrev pub wordsOf : Words
-  wordsOf = backToBack (map writtenWords (outputs answersOf))
+  wordsOf = backToBack (map (writtenWords (answerColumns (w .join .options))) (outputs answersOf))
 
   -- What the run leaves.
   abbrev pub ranFrom : Ran

@@ -5,7 +5,7 @@ use mathlib.Core.Bool.{true, false, not, _&&_}
 use mathlib.Core.List.{List}
 use Prim.Native.Nat.{ℕ}
 use Rattle.frames.specs.Cells.{Rows, Words}
-use Rattle.options.specs.Options.{badOptions, isOn}
+use Rattle.options.specs.Options.{refusedOptions, isOn}
 use Rattle.order.specs.Order.{sorted}
 use Rattle.options.specs.declared.Options.{Options}
 use Rattle.order.specs.declared.Row.{Row}
@@ -32,4 +32,4 @@ pub record SplitAlone (o : Options) (l r : Words) (calls : List Call) : Type 0 w
 
 -- For all options that are not refused, areas of any length and any words, and lists of calls.
 abbrev pub SplitsAlone : Type 0
-SplitsAlone = (o : Options) → badOptions o ≡ false → (l r : Words) (calls : List Call) → SplitAlone o l r calls
+SplitsAlone = (o : Options) → refusedOptions o ≡ false → (l r : Words) (calls : List Call) → SplitAlone o l r calls

@@ -4,27 +4,31 @@ use mathlib.Core.Bool.{true, false}
 use mathlib.Core.List.{List, [], _∷_, _++_, map}
 use Prim.Native.Nat.{ℕ, _+_, _*_, _^_, _≤_, _<_}
 use lib.IntN.{pos}
-use lib.ListN.{length, take, drop}
-use Rattle.frames.specs.Cells.{Cell, Rows, Words}
-use Rattle.frames.specs.Frame.{rowCount, valuesIn, marksIn}
-use Rattle.options.specs.Options.{columns, badOptions, rightColumns}
+use lib.ListN.{length, take, drop, getD, replicate}
+use Rattle.frames.specs.Cells.{Cell, valueWord, markWord, Rows, Words}
+use Rattle.frames.specs.Frame.{rowCount, frameWords, valuesIn, marksIn}
+use Rattle.options.specs.Options.{columns, rightColumns, answerColumns, refusedOptions}
 use Rattle.order.specs.Order.{sorted}
 use Rattle.options.specs.declared.Options.{Options}
 use Rattle.matching.specs.Match.{wholeTable}
 use Rattle.matching.specs.Picked.{Picked, NoneQualifies}
-use Rattle.matching.specs.Answer.{numberWord, choiceMark}
-use Rattle.matching.specs.declared.Choice.{Choice}
+use Rattle.matching.specs.Answer.{carriedOf, answerRow}
 use Rattle.lists.specs.Lists.{Call, turn, start, events, final, Event, leftFrames, rightFrames, rowsIn, outputs, matchesIn, Entry, rightEnded, nodeDone, queueRows, backToBack, refusedWith, turnsIn}
 use Rattle.node.specs.State.{waiting, heldValues, heldMarks}
 
--- SCOPE 12.5: a match as it is written.
-abbrev pub asWritten : Choice → Entry
-asWritten m = record { number = numberWord m; mark = choiceMark m }
+-- SCOPE 12.5: a row as it is written.
+abbrev pub asWritten : List Cell → Entry
+asWritten r = record { values = map valueWord r; marks = map markWord r }
 
--- What is written for x is none, and nothing qualifies; or a number, whose row is picked.
+-- SCOPE 14.4: what is due for the left row x over these right rows: its match by the whole-table rule, with what that row carries.
+abbrev pub dueOver : Options → Rows → List Cell → Entry
+dueOver o rights x = asWritten (answerRow o 0 rights x (wholeTable o rights x))
+
+-- What is written for x is none, in all columns, and nothing qualifies; or a number, whose row is picked, and behind it what this row carries.
 pub data Correct (o : Options) (rights : Rows) (x : List Cell) : Entry → Type 0 where
-  isNone : NoneQualifies o rights x → Correct o rights x (record { number = pos 0; mark = pos 0 })
-  isRow : (i : ℕ) → Picked o rights x i → Correct o rights x (record { number = pos i; mark = pos 1 })
+  isNone : NoneQualifies o rights x → Correct o rights x (record { values = replicate (answerColumns o) (pos 0); marks = replicate (answerColumns o) (pos 0) })
+  isRow : (i : ℕ) → Picked o rights x i
+      → Correct o rights x (record { values = pos i ∷ map valueWord (carriedOf o (getD rights i [])); marks = pos 1 ∷ map markWord (carriedOf o (getD rights i [])) })
 
 -- Each of a list with its fellow in another; both are equally long.
 pub data Each {A B : Type 0} (P : A → B → Type 0) : List A → List B → Type 0 where
@@ -55,23 +59,27 @@ module _ (o : Options) (l r : Words) (calls : List Call) where
 
   -- The matches written, in call order.
   abbrev pub matches : List Entry
-  matches = matchesIn (outputs all)
+  matches = matchesIn (answerColumns o) (outputs all)
 
   -- SCOPE 15.4: the sides are sorted as declared.
   abbrev pub Declared : Type 0
   Declared = (sorted o lefts ≡ true) × (sorted o rights ≡ true)
 
+  -- What is due for x, over all right rows that the list accepts.
+  abbrev pub due : List Cell → Entry
+  due x = dueOver o rights x
+
   -- SCOPE 15.9.
   abbrev pub WholeTable : Type 0
-  WholeTable = Declared → matches ≡ map (λ x. asWritten (wholeTable o rights x)) turnedRows
+  WholeTable = Declared → matches ≡ map due turnedRows
 
   -- SCOPE 15.10.
   abbrev pub NoneExactly : Type 0
   NoneExactly = Declared → Each (Correct o rights) turnedRows matches
 
-  -- Outputs for the frames that wait, each enough: 2 + 2n words.
+  -- Outputs for the frames that wait, each enough: 2 + 2n(1 + p) words.
   abbrev pub Enough : List Words → Type 0
-  Enough outs = Each (λ f out. 2 + 2 * rowCount f ≤ length out) waitingFrames outs
+  Enough outs = Each (λ f out. frameWords (rowCount f) (answerColumns o) ≤ length out) waitingFrames outs
 
   -- Further turns, from where the list ends.
   abbrev pub further : List Words → List Event
@@ -83,7 +91,7 @@ module _ (o : Options) (l r : Words) (calls : List Call) where
   RestWritten =
       Declared → rightEnded all ≡ true → nodeDone all ≡ false → (outs : List Words) → Enough outs → length (leftFrames all) < 2 ^ 63
       → (length (outputs (further outs)) ≡ length outs)
-      × (matches ++ matchesIn (outputs (further outs)) ≡ map (λ x. asWritten (wholeTable o rights x)) lefts)
+      × (matches ++ matchesIn (answerColumns o) (outputs (further outs)) ≡ map due lefts)
 
   -- All that RestWritten supposes, with a frame that waits.
   pub record RestMet (outs : List Words) : Type 0 where
@@ -118,6 +126,13 @@ module _ (o : Options) (l r : Words) (calls : List Call) where
       × (length (w .left) ≡ length l)
       × (length (w .right) ≡ length r)
 
+  -- SCOPE 15.20: what is written is due over the accepted right rows and any that may come behind them in order, none once right has ended. Of the left rows only
+  -- those turned have to be sorted.
+  abbrev pub Settled : Type 0
+  Settled =
+      sorted o turnedRows ≡ true → (more : Rows) → (rightEnded all ≡ true → more ≡ []) → sorted o (rights ++ more) ≡ true
+      → matches ≡ map (dueOver o (rights ++ more)) turnedRows
+
 -- The theorem for one list.
 pub record ListHolds (o : Options) (l r : Words) (calls : List Call) : Type 0 where
   pub whole-table : WholeTable o l r calls
@@ -127,7 +142,8 @@ pub record ListHolds (o : Options) (l r : Words) (calls : List Call) : Type 0 wh
   pub never-broken : NeverBroken o l r calls
   pub no-false-alarm : NoFalseAlarm o l r calls
   pub words-kept : WordsKept o l r calls
+  pub settled : Settled o l r calls
 
 -- For all valid options, all areas and all lists of calls.
 abbrev pub WholeTableTheorem : Type 0
-WholeTableTheorem = (o : Options) → badOptions o ≡ false → (l r : Words) (calls : List Call) → ListHolds o l r calls
+WholeTableTheorem = (o : Options) → refusedOptions o ≡ false → (l r : Words) (calls : List Call) → ListHolds o l r calls

@@ -18,6 +18,11 @@ pub cond-ind {ℓ κ} : {A : Type ℓ} (P : A → Type κ) (b : Bool) {x y : A} 
 cond-ind P true f g = f refl
 cond-ind P false f g = g refl
 
+-- The same for elim.
+pub pick-ind {ℓ κ} : {A : Type ℓ} (P : A → Type κ) (b : Bool) {x y : A} → (b ≡ true → P x) → (b ≡ false → P y) → P (elim b [ true ↦ x | false ↦ y ])
+pick-ind P true f g = f refl
+pick-ind P false f g = g refl
+
 -- What holds of the row chosen, if one is; and: one is chosen, and it holds of it.
 abbrev pub Of : (List Cell → Type 0) → Hit → Type 0
 Of P nobody = Unit {0}

@@ -18,13 +18,8 @@ use Rattle.order.specs.declared.Order.the-variants.{Less, Equal, Greater}
 use Rattle.matching.specs.Match.{fits, nobody, choose, sameGroup, matchIn, matchTable}
 use Rattle.matching.specs.Groups.{runs, Cursor, headOf, passes, pass, used, byRuns, matchFrame}
 use Rattle.matching.specs.declared.Choice.{Choice}
-use Rattle.matching.proofs.ChoiceLaws.{cond-ind, choose-same, choose-append, choose-dead}
+use Rattle.matching.proofs.ChoiceLaws.{cond-ind, choose-same, choose-append, choose-dead, pick-ind}
 use Rattle.matching.proofs.Runs.{is-equal, or-false, Near, run-near, Behind, Parted, runs-flat, sorted-parted}
-
--- A way by a test, from a fact of each way: cond-ind for elim.
-pick-ind {ℓ κ} : {A : Type ℓ} (P : A → Type κ) (b : Bool) {x y : A} → (b ≡ true → P x) → (b ≡ false → P y) → P (elim b [ true ↦ x | false ↦ y ])
-pick-ind P true f g = f refl
-pick-ind P false f g = g refl
 
 -- ---- tests and maps
 is-less : (c : Order) → isLess c ≡ true → c ≡ Less

@@ -1,8 +1,11 @@
 pub mod Samples
 pub mod ChoiceLaws
+pub mod AnswerRows
 pub mod AnswerLaws
+pub mod OldForm
 pub mod Runs
 pub mod GroupLaws
+pub mod FromLaws
 pub mod MayLaws
 pub mod PickedLaw
 pub mod WalkLaws

@@ -18,11 +18,7 @@ use Rattle.matching.specs.Stretches.{between, runOn, runLength, standing
 use Rattle.matching.specs.Inner.{Passed, Serves}
 use Rattle.matching.specs.declared.Right.{Right}
 use Rattle.matching.specs.declared.Choice.{Choice}
-
--- A way by a test, from a fact of each way.
-pick-ind {ℓ κ} : {A : Type ℓ} (P : A → Type κ) (b : Bool) {x y : A} → (b ≡ true → P x) → (b ≡ false → P y) → P (elim b [ true ↦ x | false ↦ y ])
-pick-ind P true f g = f refl
-pick-ind P false f g = g refl
+use Rattle.matching.proofs.ChoiceLaws.{pick-ind}
 
 -- ---- the rows of a stretch
 rows-split : (w n m : ℕ) (vs ms : Words) → rowsOf w (n + m) vs ms ≡ rowsOf w n vs ms ++ rowsOf w m (drop (n * w) vs) (drop (n * w) ms)

@@ -56,10 +56,10 @@ pub record Met (o : Options) (w to : ℕ) (vs ms : Words) (best j : ℕ) (v : �
   pub met : (first : ℕ) (x : List Cell) → keyOf o x ≡ value v
       → hitAt first w to vs ms r ≡ cond (fits o x (rowFrom w (j * w) vs ms)) (meet o x (first + j) (rowFrom w (j * w) vs ms) (hitAt first w to vs ms best)) (hitAt first w to vs ms best)
 
--- Place i of an answer of n rows is there.
-pub record PutRoom (n i : ℕ) (out : Words) : Type 0 where
-  pub there : i < n
-  pub room : 2 + 2 * n ≤ length out
+-- Place i of an answer of m cells is there.
+pub record PutRoom (m i : ℕ) (out : Words) : Type 0 where
+  pub there : i < m
+  pub room : 2 + 2 * m ≤ length out
 
 -- The right cursor has passed what is before x: it stands at the run r.at..r.end, of which x uses r.at..r.used.
 pub record Passed (o : Options) (w n : ℕ) (vs ms : Words) (i : ℕ) (x : List Cell) (r : Right) : Type 0 where
@@ -83,12 +83,12 @@ pub record Serves (o : Options) (w n : ℕ) (vs ms : Words) (i : ℕ) (x : List 
       → byRuns o (first + i) (runs o (between w i n vs ms)) (l ∷ ls)
       ≡ map (matchIn o (first + r .at) (between w (r .at) (r .used) vs ms)) l ++ byRuns o (first + r .at) (runs o (between w (r .at) n vs ms)) ls
 
--- Left rows from..to of n, over right rows at..end, into an answer of n rows.
-pub record RunRoom (o : Options) (wl nl : ℕ) (lv lm : Words) (from to : ℕ) (wr : ℕ) (rv rm : Words) (at end number : ℕ) (out : Words) : Type 0 where
-  pub left : RowsIn o wl nl lv lm
+-- Left rows from..to, over right rows at..end, into an answer of m cells.
+pub record RunRoom (o : Options) (wl m : ℕ) (lv lm : Words) (from to : ℕ) (wr : ℕ) (rv rm : Words) (at end number : ℕ) (out : Words) : Type 0 where
+  pub left : RowsIn o wl to lv lm
   pub upward : from ≤ to
-  pub within : to ≤ nl
+  pub within : to ≤ m
   pub right : RowsIn o wr end rv rm
   pub run : at ≤ end
   pub numbers : number + end ≤ 2 ^ 63 - 1
-  pub room : 2 + 2 * nl ≤ length out
+  pub room : 2 + 2 * m ≤ length out

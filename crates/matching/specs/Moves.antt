@@ -120,8 +120,8 @@ pub record WalkedRow (o : Options) (s : Strategy) (p : ℕ) (lv lm : Words) (w a
   pub chosen : (wl : ℕ) → o .by < wl → r .choice ≡ matchIn o (number + at) (between w at end vs ms) (rowFrom wl p lv lm)
 
 -- Both runs are sorted.
-pub record WalkRoom (o : Options) (wl nl : ℕ) (lv lm : Words) (from to : ℕ) (wr : ℕ) (rv rm : Words) (at end number : ℕ) (out : Words) : Type 0 where
-  pub room : RunRoom o wl nl lv lm from to wr rv rm at end number out
+pub record WalkRoom (o : Options) (wl m : ℕ) (lv lm : Words) (from to : ℕ) (wr : ℕ) (rv rm : Words) (at end number : ℕ) (out : Words) : Type 0 where
+  pub room : RunRoom o wl m lv lm from to wr rv rm at end number out
   pub left : keysSorted o (between wl from to lv lm) ≡ true
   pub right : keysSorted o (between wr at end rv rm) ≡ true
 

@@ -2,6 +2,7 @@
 use Prim.Native.Nat.{ℕ, _+_, _-_, _*_, _^_, _≤_}
 use lib.ListN.{length}
 use Rattle.frames.specs.Cells.{Words}
+use Rattle.options.specs.Options.{rightColumns, answerColumns}
 use Rattle.order.specs.Requires.{RowAt, RowsIn}
 use Rattle.options.specs.declared.Options.{Options}
 
@@ -12,9 +13,20 @@ pub record RowRoom (o : Options) (p : ℕ) (lv lm : Words) (w from to : ℕ) (rv
   pub upward : from ≤ to
   pub numbers : number + to ≤ 2 ^ 63 - 1
 
--- A frame's rows and the held rows are there, their numbers fit, and the output has room for the answer.
-pub record FrameRoom (o : Options) (wl nl : ℕ) (lv lm : Words) (wr nr : ℕ) (rv rm : Words) (number : ℕ) (out : Words) : Type 0 where
+-- A frame's rows and the held rows are there, their numbers fit, and an answer of m cells has room for a number of each row.
+pub record FrameRoom (o : Options) (wl nl : ℕ) (lv lm : Words) (wr nr : ℕ) (rv rm : Words) (number m : ℕ) (out : Words) : Type 0 where
   pub left : RowsIn o wl nl lv lm
   pub right : RowsIn o wr nr rv rm
   pub numbers : number + nr ≤ 2 ^ 63 - 1
-  pub room : 2 + 2 * nl ≤ length out
+  pub within : nl ≤ m
+  pub room : 2 + 2 * m ≤ length out
+
+-- The same for all columns of an answer: the held rows have what is carried.
+pub record AnswerRoom (o : Options) (wl nl : ℕ) (lv lm : Words) (wr nr : ℕ) (rv rm : Words) (number m : ℕ) (out : Words) : Type 0 where
+  pub left : RowsIn o wl nl lv lm
+  pub right : RowsIn o wr nr rv rm
+  pub carried : o .carried ≤ 8
+  pub wide : rightColumns o ≤ wr
+  pub numbers : number + nr ≤ 2 ^ 63 - 1
+  pub within : nl * answerColumns o ≤ m
+  pub room : 2 + 2 * m ≤ length out

@@ -35,7 +35,7 @@ standing o x r = cond (nullGroup o r) Less (cmpGroup o r x)
 unfoldable pub hitAt : ℕ → ℕ → ℕ → Words → Words → ℕ → Hit
 hitAt first w to vs ms best = cond (ltb best to) (hit (first + best) (rowFrom w (best * w) vs ms)) nobody
 
--- The choices ms written as those of the rows from i on, of n rows: numbers behind the two head words, marks behind the numbers.
+-- The choices written as those of the rows from i on, into an answer of m cells: numbers behind the two head words, marks behind the places of all values. If more than the number is written of a row, these are then moved apart.
 unfoldable pub lay : ℕ → ℕ → List Choice → Words → Words
-lay n i [] out = out
-lay n i (m ∷ ms) out = lay n (suc i) ms (set (set out (2 + i) (numberWord m)) (2 + n + i) (choiceMark m))
+lay m i [] out = out
+lay m i (k ∷ ks) out = lay m (suc i) ks (set (set out (2 + i) (numberWord k)) (2 + m + i) (choiceMark k))

@@ -37,20 +37,20 @@ fn choice_mark(choice: Choice) -> i64
     }
 }
 
-// The choice of row i of n goes to its two places.
-fn put(out: &mut [i64], n: usize, i: usize, choice: Choice)
-    requires { ⌜ PutRoom n i (now out) × Small choice ⌝ }
-    ensures { λ _. ⌜ now (out .exit) ≡ set (set (now (out .entry)) (2 + i) (numberWord choice)) (2 + n + i) (choiceMark choice) ⌝ }
+// The choice of row i goes to its two places in an answer of m cells.
+fn put(out: &mut [i64], m: usize, i: usize, choice: Choice)
+    requires { ⌜ PutRoom m i (now out) × Small choice ⌝ }
+    ensures { λ _. ⌜ now (out .exit) ≡ set (set (now (out .entry)) (2 + i) (numberWord choice)) (2 + m + i) (choiceMark choice) ⌝ }
 {
     out[2 + i] = number_word(choice);
-    out[2 + n + i] = choice_mark(choice);
+    out[2 + m + i] = choice_mark(choice);
 }
 
-// Left rows from..to of a frame of n rows, each matched by a scan over right rows at..end.
+// Left rows from..to, each matched by a scan over right rows at..end, into an answer of m cells.
 pub fn scan_run(
     lv: &[i64],
     lm: &[i64],
-    n: usize,
+    m: usize,
     wl: usize,
     from: usize,
     to: usize,
@@ -63,22 +63,22 @@ pub fn scan_run(
     o: Options,
     out: &mut [i64],
 )
-    requires { ⌜ RunRoom o wl n (now lv) (now lm) from to wr (now rv) (now rm) at end number (now out) ⌝ }
-    ensures { λ _. ⌜ now (out .exit) ≡ lay n from (map (matchIn o (number + at) (between wr at end (now (rv .entry)) (now (rm .entry)))) (between wl from to (now (lv .entry)) (now (lm .entry)))) (now (out .entry)) ⌝ }
+    requires { ⌜ RunRoom o wl m (now lv) (now lm) from to wr (now rv) (now rm) at end number (now out) ⌝ }
+    ensures { λ _. ⌜ now (out .exit) ≡ lay m from (map (matchIn o (number + at) (between wr at end (now (rv .entry)) (now (rm .entry)))) (between wl from to (now (lv .entry)) (now (lm .entry)))) (now (out .entry)) ⌝ }
 {
     let mut i = from;
     while i < to {
         let choice = match_row(lv, lm, i * wl, rv, rm, at, end, wr, number, o);
-        put(out, n, i, choice);
+        put(out, m, i, choice);
         i += 1;
     }
 }
 
-// Left rows from..to of a frame of n rows, each matched at the right cursor, which walks right rows at..end. How often the cursors moved.
+// Left rows from..to, each matched at the right cursor, which walks right rows at..end, into an answer of m cells. How often the cursors moved.
 pub fn walk_run(
     lv: &[i64],
     lm: &[i64],
-    n: usize,
+    m: usize,
     wl: usize,
     from: usize,
     to: usize,
@@ -91,8 +91,8 @@ pub fn walk_run(
     o: Options,
     out: &mut [i64],
 ) -> usize
-    requires { ⌜ WalkRoom o wl n (now lv) (now lm) from to wr (now rv) (now rm) at end number (now out) ⌝ }
-    ensures { λ r. ⌜ Counted from to at end r × (now (out .exit) ≡ lay n from (map (matchIn o (number + at) (between wr at end (now (rv .entry)) (now (rm .entry)))) (between wl from to (now (lv .entry)) (now (lm .entry)))) (now (out .entry))) ⌝ }
+    requires { ⌜ WalkRoom o wl m (now lv) (now lm) from to wr (now rv) (now rm) at end number (now out) ⌝ }
+    ensures { λ r. ⌜ Counted from to at end r × (now (out .exit) ≡ lay m from (map (matchIn o (number + at) (between wr at end (now (rv .entry)) (now (rm .entry)))) (between wl from to (now (lv .entry)) (now (lm .entry)))) (now (out .entry))) ⌝ }
 {
     let s = strategy_of(o);
     let mut c = at;
@@ -102,7 +102,7 @@ pub fn walk_run(
         let p = i * wl;
         let d = walk_row(lv, lm, p, rv, rm, at, c, end, wr, number, s, o);
         let choice = d.choice;
-        put(out, n, i, choice);
+        put(out, m, i, choice);
         moved += 1 + (d.row - c);
         c = d.row;
         i += 1;
@@ -110,11 +110,11 @@ pub fn walk_run(
     moved
 }
 
-// Left rows from..to of a frame of n rows, each matched over right rows at..end. Where they are sorted by key, the right run is cut to its candidates first, and walked where those are sorted too; else it is scanned.
+// Left rows from..to, each matched over right rows at..end, into an answer of m cells. Where they are sorted by key, the right run is cut to its candidates first, and walked where those are sorted too; else it is scanned.
 pub fn match_run(
     lv: &[i64],
     lm: &[i64],
-    n: usize,
+    m: usize,
     wl: usize,
     from: usize,
     to: usize,
@@ -127,19 +127,19 @@ pub fn match_run(
     o: Options,
     out: &mut [i64],
 )
-    requires { ⌜ RunRoom o wl n (now lv) (now lm) from to wr (now rv) (now rm) at end number (now out) ⌝ }
-    ensures { λ _. ⌜ now (out .exit) ≡ lay n from (map (matchIn o (number + at) (between wr at end (now (rv .entry)) (now (rm .entry)))) (between wl from to (now (lv .entry)) (now (lm .entry)))) (now (out .entry)) ⌝ }
+    requires { ⌜ RunRoom o wl m (now lv) (now lm) from to wr (now rv) (now rm) at end number (now out) ⌝ }
+    ensures { λ _. ⌜ now (out .exit) ≡ lay m from (map (matchIn o (number + at) (between wr at end (now (rv .entry)) (now (rm .entry)))) (between wl from to (now (lv .entry)) (now (lm .entry)))) (now (out .entry)) ⌝ }
 {
     if !keys_sorted(lv, lm, from, to, wl, o) {
-        scan_run(lv, lm, n, wl, from, to, rv, rm, wr, at, end, number, o, out);
+        scan_run(lv, lm, m, wl, from, to, rv, rm, wr, at, end, number, o, out);
         return;
     }
     let part = candidates(lv, lm, from, to, wl, rv, rm, at, end, wr, o);
     let lo = part.from;
     let hi = part.to;
     if keys_sorted(rv, rm, lo, hi, wr, o) {
-        let _moved = walk_run(lv, lm, n, wl, from, to, rv, rm, wr, lo, hi, number, o, out);
+        let _moved = walk_run(lv, lm, m, wl, from, to, rv, rm, wr, lo, hi, number, o, out);
     } else {
-        scan_run(lv, lm, n, wl, from, to, rv, rm, wr, lo, hi, number, o, out);
+        scan_run(lv, lm, m, wl, from, to, rv, rm, wr, lo, hi, number, o, out);
     }
 }

@@ -7,8 +7,7 @@ use Rattle.frames.specs.Cells.{Words}
 use Rattle.frames.specs.Frame.{rowCount, isFrame, frameRows, front}
 use Rattle.area.specs.Area.{capacity, newBase, pushed, moved, written}
 use Rattle.searching.specs.Reach.{pruneBy}
-use Rattle.matching.specs.Groups.{matchFrame}
-use Rattle.matching.specs.Answer.{answered}
+use Rattle.matching.specs.Answer.{frameAnswer, answered}
 use Rattle.ports.specs.Ports.{toFlush, toDone, portsJudged}
 use Rattle.turnrows.specs.Prunes.{badLeft, badRight, firstPrune, remembered}
 use Rattle.node.specs.State.{queueAt, heldAt, stateAt, endedRight, markedFailed, nextTurn, leftWidth, rightWidth, badJoin, heldOf, waiting}
@@ -143,7 +142,7 @@ turned j left right out =
     let last = pruneBy (j .options) (length rows - 1) rows kept in
     after (Wrote (j .sequence))
     (nextTurn (dequeued (dropped j (first + last)) (length f)) (remembered (j .options) (j .«last_left») rows) (remembered (j .options) (j .«last_right») (take last kept)))
-    left right (answered (matchFrame (j .options) (j .pruned + first) kept rows) out)
+    left right (answered (j .options) (frameAnswer (j .options) (j .pruned + first) kept rows) out)
 
 -- SCOPE 16.2: what a refusal changes in the join.
 abbrev pub spoiled : Refusal → Join → Join

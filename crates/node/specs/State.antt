@@ -4,7 +4,7 @@ use Prim.Native.Nat.{ℕ, _+_, _*_, _%_}
 use lib.Dec.{ltb, eqb}
 use lib.ListN.{length, take, drop}
 use Rattle.frames.specs.Cells.{Rows, Words}
-use Rattle.options.specs.Options.{badOptions, columns, rightColumns}
+use Rattle.options.specs.Options.{refusedOptions, columns, rightColumns}
 use Rattle.order.specs.Keyed.{noRow}
 use Rattle.options.specs.declared.Options.{Options}
 use Rattle.order.specs.declared.Row.{Row}
@@ -91,7 +91,7 @@ oddSequence j = eqb (j .sequence % 2) 1
 
 -- SCOPE 16, number 2.
 unfoldable pub badJoin : Join → Words → Words → Bool
-badJoin j left right = badOptions (j .options) || overRight j right || overLeft j left || overRows j || oddSequence j
+badJoin j left right = refusedOptions (j .options) || overRight j right || overLeft j left || overRows j || oddSequence j
 
 -- SCOPE 5.5, 5.6: the held rows; row i has the right number pruned + i.
 unfoldable pub heldOf : Join → Words → Rows

@@ -1,6 +1,6 @@
 -- The options that a join is opened with. Assumes nothing.
 use mathlib.Core.Bool.{Bool, true, false, cond, not, _&&_, _||_}
-use Prim.Native.Nat.{ℕ, suc}
+use Prim.Native.Nat.{ℕ, suc, _+_}
 use lib.Dec.{ltb, eqb}
 use lib.IntN.{negsuc}
 use lib.Signed.{ltZ}
@@ -24,14 +24,26 @@ isOn On = true
 abbrev pub columns : Options → ℕ
 columns o = suc (o .by)
 
--- SCOPE 2.5: the columns of a right frame, and of a held row.
+-- SCOPE 2.5: the columns of a right frame, and of a held row: by-columns, key, and behind it what is carried.
 abbrev pub rightColumns : Options → ℕ
-rightColumns o = columns o
+rightColumns o = columns o + o .carried
+
+-- SCOPE 12.5: the columns of an answer: the right number, and what is carried.
+abbrev pub answerColumns : Options → ℕ
+answerColumns o = suc (o .carried)
 
 -- SCOPE 3.6: the options are invalid.
 unfoldable pub badOptions : Options → Bool
 badOptions o =
     ltb 4 (o .by) || ltb 2 (o .strategy) || ltZ (o .tolerance) (negsuc 0) || (eqb (o .strategy) 2 && not (o .«allow_eq»))
+
+-- SCOPE 3.8: more columns are carried than may be.
+abbrev pub manyCarried : Options → Bool
+manyCarried o = ltb 8 (o .carried)
+
+-- SCOPE 3.9: options that opening refuses, and with which a join is inconsistent.
+unfoldable pub refusedOptions : Options → Bool
+refusedOptions o = badOptions o || manyCarried o
 
 -- How a column is ordered.
 pub record Rule : Type 0 where

@@ -1,7 +1,7 @@
 // The options that a join is opened with: their definitions, and tests of them.
 ghost use mathlib.Core.Path.{_≡_};
 ghost use Prim.Native.Nat.{_≤_};
-ghost use Rattle.options.specs.Options.{badOptions, strategyOf, isOn, columns, rightColumns};
+ghost use Rattle.options.specs.Options.{badOptions, manyCarried, refusedOptions, strategyOf, isOn, columns, rightColumns, answerColumns};
 
 // The strategies of a match. In the options a strategy is its number, since a host may hand in any.
 pub enum Strategy {
@@ -25,6 +25,7 @@ pub struct Options {
     pub check: Check,
     pub descending: [bool; 4],
     pub nulls_last: [bool; 4],
+    pub carried: usize,
 }
 
 // Whether the options are invalid (SCOPE 3.6).
@@ -44,6 +45,23 @@ pub fn bad_options(o: Options) -> bool
         return !o.allow_eq;
     }
     false
+}
+
+// Whether more columns are carried than may be (SCOPE 3.8).
+pub fn many_carried(o: Options) -> bool
+    ensures { λ r. ⌜ r ≡ manyCarried o ⌝ }
+{
+    8 < o.carried
+}
+
+// Whether opening refuses the options (SCOPE 3.9).
+pub fn refused_options(o: Options) -> bool
+    ensures { λ r. ⌜ r ≡ refusedOptions o ⌝ }
+{
+    if bad_options(o) {
+        return true;
+    }
+    many_carried(o)
 }
 
 // The strategy by its number: 0 Backward, 1 Forward, 2 Nearest.
@@ -77,10 +95,18 @@ pub fn left_columns(o: Options) -> usize
     o.by + 1
 }
 
-// The columns of a right frame, and of a held row.
+// The columns of a right frame, and of a held row: behind the key stands what is carried.
 pub fn right_columns(o: Options) -> usize
-    requires { ⌜ o .by ≤ 4 ⌝ }
+    requires { ⌜ (o .by ≤ 4) × (o .carried ≤ 8) ⌝ }
     ensures { λ r. ⌜ r ≡ rightColumns o ⌝ }
 {
-    o.by + 1
+    o.by + 1 + o.carried
+}
+
+// The columns of an answer: the right number, and what is carried.
+pub fn answer_columns(o: Options) -> usize
+    requires { ⌜ o .carried ≤ 8 ⌝ }
+    ensures { λ r. ⌜ r ≡ answerColumns o ⌝ }
+{
+    o.carried + 1
 }

@@ -15,7 +15,7 @@ use Rattle.order.specs.declared.Order.the-variants.{Less}
 abbrev pub four : List Bool → List Bool
 four bs = bs ++ replicate (4 - length bs) false
 
--- Options by b, strategy, equality, tolerance, check, descending, nulls last.
+-- Options by b, strategy, equality, tolerance, check, descending, nulls last; nothing is carried.
 abbrev pub options : ℕ → ℕ → Bool → ℤ → Bool → List Bool → List Bool → Options
 options b strategy eq tolerance check desc last = record {
   by = b;
@@ -25,6 +25,20 @@ options b strategy eq tolerance check desc last = record {
   check = cond check On Off;
   descending = four desc;
   «nulls_last» = four last;
+  carried = 0;
+}
+
+-- The same with p carried columns.
+abbrev pub carrying : ℕ → Options → Options
+carrying p o = record {
+  by = o .by;
+  strategy = o .strategy;
+  «allow_eq» = o .«allow_eq»;
+  tolerance = o .tolerance;
+  check = o .check;
+  descending = o .descending;
+  «nulls_last» = o .«nulls_last»;
+  carried = p;
 }
 
 -- No by-columns, no tolerance, check off.

@@ -5,8 +5,8 @@ use mathlib.Core.List.{List, [], _∷_, _++_, map}
 use Prim.Native.Nat.{ℕ, zero, suc, _+_, _*_, _^_, _≤_, _<_, max}
 use lib.ListN.{length, drop}
 use Rattle.frames.specs.Cells.{Rows, Words}
-use Rattle.frames.specs.Frame.{rowCount, isFrame, frameRows}
-use Rattle.options.specs.Options.{columns, badOptions, rightColumns}
+use Rattle.frames.specs.Frame.{rowCount, frameWords, isFrame, frameRows}
+use Rattle.options.specs.Options.{columns, refusedOptions, rightColumns, answerColumns}
 use Rattle.order.specs.Order.{sorted}
 use Rattle.options.specs.declared.Options.{Options}
 use Rattle.area.specs.Area.{capacity}
@@ -59,13 +59,13 @@ AllFrames c (f ∷ fs) = (isFrame c f ≡ true) × AllFrames c fs
 
 -- Two sorted tables in frames, with left words and output enough; and the counts that no memory reaches.
 pub record Planned (o : Options) (l : Words) (lefts rights outs : List Words) : Type 0 where
-  pub allowed : badOptions o ≡ false
+  pub allowed : refusedOptions o ≡ false
   pub left-frames : AllFrames (columns o) lefts
   pub right-frames : AllFrames (rightColumns o) rights
   pub left-sorted : sorted o (rowsIn (columns o) lefts) ≡ true
   pub right-sorted : sorted o (rowsIn (rightColumns o) rights) ≡ true
   pub left-room : length (backToBack lefts) ≤ length l
-  pub outputs : Each (λ f out. 2 + 2 * rowCount f ≤ length out) lefts outs
+  pub outputs : Each (λ f out. frameWords (rowCount f) (answerColumns o) ≤ length out) lefts outs
   pub few-rights : length (rowsIn (rightColumns o) rights) ≤ mostRows
   pub few-lefts : length lefts < 2 ^ 63
 

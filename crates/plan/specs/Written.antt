@@ -4,12 +4,11 @@ use mathlib.Core.Path.{_≡_}
 use mathlib.Core.List.{List, map}
 use Prim.Native.Nat.{_≤_}
 use Rattle.frames.specs.Cells.{Words}
-use Rattle.options.specs.Options.{columns, rightColumns}
+use Rattle.options.specs.Options.{columns, rightColumns, answerColumns}
 use Rattle.options.specs.declared.Options.{Options}
 use Rattle.area.specs.Area.{capacity}
-use Rattle.matching.specs.Match.{wholeTable}
 use Rattle.lists.specs.Lists.{start, events, rowsIn, outputs, matchesIn}
-use Rattle.lists.specs.WholeTables.{asWritten}
+use Rattle.lists.specs.WholeTables.{dueOver}
 use Rattle.plan.specs.Schedule.{schedule}
 use Rattle.plan.specs.Plan.{Planned, figures}
 
@@ -17,4 +16,4 @@ use Rattle.plan.specs.Plan.{Planned, figures}
 abbrev pub Writes : Type 0
 Writes =
     (o : Options) (l r : Words) (lefts rights outs : List Words) → Planned o l lefts rights outs → figures o l r lefts rights outs .rows ≤ capacity (rightColumns o) r
-    → matchesIn (outputs (events (start o l r) (schedule o l r lefts rights outs))) ≡ map (λ x. asWritten (wholeTable o (rowsIn (rightColumns o) rights) x)) (rowsIn (columns o) lefts)
+    → matchesIn (answerColumns o) (outputs (events (start o l r) (schedule o l r lefts rights outs))) ≡ map (dueOver o (rowsIn (rightColumns o) rights)) (rowsIn (columns o) lefts)

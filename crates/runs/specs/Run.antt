@@ -1,10 +1,11 @@
 -- A run of turns. Assumes nothing.
 use mathlib.Core.Bool.{cond}
 use mathlib.Core.List.{_++_}
-use Prim.Native.Nat.{ℕ, zero, suc, _+_, _*_}
+use Prim.Native.Nat.{ℕ, zero, suc, _+_}
 use lib.ListN.{take, drop}
 use Rattle.frames.specs.Cells.{Words}
-use Rattle.frames.specs.Frame.{rowCount}
+use Rattle.frames.specs.Frame.{rowCount, frameWords}
+use Rattle.options.specs.Options.{answerColumns}
 use Rattle.node.specs.Calls.{turnCall}
 use Rattle.outcomes.specs.Answers.{wrote}
 use Rattle.node.specs.declared.Join.{Join}
@@ -32,9 +33,9 @@ stopOf WantsRight = StopWants
 stopOf Idle = StopIdle
 stopOf (Refused n) = StopRefused n
 
--- A turn that wrote n rows wrote 2 + 2n words: n is the first of them.
-abbrev pub turnWords : Words → ℕ
-turnWords out = 2 + 2 * rowCount out
+-- A turn that wrote n rows of c columns wrote 2 + 2nc words: n is the first of them.
+abbrev pub turnWords : ℕ → Words → ℕ
+turnWords c out = frameWords (rowCount out) c
 
 -- t turns that wrote n words, and then what the rest of the run leaves, which writes behind them.
 abbrev pub andThen : ℕ → ℕ → Words → Ran → Ran
@@ -46,5 +47,5 @@ unfoldable pub runCall : ℕ → Join → Words → Words → Words → Ran
 runCall zero j left right out = ran 0 0 Used j out
 runCall (suc k) j left right out =
     let t = turnCall j left right out in
-    let n = turnWords (t .out) in
+    let n = turnWords (answerColumns (j .options)) (t .out) in
     cond (wrote (t .answer)) (andThen 1 n (take n (t .out)) (runCall k (t .join) left right (drop n (t .out)))) (ran 0 0 (stopOf (t .answer)) (t .join) (t .out))

@@ -36,6 +36,7 @@ fn key_options(strategy: u8) -> Options
         check: Check::Off,
         descending: [false; 4],
         nulls_last: [false; 4],
+        carried: 0,
     }
 }
 

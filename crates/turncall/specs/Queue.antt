@@ -48,6 +48,7 @@ pub record QueueTurned (bad : Bool) (state : NodeState) (j : Part) (area right o
 -- What a join that is not bad has: few columns, the held rows and the waiting words are there, its counters hold together.
 pub record QueueIn (j : Part) (area right : Words) : Type 0 where
   pub few : j .options .by ≤ 4
+  pub carried : j .options .carried ≤ 8
   pub right-room : j .base + j .held ≤ capacity (rightColumns (j .options)) right
   pub left-room : j .«queue_start» + j .«queue_words» ≤ length area
   pub rows : j .pruned + j .held ≤ mostRows

@@ -7,8 +7,7 @@ use Rattle.frames.specs.Cells.{Rows, Words}
 use Rattle.frames.specs.Frame.{isFrame}
 use Rattle.options.specs.Options.{columns, rightColumns}
 use Rattle.area.specs.Area.{capacity}
-use Rattle.matching.specs.Groups.{matchFrame}
-use Rattle.matching.specs.Answer.{answered}
+use Rattle.matching.specs.Answer.{frameAnswer, answered}
 use Rattle.refusals.specs.Refusals.{marksFailed}
 use Rattle.refusals.specs.declared.Refusal.{Refusal}
 use Rattle.outcomes.specs.declared.Answer.{Answer}
@@ -47,7 +46,7 @@ rowsTurn j rows held k out =
     let first = firstPrune (j .options) rows held in
     let kept = keptRows (j .options) rows held in
     elim (rowsAnswer j rows held (length out)) [
-      | Wrote s ↦ left (Wrote (j .sequence)) (leftPart j rows kept first (lastPrune (j .options) rows held) k) (answered (matchFrame (j .options) (j .pruned + first) kept rows) out)
+      | Wrote s ↦ left (Wrote (j .sequence)) (leftPart j rows kept first (lastPrune (j .options) rows held) k) (answered (j .options) (frameAnswer (j .options) (j .pruned + first) kept rows) out)
       | WantsRight ↦ left WantsRight j out
       | Idle ↦ left Idle j out
       | Refused n ↦ left (Refused n) (spoiledPart n j) out
@@ -61,6 +60,7 @@ pub record RowsTurned (j : Part) (rows held : Rows) (k : ℕ) (out : Words) (r :
 -- The words are a frame, and wait; the held rows are there.
 pub record FrameIn (j : Part) (f right : Words) : Type 0 where
   pub few : j .options .by ≤ 4
+  pub carried : j .options .carried ≤ 8
   pub frame : isFrame (columns (j .options)) f ≡ true
   pub held : j .base + j .held ≤ capacity (rightColumns (j .options)) right
   pub counts : Counts j (length f)

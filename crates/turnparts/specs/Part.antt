@@ -6,14 +6,13 @@ use Prim.Native.Nat.{ℕ, _+_, _-_, _*_, _%_, _^_, _≤_, _<_}
 use lib.Dec.{ltb, eqb}
 use lib.ListN.{length, take}
 use Rattle.frames.specs.Cells.{Rows, Words}
-use Rattle.frames.specs.Frame.{frameWords}
-use Rattle.options.specs.Options.{columns, rightColumns}
+use Rattle.frames.specs.Frame.{frameWords, frameLimit}
+use Rattle.options.specs.Options.{columns, rightColumns, answerColumns}
 use Rattle.order.specs.Requires.{RowsIn}
 use Rattle.options.specs.declared.Options.{Options}
 use Rattle.order.specs.declared.Row.{Row}
 use Rattle.searching.specs.Reach.{needMore}
-use Rattle.matching.specs.Groups.{matchFrame}
-use Rattle.matching.specs.Answer.{answered}
+use Rattle.matching.specs.Answer.{frameAnswer, answered}
 use Rattle.outcomes.specs.Answers.{mostRows, lastSequence}
 use Rattle.refusals.specs.Tests.{Test, test, firstOf}
 use Rattle.refusals.specs.declared.Refusal.the-variants.{NoRoom, UsedUp, LeftOrder, RightOrder}
@@ -27,7 +26,7 @@ use Rattle.turnparts.specs.declared.Part.{Part}
 abbrev pub roomTests : Options → Bool → ℕ → Rows → Rows → ℕ → List (Test Answer)
 roomTests o ended sequence rows held room =
     test (not ended && needMore o rows held) WantsRight
-    ∷ test (ltb room (2 + 2 * length rows)) (Refused NoRoom)
+    ∷ test (ltb room (frameWords (length rows) (answerColumns o))) (Refused NoRoom)
     ∷ test (eqb sequence lastSequence) (Refused UsedUp)
     ∷ []
 
@@ -83,7 +82,7 @@ leftPart j rows kept first last k =
 -- A turn that writes: its part of the join, and the output.
 pub record Written (j : Part) (rows kept : Rows) (first last k : ℕ) (out : Words) (r : Part) (out′ : Words) : Type 0 where
   pub part : r ≡ leftPart j rows kept first last k
-  pub words : out′ ≡ answered (matchFrame (j .options) (j .pruned + first) kept rows) out
+  pub words : out′ ≡ answered (j .options) (frameAnswer (j .options) (j .pruned + first) kept rows) out
 
 -- ---- what is asked
 -- The join's counters have room for what a turn adds to them; a frame of k words waits.
@@ -99,6 +98,8 @@ pub record Counts (j : Part) (k : ℕ) : Type 0 where
 pub record TurnIn (j : Part) (c w n : ℕ) (lv lm rv rm : Words) : Type 0 where
   pub columns : c ≡ columns (j .options)
   pub wide : w ≡ rightColumns (j .options)
+  pub carried : j .options .carried ≤ 8
+  pub short : n ≤ frameLimit
   pub left : RowsIn (j .options) c n lv lm
   pub right : RowsIn (j .options) w (j .held) rv rm
   pub counts : Counts j (frameWords n c)
@@ -107,9 +108,10 @@ pub record TurnIn (j : Part) (c w n : ℕ) (lv lm rv rm : Words) : Type 0 where
 pub record WriteIn (j : Part) (c w n : ℕ) (lv lm : Words) (first last : ℕ) (kv km out : Words) : Type 0 where
   pub columns : c ≡ columns (j .options)
   pub wide : w ≡ rightColumns (j .options)
+  pub carried : j .options .carried ≤ 8
   pub left : RowsIn (j .options) c n lv lm
   pub kept : RowsIn (j .options) w (j .held - first) kv km
   pub within : first + last ≤ j .held
   pub counts : Counts j (frameWords n c)
-  pub room : 2 + 2 * n ≤ length out
+  pub room : frameWords n (answerColumns (j .options)) ≤ length out
   pub sequence : j .sequence + 2 < 2 ^ 64

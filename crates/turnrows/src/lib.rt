@@ -1,9 +1,9 @@
 // What a turn asks of rows: whether they are in order, how many its prunes drop, which row is remembered. No join is seen here.
-use narrowing::prune_by;
 use neighbours::is_sorted;
 use options::Options;
 use options::is_on;
 use order::Row;
+use pruning::prune_by;
 use splitcheck::bad_split;
 use splitcheck::out_of_order;
 use splitcheck::remember_last;
