@@ -5,9 +5,8 @@ use mathlib.Core.List.{List, map}
 use Rattle.frames.specs.Cells.{Rows, Words}
 use Rattle.order.specs.Order.{sorted}
 use Rattle.options.specs.declared.Options.{Options}
-use Rattle.matching.specs.Match.{wholeTable}
 use Rattle.lists.specs.Lists.{Call}
-use Rattle.lists.specs.WholeTables.{lefts, rights, turnedRows, matches, asWritten, Correct, Each}
+use Rattle.lists.specs.WholeTables.{lefts, rights, turnedRows, matches, dueOver, Correct, Each}
 use Rattle.lists.proofs.WholeTableTheorem.{whole-table-theorem}
 use Rattle.books.specs.Merge.{merge}
 use Rattle.books.proofs.MergeLaws.{merge-laws}
@@ -18,6 +17,6 @@ season o fine l r calls house festival h f e s =
     let t = subst (λ (rows : Rows). sorted o rows ≡ true) (sym e) (merge-laws o house festival .in-order h f) in
     let d = whole-table-theorem o fine l r calls in
     record {
-      whole-table = subst (λ (rows : Rows). matches o l r calls ≡ map (λ x. asWritten (wholeTable o rows x)) (turnedRows o l r calls)) e (d .whole-table (s, t));
+      whole-table = subst (λ (rows : Rows). matches o l r calls ≡ map (dueOver o rows) (turnedRows o l r calls)) e (d .whole-table (s, t));
       none-exactly = subst (λ (rows : Rows). Each (Correct o rows) (turnedRows o l r calls) (matches o l r calls)) e (d .none-exactly (s, t));
     }

@@ -6,12 +6,10 @@ use native.Mathlib.Omega.{arith}
 use borrow.Author.Tests.{ltb-false, not-false}
 use lib.Dec.{ltb}
 use lib.ListN.{length}
-use lib.Signed.{ltZ}
 use Rattle.frames.specs.Cells.{Words}
 use Rattle.frames.specs.Frame.{rowCount, isFrame}
-use Rattle.options.specs.Options.{badOptions}
 use Rattle.frames.specs.Front.{HasCount}
-use Rattle.options.specs.declared.Options.{Options}
+pub use Rattle.options.proofs.OptionLaws.{or-both, few-columns}
 use Rattle.frames.proofs.FrontLaws.{frame-parts}
 use Rattle.area.specs.Area.{capacity, newBase, pushed, moved, written}
 use Rattle.outcomes.specs.Answers.{isRunning, isDone, mostRows}
@@ -21,19 +19,6 @@ use Rattle.refusals.specs.declared.Refusal.the-variants.{BadJoin, Failed, Close
 use Rattle.outcomes.specs.declared.Took.{Took}
 use Rattle.outcomes.specs.declared.Took.the-variants.{Accepted, Refused}
 use Rattle.callrules.specs.Judged.{leftJudged, endJudged, rightJudged, LeftFed, RightFed}
-
--- Of an `||` that is false each side is.
-pub or-both : (a b : Bool) → (a || b) ≡ false → (a ≡ false) × (b ≡ false)
-or-both true b e = let z : _≡_ {A = ℕ} 0 1 = cc in absurd (omega arith)
-or-both false b e = (refl, e)
-
--- At most four by-columns.
-pub few-columns : (o : Options) → badOptions o ≡ false → o .by ≤ 4
-unfolding badOptions
-few-columns o e =
-    let p = or-both (ltb 4 (o .by) || ltb 2 (o .strategy) || ltZ (o .tolerance) _) _ e in
-    let q = or-both (ltb 4 (o .by) || ltb 2 (o .strategy)) _ (p .0) in
-    ltb-false 4 (o .by) (or-both (ltb 4 (o .by)) _ (q .0) .0)
 
 -- A chain of refusals that came to Accepted did not stop at its first.
 pub passed : (b : Bool) (n : Refusal) (t : Took) → cond b (Refused n) t ≡ Accepted → (b ≡ false) × (t ≡ Accepted)

@@ -1,9 +1,94 @@
 // The carried columns of an answer: the cells that a chosen right row has behind its key, written behind its number.
+use keyed::null_at;
+use matching::Choice;
 use options::Options;
 use options::answer_columns;
 use tables::put_cell;
-ghost use Rattle.frames.specs.Cells.{rowsOf};
-ghost use Rattle.carrying.specs.Spread.{Spreads, SpreadIn};
+ghost use mathlib.Core.Path.{_≡_};
+ghost use Prim.Native.Nat.{_+_, _*_};
+ghost use lib.ListN.{set, replicate};
+ghost use Rattle.frames.specs.Cells.{null, valueWord, markWord, rowsOf};
+ghost use Rattle.options.specs.Options.{answerColumns};
+ghost use Rattle.order.specs.Requires.{cellAt, CellIn};
+ghost use Rattle.tables.specs.Lay.{layCells, CellRoom};
+ghost use Rattle.carrying.specs.Inner.{cellsAt, rowWith, CellsIn, CellsRoom, ChoiceIn, RowSpread};
+ghost use Rattle.carrying.specs.Spread.{choiceAt, Spreads, SpreadIn};
+
+// The cell at place q of right words goes to cell k of an answer of m cells: any mark but 0 as 1, a null as 0 and 0.
+fn carry_cell(rv: &[i64], rm: &[i64], q: usize, m: usize, k: usize, out: &mut [i64])
+    requires { ⌜ CellIn q (now rv) (now rm) × CellRoom m k (now out) ⌝ }
+    ensures { λ _. ⌜ now (out .exit) ≡ set (set (now (out .entry)) (2 + k) (valueWord (cellAt q (now (rv .entry)) (now (rm .entry))))) (2 + m + k) (markWord (cellAt q (now (rv .entry)) (now (rm .entry)))) ⌝ }
+{
+    if null_at(rm, q) {
+        put_cell(out, m, k, 0, 0);
+    } else {
+        put_cell(out, m, k, rv[q], 1);
+    }
+}
+
+// p cells from place q of right words on go to the cells from k on.
+fn carry_cells(rv: &[i64], rm: &[i64], q: usize, p: usize, m: usize, k: usize, out: &mut [i64])
+    requires { ⌜ CellsIn q p (now rv) (now rm) × CellsRoom m k p (now out) ⌝ }
+    ensures { λ _. ⌜ now (out .exit) ≡ layCells m k (cellsAt q p (now (rv .entry)) (now (rm .entry))) (now (out .entry)) ⌝ }
+{
+    let mut j = 0;
+    while j < p {
+        carry_cell(rv, rm, q + j, m, k + j, out);
+        j += 1;
+    }
+}
+
+// p nulls go to the cells from k on.
+fn null_cells(p: usize, m: usize, k: usize, out: &mut [i64])
+    requires { ⌜ CellsRoom m k p (now out) ⌝ }
+    ensures { λ _. ⌜ now (out .exit) ≡ layCells m k (replicate p null) (now (out .entry)) ⌝ }
+{
+    let mut j = 0;
+    while j < p {
+        put_cell(out, m, k + j, 0, 0);
+        j += 1;
+    }
+}
+
+// The choice whose number and mark stand at place i of an answer of m cells.
+fn choice_at(out: &[i64], m: usize, i: usize) -> Choice
+    requires { ⌜ ChoiceIn m i (now out) ⌝ }
+    ensures { λ r. ⌜ r ≡ choiceAt m (now (out .entry)) i ⌝ }
+{
+    if null_at(out, 2 + m + i) {
+        return Choice::Nothing;
+    }
+    Choice::Row(out[2 + i] as usize)
+}
+
+// Row i of an answer of m cells, whose choice stands at place i: the number goes to the row's first cell, and what its right row carries goes behind it; of none all cells are null.
+fn spread_row(
+    i: usize,
+    rv: &[i64],
+    rm: &[i64],
+    wr: usize,
+    number: usize,
+    o: Options,
+    m: usize,
+    out: &mut [i64],
+)
+    requires { ⌜ RowSpread o i wr (now rv) (now rm) number m (now out) ⌝ }
+    ensures { λ _. ⌜ now (out .exit) ≡ layCells m (i * answerColumns o) (rowWith o number wr (now (rv .entry)) (now (rm .entry)) (choiceAt m (now (out .entry)) i)) (now (out .entry)) ⌝ }
+{
+    let c = answer_columns(o);
+    let k = i * c;
+    let choice = choice_at(out, m, i);
+    match choice {
+        Choice::Row(right) => {
+            put_cell(out, m, k, right as i64, 1);
+            let q = (right - number) * wr + o.by + 1;
+            carry_cells(rv, rm, q, o.carried, m, k + 1, out);
+        }
+        Choice::Nothing => {
+            null_cells(c, m, k, out);
+        }
+    }
+}
 
 // n rows of an answer of m cells, of which the numbers stand at its first places, are spread over all its columns, from the last one on: each number goes to its row, and what the right row of that number carries goes behind it.
 pub fn spread_rows(

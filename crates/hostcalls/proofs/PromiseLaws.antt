@@ -1,6 +1,6 @@
 -- A refused call keeps all, and the join of a refused opening is refused by every call. Assumes nothing.
 use mathlib.Core.Path.{_≡_, refl, sym, _∙_, ap, subst}
-use mathlib.Core.Bool.{Bool, true, false, cond, _&&_}
+use mathlib.Core.Bool.{Bool, true, false, cond, _&&_, _||_}
 use mathlib.Core.List.{[]}
 use mathlib.Core.Option.{none, some}
 use Prim.Native.Nat.{ℕ, zero, suc, _<_}
@@ -10,7 +10,7 @@ use lib.Dec.{eqb}
 use lib.ListN.{take, drop}
 use Rattle.ports.specs.Ports.{portsJudged}
 use Rattle.frames.specs.Cells.{Words}
-use Rattle.options.specs.Options.{badOptions}
+use Rattle.options.specs.Options.{answerColumns, badOptions, manyCarried, refusedOptions}
 use Rattle.options.specs.declared.Options.{Options}
 use Rattle.node.specs.State.{fresh, badJoin, stateAt, endedRight}
 use Rattle.outcomes.specs.Answers.{portCode, wrote}
@@ -20,8 +20,7 @@ use Rattle.node.specs.declared.Join.{Join}
 use Rattle.outcomes.specs.declared.PortState.{PortState}
 use Rattle.refusals.specs.Refusals.{marksFailed}
 use Rattle.refusals.specs.declared.Refusal.{Refusal}
-use Rattle.refusals.proofs.RefusalLaws.{marked-ind}
-use Rattle.refusals.specs.declared.Refusal.the-variants.{BadOptions, BadJoin}
+use Rattle.refusals.specs.declared.Refusal.the-variants.{BadOptions, TooManyCarried, BadJoin}
 use Rattle.outcomes.specs.declared.Took.{Took}
 use Rattle.outcomes.specs.declared.Took.the-variants.{Accepted, Refused}
 use Rattle.outcomes.specs.declared.Ported.{Ported}
@@ -31,6 +30,7 @@ use Rattle.outcomes.specs.declared.Answer.the-variants.{Wrote, WantsRight, Idle
 use Rattle.outcomes.specs.declared.Stop.{Stop}
 use Rattle.runs.specs.Run.{Ran, ran, andThen, stopOf, turnWords, runCall}
 use Rattle.node.proofs.Good.{opened-bad}
+use Rattle.runs.proofs.RunLaws.{turn-options}
 use Rattle.moves.specs.Moves.{moveAnswer, atFront, leftMoved, rightMoved, moveCall}
 use Rattle.codes.specs.Codes.{isCode, portOf, tookCode}
 use Rattle.convert.specs.Convert.{layoutNow, isOptions, optionsOf, decodeOptions, isJoin, joinOf, decode}
@@ -110,7 +110,7 @@ module _ (left right : Words) (s : Stop) (still : staysAt s ≡ true) where
 
       -- The run by whether its first turn wrote.
       run-by : Bool → Ran
-      run-by b = let n = turnWords (t .out) in cond b (andThen 1 n (take n (t .out)) (runCall k (t .join) left right (drop n (t .out)))) (ran 0 0 (stopOf (t .answer)) (t .join) (t .out))
+      run-by b = let n = turnWords (answerColumns (j .options)) (t .out) in cond b (andThen 1 n (take n (t .out)) (runCall k (t .join) left right (drop n (t .out)))) (ran 0 0 (stopOf (t .answer)) (t .join) (t .out))
 
       go : (b : Bool) → wrote (t .answer) ≡ b → ranAfter (run-by b) left right .answer ≡ noTurn s → ranAfter (run-by b) left right ≡ after (noTurn s) j left right out
       go true e x = let z = ap (λ (m : Made). m .turns) x in absurd (omega arith)
@@ -275,32 +275,33 @@ layout-none : (h : HostJoin) → eqb (h .layout) layoutNow ≡ false → decode 
 unfolding decode isJoin
 layout-none h e = rw e
 
--- Options that are refused meet refusal 1.
-refused-bad : (o : Options) → tookCode (openAnswer o) ≡ 1 → badOptions o ≡ true
-unfolding openAnswer
-refused-bad o = go (badOptions o)
+-- Options that opening refuses meet 1 or 10.
+refused-bad : (o : Options) → eqb (tookCode (openAnswer o)) 0 ≡ false → refusedOptions o ≡ true
+unfolding openAnswer refusedOptions
+refused-bad o = go (badOptions o) (manyCarried o)
   where
-    go : (b : Bool) → tookCode (cond b (Refused BadOptions) Accepted) ≡ 1 → b ≡ true
-    go true e = refl
-    go false e = absurd (omega arith)
+    go : (a b : Bool) → eqb (tookCode (cond a (Refused BadOptions) (cond b (Refused TooManyCarried) Accepted))) 0 ≡ false → (a || b) ≡ true
+    go true b e = refl
+    go false true e = refl
+    go false false e = let z : _≡_ {A = ℕ} 0 1 = cc in absurd (omega arith)
 
 -- Options that are no options make no join.
 fresh-none : (o : HostOptions) → isOptions o ≡ false → isJoin (freshHost o) ≡ false
 unfolding isJoin
 fresh-none o e = rw e
 
--- What stands in the join of an opening that answers 1.
-opened : (o : HostOptions) (left right : Words) → openHost o .refusal ≡ 1 → isJoin (openHost o .join) ≡ true → badJoin (joinOf (openHost o .join)) left right ≡ true
+-- What stands in the join of an opening that is refused.
+opened : (o : HostOptions) (left right : Words) → eqb (openHost o .refusal) 0 ≡ false → isJoin (openHost o .join) ≡ true → badJoin (joinOf (openHost o .join)) left right ≡ true
 opened o left right = go (isOptions o) refl
   where
-    go : (b : Bool) → isOptions o ≡ b → openHost o .refusal ≡ 1 → isJoin (openHost o .join) ≡ true → badJoin (joinOf (openHost o .join)) left right ≡ true
+    go : (b : Bool) → isOptions o ≡ b → eqb (openHost o .refusal) 0 ≡ false → isJoin (openHost o .join) ≡ true → badJoin (joinOf (openHost o .join)) left right ≡ true
     go false e r is =
         let f : isJoin (freshHost o) ≡ false = fresh-none o e in
         let g : isJoin (freshHost o) ≡ true = rw (open-bad o e) at is in
         let z : _≡_ {A = ℕ} 0 1 = cc in
         absurd (omega arith)
     go true e r is =
-        let b : badOptions (optionsOf o) ≡ true = refused-bad (optionsOf o) (rw (open-through o e) at r) in
+        let b : refusedOptions (optionsOf o) ≡ true = refused-bad (optionsOf o) (rw (open-through o e) at r) in
         rw (open-through o e, join-same (fresh (optionsOf o))) (opened-bad (optionsOf o) left right b)
 
 -- ---- a list of calls in numbers follows the node's
@@ -313,37 +314,24 @@ ports-options : (p : Ported) (k j : Join) (left right : Words) → k .options �
 ports-options (Ports a b d) k j left right e = e
 ports-options (PortsRefused n) k j left right e = refl
 
-spoiled-options : (n : Refusal) (j : Join) → spoiled n j .options ≡ j .options
-spoiled-options n j = marked-ind (λ (k : Join). k .options ≡ j .options) n (λ t. refl) (λ a b. refl)
-
-turn-options : (a : Answer) (done : After Answer) (j : Join) (left right out : Words) → done .join .options ≡ j .options → byTurn a done j left right out .join .options ≡ j .options
-turn-options (Wrote s) done j left right out e = e
-turn-options WantsRight done j left right out e = refl
-turn-options Idle done j left right out e = refl
-turn-options (TurnRefused n) done j left right out e = spoiled-options n j
-
-turn-call-options : (j : Join) (left right out : Words) → turnCall j left right out .join .options ≡ j .options
-unfolding turnCall turned dequeued dropped
-turn-call-options j left right out = turn-options (turnAnswer j left right out) (turned j left right out) j left right out refl
-
 run-options : (left right : Words) (k : ℕ) (j : Join) (out : Words) → runCall k j left right out .join .options ≡ j .options
 unfolding runCall
 run-options left right zero j out = refl
 run-options left right (suc k) j out =
-    let t = turnCall j left right out in
-    let n = turnWords (t .out) in
     go (wrote (t .answer)) (run-options left right k (t .join) (drop n (t .out)))
   where
     t : After Answer
     t = turnCall j left right out
 
-    rest : Ran
-    rest = runCall k (t .join) left right (drop (turnWords (t .out)) (t .out))
+    n : ℕ
+    n = turnWords (answerColumns (j .options)) (t .out)
 
-    go : (b : Bool) → rest .join .options ≡ t .join .options
-        → cond b (andThen 1 (turnWords (t .out)) (take (turnWords (t .out)) (t .out)) rest) (ran 0 0 (stopOf (t .answer)) (t .join) (t .out)) .join .options ≡ j .options
-    go true ih = ih ∙ turn-call-options j left right out
-    go false ih = turn-call-options j left right out
+    rest : Ran
+    rest = runCall k (t .join) left right (drop n (t .out))
+
+    go : (b : Bool) → rest .join .options ≡ t .join .options → cond b (andThen 1 n (take n (t .out)) rest) (ran 0 0 (stopOf (t .answer)) (t .join) (t .out)) .join .options ≡ j .options
+    go true ih = ih ∙ turn-options j left right out
+    go false ih = turn-options j left right out
 
 -- A call that keeps the options is the node's, and hands back numbers that are its join.
 followed : {A : Type 0} (h : HostJoin) (j : Join) (bad : HostAfter A) (call : Join → After A) → Is h j → call j .join .options ≡ j .options → Same (byJoin h bad call) (call j)
@@ -373,7 +361,7 @@ module _ (h : HostJoin) (j : Join) (left right : Words) (is : Is h j) where
         (followed h j (afterHost (PortsRefused BadJoin) h left right []) (λ k. portsCall k left right l r s) is
         (ports-options (portsAnswer j left right l r s) (stateAt j (portsState j l s)) j left right refl));
     by-turn = λ out. followed h j (afterHost (TurnRefused BadJoin) h left right out) (λ k. turnCall k left right out) is
-        (turn-options (turnAnswer j left right out) (turned j left right out) j left right out refl);
+        (turn-options j left right out);
     by-run = λ k out. followed h j (afterHost refusedRun h left right out) (λ m. ranAfter (runCall k m left right out) left right) is (run-options left right k j out);
   }
 

@@ -24,7 +24,7 @@ use Rattle.convert.specs.declared.HostJoin.{HostJoin}
 use Rattle.results.specs.Results.{tookHost, freshHost, Made, refusedRun}
 use Rattle.results.specs.declared.HostTook.{HostTook}
 
--- Opening: options that cannot be encoded are refused as 1, and so are those that meet 1; the join holds them, with everything else as in a fresh join.
+-- Opening: options that cannot be encoded are refused as 1, others by the first of 1 and 10 that they meet; the join holds them, with everything else as in a fresh join.
 unfoldable pub openHost : HostOptions → HostTook
 openHost h =
     elim (decodeOptions h) [

@@ -97,7 +97,7 @@ pub record Follows (h : HostJoin) (j : Join) (left right : Words) : Type 0 where
 -- Of any numbers and any areas; of any opening. Numbers of another layout are no join.
 pub record Promises : Type 0 where
   pub kept : (h : HostJoin) (left right : Words) → Kept h left right
-  pub shut : (o : HostOptions) (left right : Words) → openHost o .refusal ≡ 1 → Shut (openHost o .join) left right
+  pub shut : (o : HostOptions) (left right : Words) → eqb (openHost o .refusal) 0 ≡ false → Shut (openHost o .join) left right
   pub no-join : (h : HostJoin) (left right : Words) → decode h ≡ none → NoJoin h left right
   pub other-layout : (h : HostJoin) → eqb (h .layout) layoutNow ≡ false → decode h ≡ none
   pub opens : (h : HostOptions) (o : Options) → decodeOptions h ≡ some o → decode (openHost h .join) ≡ some (fresh o)

@@ -6,6 +6,7 @@ use mathlib.Core.Option.{some}
 use Prim.Native.Nat.{ℕ, zero, suc}
 use lib.ListN.{drop}
 use Rattle.frames.specs.Cells.{Words}
+use Rattle.options.specs.Options.{answerColumns}
 use Rattle.node.specs.Calls.{turnCall}
 use Rattle.runs.specs.Run.{turnWords}
 use Rattle.convert.specs.Convert.{decode}
@@ -25,7 +26,7 @@ lent-same zero v w a out = refl
 lent-same (suc k) v w a out =
     let t = turnCall (w .join) (w .left) (w .right) out in
     let s = turn-unread (w .join) (w .left) (w .right) (v .left) (v .right) (a .areas) out in
-    let ih = lent-same k (step v (nodeTurn out) .world) (step w (nodeTurn out) .world) (step-unread v w a (nodeTurn out) .1) (drop (turnWords (t .out)) (t .out)) in
+    let ih = lent-same k (step v (nodeTurn out) .world) (step w (nodeTurn out) .world) (step-unread v w a (nodeTurn out) .1) (drop (turnWords (answerColumns (w .join .options)) (t .out)) (t .out)) in
     rw (a .join, s .answer, s .out, rw (a .join) at ih)
 
 module _ (v w : World) (a : AlikeWorlds v w) where
@@ -43,7 +44,7 @@ module _ (v w : World) (a : AlikeWorlds v w) where
   event-same end = let s = step-unread v w a nodeEnd in rw (s .0, s .1 .join)
   event-same (ports l r p) = let s = step-unread v w a (nodePorts (portOf l) (portOf r) (portOf p)) in rw (s .0, s .1 .join, a .join)
   event-same (turn out) = let s = step-unread v w a (nodeTurn out) in rw (s .0, s .1 .join)
-  event-same (run k out) = let u = free-unread v w a (turnsOf k w out) in rw (lent-same k v w a out, u .answers, u .leaves .join)
+  event-same (run k out) = let u = free-unread v w a (turnsOf k w out) in rw (lent-same k v w a out, u .answers, u .leaves .join, a .join)
 
 list-same : (cs : List HostCall) (v w : World) → AlikeWorlds v w → nodeEvents v cs ≡ nodeEvents w cs
 unfolding nodeEvents

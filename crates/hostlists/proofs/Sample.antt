@@ -12,7 +12,7 @@ use Rattle.convert.specs.Convert.{isOptions, decodeOptions, isJoin, decode}
 use Rattle.convert.specs.declared.HostOptions.{HostOptions}
 use Rattle.runs.specs.Run.{runCall}
 use Rattle.hostcalls.specs.Calls.{byJoin, openHost, leftHost, rightHost, endHost, portsHost, turnHost, runHost}
-use Rattle.lists.specs.Lists.{Entry, pairUp, writtenIn, matchesIn}
+use Rattle.lists.specs.Lists.{Entry, entriesOf, writtenIn, matchesIn}
 use Rattle.lists.proofs.Script.{leftArea, rightArea, space, speakAll}
 use Rattle.hostlists.specs.HostLists.{HostCall, left, right, end, ports, turn, run, HostEvent, onLeft, onRight, onEnd, onPorts, onTurn, onRun, hostStep, hostEvents, hostFinal}
 use Rattle.hostlists.specs.HostTable.{runOutputs, hostLefts, hostRights, hostOutputs, returned, has, hostWaiting, hostMatches}
@@ -27,6 +27,7 @@ h = record {
   check = 1;
   descending = 0 ∷ 0 ∷ 0 ∷ 0 ∷ [];
   «nulls_last» = 0 ∷ 0 ∷ 0 ∷ 0 ∷ [];
+  carried = 0;
 }
 
 -- The numbers of what a call returned, without its join.
@@ -39,7 +40,7 @@ numbers (onTurn t out) = t .answer ∷ t .refusal ∷ t .sequence ∷ []
 numbers (onRun t out) = t .turns ∷ t .words ∷ t .stop ∷ t .refusal ∷ []
 
 abbrev entry : ℕ → ℕ → Entry
-entry n m = record { number = pos n; mark = pos m }
+entry n m = record { values = pos n ∷ []; marks = pos m ∷ [] }
 
 unfoldable pub calls : List HostCall
 calls =
@@ -79,5 +80,5 @@ pub reads : (hostMatches h (leftArea 20) (rightArea 8) calls ≡ entry 0 0 ∷ e
     × (hostWaiting h (leftArea 20) (rightArea 8) calls ≡ frameOf 1 (keys (40 ∷ [])) ∷ [])
     × (has h (leftArea 20) (rightArea 8) calls .join .«right_ended» ≡ 1)
     × (has h (leftArea 20) (rightArea 8) calls .join .state ≡ 0)
-unfolding speakAll calls hostEvents hostFinal hostStep openHost leftHost rightHost endHost portsHost turnHost runHost byJoin decode isJoin decodeOptions isOptions areFlags flagsOf flagCodes runCall hostLefts hostRights hostOutputs runOutputs matchesIn writtenIn pairUp
+unfolding speakAll calls hostEvents hostFinal hostStep openHost leftHost rightHost endHost portsHost turnHost runHost byJoin decode isJoin decodeOptions isOptions areFlags flagsOf flagCodes runCall hostLefts hostRights hostOutputs runOutputs matchesIn writtenIn entriesOf
 reads = (refl, refl, refl, refl)

@@ -9,7 +9,7 @@ use lib.IntN.{pos}
 use lib.ListN.{length, take, getD}
 use lib.Seq.{take-all}
 use Rattle.frames.specs.Cells.{Cell, Rows, Words}
-use Rattle.options.specs.Options.{columns, badOptions}
+use Rattle.options.specs.Options.{columns, refusedOptions}
 use Rattle.order.specs.Order.{cmpGroup, isEqual, sorted}
 use Rattle.options.specs.declared.Options.{Options}
 use Rattle.order.specs.declared.Order.{Order}
@@ -17,13 +17,14 @@ use Rattle.order.specs.declared.Order.the-variants.{Less, Equal, Greater}
 use Rattle.order.proofs.OrderLaws.{cmpGroup-is, same-right}
 use Rattle.frames.proofs.BoolLaws.{and-true}
 use Rattle.matching.specs.Match.{nobody, choose, tolerate, tooFar, matchTable, wholeTable, qualifies}
+use Rattle.matching.specs.Answer.{answerRow}
 use Rattle.matching.specs.Picked.{Picked}
 use Rattle.matching.specs.declared.Choice.{Choice}
 use Rattle.matching.specs.declared.Choice.the-variants.{Row, Nothing}
 use Rattle.matching.proofs.MayLaws.{may, may-out, is-false}
 use Rattle.matching.proofs.PickedLaw.{picked-row}
 use Rattle.lists.specs.Lists.{Call, Entry, leftFrames, rowsIn}
-use Rattle.lists.specs.WholeTables.{asWritten, all, lefts, rights, turnedRows}
+use Rattle.lists.specs.WholeTables.{asWritten, dueOver, all, lefts, rights, turnedRows}
 use Rattle.lists.proofs.WholeTableTheorem.{whole-table-theorem}
 use Rattle.isolation.specs.Isolation.{inGroup, ofGroup, writtenFor, Own, place, ownBefore, ownAt, own, ownChoice, Alone, Finished, Isolation}
 use Rattle.isolation.proofs.PlaceLaws.{choiceBy, those, choose-those, tolerate-by}
@@ -69,34 +70,34 @@ module _ (o : Options) (g : List Cell) (R : Rows) (x : List Cell) (e : inGroup o
       let m : cmpGroup o (getD R n []) g ≡ Equal = same-right (cmpGroup-is o) (getD R n []) x g same ∙ may-out o x (getD R n []) (q .0) .group in
       rw (lt-ltb n (length R) (p .there), m)
 
-  own-is : sorted o R ≡ true → own o g R (asWritten (wholeTable o R x)) ≡ ownChoice (wholeTable o (ofGroup o g R) x)
-  unfolding own
+  own-is : sorted o R ≡ true → own o g R (dueOver o R x) ≡ ownChoice (wholeTable o (ofGroup o g R) x)
+  unfolding own answerRow
   own-is s = by (wholeTable o R x) refl own-match
     where
-      by : (m : Choice) → wholeTable o R x ≡ m → choiceBy (ownBefore o g R) m ≡ wholeTable o (ofGroup o g R) x → own o g R (asWritten m) ≡ ownChoice (wholeTable o (ofGroup o g R) x)
+      by : (m : Choice) → wholeTable o R x ≡ m → choiceBy (ownBefore o g R) m ≡ wholeTable o (ofGroup o g R) x → own o g R (asWritten (answerRow o 0 R x m)) ≡ ownChoice (wholeTable o (ofGroup o g R) x)
       by Nothing h q = rw (← q)
       by (Row n) h q = own-row s n h ∙ ap ownChoice q
 
 -- For each left row of the group.
 own-all : (o : Options) (g : List Cell) (R : Rows) → sorted o R ≡ true → (xs : Rows)
-    → map (own o g R) (writtenFor o g xs (map (λ x. asWritten (wholeTable o R x)) xs)) ≡ map (λ x. ownChoice (wholeTable o (ofGroup o g R) x)) (ofGroup o g xs)
+    → map (own o g R) (writtenFor o g xs (map (dueOver o R) xs)) ≡ map (λ x. ownChoice (wholeTable o (ofGroup o g R) x)) (ofGroup o g xs)
 unfolding writtenFor ofGroup
 own-all o g R s [] = refl
 own-all o g R s (x ∷ xs) = by (inGroup o g x) refl (own-all o g R s xs)
   where
     rest : List Entry
-    rest = writtenFor o g xs (map (λ x. asWritten (wholeTable o R x)) xs)
+    rest = writtenFor o g xs (map (dueOver o R) xs)
 
     alone-for : List Cell → Own
     alone-for x = ownChoice (wholeTable o (ofGroup o g R) x)
 
     by : (t : Bool) → inGroup o g x ≡ t → map (own o g R) rest ≡ map alone-for (ofGroup o g xs)
-        → map (own o g R) (cond t (asWritten (wholeTable o R x) ∷ rest) rest) ≡ map alone-for (cond t (x ∷ ofGroup o g xs) (ofGroup o g xs))
+        → map (own o g R) (cond t (dueOver o R x ∷ rest) rest) ≡ map alone-for (cond t (x ∷ ofGroup o g xs) (ofGroup o g xs))
     by true e ih = rw (own-is o g R x e s, ih)
     by false e ih = ih
 
 -- What is written is the whole table's, by the whole-table theorem.
-pub alone : (o : Options) → badOptions o ≡ false → (g : List Cell) (l r : Words) (calls : List Call) → Alone o g l r calls
+pub alone : (o : Options) → refusedOptions o ≡ false → (g : List Cell) (l r : Words) (calls : List Call) → Alone o g l r calls
 alone o allowed g l r calls d =
     ap (λ (m : List Entry). map (own o g (rights o l r calls)) (writtenFor o g (turnedRows o l r calls) m)) (whole-table-theorem o allowed l r calls .whole-table d)
     ∙ own-all o g (rights o l r calls) (d .1) (turnedRows o l r calls)

@@ -8,7 +8,7 @@ use Rattle.frames.specs.Cells.{Cell, null, value, Rows}
 use Rattle.order.specs.Order.{cmpFirst}
 use Rattle.order.proofs.Samples.{options, row, frameOf}
 use Rattle.options.specs.declared.Options.{Options}
-use Rattle.lists.specs.Lists.{Call, left, right, end, turn, events, final, leftFrames, rightFrames, rowsIn, outputs, Entry, pairUp, writtenIn, matchesIn}
+use Rattle.lists.specs.Lists.{Call, left, right, end, turn, events, final, leftFrames, rightFrames, rowsIn, outputs, Entry, entriesOf, writtenIn, matchesIn}
 use Rattle.lists.specs.WholeTables.{matches}
 use Rattle.lists.proofs.Script.{leftArea, rightArea, space, speakAll}
 use Rattle.isolation.specs.Isolation.{ofGroup, writtenFor, none, place, foreign, ownAt, own, ownMatches}
@@ -48,18 +48,18 @@ second =
     ∷ []
 
 abbrev pub entry : ℕ → ℕ → Entry
-entry n m = record { number = pos n; mark = pos m }
+entry n m = record { values = pos n ∷ []; marks = pos m ∷ [] }
 
 -- What is written: company 1 has notice 0, the house none, 2 and 3; and the house none, 1 and 2, company 3 notice 3.
 pub numbers : (matches o (leftArea 60) (rightArea 40) first ≡ entry 0 1 ∷ entry 0 0 ∷ entry 2 1 ∷ entry 3 1 ∷ [])
     × (matches o (leftArea 60) (rightArea 40) second ≡ entry 0 0 ∷ entry 1 1 ∷ entry 2 1 ∷ entry 3 1 ∷ [])
-unfolding first second speakAll events final leftFrames rightFrames rowsIn outputs matchesIn writtenIn pairUp
+unfolding first second speakAll events final leftFrames rightFrames rowsIn outputs matchesIn writtenIn entriesOf
 numbers = (refl, refl)
 
 -- Among the house's own notices: none, 0 and 1, in both.
 pub places : (ownMatches o house (leftArea 60) (rightArea 40) first ≡ none ∷ place 0 ∷ place 1 ∷ [])
     × (ownMatches o house (leftArea 60) (rightArea 40) second ≡ none ∷ place 0 ∷ place 1 ∷ [])
-unfolding first second speakAll events final leftFrames rightFrames rowsIn outputs matchesIn writtenIn pairUp writtenFor ofGroup own ownAt cmpFirst
+unfolding first second speakAll events final leftFrames rightFrames rowsIn outputs matchesIn writtenIn entriesOf writtenFor ofGroup own ownAt cmpFirst
 places = (refl, refl)
 
 -- A number that names another's notice has no place among them.

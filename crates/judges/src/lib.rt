@@ -4,6 +4,7 @@ use framerule::row_count;
 use options::Options;
 use options::bad_options;
 use options::left_columns;
+use options::many_carried;
 use options::right_columns;
 use outcomes::Answer;
 use outcomes::NodeState;
@@ -22,12 +23,15 @@ ghost use Rattle.callrules.specs.Judged.{openAnswer, leftJudged, endJudged, rig
 // The greatest number of right rows.
 const MOST_ROWS: usize = 9223372036854775807;
 
-// Opening: refused for its options, or accepted.
+// Opening: refused for its options or for the columns that they carry, or accepted.
 pub fn judge_open(o: Options) -> Took
     ensures { λ r. ⌜ r ≡ openAnswer o ⌝ }
 {
     if bad_options(o) {
         return Took::Refused(Refusal::BadOptions);
+    }
+    if many_carried(o) {
+        return Took::Refused(Refusal::TooManyCarried);
     }
     Took::Accepted
 }
@@ -95,7 +99,7 @@ pub fn judge_right(
     right: &[i64],
     frame: &[i64],
 ) -> Took
-    requires { ⌜ (bad ≡ false → (o .by ≤ 4) × (pruned + held ≤ mostRows)) ⌝ }
+    requires { ⌜ (bad ≡ false → (o .by ≤ 4) × (o .carried ≤ 8) × (pruned + held ≤ mostRows)) ⌝ }
     ensures { λ r. ⌜ r ≡ rightJudged bad failed ended state (rightColumns o) held pruned (now (right .entry)) (now (frame .entry)) ⌝ }
 {
     let open = judge_end(bad, failed, ended, state);

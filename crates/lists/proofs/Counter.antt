@@ -1,4 +1,4 @@
--- SCOPE 21: the worked cases, as one list that holds by computation. Assumes nothing.
+-- SCOPE 21: the worked cases of calls, as one list that holds by computation, and those of openings. Assumes nothing.
 use mathlib.Core.Path.{_≡_, refl}
 use mathlib.Core.Bool.{true, false}
 use mathlib.Core.List.{List, [], _∷_, _++_, map}
@@ -7,10 +7,12 @@ use Prim.Native.Nat.{ℕ, _*_}
 use lib.IntN.{pos, negsuc}
 use lib.ListN.{length, replicate}
 use Rattle.frames.specs.Cells.{null, value, Words}
-use Rattle.order.proofs.Samples.{options, plain, row, keys, frameOf}
+use Rattle.options.specs.Options.{badOptions}
+use Rattle.order.proofs.Samples.{options, plain, carrying, row, keys, frameOf}
 use Rattle.options.specs.declared.Options.{Options}
+use Rattle.callrules.specs.Judged.{openAnswer}
 use Rattle.lists.specs.Lists.{Call, left, right, end, turn, start, final}
-use Rattle.lists.proofs.Script.{Said, ok, refused, wrote, wants, leftArea, rightArea, space, says}
+use Rattle.lists.proofs.Script.{Said, ok, refused, wrote, wants, leftArea, rightArea, space, sayTook, says}
 
 -- A frame of keys alone; of rows of one by-value and a key.
 abbrev frame1 : List ℕ → Words
@@ -58,6 +60,10 @@ case o r cs said pruned held = record { opened = o; words = r; calls = cs; await
 abbrev usual : Call
 usual = right (frame1 (10 ∷ 20 ∷ 20 ∷ 30 ∷ []))
 
+-- Right 10, 20, 20, 30 with a price behind each key, of which one is null.
+abbrev priced : Call
+priced = right (frameOf 2 (row (10 ∷ 1800 ∷ []) ∷ row (20 ∷ 2200 ∷ []) ∷ (value (pos 20) ∷ null ∷ []) ∷ row (30 ∷ 2500 ∷ []) ∷ []))
+
 abbrev long : ℕ → Words
 long n = pos n ∷ pos 1 ∷ replicate n (pos 7) ++ replicate n (pos 1)
 
@@ -98,8 +104,17 @@ cases =
     ∷ case (plain 0 true) 8192 (right (long 4096) ∷ []) (ok ∷ []) 0 4096
     ∷ case (plain 0 true) 8194 (right (long 4097) ∷ []) (refused 5 ∷ []) 0 0
     ∷ case (plain 0 true) 9 (usual ∷ right (frame1 []) ∷ right (frame1 (40 ∷ [])) ∷ []) (ok ∷ ok ∷ refused 6 ∷ []) 0 4
+    -- SCOPE 21.10
+    ∷ case (carrying 1 (plain 0 true)) 40 (priced ∷ end ∷ left (frame1 (5 ∷ 10 ∷ 20 ∷ 35 ∷ [])) ∷ turn (space 17) ∷ turn (space 18) ∷ [])
+    (ok ∷ ok ∷ ok ∷ refused 6
+    ∷ wrote 0 (map pos (4 ∷ 2 ∷ 0 ∷ 0 ∷ 0 ∷ 1800 ∷ 2 ∷ 0 ∷ 3 ∷ 2500 ∷ 0 ∷ 0 ∷ 1 ∷ 1 ∷ 1 ∷ 0 ∷ 1 ∷ 1 ∷ [])) ∷ []) 3 1
     ∷ []
 
 pub counter : map comesTo cases ≡ map (λ k. k .awaited) cases
 unfolding cases comesTo
 counter = refl
+
+-- SCOPE 21.11; 8 columns may be carried.
+pub opened : map (λ o. sayTook (openAnswer o)) (carrying 9 (plain 0 true) ∷ carrying 9 (options 5 0 true (negsuc 0) false [] []) ∷ carrying 8 (plain 0 true) ∷ []) ≡ refused 10 ∷ refused 1 ∷ ok ∷ []
+unfolding openAnswer badOptions
+opened = refl

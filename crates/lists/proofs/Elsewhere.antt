@@ -207,8 +207,8 @@ module _ (j : Join) (s b : ℕ) (l r l′ r′ : Words) (a : Live (placedAt j s 
       let x = ltb (length l) (j .«queue_words» + length f) in
       let t5′ = cond x′ (Refused NoRoom) Accepted in
       let t5 = cond x (Refused NoRoom) Accepted in
-      let t4′ = cond (not (isFrame c f)) (Refused BadFrame) t5′ in
-      let t4 = cond (not (isFrame c f)) (Refused BadFrame) t5 in
+      let t4′ = cond (not (isFrame (leftWidth j) f)) (Refused BadFrame) t5′ in
+      let t4 = cond (not (isFrame (leftWidth j) f)) (Refused BadFrame) t5 in
       let t3′ = cond (not (isRunning (j .state))) (Refused Closed) t4′ in
       let t3 = cond (not (isRunning (j .state))) (Refused Closed) t4 in
       let t2′ = cond (j .failed) (Refused Failed) t3′ in
@@ -217,7 +217,7 @@ module _ (j : Join) (s b : ℕ) (l r l′ r′ : Words) (a : Live (placedAt j s 
       (past (badJoin j l r) BadJoin t2′ t2
       (past (j .failed) Failed t3′ t3
       (past (not (isRunning (j .state))) Closed t4′ t4
-      (past (not (isFrame c f)) BadFrame t5′ t5
+      (past (not (isFrame (leftWidth j) f)) BadFrame t5′ t5
       (room-last Accepted refl x′ x)))) (rw (a .bad) at e))
 
   queued-same : (f : Words) → LeftTaken k l′ r′ f → LeftTaken j l r f → Same (queued k l′ r′ f) (queued j l r f)
@@ -239,8 +239,8 @@ module _ (j : Join) (s b : ℕ) (l r l′ r′ : Words) (a : Live (placedAt j s 
         out = refl;
         live = record {
           bad =
-              unbroken (queueAt k n′ (qw + length f)) _ r′ (record { options = g′ .options; few = g′ .few; right-room = g′ .right-room; left-room = rw ll′ (omega arith); rows = g′ .rows; even = g′ .even })
-              ∙ sym (unbroken (queueAt j n (qw + length f)) _ r (record { options = g .options; few = g .few; right-room = g .right-room; left-room = rw ll (omega arith); rows = g .rows; even = g .even }));
+              unbroken (queueAt k n′ (qw + length f)) _ r′ (record { options = g′ .options; few = g′ .few; carried = g′ .carried; right-room = g′ .right-room; left-room = rw ll′ (omega arith); rows = g′ .rows; even = g′ .even })
+              ∙ sym (unbroken (queueAt j n (qw + length f)) _ r (record { options = g .options; few = g .few; carried = g .carried; right-room = g .right-room; left-room = rw ll (omega arith); rows = g .rows; even = g .even }));
           waits = append-part l′ s n′ qw f nb′ (g′ .left-room) ∙ ap (λ (z : Words). z ++ f) (a .waits) ∙ sym (append-part l qs n qw f nb (g .left-room));
           values = a .values;
           marks = a .marks;
@@ -297,8 +297,8 @@ module _ (j : Join) (s b : ℕ) (l r l′ r′ : Words) (a : Live (placedAt j s 
         out = refl;
         live = record {
           bad =
-              unbroken (heldAt k to′ (j .held + rowCount f) (j .pruned)) l′ _ (record { options = g′ .options; few = g′ .few; right-room = rw q′ (omega (arith, nb′)); left-room = g′ .left-room; rows = omega (arith, t′ .rows); even = g′ .even })
-              ∙ sym (unbroken (heldAt j to (j .held + rowCount f) (j .pruned)) l _ (record { options = g .options; few = g .few; right-room = rw q (omega (arith, nb)); left-room = g .left-room; rows = omega (arith, t .rows); even = g .even }));
+              unbroken (heldAt k to′ (j .held + rowCount f) (j .pruned)) l′ _ (record { options = g′ .options; few = g′ .few; carried = g′ .carried; right-room = rw q′ (omega (arith, nb′)); left-room = g′ .left-room; rows = omega (arith, t′ .rows); even = g′ .even })
+              ∙ sym (unbroken (heldAt j to (j .held + rowCount f) (j .pruned)) l _ (record { options = g .options; few = g .few; carried = g .carried; right-room = rw q (omega (arith, nb)); left-room = g .left-room; rows = omega (arith, t .rows); even = g .even }));
           waits = a .waits;
           values =
               pushed-values c b (j .held) f r′ (t′ .frame) (g′ .right-room) (t′ .room) ∙ ap (λ (z : Words). z ++ valuesIn c f) (a .values)

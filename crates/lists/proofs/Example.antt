@@ -9,10 +9,11 @@ use Rattle.frames.specs.Cells.{Words}
 use Rattle.order.specs.Order.{sorted, cmpRow, cmpFirst, nullIn}
 use Rattle.order.proofs.Samples.{plain, keys, frameOf}
 use Rattle.options.specs.declared.Options.{Options}
+use Rattle.matching.specs.Answer.{cellsFrom, answerRow}
 use Rattle.matching.specs.Match.{choose, takesOver, fits, tolerate, matchTable, wholeTable}
 use Rattle.outcomes.specs.declared.PortState.the-variants.{Ready, Done as PortDone}
-use Rattle.lists.specs.Lists.{Call, left, right, end, ports, turn, start, events, final, leftFrames, rightFrames, rowsIn, outputs, Entry, pairUp, writtenIn, matchesIn}
-use Rattle.lists.specs.WholeTables.{asWritten, lefts, rights, turnedRows, matches}
+use Rattle.lists.specs.Lists.{Call, left, right, end, ports, turn, start, events, final, leftFrames, rightFrames, rowsIn, outputs, Entry, entriesOf, writtenIn, matchesIn}
+use Rattle.lists.specs.WholeTables.{dueOver, lefts, rights, turnedRows, matches}
 use Rattle.lists.proofs.Script.{Said, ok, refused, wrote, wants, idle, ports as said-ports, leftArea, rightArea, space, says, speakAll}
 
 abbrev pub o : Options
@@ -22,7 +23,7 @@ unfoldable pub frame : List ℕ → Words
 frame ks = frameOf 1 (keys ks)
 
 abbrev pub entry : ℕ → ℕ → Entry
-entry n m = record { number = pos n; mark = pos m }
+entry n m = record { values = pos n ∷ []; marks = pos m ∷ [] }
 
 -- Backward over right 10, 20 and then 20, 30: room for four right rows.
 unfoldable pub calls : List Call
@@ -66,7 +67,7 @@ pub told : (lefts o (leftArea 20) (rightArea 8) calls ≡ keys (5 ∷ 15 ∷ 20 
     × (turnedRows o (leftArea 20) (rightArea 8) calls ≡ keys (5 ∷ 15 ∷ 20 ∷ 25 ∷ 27 ∷ []))
     × (final (start o (leftArea 20) (rightArea 8)) calls .join .pruned ≡ 2)
     × (matches o (leftArea 20) (rightArea 8) calls ≡ entry 0 0 ∷ entry 0 1 ∷ entry 2 1 ∷ entry 2 1 ∷ entry 2 1 ∷ [])
-unfolding calls speakAll events final leftFrames rightFrames rowsIn outputs matchesIn writtenIn pairUp
+unfolding calls speakAll events final leftFrames rightFrames rowsIn outputs matchesIn writtenIn entriesOf
 told = (refl, refl, refl, refl, refl)
 
 pub both-sorted : (sorted o (keys (5 ∷ 15 ∷ 20 ∷ 25 ∷ 27 ∷ [])) ≡ true) × (sorted o (keys (10 ∷ 20 ∷ 20 ∷ 30 ∷ [])) ≡ true)
@@ -74,7 +75,7 @@ unfolding sorted cmpRow cmpFirst
 both-sorted = (refl, refl)
 
 -- The whole-table rule, for the same rows.
-pub whole : map (λ x. asWritten (wholeTable o (keys (10 ∷ 20 ∷ 20 ∷ 30 ∷ [])) x)) (keys (5 ∷ 15 ∷ 20 ∷ 25 ∷ 27 ∷ []))
+pub whole : map (dueOver o (keys (10 ∷ 20 ∷ 20 ∷ 30 ∷ []))) (keys (5 ∷ 15 ∷ 20 ∷ 25 ∷ 27 ∷ []))
     ≡ entry 0 0 ∷ entry 0 1 ∷ entry 2 1 ∷ entry 2 1 ∷ entry 2 1 ∷ []
-unfolding wholeTable matchTable choose takesOver fits tolerate cmpFirst nullIn
+unfolding answerRow cellsFrom wholeTable matchTable choose takesOver fits tolerate cmpFirst nullIn
 whole = refl

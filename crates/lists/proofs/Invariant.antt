@@ -13,7 +13,7 @@ use Rattle.callrules.specs.Judged.{leftJudged, endJudged, rightJudged}
 use Rattle.frames.proofs.BoolLaws.{and-true-right}
 use Rattle.frames.specs.Cells.{Rows, Words}
 use Rattle.frames.specs.Frame.{rowCount, isFrame, frameRows, front}
-use Rattle.options.specs.Options.{columns, badOptions}
+use Rattle.options.specs.Options.{columns, rightColumns, refusedOptions}
 use Rattle.options.specs.declared.Options.{Options}
 use Rattle.frames.proofs.FrameLaws.{frame-length}
 use Rattle.area.specs.Area.{capacity}
@@ -189,7 +189,7 @@ moves Flush false pl false before e = rw e (record { done = refl; running = refl
 moves Done true pl none before e = record { done = refl; running = refl }
 moves Done false pl none before e = record { done = refl; running = refl }
 
-module _ (o : Options) (l r : Words) (allowed : badOptions o ≡ false) (es : List Event) (w : World) (i : Inv o l r es w) where
+module _ (o : Options) (l r : Words) (allowed : refusedOptions o ≡ false) (es : List Event) (w : World) (i : Inv o l r es w) where
   abbrev j : Join
   j = w .join
 
@@ -200,8 +200,8 @@ module _ (o : Options) (l r : Words) (allowed : badOptions o ≡ false) (es : Li
   pub good : badJoin (w .join) (w .left) (w .right) ≡ false
   unfolding badJoin
   good =
-      let e1 : badOptions (j .options) ≡ false = rw (s .options) allowed in
-      let e2 : overRight j (w .right) ≡ false = rw (s .options) (le-ltb (capacity (columns o) (w .right)) (j .base + j .held) (s .right-room)) in
+      let e1 : refusedOptions (j .options) ≡ false = rw (s .options) allowed in
+      let e2 : overRight j (w .right) ≡ false = rw (s .options) (le-ltb (capacity (rightColumns o) (w .right)) (j .base + j .held) (s .right-room)) in
       let e3 : overLeft j (w .left) ≡ false = le-ltb (length (w .left)) (j .«queue_start» + j .«queue_words») (s .queue-room) in
       let e4 : overRows j ≡ false = le-ltb mostRows (j .pruned + j .held) (s .few) in
       let e5 : oddSequence j ≡ false = ne-eqb (j .sequence % 2) 1 (λ (h : j .sequence % 2 ≡ 1). omega (arith, s .sequence)) in
@@ -285,8 +285,8 @@ module _ (o : Options) (l r : Words) (allowed : badOptions o ≡ false) (es : Li
   -- What an accepted right frame passed.
   pub record RightPassed (f : Words) : Type 0 where
     pub unended : (j .«right_ended» || isDone (j .state)) ≡ false
-    pub frame : isFrame (columns o) f ≡ true
-    pub room : j .held + rowCount f ≤ capacity (columns o) (w .right)
+    pub frame : isFrame (rightColumns o) f ≡ true
+    pub room : j .held + rowCount f ≤ capacity (rightColumns o) (w .right)
     pub few : j .pruned + j .held + rowCount f ≤ mostRows
 
   pub right-passed : (f : Words) → rightAnswer j (w .left) (w .right) f ≡ Accepted → RightPassed f

@@ -3,6 +3,9 @@ pub mod Counter
 pub mod EnoughLaw
 pub mod PruneLaw
 pub mod ListLaws
+pub mod EntryLaws
+pub mod Turned
+pub mod OptionsKept
 pub mod Stock
 pub mod Invariant
 pub mod Turn
@@ -13,7 +16,9 @@ pub mod SplitAlone
 pub mod Sound
 pub mod Steps
 pub mod WholeTableTheorem
+pub mod OldForm
 pub mod Example
+pub mod Carried
 pub mod RunTurns
 pub mod RestWitness
 pub mod SplitList

@@ -52,9 +52,9 @@ pub words-append : (xs ys : List Words) → backToBack (xs ++ ys) ≡ backToBack
 unfolding backToBack
 words-append = join-append (λ (f : Words). f) backToBack refl (λ a xs. refl)
 
-pub matches-append : (xs ys : List Words) → matchesIn (xs ++ ys) ≡ matchesIn xs ++ matchesIn ys
+pub matches-append : (c : ℕ) (xs ys : List Words) → matchesIn c (xs ++ ys) ≡ matchesIn c xs ++ matchesIn c ys
 unfolding matchesIn
-matches-append = join-append writtenIn matchesIn refl (λ a xs. refl)
+matches-append c = join-append (writtenIn c) (matchesIn c) refl (λ a xs. refl)
 
 -- ---- what is told: a flag that each event may raise
 module _ {A : Type 0} (g : A → Bool) (f : List A → Bool) (nil : f [] ≡ false) (cons : (a : A) (xs : List A) → f (a ∷ xs) ≡ (g a || f xs)) where

@@ -1,20 +1,21 @@
 -- A run is the list of its turns: by induction on k, each turn a call of its own. Assumes nothing.
 use mathlib.Core.Path.{_≡_, refl, ap, _∙_}
 use mathlib.Core.Bool.{Bool, true, false}
-use mathlib.Core.List.{List, [], _∷_, _++_, append-assoc}
+use mathlib.Core.List.{List, [], _∷_, _++_, append-assoc, map}
 use Prim.Native.Nat.{ℕ, zero, suc, _+_}
 use native.Mathlib.Omega.{arith}
 use lib.ListN.{length, take, drop, length-append}
 use lib.Seq.{drop-drop, length-take-le}
 use Rattle.frames.specs.Cells.{Words}
+use Rattle.options.specs.Options.{answerColumns}
 use Rattle.node.specs.Calls.{After, turnCall}
 use Rattle.outcomes.specs.Answers.{wrote}
 use Rattle.runs.specs.Run.{Ran, runCall, turnWords}
 use Rattle.outcomes.specs.declared.Answer.{Answer}
 use Rattle.outcomes.specs.declared.Answer.the-variants.{Wrote, WantsRight, Idle, Refused}
-use Rattle.runs.proofs.RunLaws.{turn-fits, turn-length, turn-untouched, turn-areas}
+use Rattle.runs.proofs.RunLaws.{turn-fits, turn-length, turn-untouched, turn-areas, turn-options}
 use Rattle.lists.specs.Lists.{turn, World, step, events, final, whenWrote, outputs, backToBack}
-use Rattle.lists.specs.Runs.{lentBy, stopIn, wordsOf, ranFrom, RunIsTurns, Runs}
+use Rattle.lists.specs.Runs.{lentBy, stopIn, writtenWords, answersOf, wordsOf, ranFrom, RunIsTurns, Runs}
 
 -- A turn's output is kept where it wrote, and only there.
 kept : (a : Answer) (outs : List Words) → wrote a ≡ true → whenWrote a outs ≡ outs
@@ -38,7 +39,7 @@ module _ (k : ℕ) (w : World) (out : Words) where
   next = record { join = t .join; left = t .left; right = t .right }
 
   abbrev n : ℕ
-  n = turnWords (t .out)
+  n = turnWords (answerColumns (w .join .options)) (t .out)
 
   abbrev r : Ran
   r = runCall k (t .join) (w .left) (w .right) (drop n (t .out))
@@ -64,15 +65,16 @@ module _ (k : ℕ) (w : World) (out : Words) where
       let f = turn-fits (w .join) (w .left) (w .right) out g in
       let l : length (take n (t .out)) ≡ n = length-take-le n (t .out) (omega (arith, f .room, turn-length (w .join) (w .left) (w .right) out)) in
       let e : ranFrom k next (drop n (t .out)) ≡ r = rw (a .0, a .1) in
-      let b : Words = wordsOf k next (drop n (t .out)) in
+      let b : Words = backToBack (map (writtenWords (answerColumns (w .join .options))) (outputs (answersOf k next (drop n (t .out))))) in
+      let eb : wordsOf k next (drop n (t .out)) ≡ b = rw (turn-options (w .join) (w .left) (w .right) out) in
       record {
         world = rw g (ih .world ∙ rw (e, a .0, a .1));
         turns = rw (g, kept (t .answer) (t .out ∷ []) g) (let z = rw e at (ih .turns) in omega arith);
         stop = rw g (rw e at (ih .stop));
-        written = rw (g, kept (t .answer) (t .out ∷ []) g, length-append (take n (t .out)) b, l) (let z = rw e at (ih .written) in omega arith);
+        written = rw (g, kept (t .answer) (t .out ∷ []) g, length-append (take n (t .out)) b, l) (let z = rw (e, eb) at (ih .written) in omega arith);
         words =
             rw (g, kept (t .answer) (t .out ∷ []) g, append-assoc (take n (t .out)) b (drop (n + r .words) out))
-            (ap (λ (y : Words). take n (t .out) ++ y) (rw e at (ih .words) ∙ ap (λ (y : Words). b ++ y) (ap (λ (y : Words). drop (r .words) y) (f .rest) ∙ drop-drop (r .words) n out)));
+            (ap (λ (y : Words). take n (t .out) ++ y) (rw (e, eb) at (ih .words) ∙ ap (λ (y : Words). b ++ y) (ap (λ (y : Words). drop (r .words) y) (f .rest) ∙ drop-drop (r .words) n out)));
       }
 
 -- No turn is tried.

@@ -2,13 +2,13 @@
 use mathlib.Core.Bool.{Bool, cond}
 use mathlib.Core.List.{List, [], _∷_, _++_, map}
 use mathlib.Core.Option.{Option, none, some}
-use Prim.Native.Nat.{ℕ, zero, suc, _+_, _*_, _%_}
-use lib.IntN.{negsuc, subℕ}
-use lib.ListN.{take, replicate}
+use Prim.Native.Nat.{ℕ, zero, suc, _*_, _%_}
+use lib.IntN.{pos, negsuc, natAbs, subℕ}
+use lib.ListN.{take, getD, replicate}
 use Rattle.ports.specs.Ports.{portsJudged}
 use Rattle.frames.specs.Cells.{Cell, cellsOf, rowsOf, Words}
-use Rattle.frames.specs.Frame.{rowCount, pairsFine, isFrame, frameRows, front, isTable}
-use Rattle.options.specs.Options.{badOptions}
+use Rattle.frames.specs.Frame.{rowCount, frameWords, pairsFine, isFrame, frameRows, front, isTable}
+use Rattle.options.specs.Options.{badOptions, refusedOptions}
 use Rattle.order.specs.Order.{cmpFirst, cmpRow, sorted, nullIn}
 use Rattle.order.specs.Keyed.{firstFrom, lastBelow, recall, remember, rememberLast}
 use Rattle.options.specs.declared.Options.{Options}
@@ -17,7 +17,8 @@ use Rattle.searching.specs.Search.{searchFor, search, find}
 use Rattle.searching.specs.Reach.{narrowBy, narrow, keyNeedsMore, rowNeedsMore, needMore, splitAt, pruneBy, rowBefore, badSplit}
 use Rattle.matching.specs.Match.{fits, takesOver, choose, tolerate, matchIn}
 use Rattle.matching.specs.Groups.{joinRun, runs, passes, pass, used, byRuns, matchFrame}
-use Rattle.matching.specs.Answer.{answerWords, answered}
+use Rattle.tables.specs.Table.{wordsOf, tableOf, laid}
+use Rattle.matching.specs.Answer.{cellsFrom, answerRow, answerRows, answered}
 use Rattle.node.specs.State.{badJoin, heldOf, waiting, leftWidth}
 use Rattle.outcomes.specs.Answers.{stateCode, portCode}
 use Rattle.refusals.specs.Refusals.{number}
@@ -33,7 +34,7 @@ use Rattle.outcomes.specs.declared.Took.the-variants.{Accepted, Refused}
 use Rattle.outcomes.specs.declared.Ported.{Ported}
 use Rattle.outcomes.specs.declared.Ported.the-variants.{Ports, Refused as PortsRefused}
 
--- An answer: ok; refused N; wrote SEQ and the 2 + 2n words written; wants; idle; ports L R S STATE; no join;
+-- An answer: ok; refused N; wrote SEQ and the words written; wants; idle; ports L R S STATE; no join;
 -- areas: the words of both; state: base, held, pruned, queue start, queue words, state, ended, failed, sequence, and the cells of the left and right remembered row.
 pub data Said : Type 0 where
   ok : Said
@@ -66,7 +67,7 @@ sayTook Accepted = ok
 sayTook (Refused n) = refused (number n)
 
 abbrev pub sayTurn : Answer → Words → Said
-sayTurn (Wrote s) out = wrote s (take (2 + 2 * rowCount out) out)
+sayTurn (Wrote s) out = wrote s (take (frameWords (rowCount out) (natAbs (getD out 1 (pos 0)))) out)
 sayTurn WantsRight out = wants
 sayTurn Idle out = idle
 sayTurn (TurnRefused n) out = refused (number n)
@@ -106,7 +107,7 @@ pub record Spoke : Type 0 where
   pub next : Option World
 
 unfoldable pub speak : Option World → Line → Spoke
-speak w (opens o l r) = record { said = sayTook (openAnswer o); next = cond (badOptions o) none (some (start o (leftArea l) (rightArea r))) }
+speak w (opens o l r) = record { said = sayTook (openAnswer o); next = cond (refusedOptions o) none (some (start o (leftArea l) (rightArea r))) }
 speak none (call c) = record { said = noJoin; next = none }
 speak (some w) (call c) = let s = step w c in record { said = say (s .event) (s .world .join); next = some (s .world) }
 speak none state = record { said = noJoin; next = none }
@@ -115,7 +116,7 @@ speak none dump = record { said = noJoin; next = none }
 speak (some w) dump = record { said = areas (w .left) (w .right); next = some w }
 
 unfoldable pub speakAll : Option World → List Line → List Said
-unfolding speak look openAnswer step leftCall leftJudged queued rightCall rightJudged pushedRight endCall endJudged portsCall portsJudged turnCall turnAnswer turned badLeft badRight firstPrune remembered dropped dequeued badJoin heldOf waiting front answered answerWords matchFrame byRuns used pass passes runs joinRun matchIn tolerate choose takesOver fits needMore rowNeedsMore keyNeedsMore narrow narrowBy splitAt pruneBy rowBefore badSplit find search searchFor heldRows movedRows pushed rememberLast remember recall lastBelow firstFrom sorted cmpRow cmpFirst nullIn badOptions isFrame isTable pairsFine frameRows rowsOf cellsOf
+unfolding speak look openAnswer step leftCall leftJudged queued rightCall rightJudged pushedRight endCall endJudged portsCall portsJudged turnCall turnAnswer turned badLeft badRight firstPrune remembered dropped dequeued badJoin heldOf waiting front answered laid tableOf wordsOf answerRows answerRow cellsFrom matchFrame byRuns used pass passes runs joinRun matchIn tolerate choose takesOver fits needMore rowNeedsMore keyNeedsMore narrow narrowBy splitAt pruneBy rowBefore badSplit find search searchFor heldRows movedRows pushed rememberLast remember recall lastBelow firstFrom sorted cmpRow cmpFirst nullIn refusedOptions badOptions isFrame isTable pairsFine frameRows rowsOf cellsOf
 speakAll w [] = []
 speakAll w (l ∷ ls) = let s = speak w l in s .said ∷ speakAll (s .next) ls
 

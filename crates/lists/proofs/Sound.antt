@@ -1,4 +1,4 @@
--- Sorted sides: what is written are the matches of the whole table, what was dropped matters to no later row, and no order fault is told. Assumes nothing.
+-- Sorted rows: what is written are the matches of the whole table, what was dropped matters to no later row, and no order fault is told. Assumes nothing.
 use mathlib.Core.Path.{_≡_, refl, sym, ap, _∙_}
 use mathlib.Core.Bool.{Bool, true, false, cond, not, _&&_, _||_, and-false}
 use mathlib.Core.List.{List, [], _∷_, _++_, append-nil, append-assoc, map}
@@ -8,11 +8,11 @@ use native.Mathlib.Omega.{arith}
 use borrow.Author.Tests.{eqb-false, eqb-true}
 use lib.Dec.{eqb}
 use lib.IntN.{ℤ}
-use lib.ListN.{length, getD, take, drop, take-append-drop, length-append, length-drop, List·getD-append}
+use lib.ListN.{length, getD, take, drop, take-append-drop, length-drop, List·getD-append}
 use lib.Seq.{take-append-le, drop-append-le, drop-drop, take-add}
 use Rattle.frames.specs.Cells.{Cell, Rows, Words}
 use Rattle.frames.specs.Frame.{rowCount, isFrame, frameRows}
-use Rattle.options.specs.Options.{columns, isOn, rightColumns}
+use Rattle.options.specs.Options.{columns, rightColumns, answerColumns, isOn}
 use Rattle.order.specs.Order.{cmpRow, sorted}
 use Rattle.order.specs.Keyed.{recall, rememberLast, firstKeyed, rowAt, outOfOrder}
 use Rattle.options.specs.declared.Options.{Options}
@@ -27,21 +27,25 @@ use Rattle.searching.proofs.SplitLaw.{split}
 use Rattle.searching.proofs.EnoughLaw.{enough}
 use Rattle.searching.proofs.CheckLaw.{split-fine}
 use Rattle.matching.specs.declared.Choice.{Choice}
-use Rattle.matching.specs.Match.{matchTable}
-use Rattle.matching.specs.Answer.{answered}
+use Rattle.matching.specs.Match.{matchTable, wholeTable}
+use Rattle.matching.specs.Answer.{answerRow, answerRows, answered}
 use Rattle.matching.specs.Groups.{matchFrame}
 use Rattle.lists.proofs.PruneLaw.{prune-keeps}
 use Rattle.lists.proofs.EnoughLaw.{enough-keeps}
 use Rattle.matching.proofs.GroupLaws.{frame-match}
+use Rattle.matching.proofs.FromLaws.{table-from, row-from}
+use Rattle.matching.proofs.AnswerRows.{answer-map}
 use Rattle.node.specs.declared.Join.{Join}
 use Rattle.node.specs.Calls.{dropped, dequeued}
 use Rattle.turnrows.specs.Prunes.{badLeft, badRight, firstPrune, remembered, keptRows, lastPrune}
 use Rattle.lists.specs.Lists.{rowsIn, Entry, writtenIn, matchesIn}
-use Rattle.lists.specs.WholeTables.{asWritten}
-use Rattle.lists.proofs.ListLaws.{rows-in-append, matches-append, take-next, take-more}
-use Rattle.lists.proofs.Stock.{Frames, written-back}
+use Rattle.lists.specs.WholeTables.{asWritten, dueOver}
+use Rattle.lists.proofs.ListLaws.{rows-in-append, matches-append}
+use Rattle.lists.proofs.Turned.{turnedOf, turned-after, turned-more}
+use Rattle.lists.proofs.Stock.{Frames}
+use Rattle.lists.proofs.EntryLaws.{written-back}
 use Rattle.turnrows.proofs.PruneLaws.{first-within, prune-within}
-use Rattle.lists.proofs.Turn.{leftBy, matchedBy}
+use Rattle.lists.proofs.Turn.{leftBy, matchedBy, matched-wide}
 
 -- ---- small laws of lists
 map-same : {A B : Type 0} (f g : A → B) (xs : List A) → ((i : ℕ) → i < length xs → (d : A) → f (getD xs i d) ≡ g (getD xs i d)) → map f xs ≡ map g xs
@@ -60,19 +64,16 @@ rows-in-wide c (f ∷ fs) p =
     all-join (λ r. length r ≡ c) (frameRows c f) (rowsIn c fs)
     (all-by (λ r. length r ≡ c) (frameRows c f) (λ i h. frame-wide c f (p .0) i (omega (arith, frame-rows c f (p .0))))) (rows-in-wide c fs (p .1))
 
--- The left rows turned.
-unfoldable pub turnedOf : Options → List Words → List Words → Rows
-turnedOf o L Os = rowsIn (columns o) (take (length Os) L)
-
--- What holds where both sides are sorted: L, R the accepted frames, Os the outputs written, `ended` whether right has ended. F is any rows that may come behind the right ones.
+-- What holds where the left rows turned and the right rows are sorted: L, R the accepted frames, Os the outputs written, `ended` whether right has ended.
+-- F is any rows that may come behind the right ones.
 pub record Sound (o : Options) (L R Os : List Words) (ended : Bool) (j : Join) : Type 0 where
-  pub matches : (F : Rows) → (ended ≡ true → F ≡ []) → sorted o (rowsIn (columns o) R ++ F) ≡ true
-      → matchesIn Os ≡ map (λ x. asWritten (matchTable o 0 (rowsIn (columns o) R ++ F) x)) (turnedOf o L Os)
-  pub harmless : (F : Rows) → (ended ≡ true → F ≡ []) → sorted o (rowsIn (columns o) R ++ F) ≡ true → (x : List Cell) → All (λ y. AtMost (cmpRow o) y x) (turnedOf o L Os)
-      → matchTable o 0 (rowsIn (columns o) R ++ F) x ≡ matchTable o (j .pruned) (drop (j .pruned) (rowsIn (columns o) R) ++ F) x
+  pub matches : (F : Rows) → (ended ≡ true → F ≡ []) → sorted o (rowsIn (rightColumns o) R ++ F) ≡ true
+      → matchesIn (answerColumns o) Os ≡ map (dueOver o (rowsIn (rightColumns o) R ++ F)) (turnedOf o L Os)
+  pub harmless : (F : Rows) → (ended ≡ true → F ≡ []) → sorted o (rowsIn (rightColumns o) R ++ F) ≡ true → (x : List Cell) → All (λ y. AtMost (cmpRow o) y x) (turnedOf o L Os)
+      → matchTable o 0 (rowsIn (rightColumns o) R ++ F) x ≡ matchTable o (j .pruned) (drop (j .pruned) (rowsIn (rightColumns o) R) ++ F) x
   pub left-below : (x : List Cell) → All (λ y. AtMost (cmpRow o) y x) (turnedOf o L Os) → Below o (recall (columns o) (j .«last_left»)) x
-  pub right-below : (x : List Cell) → All (λ y. AtMost (cmpRow o) y x) (take (j .pruned) (rowsIn (columns o) R)) → Below o (recall (columns o) (j .«last_right»)) x
-  pub unfailed : j .failed ≡ false
+  pub right-below : (x : List Cell) → All (λ y. AtMost (cmpRow o) y x) (take (j .pruned) (rowsIn (rightColumns o) R)) → Below o (recall (columns o) (j .«last_right»)) x
+  pub unfailed : sorted o (rowsIn (columns o) L) ≡ true → j .failed ≡ false
 
 -- ---- rows
 module _ (o : Options) where
@@ -173,31 +174,20 @@ getD-any (x ∷ xs) zero d e h = refl
 getD-any (x ∷ xs) (suc i) d e h = getD-any xs i d e (omega arith)
 
 -- ---- a turn
-module _ (o : Options) (L R Os : List Words) (ended : Bool) (j : Join) (S : Sound o L R Os ended j) (right-frames : Frames (columns o) R)
-    (few : j .pruned ≤ length (rowsIn (columns o) R)) (f : Words) (rest : List Words) (frame : isFrame (columns o) f ≡ true) (e : drop (length Os) L ≡ f ∷ rest)
-    (sl : sorted o (rowsIn (columns o) L) ≡ true) (sr : sorted o (rowsIn (columns o) R) ≡ true) where
+module _ (o : Options) (L R Os : List Words) (ended : Bool) (j : Join) (S : Sound o L R Os ended j) (right-frames : Frames (rightColumns o) R)
+    (few : j .pruned ≤ length (rowsIn (rightColumns o) R)) (f : Words) (rest : List Words) (frame : isFrame (columns o) f ≡ true) (e : drop (length Os) L ≡ f ∷ rest)
+    (sorted-turned : sorted o (turnedOf o L Os ++ frameRows (columns o) f) ≡ true) (sr : sorted o (rowsIn (rightColumns o) R) ≡ true) where
   abbrev A : Rows
-  A = rowsIn (columns o) R
+  A = rowsIn (rightColumns o) R
 
   abbrev held : Rows
-  held = drop (j .pruned) (rowsIn (columns o) R)
+  held = drop (j .pruned) (rowsIn (rightColumns o) R)
 
   abbrev rows : Rows
   rows = frameRows (columns o) f
 
   abbrev T : Rows
   T = turnedOf o L Os
-
-  -- The left rows: those turned, the frame's, the rest.
-  lefts-are : rowsIn (columns o) L ≡ T ++ rows ++ rowsIn (columns o) rest
-  unfolding turnedOf rowsIn
-  lefts-are =
-      ap (λ (fs : List Words). rowsIn (columns o) fs) (sym (take-append-drop (length Os) L) ∙ ap (λ (gs : List Words). take (length Os) L ++ gs) e)
-      ∙ rows-in-append (columns o) (take (length Os) L) (f ∷ rest)
-      ∙ sym (append-assoc (rowsIn (columns o) (take (length Os) L)) (frameRows (columns o) f) (rowsIn (columns o) rest))
-
-  sorted-turned : sorted o (T ++ rows) ≡ true
-  sorted-turned = sorted-cut o (T ++ rows) (rowsIn (columns o) rest) (rw lefts-are at sl) .0
 
   sorted-rows : sorted o rows ≡ true
   sorted-rows = sorted-cut o T rows sorted-turned .1
@@ -250,19 +240,35 @@ module _ (o : Options) (L R Os : List Words) (ended : Bool) (j : Join) (S : Soun
           let q : matchTable o (j .pruned) held x ≡ matchTable o (j .pruned + first) (keptRows o rows held) x = rw (append-nil held, append-nil (keptRows o rows held)) at p in
           sym (S .harmless F open-to sf x (before-row o T rows sorted-turned i h) ∙ waited i h ∙ q)
 
-      frame-written : (out : Words) → writtenIn (answered (matchedBy o j rows held) out) ≡ map (λ x. asWritten (matchTable o 0 (A ++ F) x)) rows
+      -- So is its row of the answer: the row that is chosen among those kept is the one with this number among all.
+      kept-are : keptRows o rows held ≡ drop (j .pruned + first) A
+      unfolding keptRows
+      kept-are = drop-drop first (j .pruned) A
+
+      each-answer : (i : ℕ) → i < length rows
+          → answerRow o (j .pruned + first) (keptRows o rows held) (getD rows i []) (matchTable o (j .pruned + first) (keptRows o rows held) (getD rows i []))
+          ≡ answerRow o 0 (A ++ F) (getD rows i []) (wholeTable o (A ++ F) (getD rows i []))
+      unfolding wholeTable
+      each-answer i h =
+          let x = getD rows i [] in
+          let n = j .pruned + first in
+          let m = matchTable o n (drop n A) x in
+          rw kept-are (row-from o n A F x m (table-from o x n (drop n A)) ∙ ap (answerRow o 0 (A ++ F) x) (rw kept-are at (each-row i h)))
+
+      frame-written : (out : Words) → writtenIn (answerColumns o) (answered o (matchedBy o j rows held) out) ≡ map (dueOver o (A ++ F)) rows
       unfolding matchedBy
       frame-written out =
-          written-back (matchFrame o (j .pruned + first) (keptRows o rows held) rows) out
-          ∙ ap (λ (ms : List Choice). map asWritten ms) (frame-match o (j .pruned + first) (keptRows o rows held) rows sorted-kept sorted-rows)
-          ∙ map-map asWritten (matchTable o (j .pruned + first) (keptRows o rows held)) rows
-          ∙ map-same (λ x. asWritten (matchTable o (j .pruned + first) (keptRows o rows held) x)) (λ x. asWritten (matchTable o 0 (A ++ F) x)) rows by-row
+          let n = j .pruned + first in
+          let kept = keptRows o rows held in
+          written-back o (answerRows o n kept rows (matchFrame o n kept rows)) out (matched-wide o j rows held)
+          ∙ ap (λ (ms : List Choice). map asWritten (answerRows o n kept rows ms)) (frame-match o n kept rows (kept-sorted o rows held sorted-held) sorted-rows)
+          ∙ ap (map asWritten) (answer-map o n kept (matchTable o n kept) rows)
+          ∙ map-map asWritten (λ x. answerRow o n kept x (matchTable o n kept x)) rows
+          ∙ map-same (λ x. asWritten (answerRow o n kept x (matchTable o n kept x))) (dueOver o (A ++ F)) rows by-row
         where
-          sorted-kept : sorted o (keptRows o rows held) ≡ true
-          sorted-kept = kept-sorted o rows held sorted-held
-
-          by-row : (i : ℕ) → i < length rows → (d : List Cell) → asWritten (matchTable o (j .pruned + first) (keptRows o rows held) (getD rows i d)) ≡ asWritten (matchTable o 0 (A ++ F) (getD rows i d))
-          by-row i h d = rw (getD-any rows i d [] h) (ap asWritten (each-row i h))
+          by-row : (i : ℕ) → i < length rows → (d : List Cell)
+              → asWritten (answerRow o (j .pruned + first) (keptRows o rows held) (getD rows i d) (matchTable o (j .pruned + first) (keptRows o rows held) (getD rows i d))) ≡ dueOver o (A ++ F) (getD rows i d)
+          by-row i h d = rw (getD-any rows i d [] h) (ap asWritten (each-answer i h))
 
       -- What was dropped matters to no later row.
       pub harmless-after : (x : List Cell) → All (λ y. AtMost (cmpRow o) y x) (T ++ rows)
@@ -278,12 +284,6 @@ module _ (o : Options) (L R Os : List Words) (ended : Bool) (j : Join) (S : Soun
         where
           sorted-kept-f : sorted o (keptRows o rows held ++ F) ≡ true
           sorted-kept-f = kept-sorted-more o rows held F sorted-hf
-
-    pub turned-after : (out : Words) → turnedOf o L (Os ++ (out ∷ [])) ≡ T ++ rows
-    unfolding turnedOf rowsIn
-    turned-after out =
-        let n : length (Os ++ (out ∷ [])) ≡ suc (length Os) = rw (length-append Os (out ∷ [])) (omega arith) in
-        rw (n, take-next (length Os) L f rest e, rows-in-append (columns o) (take (length Os) L) (f ∷ []), append-nil (frameRows (columns o) f))
 
     -- The last row with a key of the frame, or what was remembered, is below every later left row.
     left-below-after : (x : List Cell) → All (λ y. AtMost (cmpRow o) y x) (T ++ rows) → Below o (recall (columns o) (remembered o (j .«last_left») rows)) x
@@ -321,15 +321,17 @@ module _ (o : Options) (L R Os : List Words) (ended : Bool) (j : Join) (S : Soun
         go true = remember-last-below o (j .«last_right») (take last (drop first held)) (wide-enough o (rightColumns o) (omega arith) (take last (drop first held)) wide) x d (S .right-below x (c .0))
         go false = S .right-below x (c .0)
 
-    pub sound-turn : (out : Words) → Sound o L R (Os ++ (answered (matchedBy o j rows held) out ∷ [])) ended (leftBy o j rows held (length f))
+    pub sound-turn : (out : Words) → Sound o L R (Os ++ (answered o (matchedBy o j rows held) out ∷ [])) ended (leftBy o j rows held (length f))
     unfolding leftBy dropped dequeued matchesIn
     sound-turn out =
-        let out′ = answered (matchedBy o j rows held) out in
+        let out′ = answered o (matchedBy o j rows held) out in
+        let n = turned-after o L Os f rest e out′ in
         record {
           matches = λ F q sf.
-              rw (turned-after out′, matches-append Os (out′ ∷ []), append-nil (writtenIn out′), map-append (λ x. asWritten (matchTable o 0 (A ++ F) x)) T rows, frame-written F q sf out) (ap (λ (z : List Entry). z ++ map (λ x. asWritten (matchTable o 0 (A ++ F) x)) rows) (S .matches F q sf));
-          harmless = λ F q sf x h. harmless-after F q sf x (rw (turned-after out′) at h);
-          left-below = λ x h. left-below-after x (rw (turned-after out′) at h);
+              rw (n, matches-append (answerColumns o) Os (out′ ∷ []), append-nil (writtenIn (answerColumns o) out′), map-append (dueOver o (A ++ F)) T rows, frame-written F q sf out)
+              (ap (λ (z : List Entry). z ++ map (dueOver o (A ++ F)) rows) (S .matches F q sf));
+          harmless = λ F q sf x h. harmless-after F q sf x (rw n at h);
+          left-below = λ x h. left-below-after x (rw n at h);
           right-below = right-below-after;
           unfailed = S .unfailed;
         }
@@ -340,36 +342,35 @@ contra p q = let z : _≡_ {A = ℕ} 0 1 = cc in absurd (omega arith)
 -- ---- the other calls that change what Sound speaks of
 module _ (o : Options) (L R Os : List Words) (ended : Bool) (j : Join) (S : Sound o L R Os ended j) where
   -- A join that differs in other fields alone; right may end.
-  pub sound-same : (k : Join) → k .pruned ≡ j .pruned → k .«last_left» ≡ j .«last_left» → k .«last_right» ≡ j .«last_right» → k .failed ≡ j .failed
+  pub sound-same : (k : Join) → k .pruned ≡ j .pruned → k .«last_left» ≡ j .«last_left» → k .«last_right» ≡ j .«last_right» → (sorted o (rowsIn (columns o) L) ≡ true → k .failed ≡ false)
       → (now : Bool) → (ended ≡ true → now ≡ true) → Sound o L R Os now k
   sound-same k ep el er ef now q = record {
     matches = λ F p sf. S .matches F (λ t. p (q t)) sf;
     harmless = λ F p sf x h. rw ep (S .harmless F (λ t. p (q t)) sf x h);
     left-below = λ x h. rw el (S .left-below x h);
     right-below = λ x h. rw er (S .right-below x (rw ep at h));
-    unfailed = ef ∙ S .unfailed;
+    unfailed = ef;
   }
 
   -- A left frame more.
   pub sound-left : (f : Words) → length Os ≤ length L → Sound o (L ++ (f ∷ [])) R Os ended j
-  unfolding turnedOf
   sound-left f g =
-      let n : take (length Os) (L ++ (f ∷ [])) ≡ take (length Os) L = take-more (length Os) L (f ∷ []) g in
+      let n = turned-more o L Os f g in
       record {
         matches = λ F p sf. rw n (S .matches F p sf);
         harmless = λ F p sf x h. S .harmless F p sf x (rw n at h);
         left-below = λ x h. S .left-below x (rw n at h);
         right-below = S .right-below;
-        unfailed = S .unfailed;
+        unfailed = λ sl. S .unfailed (sorted-cut o (rowsIn (columns o) L) (rowsIn (columns o) (f ∷ [])) (rw (rows-in-append (columns o) L (f ∷ [])) at sl) .0);
       }
 
   -- A right frame more, while right has not ended.
-  pub sound-right : (f : Words) → ended ≡ false → j .pruned ≤ length (rowsIn (columns o) R) → Sound o L (R ++ (f ∷ [])) Os ended j
+  pub sound-right : (f : Words) → ended ≡ false → j .pruned ≤ length (rowsIn (rightColumns o) R) → Sound o L (R ++ (f ∷ [])) Os ended j
   unfolding rowsIn
   sound-right f open-still few =
-      let A = rowsIn (columns o) R in
-      let new = frameRows (columns o) f in
-      let n : rowsIn (columns o) (R ++ (f ∷ [])) ≡ A ++ new = rows-in-append (columns o) R (f ∷ []) ∙ ap (λ (z : Rows). A ++ z) (append-nil new) in
+      let A = rowsIn (rightColumns o) R in
+      let new = frameRows (rightColumns o) f in
+      let n : rowsIn (rightColumns o) (R ++ (f ∷ [])) ≡ A ++ new = rows-in-append (rightColumns o) R (f ∷ []) ∙ ap (λ (z : Rows). A ++ z) (append-nil new) in
       record {
         matches = λ F p sf. rw (n, append-assoc A new F) (S .matches (new ++ F) (λ t. contra t open-still) (rw (n, append-assoc A new F) at sf));
         harmless = λ F p sf x h. rw (n, append-assoc A new F, drop-append-le (j .pruned) A new few, append-assoc (drop (j .pruned) A) new F) (S .harmless (new ++ F) (λ t. contra t open-still) (rw (n, append-assoc A new F) at sf) x h);

@@ -8,8 +8,8 @@ use lib.Dec.{ltb, eqb}
 use lib.ListN.{length, getD, take, drop, take-append-drop}
 use lib.Seq.{drop-append-le, drop-drop}
 use Rattle.frames.specs.Cells.{Cell, Rows, Words}
-use Rattle.frames.specs.Frame.{frameRows}
-use Rattle.options.specs.Options.{columns, badOptions, isOn}
+use Rattle.frames.specs.Frame.{frameWords, frameRows}
+use Rattle.options.specs.Options.{rightColumns, answerColumns, refusedOptions, isOn}
 use Rattle.order.specs.Order.{sorted}
 use Rattle.order.specs.Keyed.{recall, rememberLast}
 use Rattle.options.specs.declared.Options.{Options}
@@ -44,7 +44,7 @@ use Rattle.lists.proofs.SplitAlone.{Low, split-only, low-push, low-turn
 
 -- With the check on: what is remembered of right is low.
 abbrev pub LowAt : Options → List Event → World → Type 0
-LowAt o es w = isOn (o .check) ≡ true → Low o (rightEnded es) (w .join .«last_right») (drop (w .join .pruned) (rowsIn (columns o) (rightFrames es)))
+LowAt o es w = isOn (o .check) ≡ true → Low o (rightEnded es) (w .join .«last_right») (drop (w .join .pruned) (rowsIn (rightColumns o) (rightFrames es)))
 
 low-more : (o : Options) (ended now : Bool) (m : Row) (held : Rows) → Low o ended m held → (ended ≡ true → now ≡ true) → Low o now m held
 low-more o true now m held L q = record { empty = λ z n. absurd (let e : false ≡ true = sym n ∙ q refl in let x : _≡_ {A = ℕ} 0 1 = cc in omega arith); first = L .first }
@@ -78,7 +78,7 @@ passed o j rows held out q e =
     let p3 = past (j .failed) (TurnRefused Failed) _ (Wrote q) (refused-apart Failed q) e in
     let p4 = past (isDone (j .state)) (TurnRefused Closed) _ (Wrote q) (refused-apart Closed q) (p3 .1) in
     let p = past (not (j .«right_ended») && needMore o rows held) WantsRight _ (Wrote q) (wants-apart q) (p4 .1) in
-    let p6 = past (ltb (length out) (2 + 2 * length rows)) (TurnRefused NoRoom) _ (Wrote q) (refused-apart NoRoom q) (p .1) in
+    let p6 = past (ltb (length out) (frameWords (length rows) (answerColumns o))) (TurnRefused NoRoom) _ (Wrote q) (refused-apart NoRoom q) (p .1) in
     let p7 = past (eqb (j .sequence) lastSequence) (TurnRefused UsedUp) _ (Wrote q) (refused-apart UsedUp q) (p6 .1) in
     let p8 = past (badLeft o (j .«last_left») rows) (TurnRefused LeftOrder) _ (Wrote q) (refused-apart LeftOrder q) (p7 .1) in
     let p9 = past (badRight o (j .«last_right») rows held) (TurnRefused RightOrder) _ (Wrote q) (refused-apart RightOrder q) (p8 .1) in
@@ -100,7 +100,7 @@ after-turn o j xs A n ended on L =
     let z : drop p (drop (j .pruned) A) ≡ drop (j .pruned + (0 + p)) A = drop-drop p (j .pruned) A ∙ ap (λ (k : ℕ). drop k A) n in
     rw on (rw z at L)
 
-module _ (o : Options) (l r : Words) (allowed : badOptions o ≡ false) (es : List Event) (w : World) (i : Inv o l r es w) (S : LowAt o es w) where
+module _ (o : Options) (l r : Words) (allowed : refusedOptions o ≡ false) (es : List Event) (w : World) (i : Inv o l r es w) (S : LowAt o es w) where
   abbrev j : Join
   j = w .join
 
@@ -128,10 +128,10 @@ module _ (o : Options) (l r : Words) (allowed : badOptions o ≡ false) (es : Li
   unfolding pushedRight rightFrames rightEnded rowsIn
   pushes f u =
       let open-still : rightEnded es ≡ false = sym (i .flags .ended) ∙ or-first (j .«right_ended») (isDone (j .state)) u in
-      let A = rowsIn (columns o) (rightFrames es) in
+      let A = rowsIn (rightColumns o) (rightFrames es) in
       let few : j .pruned ≤ length A = omega (arith, i .stock .rows) in
-      rw (right-append es (onRight f Accepted ∷ []), ended-append es (onRight f Accepted ∷ []), or-false (rightEnded es), rows-in-append (columns o) (rightFrames es) (f ∷ []), append-nil (frameRows (columns o) f), drop-append-le (j .pruned) A (frameRows (columns o) f) few, open-still)
-      (λ on. low-push o (j .«last_right») (drop (j .pruned) A) (frameRows (columns o) f) (rw open-still at (S on)))
+      rw (right-append es (onRight f Accepted ∷ []), ended-append es (onRight f Accepted ∷ []), or-false (rightEnded es), rows-in-append (rightColumns o) (rightFrames es) (f ∷ []), append-nil (frameRows (rightColumns o) f), drop-append-le (j .pruned) A (frameRows (rightColumns o) f) few, open-still)
+      (λ on. low-push o (j .«last_right») (drop (j .pruned) A) (frameRows (rightColumns o) f) (rw open-still at (S on)))
 
   low-right : (f : Words) → LowAt o (es ++ (step w (right f) .event ∷ [])) (step w (right f) .world)
   unfolding step rightCall pushedRight
@@ -158,19 +158,19 @@ module _ (o : Options) (l r : Words) (allowed : badOptions o ≡ false) (es : Li
       go (Ports a b d) e = rw (e, portsCall) (quiet (onPorts l′ r′ s′ (Ports a b d)) (stateAt j (portsState j l′ s′)) (w .left) (w .right) refl refl refl)
 
   wrote : (out : Words) (q : ℕ) (f : Words) (rest : List Words) (d : drop (length (outputs es)) (leftFrames es) ≡ f ∷ rest) → turnAnswer j (w .left) (w .right) out ≡ Wrote q
-      → LowAt o (es ++ (onTurn (Wrote (j .sequence)) (answered (matchedBy o j (rows o l r allowed es w i f rest d) (held o l r allowed es w i)) out) ∷ []))
+      → LowAt o (es ++ (onTurn (Wrote (j .sequence)) (answered o (matchedBy o j (rows o l r allowed es w i f rest d) (held o l r allowed es w i)) out) ∷ []))
       (record { join = leftBy o j (rows o l r allowed es w i f rest d) (held o l r allowed es w i) (length f); left = w .left; right = w .right })
   unfolding rightFrames rightEnded held
   wrote out q f rest d e =
-      let ev = onTurn (Wrote (j .sequence)) (answered (matchedBy o j (rows o l r allowed es w i f rest d) (held o l r allowed es w i)) out) in
-      let A = rowsIn (columns o) (rightFrames es) in
+      let ev = onTurn (Wrote (j .sequence)) (answered o (matchedBy o j (rows o l r allowed es w i f rest d) (held o l r allowed es w i)) out) in
+      let A = rowsIn (rightColumns o) (rightFrames es) in
       let R = rows o l r allowed es w i f rest d in
       let p = passed o j R (drop (j .pruned) A) out q (sym (answer-is o l r allowed es w i f rest d out) ∙ e) in
       rw (right-append es (ev ∷ []), append-nil (rightFrames es), ended-append es (ev ∷ []), or-false (rightEnded es))
       (λ on.
       after-turn o j R A (length f) (rightEnded es) on
       (low-turn o (rightEnded es) (j .«last_right») R (drop (j .pruned) A) (S on) (sorted-by o (j .«last_right») R (drop (j .pruned) A) on (p .fine))
-      (wide-drop (columns o) (j .pruned) A (rows-in-wide (columns o) (rightFrames es) (i .stock .right-frames)))
+      (wide-drop (rightColumns o) (j .pruned) A (rows-in-wide (rightColumns o) (rightFrames es) (i .stock .right-frames)))
       (λ t. p .need (i .flags .ended ∙ t))))
 
   refuses : (n : Refusal) (out : Words) → LowAt o (es ++ (onTurn (TurnRefused n) out ∷ [])) (record { join = spoiled n j; left = w .left; right = w .right })
@@ -195,7 +195,7 @@ module _ (o : Options) (l r : Words) (allowed : badOptions o ≡ false) (es : Li
       go Idle e = rw (e, turnCall) (quiet (onTurn Idle out) j (w .left) (w .right) refl refl refl)
       go (TurnRefused n) e = rw (e, turnCall) (refuses n out)
 
-module _ (o : Options) (l r : Words) (allowed : badOptions o ≡ false) where
+module _ (o : Options) (l r : Words) (allowed : refusedOptions o ≡ false) where
   low-step : (es : List Event) (w : World) → Inv o l r es w → LowAt o es w → (c : Call) → LowAt o (es ++ (step w c .event ∷ [])) (step w c .world)
   low-step es w i S (left f) = low-left o l r allowed es w i S f
   low-step es w i S (right f) = low-right o l r allowed es w i S f
@@ -222,9 +222,9 @@ module _ (o : Options) (l r : Words) (allowed : badOptions o ≡ false) where
       let w = final (start o l r) calls in
       let es = events (start o l r) calls in
       let i : Inv o l r es w = inv-list o l r allowed calls [] (start o l r) (inv-start o l r allowed) in
-      let e : heldOf (w .join) (w .right) ≡ drop (w .join .pruned) (rowsIn (columns o) (rightFrames es)) = held-is o l r allowed es w i in
+      let e : heldOf (w .join) (w .right) ≡ drop (w .join .pruned) (rowsIn (rightColumns o) (rightFrames es)) = held-is o l r allowed es w i in
       let L = low-list calls [] (start o l r) (inv-start o l r allowed) low-start on in
-      rw e (split-only o (rightEnded es) (w .join .«last_right») (drop (w .join .pruned) (rowsIn (columns o) (rightFrames es))) L (rw e at s) k xs)
+      rw e (split-only o (rightEnded es) (w .join .«last_right») (drop (w .join .pruned) (rowsIn (rightColumns o) (rightFrames es))) L (rw e at s) k xs)
 
   -- So what is asked of the right side is whether the held rows are sorted.
   right-fault-is : (calls : List Call) (xs : Rows)

@@ -10,7 +10,7 @@ use lib.IntN.{ℤ}
 use lib.ListN.{length, take, drop}
 use Rattle.frames.specs.Cells.{Cell, Rows, Words}
 use Rattle.frames.specs.Frame.{frameRows, isFrame}
-use Rattle.options.specs.Options.{columns, badOptions}
+use Rattle.options.specs.Options.{columns, rightColumns, refusedOptions}
 use Rattle.order.specs.Order.{sorted}
 use Rattle.order.specs.Keyed.{recall}
 use Rattle.options.specs.declared.Options.{Options}
@@ -39,12 +39,13 @@ use Rattle.lists.proofs.ListLaws.{left-append, right-append, outputs-ap
 use Rattle.lists.proofs.Stock.{Stock, next-frame}
 use Rattle.lists.proofs.Invariant.{Inv, left-passed, right-passed, inv-left, inv-right, inv-end, inv-ports}
 use Rattle.lists.proofs.Turn.{judged, judged-all, leftBy, matchedBy, held, rows, answer-is, turned-is, idle-is, no-write, inv-turn}
-use Rattle.lists.proofs.Sound.{Sound, contra, turnedOf, left-fine, right-fine, sound-turn, sound-same, sound-left, sound-right}
+use Rattle.lists.proofs.Turned.{turnedOf, next-sorted, turned-after, turned-more}
+use Rattle.lists.proofs.Sound.{Sound, contra, left-fine, right-fine, sound-turn, sound-same, sound-left, sound-right}
 
--- Sound, where both sides are sorted.
+-- Sound, where the left rows turned and the right rows are sorted.
 abbrev pub SoundAt : Options → List Event → World → Type 0
 SoundAt o es w =
-    sorted o (rowsIn (columns o) (leftFrames es)) ≡ true → sorted o (rowsIn (columns o) (rightFrames es)) ≡ true
+    sorted o (turnedOf o (leftFrames es) (outputs es)) ≡ true → sorted o (rowsIn (rightColumns o) (rightFrames es)) ≡ true
     → Sound o (leftFrames es) (rightFrames es) (outputs es) (rightEnded es) (w .join)
 
 -- ---- what a turn that writes has passed; and that sorted rows are never refused for their order
@@ -84,30 +85,37 @@ idle-ordered true d = record { not8 = refl; not9 = refl }
 idle-ordered false true = record { not8 = refl; not9 = refl }
 idle-ordered false false = record { not8 = refl; not9 = refl }
 
-module _ (o : Options) (l r : Words) (allowed : badOptions o ≡ false) (es : List Event) (w : World) (i : Inv o l r es w) (S : SoundAt o es w) where
+module _ (o : Options) (l r : Words) (allowed : refusedOptions o ≡ false) (es : List Event) (w : World) (i : Inv o l r es w) (S : SoundAt o es w) where
   abbrev j : Join
   j = w .join
 
+  abbrev SoundNow : Type 0
+  SoundNow = Sound o (leftFrames es) (rightFrames es) (outputs es) (rightEnded es) (w .join)
+
   -- An event that adds no frame and no output, and a join that differs in other fields alone.
-  quiet : (e : Event) (k : Join) → leftIn e ≡ [] → rightIn e ≡ [] → outputIn e ≡ [] → k .pruned ≡ j .pruned → k .«last_left» ≡ j .«last_left» → k .«last_right» ≡ j .«last_right» → k .failed ≡ j .failed
+  quiet : (e : Event) (k : Join) → leftIn e ≡ [] → rightIn e ≡ [] → outputIn e ≡ [] → k .pruned ≡ j .pruned → k .«last_left» ≡ j .«last_left» → k .«last_right» ≡ j .«last_right»
+      → (SoundNow → sorted o (rowsIn (rightColumns o) (rightFrames es)) ≡ true → sorted o (rowsIn (columns o) (leftFrames es)) ≡ true → k .failed ≡ false)
       → SoundAt o (es ++ (e ∷ [])) (record { join = k; left = w .left; right = w .right })
   unfolding leftFrames rightFrames outputs
   quiet e k el er eo ep ell err ef =
       rw (left-append es (e ∷ []), right-append es (e ∷ []), outputs-append es (e ∷ []), el, er, eo, append-nil (leftFrames es), append-nil (rightFrames es), append-nil (outputs es), ended-append es (e ∷ []))
-      (λ sl sr. sound-same o (leftFrames es) (rightFrames es) (outputs es) (rightEnded es) j (S sl sr) k ep ell err ef (rightEnded es || rightEnded (e ∷ [])) (λ t. rw t))
+      (λ st sr.
+      let now = S st sr in
+      sound-same o (leftFrames es) (rightFrames es) (outputs es) (rightEnded es) j now k ep ell err (ef now sr) (rightEnded es || rightEnded (e ∷ [])) (λ t. rw t))
 
   still : (e : Event) → leftIn e ≡ [] → rightIn e ≡ [] → outputIn e ≡ [] → SoundAt o (es ++ (e ∷ [])) (record { join = j; left = w .left; right = w .right })
-  still e el er eo = quiet e j el er eo refl refl refl refl
+  still e el er eo = quiet e j el er eo refl refl refl (λ n sr. n .unfailed)
 
   sound-queued : (f : Words)
       → SoundAt o (es ++ (onLeft f (queued j (w .left) (w .right) f .answer) ∷ []))
       (record { join = queued j (w .left) (w .right) f .join; left = queued j (w .left) (w .right) f .left; right = queued j (w .left) (w .right) f .right })
   unfolding queued leftFrames rightFrames outputs rightEnded
   sound-queued f =
-      rw (left-append es (onLeft f Accepted ∷ []), right-append es (onLeft f Accepted ∷ []), outputs-append es (onLeft f Accepted ∷ []), append-nil (rightFrames es), append-nil (outputs es), ended-append es (onLeft f Accepted ∷ []), or-false (rightEnded es), rows-in-append (columns o) (leftFrames es) (f ∷ []))
-      (λ sl sr.
+      rw (left-append es (onLeft f Accepted ∷ []), right-append es (onLeft f Accepted ∷ []), outputs-append es (onLeft f Accepted ∷ []), append-nil (rightFrames es), append-nil (outputs es), ended-append es (onLeft f Accepted ∷ []), or-false (rightEnded es), turned-more o (leftFrames es) (outputs es) f (i .stock .gone))
+      (λ st sr.
+      let now = S st sr in
       sound-left o (leftFrames es) (rightFrames es) (outputs es) (rightEnded es) (queued j (w .left) (w .right) f .join)
-      (sound-same o (leftFrames es) (rightFrames es) (outputs es) (rightEnded es) j (S (sorted-cut o (rowsIn (columns o) (leftFrames es)) (rowsIn (columns o) (f ∷ [])) sl .0) sr) (queued j (w .left) (w .right) f .join) refl refl refl refl (rightEnded es) (λ t. t))
+      (sound-same o (leftFrames es) (rightFrames es) (outputs es) (rightEnded es) j now (queued j (w .left) (w .right) f .join) refl refl refl (now .unfailed) (rightEnded es) (λ t. t))
       f (i .stock .gone))
 
   pub sound-on-left : (f : Words) → SoundAt o (es ++ (step w (left f) .event ∷ [])) (step w (left f) .world)
@@ -128,10 +136,11 @@ module _ (o : Options) (l r : Words) (allowed : badOptions o ≡ false) (es : Li
   unfolding pushedRight leftFrames rightFrames outputs rightEnded
   sound-pushed f u =
       let open-still : rightEnded es ≡ false = sym (i .flags .ended) ∙ or-false-both (j .«right_ended») (isDone (j .state)) u in
-      rw (left-append es (onRight f Accepted ∷ []), right-append es (onRight f Accepted ∷ []), outputs-append es (onRight f Accepted ∷ []), append-nil (leftFrames es), append-nil (outputs es), ended-append es (onRight f Accepted ∷ []), or-false (rightEnded es), rows-in-append (columns o) (rightFrames es) (f ∷ []))
-      (λ sl sr.
+      rw (left-append es (onRight f Accepted ∷ []), right-append es (onRight f Accepted ∷ []), outputs-append es (onRight f Accepted ∷ []), append-nil (leftFrames es), append-nil (outputs es), ended-append es (onRight f Accepted ∷ []), or-false (rightEnded es), rows-in-append (rightColumns o) (rightFrames es) (f ∷ []))
+      (λ st sr.
+      let now = S st (sorted-cut o (rowsIn (rightColumns o) (rightFrames es)) (rowsIn (rightColumns o) (f ∷ [])) sr .0) in
       sound-right o (leftFrames es) (rightFrames es) (outputs es) (rightEnded es) (pushedRight j (w .left) (w .right) f .join)
-      (sound-same o (leftFrames es) (rightFrames es) (outputs es) (rightEnded es) j (S sl (sorted-cut o (rowsIn (columns o) (rightFrames es)) (rowsIn (columns o) (f ∷ [])) sr .0)) (pushedRight j (w .left) (w .right) f .join) refl refl refl refl (rightEnded es) (λ t. t))
+      (sound-same o (leftFrames es) (rightFrames es) (outputs es) (rightEnded es) j now (pushedRight j (w .left) (w .right) f .join) refl refl refl (now .unfailed) (rightEnded es) (λ t. t))
       f open-still (omega (arith, i .stock .rows)))
 
   pub sound-on-right : (f : Words) → SoundAt o (es ++ (step w (right f) .event ∷ [])) (step w (right f) .world)
@@ -148,7 +157,7 @@ module _ (o : Options) (l r : Words) (allowed : badOptions o ≡ false) (es : Li
     where
       go : (a : Took) → endAnswer j (w .left) (w .right) ≡ a → SoundAt o (es ++ (step w end .event ∷ [])) (step w end .world)
       go (Refused n) e = rw (e, endCall) (still (onEnd (Refused n)) refl refl refl)
-      go Accepted e = rw (e, endCall) (quiet (onEnd Accepted) (endedRight j) refl refl refl refl refl refl refl)
+      go Accepted e = rw (e, endCall) (quiet (onEnd Accepted) (endedRight j) refl refl refl refl refl refl (λ n sr. n .unfailed))
 
   pub sound-on-ports : (l′ r′ s′ : PortState) → SoundAt o (es ++ (step w (ports l′ r′ s′) .event ∷ [])) (step w (ports l′ r′ s′) .world)
   unfolding step portsCall
@@ -156,49 +165,50 @@ module _ (o : Options) (l r : Words) (allowed : badOptions o ≡ false) (es : Li
     where
       go : (a : Ported) → portsAnswer j (w .left) (w .right) l′ r′ s′ ≡ a → SoundAt o (es ++ (step w (ports l′ r′ s′) .event ∷ [])) (step w (ports l′ r′ s′) .world)
       go (PortsRefused n) e = rw (e, portsCall) (still (onPorts l′ r′ s′ (PortsRefused n)) refl refl refl)
-      go (Ports a b d) e = rw (e, portsCall) (quiet (onPorts l′ r′ s′ (Ports a b d)) (stateAt j (portsState j l′ s′)) refl refl refl refl refl refl refl)
+      go (Ports a b d) e = rw (e, portsCall) (quiet (onPorts l′ r′ s′ (Ports a b d)) (stateAt j (portsState j l′ s′)) refl refl refl refl refl refl (λ n sr. n .unfailed))
 
   -- ---- turns
-  module _ (sl : sorted o (rowsIn (columns o) (leftFrames es)) ≡ true) (sr : sorted o (rowsIn (columns o) (rightFrames es)) ≡ true) where
-    now : Sound o (leftFrames es) (rightFrames es) (outputs es) (rightEnded es) j
-    now = S sl sr
-
-    few : j .pruned ≤ length (rowsIn (columns o) (rightFrames es))
+  module _ (sr : sorted o (rowsIn (rightColumns o) (rightFrames es)) ≡ true) where
+    few : j .pruned ≤ length (rowsIn (rightColumns o) (rightFrames es))
     few = omega (arith, i .stock .rows)
 
     module _ (f : Words) (rest : List Words) (e : drop (length (outputs es)) (leftFrames es) ≡ f ∷ rest) where
       frame : isFrame (columns o) f ≡ true
       frame = next-frame o l r (leftFrames es) (rightFrames es) (outputs es) j (w .left) (w .right) (i .stock) f rest e
 
-      pub no-left-fault : badLeft o (j .«last_left») (rows o l r allowed es w i f rest e) ≡ false
-      unfolding rows
-      no-left-fault = left-fine o (leftFrames es) (rightFrames es) (outputs es) (rightEnded es) j now (i .stock .right-frames) few f rest frame e sl sr
+      -- Where the frame is sorted behind the rows turned.
+      module _ (st : sorted o (turnedOf o (leftFrames es) (outputs es) ++ frameRows (columns o) f) ≡ true) where
+        now : SoundNow
+        now = S (sorted-cut o (turnedOf o (leftFrames es) (outputs es)) (frameRows (columns o) f) st .0) sr
 
-      pub no-right-fault : badRight o (j .«last_right») (rows o l r allowed es w i f rest e) (held o l r allowed es w i) ≡ false
-      unfolding rows held
-      no-right-fault = right-fine o (leftFrames es) (rightFrames es) (outputs es) (rightEnded es) j now (i .stock .right-frames) few f rest frame e sl sr
+        pub no-left-fault : badLeft o (j .«last_left») (rows o l r allowed es w i f rest e) ≡ false
+        unfolding rows
+        no-left-fault = left-fine o (leftFrames es) (rightFrames es) (outputs es) (rightEnded es) j now (i .stock .right-frames) few f rest frame e st sr
 
-      pub after-turn : (out : Words) → Passed o j (rows o l r allowed es w i f rest e) (held o l r allowed es w i)
-          → Sound o (leftFrames es) (rightFrames es) (outputs es ++ (answered (matchedBy o j (rows o l r allowed es w i f rest e) (held o l r allowed es w i)) out ∷ [])) (rightEnded es) (leftBy o j (rows o l r allowed es w i f rest e) (held o l r allowed es w i) (length f))
-      unfolding rows held
-      after-turn out p =
-          sound-turn o (leftFrames es) (rightFrames es) (outputs es) (rightEnded es) j now (i .stock .right-frames) few f rest frame e sl sr (λ t. p .need (i .flags .ended ∙ t)) out
+        pub no-right-fault : badRight o (j .«last_right») (rows o l r allowed es w i f rest e) (held o l r allowed es w i) ≡ false
+        unfolding rows held
+        no-right-fault = right-fine o (leftFrames es) (rightFrames es) (outputs es) (rightEnded es) j now (i .stock .right-frames) few f rest frame e st sr
 
-    pub turn-ordered : (out : Words) → Ordered (turnAnswer j (w .left) (w .right) out)
-    turn-ordered out = go (drop (length (outputs es)) (leftFrames es)) refl
+        pub after-turn : (out : Words) → Passed o j (rows o l r allowed es w i f rest e) (held o l r allowed es w i)
+            → Sound o (leftFrames es) (rightFrames es) (outputs es ++ (answered o (matchedBy o j (rows o l r allowed es w i f rest e) (held o l r allowed es w i)) out ∷ [])) (rightEnded es) (leftBy o j (rows o l r allowed es w i f rest e) (held o l r allowed es w i) (length f))
+        unfolding rows held
+        after-turn out p =
+            sound-turn o (leftFrames es) (rightFrames es) (outputs es) (rightEnded es) j now (i .stock .right-frames) few f rest frame e st sr (λ t. p .need (i .flags .ended ∙ t)) out
+
+    pub turn-ordered : sorted o (rowsIn (columns o) (leftFrames es)) ≡ true → (out : Words) → Ordered (turnAnswer j (w .left) (w .right) out)
+    turn-ordered sl out = go (drop (length (outputs es)) (leftFrames es)) refl
       where
         go : (fs : List Words) → drop (length (outputs es)) (leftFrames es) ≡ fs → Ordered (turnAnswer j (w .left) (w .right) out)
         go [] e = rw (idle-is o l r allowed es w i out e) (idle-ordered (j .failed) (isDone (j .state)))
-        go (f ∷ rest) e = rw (answer-is o l r allowed es w i f rest e out) (judged-ordered o j (rows o l r allowed es w i f rest e) (held o l r allowed es w i) out (no-left-fault f rest e) (no-right-fault f rest e))
+        go (f ∷ rest) e =
+            let st = next-sorted o (leftFrames es) (outputs es) f rest e sl in
+            rw (answer-is o l r allowed es w i f rest e out) (judged-ordered o j (rows o l r allowed es w i f rest e) (held o l r allowed es w i) out (no-left-fault f rest e st) (no-right-fault f rest e st))
 
-  -- A refused turn of sorted rows changes nothing: it is not refused for their order.
-  spoils-not : (n : Refusal) (out : Words) → marksFailed n ≡ true → turnAnswer j (w .left) (w .right) out ≡ TurnRefused n
+  -- A turn that is refused for the order of rows: they were not all sorted.
+  spoils : (n : Refusal) (out : Words) → marksFailed n ≡ true → turnAnswer j (w .left) (w .right) out ≡ TurnRefused n
       → SoundAt o (es ++ (onTurn (TurnRefused n) out ∷ [])) (record { join = markedFailed j; left = w .left; right = w .right })
-  unfolding leftFrames rightFrames outputs
-  spoils-not n out t e =
-      let ev = onTurn (TurnRefused n) out in
-      rw (left-append es (ev ∷ []), right-append es (ev ∷ []), outputs-append es (ev ∷ []), append-nil (leftFrames es), append-nil (rightFrames es), append-nil (outputs es), ended-append es (ev ∷ []))
-      (λ sl sr. absurd (never (rw e at (turn-ordered sl sr out))))
+  spoils n out t e =
+      quiet (onTurn (TurnRefused n) out) (markedFailed j) refl refl refl refl refl refl (λ s sr sl. absurd (never (rw e at (turn-ordered sr sl out))))
     where
       never : Ordered (TurnRefused n) → ⊥
       never p = let q : false ≡ true = rw (p .not8, p .not9) at t in let z : _≡_ {A = ℕ} 0 1 = cc in omega arith
@@ -207,17 +217,18 @@ module _ (o : Options) (l r : Words) (allowed : badOptions o ≡ false) (es : Li
       → SoundAt o (es ++ (onTurn (TurnRefused n) out ∷ [])) (record { join = spoiled n j; left = w .left; right = w .right })
   sound-refused n out e =
       marked-ind (λ (k : Join). SoundAt o (es ++ (onTurn (TurnRefused n) out ∷ [])) (record { join = k; left = w .left; right = w .right })) n
-      (λ t. spoils-not n out t e) (λ not8 not9. still (onTurn (TurnRefused n) out) refl refl refl)
+      (λ t. spoils n out t e) (λ not8 not9. still (onTurn (TurnRefused n) out) refl refl refl)
 
   sound-wrote : (out : Words) (q : ℕ) (f : Words) (rest : List Words) (d : drop (length (outputs es)) (leftFrames es) ≡ f ∷ rest) → turnAnswer j (w .left) (w .right) out ≡ Wrote q
-      → SoundAt o (es ++ (onTurn (Wrote (j .sequence)) (answered (matchedBy o j (rows o l r allowed es w i f rest d) (held o l r allowed es w i)) out) ∷ []))
+      → SoundAt o (es ++ (onTurn (Wrote (j .sequence)) (answered o (matchedBy o j (rows o l r allowed es w i f rest d) (held o l r allowed es w i)) out) ∷ []))
       (record { join = leftBy o j (rows o l r allowed es w i f rest d) (held o l r allowed es w i) (length f); left = w .left; right = w .right })
   unfolding leftFrames rightFrames outputs rightEnded
   sound-wrote out q f rest d e =
-      let ev = onTurn (Wrote (j .sequence)) (answered (matchedBy o j (rows o l r allowed es w i f rest d) (held o l r allowed es w i)) out) in
+      let out′ = answered o (matchedBy o j (rows o l r allowed es w i f rest d) (held o l r allowed es w i)) out in
+      let ev = onTurn (Wrote (j .sequence)) out′ in
       let p = passed o j (rows o l r allowed es w i f rest d) (held o l r allowed es w i) out q (sym (answer-is o l r allowed es w i f rest d out) ∙ e) in
-      rw (left-append es (ev ∷ []), right-append es (ev ∷ []), outputs-append es (ev ∷ []), append-nil (leftFrames es), append-nil (rightFrames es), ended-append es (ev ∷ []), or-false (rightEnded es))
-      (λ sl sr. after-turn sl sr f rest d out p)
+      rw (left-append es (ev ∷ []), right-append es (ev ∷ []), outputs-append es (ev ∷ []), append-nil (leftFrames es), append-nil (rightFrames es), ended-append es (ev ∷ []), or-false (rightEnded es), turned-after o (leftFrames es) (outputs es) f rest d out′)
+      (λ st sr. after-turn sr f rest d st out p)
 
   pub sound-on-turn : (out : Words) → SoundAt o (es ++ (step w (turn out) .event ∷ [])) (step w (turn out) .world)
   unfolding step turnCall
@@ -236,7 +247,7 @@ module _ (o : Options) (l r : Words) (allowed : badOptions o ≡ false) (es : Li
       go (TurnRefused n) e = rw (e, turnCall) (sound-refused n out e)
 
 -- ---- every list of calls
-module _ (o : Options) (l r : Words) (allowed : badOptions o ≡ false) where
+module _ (o : Options) (l r : Words) (allowed : refusedOptions o ≡ false) where
   pub inv-step : (es : List Event) (w : World) → Inv o l r es w → (c : Call) → Inv o l r (es ++ (step w c .event ∷ [])) (step w c .world)
   inv-step es w i (left f) = inv-left o l r allowed es w i f
   inv-step es w i (right f) = inv-right o l r allowed es w i f
@@ -278,8 +289,8 @@ module _ (o : Options) (l r : Words) (allowed : badOptions o ≡ false) where
       sequence = omega arith;
       gone = omega arith;
       waits = refl;
-      values = let z : 0 * columns o ≡ 0 = omega arith in rw z;
-      marks = let z : 0 * columns o ≡ 0 = omega arith in rw z;
+      values = let z : 0 * rightColumns o ≡ 0 = omega arith in rw z;
+      marks = let z : 0 * rightColumns o ≡ 0 = omega arith in rw z;
       left-frames = tt;
       right-frames = tt;
       rows = omega arith;
@@ -290,4 +301,4 @@ module _ (o : Options) (l r : Words) (allowed : badOptions o ≡ false) where
 
   pub sound-start : SoundAt o [] (start o l r)
   unfolding leftFrames rightFrames outputs rowsIn matchesIn turnedOf recall
-  sound-start sl sr = record { matches = λ F p sf. refl; harmless = λ F p sf x h. refl; left-below = λ x h. tt; right-below = λ x h. tt; unfailed = refl }
+  sound-start st sr = record { matches = λ F p sf. refl; harmless = λ F p sf x h. refl; left-below = λ x h. tt; right-below = λ x h. tt; unfailed = λ sl. refl }

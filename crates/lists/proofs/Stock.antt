@@ -10,23 +10,23 @@ use lib.ListN.{length, take, drop, length-append, length-drop, length-map}
 use lib.Seq.{drop-append-le, drop-drop, drop-at, take-at, length-take-le}
 use Rattle.frames.specs.Cells.{Rows, Words, rowsOf}
 use Rattle.frames.specs.Frame.{rowCount, frameWords, valuesIn, marksIn, isFrame, frameRows, front}
-use Rattle.options.specs.Options.{columns}
+use Rattle.options.specs.Options.{columns, rightColumns, answerColumns}
 use Rattle.options.specs.declared.Options.{Options}
 use Rattle.order.specs.declared.Row.{Row}
 use Rattle.frames.proofs.WordLaws.{map-append, drop-take, rows-read, rows-append, rows-drop, rows-length}
 use Rattle.frames.proofs.FrameLaws.{frame-length, values-length, marks-length, frame-rows, count-append}
 use Rattle.area.specs.Area.{capacity, heldRows, newBase, pushed, moved, written}
 use Rattle.area.proofs.PushLaws.{newBase-room, append-length, append-part, pushed-length, pushed-values, pushed-marks}
-use Rattle.matching.specs.declared.Choice.{Choice}
-use Rattle.matching.specs.Answer.{answered, numberWord, choiceMark}
-use Rattle.matching.proofs.AnswerLaws.{answered-count, answered-numbers, answered-marks}
+use Rattle.tables.proofs.TableLaws.{Wide}
+use Rattle.matching.specs.Answer.{answered}
 use Rattle.node.specs.declared.Join.{Join}
 use Rattle.node.specs.State.{queueAt, heldAt, nextTurn, heldOf, heldValues, heldMarks, waiting}
 use Rattle.outcomes.specs.Answers.{mostRows}
 use Rattle.node.specs.Calls.{dropped, dequeued, queued, pushedRight}
-use Rattle.lists.specs.Lists.{World, rowsIn, Entry, pairUp, writtenIn, matchesIn, backToBack}
+use Rattle.lists.specs.Lists.{World, rowsIn, writtenIn, matchesIn, backToBack}
 use Rattle.lists.specs.WholeTables.{asWritten}
 use Rattle.lists.proofs.ListLaws.{words-append, rows-in-append, matches-append, drop-more, take-more, take-next, drop-next}
+use Rattle.lists.proofs.EntryLaws.{written-back}
 
 -- Each is a frame of c columns.
 abbrev pub Frames : ℕ → List Words → Type 0
@@ -83,17 +83,17 @@ pub record Stock (o : Options) (l r : Words) (L R Os : List Words) (j : Join) (l
   pub left-length : length left ≡ length l
   pub right-length : length right ≡ length r
   pub queue-room : j .«queue_start» + j .«queue_words» ≤ length left
-  pub right-room : j .base + j .held ≤ capacity (columns o) right
+  pub right-room : j .base + j .held ≤ capacity (rightColumns o) right
   pub few : j .pruned + j .held ≤ mostRows
   pub sequence : j .sequence ≡ 2 * length Os
   pub gone : length Os ≤ length L
   pub waits : waiting j left ≡ backToBack (drop (length Os) L)
-  pub values : heldValues j right ≡ drop (j .pruned * columns o) (allValues (columns o) R)
-  pub marks : heldMarks j right ≡ drop (j .pruned * columns o) (allMarks (columns o) R)
+  pub values : heldValues j right ≡ drop (j .pruned * rightColumns o) (allValues (rightColumns o) R)
+  pub marks : heldMarks j right ≡ drop (j .pruned * rightColumns o) (allMarks (rightColumns o) R)
   pub left-frames : Frames (columns o) L
-  pub right-frames : Frames (columns o) R
-  pub rows : length (rowsIn (columns o) R) ≡ j .pruned + j .held
-  pub wrote : length (matchesIn Os) ≡ length (rowsIn (columns o) (take (length Os) L))
+  pub right-frames : Frames (rightColumns o) R
+  pub rows : length (rowsIn (rightColumns o) R) ≡ j .pruned + j .held
+  pub wrote : length (matchesIn (answerColumns o) Os) ≡ length (rowsIn (columns o) (take (length Os) L))
 
 -- ---- the three calls that change it
 module _ (o : Options) (l r : Words) (L R Os : List Words) (j : Join) (left right : Words) (s : Stock o l r L R Os j left right) where
@@ -151,43 +151,43 @@ module _ (o : Options) (l r : Words) (L R Os : List Words) (j : Join) (left righ
       }
 
   -- A right frame whose rows are pushed.
-  part-more : (part : Words → Words) → ((f : Words) → isFrame (columns o) f ≡ true → length (part f) ≡ rowCount f * columns o) → (f : Words)
-      → drop (j .pruned * columns o) (backToBack (map part R)) ++ part f ≡ drop (j .pruned * columns o) (backToBack (map part (R ++ (f ∷ []))))
+  part-more : (part : Words → Words) → ((f : Words) → isFrame (rightColumns o) f ≡ true → length (part f) ≡ rowCount f * rightColumns o) → (f : Words)
+      → drop (j .pruned * rightColumns o) (backToBack (map part R)) ++ part f ≡ drop (j .pruned * rightColumns o) (backToBack (map part (R ++ (f ∷ []))))
   unfolding backToBack
   part-more part law f =
-      let m : j .pruned * columns o ≤ length (rowsIn (columns o) R) * columns o = mul-le-mul-right (columns o) (omega (arith, s .rows)) in
-      let n : j .pruned * columns o ≤ length (backToBack (map part R)) = rw (parts-length (columns o) part law R (s .right-frames)) m in
+      let m : j .pruned * rightColumns o ≤ length (rowsIn (rightColumns o) R) * rightColumns o = mul-le-mul-right (rightColumns o) (omega (arith, s .rows)) in
+      let n : j .pruned * rightColumns o ≤ length (backToBack (map part R)) = rw (parts-length (rightColumns o) part law R (s .right-frames)) m in
       rw (map-append part R (f ∷ []), words-append (map part R) (part f ∷ []), append-nil (part f))
-      (sym (drop-append-le (j .pruned * columns o) (backToBack (map part R)) (part f) n))
+      (sym (drop-append-le (j .pruned * rightColumns o) (backToBack (map part R)) (part f) n))
 
-  pub stock-right : (f : Words) → isFrame (columns o) f ≡ true → j .held + rowCount f ≤ capacity (columns o) right → j .pruned + j .held + rowCount f ≤ mostRows
+  pub stock-right : (f : Words) → isFrame (rightColumns o) f ≡ true → j .held + rowCount f ≤ capacity (rightColumns o) right → j .pruned + j .held + rowCount f ≤ mostRows
       → Stock o l r L (R ++ (f ∷ [])) Os (pushedRight j left right f .join) (pushedRight j left right f .left) (pushedRight j left right f .right)
   unfolding pushedRight waiting heldValues heldMarks rowsIn
   stock-right f h room few =
-      let b = newBase (j .base) (j .held) (rowCount f) (capacity (columns o) right) in
-      let len : length (pushed (columns o) (j .base) (j .held) f right) ≡ length right = pushed-length (columns o) (j .base) (j .held) f right h (s .right-room) room in
-      let cap : capacity (columns o) (pushed (columns o) (j .base) (j .held) f right) ≡ capacity (columns o) right = ap (λ (n : ℕ). n / (2 * columns o)) len in
+      let b = newBase (j .base) (j .held) (rowCount f) (capacity (rightColumns o) right) in
+      let len : length (pushed (rightColumns o) (j .base) (j .held) f right) ≡ length right = pushed-length (rightColumns o) (j .base) (j .held) f right h (s .right-room) room in
+      let cap : capacity (rightColumns o) (pushed (rightColumns o) (j .base) (j .held) f right) ≡ capacity (rightColumns o) right = ap (λ (n : ℕ). n / (2 * rightColumns o)) len in
       record {
         options = s .options;
         left-length = s .left-length;
         right-length = rw (s .options) (len ∙ s .right-length);
         queue-room = s .queue-room;
-        right-room = rw (s .options, cap) (omega (arith, newBase-room (j .base) (j .held) (rowCount f) (capacity (columns o) right) room));
+        right-room = rw (s .options, cap) (omega (arith, newBase-room (j .base) (j .held) (rowCount f) (capacity (rightColumns o) right) room));
         few = omega arith;
         sequence = s .sequence;
         gone = s .gone;
         waits = s .waits;
         values =
             rw (s .options)
-            (pushed-values (columns o) (j .base) (j .held) f right h (s .right-room) room
-            ∙ ap (λ (z : Words). z ++ valuesIn (columns o) f) (rw (s .options) at (s .values)) ∙ part-more (valuesIn (columns o)) (values-length (columns o)) f);
+            (pushed-values (rightColumns o) (j .base) (j .held) f right h (s .right-room) room
+            ∙ ap (λ (z : Words). z ++ valuesIn (rightColumns o) f) (rw (s .options) at (s .values)) ∙ part-more (valuesIn (rightColumns o)) (values-length (rightColumns o)) f);
         marks =
             rw (s .options, cap)
-            (pushed-marks (columns o) (j .base) (j .held) f right h (s .right-room) room
-            ∙ ap (λ (z : Words). z ++ marksIn (columns o) f) (rw (s .options) at (s .marks)) ∙ part-more (marksIn (columns o)) (marks-length (columns o)) f);
+            (pushed-marks (rightColumns o) (j .base) (j .held) f right h (s .right-room) room
+            ∙ ap (λ (z : Words). z ++ marksIn (rightColumns o) f) (rw (s .options) at (s .marks)) ∙ part-more (marksIn (rightColumns o)) (marks-length (rightColumns o)) f);
         left-frames = s .left-frames;
-        right-frames = frames-join (columns o) R (f ∷ []) (s .right-frames) (h, tt);
-        rows = rw (rows-in-append (columns o) R (f ∷ []), length-append (rowsIn (columns o) R) (rowsIn (columns o) (f ∷ [])), s .rows, append-nil (frameRows (columns o) f), frame-rows (columns o) f h) (omega arith);
+        right-frames = frames-join (rightColumns o) R (f ∷ []) (s .right-frames) (h, tt);
+        rows = rw (rows-in-append (rightColumns o) R (f ∷ []), length-append (rowsIn (rightColumns o) R) (rowsIn (rightColumns o) (f ∷ [])), s .rows, append-nil (frameRows (rightColumns o) f), frame-rows (rightColumns o) f h) (omega arith);
         wrote = s .wrote;
       }
 
@@ -196,28 +196,18 @@ pub front-is : (c : ℕ) (f g : Words) → isFrame c f ≡ true → front c (f +
 unfolding front
 front-is c f g h = rw (count-append c f h g) (take-at f g (frameWords (rowCount f) c) (frame-length c f h))
 
--- ---- what is read back of an answer
-pairs-back : (ms : List Choice) → pairUp (map numberWord ms) (map choiceMark ms) ≡ map asWritten ms
-unfolding pairUp
-pairs-back [] = refl
-pairs-back (m ∷ ms) = ap (λ (z : List Entry). asWritten m ∷ z) (pairs-back ms)
-
-pub written-back : (ms : List Choice) (out : Words) → writtenIn (answered ms out) ≡ map asWritten ms
-unfolding writtenIn
-written-back ms out = rw (answered-count ms out, answered-numbers ms out, answered-marks ms out) (pairs-back ms)
-
 module _ (o : Options) (l r : Words) (L R Os : List Words) (j : Join) (left right : Words) (s : Stock o l r L R Os j left right) where
   -- All the words that wait are in the area.
   pub waiting-length : length (waiting j left) ≡ j .«queue_words»
   unfolding waiting
   waiting-length = length-take-le (j .«queue_words») (drop (j .«queue_start») left) (rw (length-drop (j .«queue_start») left) (omega (arith, s .queue-room)))
 
-  -- The words of the held rows, at the width of the options.
-  pub held-values : take (j .held * columns o) (drop (j .base * columns o) right) ≡ drop (j .pruned * columns o) (allValues (columns o) R)
+  -- The words of the held rows, at their width by the options.
+  pub held-values : take (j .held * rightColumns o) (drop (j .base * rightColumns o) right) ≡ drop (j .pruned * rightColumns o) (allValues (rightColumns o) R)
   unfolding heldValues
   held-values = rw (s .options) at (s .values)
 
-  pub held-marks : take (j .held * columns o) (drop ((capacity (columns o) right + j .base) * columns o) right) ≡ drop (j .pruned * columns o) (allMarks (columns o) R)
+  pub held-marks : take (j .held * rightColumns o) (drop ((capacity (rightColumns o) right + j .base) * rightColumns o) right) ≡ drop (j .pruned * rightColumns o) (allMarks (rightColumns o) R)
   unfolding heldMarks
   held-marks = rw (s .options) at (s .marks)
 
@@ -246,17 +236,17 @@ module _ (o : Options) (l r : Words) (L R Os : List Words) (j : Join) (left righ
     part-less p n m k ws q = rw (← drop-drop m p right, ← drop-take m n (drop p right), q) (drop-drop m k ws)
 
     -- A turn that writes: d rows are dropped, the frame leaves, the answer is written.
-    pub stock-turn : (d : ℕ) → d ≤ j .held → (ms : List Choice) → length ms ≡ rowCount f → (out : Words) (lr rr : Row)
-        → Stock o l r L R (Os ++ (answered ms out ∷ [])) (nextTurn (dequeued (dropped j d) (length f)) lr rr) left right
+    pub stock-turn : (d : ℕ) → d ≤ j .held → (ms : Rows) → Wide (answerColumns o) ms → length ms ≡ rowCount f → (out : Words) (lr rr : Row)
+        → Stock o l r L R (Os ++ (answered o ms out ∷ [])) (nextTurn (dequeued (dropped j d) (length f)) lr rr) left right
     unfolding dequeued dropped waiting heldValues heldMarks matchesIn rowsIn
-    stock-turn d h ms k out lr rr =
-        let n : length (Os ++ (answered ms out ∷ [])) ≡ suc (length Os) = rw (length-append Os (answered ms out ∷ [])) (omega arith) in
+    stock-turn d h ms wide k out lr rr =
+        let n : length (Os ++ (answered o ms out ∷ [])) ≡ suc (length Os) = rw (length-append Os (answered o ms out ∷ [])) (omega arith) in
         let x : ℕ = j .held - d in
         let hx : j .held ≡ x + d = omega arith in
-        let hc : (j .held - d) * columns o ≡ j .held * columns o - d * columns o = omega (arith, ap (λ (n : ℕ). n * columns o) hx) in
-        let pb : (j .base + d) * columns o ≡ j .base * columns o + d * columns o = omega arith in
-        let pm : (capacity (columns o) right + (j .base + d)) * columns o ≡ (capacity (columns o) right + j .base) * columns o + d * columns o = omega arith in
-        let pk : (j .pruned + d) * columns o ≡ j .pruned * columns o + d * columns o = omega arith in
+        let hc : (j .held - d) * rightColumns o ≡ j .held * rightColumns o - d * rightColumns o = omega (arith, ap (λ (n : ℕ). n * rightColumns o) hx) in
+        let pb : (j .base + d) * rightColumns o ≡ j .base * rightColumns o + d * rightColumns o = omega arith in
+        let pm : (capacity (rightColumns o) right + (j .base + d)) * rightColumns o ≡ (capacity (rightColumns o) right + j .base) * rightColumns o + d * rightColumns o = omega arith in
+        let pk : (j .pruned + d) * rightColumns o ≡ j .pruned * rightColumns o + d * rightColumns o = omega arith in
         record {
           options = s .options;
           left-length = s .left-length;
@@ -269,18 +259,18 @@ module _ (o : Options) (l r : Words) (L R Os : List Words) (j : Join) (left righ
           waits =
               rw (n, drop-next (length Os) L f rest e, ← drop-drop (length f) (j .«queue_start») left, ← drop-take (length f) (j .«queue_words») (drop (j .«queue_start») left))
               (ap (λ (z : Words). drop (length f) z) waits-front ∙ drop-at f (backToBack rest) (length f) refl);
-          values = rw (s .options, hc, pb, pk) (part-less (j .base * columns o) (j .held * columns o) (d * columns o) (j .pruned * columns o) (allValues (columns o) R) held-values);
-          marks = rw (s .options, hc, pm, pk) (part-less ((capacity (columns o) right + j .base) * columns o) (j .held * columns o) (d * columns o) (j .pruned * columns o) (allMarks (columns o) R) held-marks);
+          values = rw (s .options, hc, pb, pk) (part-less (j .base * rightColumns o) (j .held * rightColumns o) (d * rightColumns o) (j .pruned * rightColumns o) (allValues (rightColumns o) R) held-values);
+          marks = rw (s .options, hc, pm, pk) (part-less ((capacity (rightColumns o) right + j .base) * rightColumns o) (j .held * rightColumns o) (d * rightColumns o) (j .pruned * rightColumns o) (allMarks (rightColumns o) R) held-marks);
           left-frames = s .left-frames;
           right-frames = s .right-frames;
           rows = omega (arith, s .rows);
           wrote =
               rw (
                 n,
-                matches-append Os (answered ms out ∷ []),
-                length-append (matchesIn Os) (matchesIn (answered ms out ∷ [])),
-                append-nil (writtenIn (answered ms out)),
-                written-back ms out,
+                matches-append (answerColumns o) Os (answered o ms out ∷ []),
+                length-append (matchesIn (answerColumns o) Os) (matchesIn (answerColumns o) (answered o ms out ∷ [])),
+                append-nil (writtenIn (answerColumns o) (answered o ms out)),
+                written-back o ms out wide,
                 length-map ms asWritten,
                 k,
                 take-next (length Os) L f rest e,
@@ -293,10 +283,10 @@ module _ (o : Options) (l r : Words) (L R Os : List Words) (j : Join) (left righ
         }
 
   -- The held rows are the accepted ones that were not dropped.
-  pub held-rows : heldOf j right ≡ drop (j .pruned) (rowsIn (columns o) R)
+  pub held-rows : heldOf j right ≡ drop (j .pruned) (rowsIn (rightColumns o) R)
   unfolding heldOf heldRows
   held-rows =
-      let c = columns o in
+      let c = rightColumns o in
       let v = drop (j .base * c) right in
       let m = drop ((capacity c right + j .base) * c) right in
       let e : j .pruned + j .held - j .pruned ≡ j .held = omega arith in

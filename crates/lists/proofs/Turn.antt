@@ -11,17 +11,18 @@ use lib.IntN.{ℤ}
 use lib.ListN.{length, take, drop, length-append, length-drop}
 use Rattle.frames.proofs.BoolLaws.{and-true-right}
 use Rattle.frames.specs.Cells.{Cell, Rows, Words}
-use Rattle.frames.specs.Frame.{rowCount, isFrame, frameRows, front}
-use Rattle.options.specs.Options.{columns, badOptions, isOn}
+use Rattle.frames.specs.Frame.{rowCount, frameWords, isFrame, frameRows, front}
+use Rattle.options.specs.Options.{columns, rightColumns, answerColumns, refusedOptions, isOn}
 use Rattle.options.specs.declared.Options.{Options}
 use Rattle.frames.proofs.FrameLaws.{frame-length, frame-rows}
 use Rattle.searching.specs.Reach.{needMore, pruneBy, noPrune, splitAt}
 use Rattle.searching.proofs.SplitLaw.{split-within}
 use Rattle.matching.specs.Groups.{matchFrame}
-use Rattle.matching.specs.declared.Choice.{Choice}
-use Rattle.matching.specs.Answer.{answered}
+use Rattle.matching.specs.Answer.{frameAnswer, answered}
 use Rattle.matching.proofs.ChoiceLaws.{cond-ind}
 use Rattle.matching.proofs.GroupLaws.{frame-length as match-length}
+use Rattle.matching.proofs.AnswerRows.{answer-wide, answer-count}
+use Rattle.tables.proofs.TableLaws.{Wide}
 use Rattle.node.specs.declared.Join.{Join}
 use Rattle.refusals.specs.Refusals.{marksFailed}
 use Rattle.refusals.proofs.RefusalLaws.{marked-ind}
@@ -39,14 +40,13 @@ use Rattle.lists.proofs.ListLaws.{left-append, right-append, outputs-ap
 use Rattle.lists.proofs.Stock.{Stock, stock-same, stock-turn, waiting-length, next-frame, front-next, waits-front, front-room, held-rows}
 use Rattle.lists.proofs.Invariant.{Inv, Adds, SameFlags, adds-same, flags-add, good, keep, nothing-waits}
 
--- A prune drops held rows alone, whatever they are.
 -- ---- the turn's answer and what it leaves, told by the frame's rows and the held rows
 unfoldable pub judged : Options → Join → Rows → Rows → Words → Answer
 judged o j rows held out =
     cond (j .failed) (TurnRefused Failed)
     (cond (isDone (j .state)) (TurnRefused Closed)
     (cond (not (j .«right_ended») && needMore o rows held) WantsRight
-    (cond (ltb (length out) (2 + 2 * length rows)) (TurnRefused NoRoom)
+    (cond (ltb (length out) (frameWords (length rows) (answerColumns o))) (TurnRefused NoRoom)
     (cond (eqb (j .sequence) lastSequence) (TurnRefused UsedUp)
     (cond (badLeft o (j .«last_left») rows) (TurnRefused LeftOrder)
     (cond (badRight o (j .«last_right») rows held) (TurnRefused RightOrder)
@@ -57,12 +57,22 @@ unfoldable pub leftBy : Options → Join → Rows → Rows → ℕ → Join
 leftBy o j rows held n =
     nextTurn (dequeued (dropped j (firstPrune o rows held + lastPrune o rows held)) n) (remembered o (j .«last_left») rows) (remembered o (j .«last_right») (take (lastPrune o rows held) (keptRows o rows held)))
 
-unfoldable pub matchedBy : Options → Join → Rows → Rows → List Choice
-matchedBy o j rows held = matchFrame o (j .pruned + firstPrune o rows held) (keptRows o rows held) rows
+unfoldable pub matchedBy : Options → Join → Rows → Rows → Rows
+matchedBy o j rows held = frameAnswer o (j .pruned + firstPrune o rows held) (keptRows o rows held) rows
 
 count-matched : (o : Options) (j : Join) (rows held : Rows) → length (matchedBy o j rows held) ≡ length rows
 unfolding matchedBy
-count-matched o j rows held = match-length o (j .pruned + firstPrune o rows held) (keptRows o rows held) rows
+count-matched o j rows held =
+    let i : ℕ = j .pruned + firstPrune o rows held in
+    let n = match-length o i (keptRows o rows held) rows in
+    answer-count o i (keptRows o rows held) rows (matchFrame o i (keptRows o rows held) rows) (sym n) ∙ n
+
+-- Its rows are as wide as an answer is.
+pub matched-wide : (o : Options) (j : Join) (rows held : Rows) → Wide (answerColumns o) (matchedBy o j rows held)
+unfolding matchedBy
+matched-wide o j rows held =
+    let i : ℕ = j .pruned + firstPrune o rows held in
+    answer-wide o i (keptRows o rows held) rows (matchFrame o i (keptRows o rows held) rows)
 
 module _ (o : Options) (j : Join) (left right f : Words) (rows : Rows) (opened : j .options ≡ o) (fronted : front (columns o) (waiting j left) ≡ f) (holds : heldOf j right ≡ rows) where
   own-front : front (columns (j .options)) (waiting j left) ≡ f
@@ -73,7 +83,7 @@ module _ (o : Options) (j : Join) (left right f : Words) (rows : Rows) (opened :
   answer-by fine some frame out = rw (fine, own-front, some, holds, opened, frame)
 
   pub turned-by : (out : Words) → turned j left right out
-      ≡ after (Wrote (j .sequence)) (leftBy o j (frameRows (columns o) f) rows (length f)) left right (answered (matchedBy o j (frameRows (columns o) f) rows) out)
+      ≡ after (Wrote (j .sequence)) (leftBy o j (frameRows (columns o) f) rows (length f)) left right (answered o (matchedBy o j (frameRows (columns o) f) rows) out)
   unfolding turned leftBy keptRows lastPrune matchedBy
   turned-by out = rw (own-front, holds, opened)
 
@@ -101,7 +111,7 @@ judged-all P o j rows held out p3 p4 pw p6 p7 p8 p9 p =
     cond-ind P (j .failed) (λ t. p3) (λ t.
     cond-ind P (isDone (j .state)) (λ t. p4) (λ t.
     cond-ind P (not (j .«right_ended») && needMore o rows held) (λ t. pw) (λ t.
-    cond-ind P (ltb (length out) (2 + 2 * length rows)) (λ t. p6) (λ t.
+    cond-ind P (ltb (length out) (frameWords (length rows) (answerColumns o))) (λ t. p6) (λ t.
     cond-ind P (eqb (j .sequence) lastSequence) (λ t. p7) (λ t.
     cond-ind P (badLeft o (j .«last_left») rows) p8 (λ t.
     cond-ind P (badRight o (j .«last_right») rows held) p9 (λ t. p)))))))
@@ -116,7 +126,7 @@ by-fields : (o : Options) (j : Join) (rows held : Rows) (n : ℕ) → SameFlags 
 unfolding leftBy dequeued dropped
 by-fields o j rows held n = record { ended = refl; state = refl; failed = refl }
 
-module _ (o : Options) (l r : Words) (allowed : badOptions o ≡ false) (es : List Event) (w : World) (i : Inv o l r es w) where
+module _ (o : Options) (l r : Words) (allowed : refusedOptions o ≡ false) (es : List Event) (w : World) (i : Inv o l r es w) where
   abbrev j : Join
   j = w .join
 
@@ -125,7 +135,7 @@ module _ (o : Options) (l r : Words) (allowed : badOptions o ≡ false) (es : Li
 
   -- The held rows: the accepted right rows that were not dropped.
   unfoldable pub held : Rows
-  held = drop (w .join .pruned) (rowsIn (columns o) (rightFrames es))
+  held = drop (w .join .pruned) (rowsIn (rightColumns o) (rightFrames es))
 
   pub held-is : heldOf j (w .right) ≡ held
   unfolding held
@@ -133,7 +143,7 @@ module _ (o : Options) (l r : Words) (allowed : badOptions o ≡ false) (es : Li
 
   pub held-length : length held ≡ j .held
   unfolding held
-  held-length = length-drop (j .pruned) (rowsIn (columns o) (rightFrames es)) ∙ omega (arith, s .rows)
+  held-length = length-drop (j .pruned) (rowsIn (rightColumns o) (rightFrames es)) ∙ omega (arith, s .rows)
 
   -- A turn that breaks nothing and tells of no order leaves the flags.
   quiet-turn : (a : Answer) (out : Words) → Fine a → eqb (turnRefusal a) 8 ≡ false → eqb (turnRefusal a) 9 ≡ false → Adds es j (onTurn a out) j
@@ -172,7 +182,7 @@ module _ (o : Options) (l r : Words) (allowed : badOptions o ≡ false) (es : Li
     answer-is = answer-by o j (w .left) (w .right) f held (s .options) is-front held-is (good o l r allowed es w i) some-words frame
 
     pub turned-is : (out : Words) → turned j (w .left) (w .right) out
-        ≡ after (Wrote (j .sequence)) (leftBy o j rows held (length f)) (w .left) (w .right) (answered (matchedBy o j rows held) out)
+        ≡ after (Wrote (j .sequence)) (leftBy o j rows held (length f)) (w .left) (w .right) (answered o (matchedBy o j rows held) out)
     unfolding rows
     turned-is = turned-by o j (w .left) (w .right) f held (s .options) is-front held-is
 
@@ -180,29 +190,29 @@ module _ (o : Options) (l r : Words) (allowed : badOptions o ≡ false) (es : Li
     gone = omega (arith, drops-within o rows held, held-length)
 
     turned-stock : (out : Words)
-        → Stock o l r (leftFrames es) (rightFrames es) (outputs es ++ (answered (matchedBy o j rows held) out ∷ [])) (leftBy o j rows held (length f)) (w .left) (w .right)
+        → Stock o l r (leftFrames es) (rightFrames es) (outputs es ++ (answered o (matchedBy o j rows held) out ∷ [])) (leftBy o j rows held (length f)) (w .left) (w .right)
     unfolding leftBy
     turned-stock out =
         stock-turn o l r (leftFrames es) (rightFrames es) (outputs es) j (w .left) (w .right) s f rest e (firstPrune o rows held + lastPrune o rows held) gone (matchedBy o j rows held)
-        (matched-length ∙ rows-count) out (remembered o (j .«last_left») rows) (remembered o (j .«last_right») (take (lastPrune o rows held) (keptRows o rows held)))
+        (matched-wide o j rows held) (matched-length ∙ rows-count) out (remembered o (j .«last_left») rows) (remembered o (j .«last_right») (take (lastPrune o rows held) (keptRows o rows held)))
       where
         matched-length : length (matchedBy o j rows held) ≡ length rows
         matched-length = count-matched o j rows held
 
     -- A turn that writes keeps the invariant.
     pub inv-wrote : (out : Words)
-        → Inv o l r (es ++ (onTurn (Wrote (j .sequence)) (answered (matchedBy o j rows held) out) ∷ [])) (record { join = leftBy o j rows held (length f); left = w .left; right = w .right })
+        → Inv o l r (es ++ (onTurn (Wrote (j .sequence)) (answered o (matchedBy o j rows held) out) ∷ [])) (record { join = leftBy o j rows held (length f); left = w .left; right = w .right })
     unfolding leftFrames rightFrames outputs
     inv-wrote out =
-        let ev = onTurn (Wrote (j .sequence)) (answered (matchedBy o j rows held) out) in
+        let ev = onTurn (Wrote (j .sequence)) (answered o (matchedBy o j rows held) out) in
         record {
           stock =
               rw (left-append es (ev ∷ []), right-append es (ev ∷ []), outputs-append es (ev ∷ []), append-nil (leftFrames es), append-nil (rightFrames es)) (turned-stock out);
           flags = flags-add es j ev (leftBy o j rows held (length f)) (i .flags) (adds-wrote out);
         }
       where
-        adds-wrote : (out : Words) → Adds es j (onTurn (Wrote (j .sequence)) (answered (matchedBy o j rows held) out)) (leftBy o j rows held (length f))
-        adds-wrote out = adds-same es j (onTurn (Wrote (j .sequence)) (answered (matchedBy o j rows held) out)) (leftBy o j rows held (length f)) (quiet-turn (Wrote (j .sequence)) (answered (matchedBy o j rows held) out) (record { not2 = refl; not5 = refl }) refl refl) (by-fields o j rows held (length f))
+        adds-wrote : (out : Words) → Adds es j (onTurn (Wrote (j .sequence)) (answered o (matchedBy o j rows held) out)) (leftBy o j rows held (length f))
+        adds-wrote out = adds-same es j (onTurn (Wrote (j .sequence)) (answered o (matchedBy o j rows held) out)) (leftBy o j rows held (length f)) (quiet-turn (Wrote (j .sequence)) (answered o (matchedBy o j rows held) out) (record { not2 = refl; not5 = refl }) refl refl) (by-fields o j rows held (length f))
 
   -- ---- every turn
   -- An empty queue is Idle, or refused for the join's state.

@@ -2,21 +2,22 @@
 use mathlib.Core.Path.{_≡_, refl, sym, ap, _∙_}
 use mathlib.Core.Bool.{Bool, true, false, cond, not, _&&_, _||_, or-false}
 use mathlib.Core.List.{List, [], _∷_, _++_, append-nil, append-assoc, map}
-use Prim.Native.Nat.{ℕ, zero, suc, _+_, _-_, _*_, _^_, _≤_, _<_}
+use Prim.Native.Nat.{ℕ, zero, suc, _+_, _-_, _^_, _≤_, _<_}
 use native.Mathlib.Omega.{arith}
 use borrow.Author.Tests.{le-ltb, ne-eqb}
 use lib.Dec.{ltb, eqb}
 use lib.IntN.{ℤ, pos}
-use lib.ListN.{length, take, drop, take-append-drop, length-append, length-drop}
+use lib.ListN.{length, take, drop, replicate, take-append-drop, length-append, length-drop}
 use lib.Seq.{take-all, drop-at}
-use Rattle.frames.specs.Cells.{Cell, Rows, Words}
+use Rattle.frames.specs.Cells.{Cell, null, valueWord, markWord, Rows, Words}
 use Rattle.frames.specs.Frame.{rowCount, frameWords, isFrame, frameRows, front}
-use Rattle.options.specs.Options.{columns, badOptions}
+use Rattle.options.specs.Options.{columns, rightColumns, answerColumns, refusedOptions}
 use Rattle.order.specs.Order.{sorted}
 use Rattle.options.specs.declared.Options.{Options}
 use Rattle.frames.proofs.FrameLaws.{frame-length, count-append}
+use Rattle.order.proofs.SortedLaws.{sorted-cut}
 use Rattle.matching.specs.Match.{matchTable, wholeTable}
-use Rattle.matching.specs.Answer.{answered}
+use Rattle.matching.specs.Answer.{answerRow, answered}
 use Rattle.matching.specs.declared.Choice.{Choice}
 use Rattle.matching.specs.declared.Choice.the-variants.{Row, Nothing}
 use Rattle.matching.proofs.PickedLaw.{picked-none, picked-row}
@@ -28,25 +29,31 @@ use Rattle.outcomes.specs.Answers.{lastSequence, isDone}
 use Rattle.node.specs.Calls.{turnAnswer, turnCall, turned}
 use Rattle.turnrows.specs.Prunes.{badLeft, badRight}
 use Rattle.lists.specs.Lists.{Call, turn, Event, onTurn, World, start, step, events, final, leftFrames, rightFrames, rowsIn, outputIn, outputs, Entry, matchesIn, rightEnded, nodeDone, doneBy, refusedWith, backToBack, framesIn, queueRows}
-use Rattle.lists.specs.WholeTables.{asWritten, Correct, isNone, isRow, Each, ends, pairs, ListHolds, WholeTableTheorem}
+use Rattle.lists.specs.WholeTables.{asWritten, dueOver, Correct, isNone, isRow, Each, ends, pairs, ListHolds, WholeTableTheorem}
 use Rattle.lists.proofs.ListLaws.{rows-in-append, matches-append, drop-next, left-append, right-append, outputs-append, ended-append, done-snoc}
 use Rattle.lists.proofs.Stock.{Frames, frames-drop, front-is}
 use Rattle.lists.proofs.Invariant.{Inv}
 use Rattle.lists.proofs.Turn.{judged, leftBy, matchedBy, held, rows, answer-is, turned-is, rows-count}
-use Rattle.lists.proofs.Sound.{Sound, turnedOf}
+use Rattle.lists.proofs.Turned.{turnedOf, turned-sorted, next-sorted}
+use Rattle.lists.proofs.Sound.{Sound}
 use Rattle.lists.proofs.Steps.{SoundAt, no-left-fault, no-right-fault, inv-step, sound-step, inv-list, sound-list, inv-start, sound-start}
 
 -- ---- 2. the whole-table rule picks the row that qualifies and that none is better than
+-- None is written as 0 and 0 in all columns.
+nulls : (word : Cell → ℤ) → word null ≡ pos 0 → (n : ℕ) → map word (replicate n null) ≡ replicate n (pos 0)
+nulls word e zero = refl
+nulls word e (suc n) = rw e (ap (λ (z : Words). pos 0 ∷ z) (nulls word e n))
+
 module _ (o : Options) (rights : Rows) (s : sorted o rights ≡ true) where
-  correct : (x : List Cell) → Correct o rights x (asWritten (wholeTable o rights x))
-  unfolding wholeTable
+  correct : (x : List Cell) → Correct o rights x (dueOver o rights x)
+  unfolding wholeTable answerRow
   correct x = go (matchTable o 0 rights x) refl
     where
-      go : (m : Choice) → matchTable o 0 rights x ≡ m → Correct o rights x (asWritten (matchTable o 0 rights x))
-      go Nothing e = rw e (isNone (picked-none o rights s x e))
-      go (Row k) e = rw e (isRow k (picked-row o rights s x k e))
+      go : (m : Choice) → matchTable o 0 rights x ≡ m → Correct o rights x (asWritten (answerRow o 0 rights x (matchTable o 0 rights x)))
+      go Nothing e = rw (e, nulls valueWord refl (answerColumns o), nulls markWord refl (answerColumns o)) (isNone (picked-none o rights s x e))
+      go (Row k) e = let z : k - 0 ≡ k = omega arith in rw (e, z) (isRow k (picked-row o rights s x k e))
 
-  each-correct : (xs : Rows) → Each (Correct o rights) xs (map (λ x. asWritten (wholeTable o rights x)) xs)
+  pub each-correct : (xs : Rows) → Each (Correct o rights) xs (map (dueOver o rights) xs)
   each-correct [] = ends
   each-correct (x ∷ xs) = pairs (correct x) (each-correct xs)
 
@@ -69,22 +76,29 @@ frames-back c (suc fuel) (f ∷ fs) p h =
 
 -- ---- 3. a turn that nothing stops writes
 judged-writes : (o : Options) (j : Join) (rows held : Rows) (out : Words) → j .failed ≡ false → isDone (j .state) ≡ false → j .«right_ended» ≡ true
-    → ltb (length out) (2 + 2 * length rows) ≡ false → eqb (j .sequence) lastSequence ≡ false → badLeft o (j .«last_left») rows ≡ false → badRight o (j .«last_right») rows held ≡ false
+    → ltb (length out) (frameWords (length rows) (answerColumns o)) ≡ false → eqb (j .sequence) lastSequence ≡ false → badLeft o (j .«last_left») rows ≡ false → badRight o (j .«last_right») rows held ≡ false
     → judged o j rows held out ≡ Wrote (j .sequence)
 unfolding judged
 judged-writes o j rows held out e₁ e₂ e₃ e₄ e₅ e₆ e₇ = rw (e₁, e₂, e₃, e₄, e₅, e₆, e₇)
 
-module _ (o : Options) (l r : Words) (allowed : badOptions o ≡ false) where
+module _ (o : Options) (l r : Words) (allowed : refusedOptions o ≡ false) where
   -- ---- at any point of a list
-  module _ (es : List Event) (w : World) (i : Inv o l r es w) (S : SoundAt o es w) (sl : sorted o (rowsIn (columns o) (leftFrames es)) ≡ true) (sr : sorted o (rowsIn (columns o) (rightFrames es)) ≡ true) where
+  module _ (es : List Event) (w : World) (i : Inv o l r es w) (S : SoundAt o es w) where
+    -- What is written is settled.
+    pub settled-so-far : sorted o (turnedOf o (leftFrames es) (outputs es)) ≡ true → (F : Rows) → (rightEnded es ≡ true → F ≡ []) → sorted o (rowsIn (rightColumns o) (rightFrames es) ++ F) ≡ true
+        → matchesIn (answerColumns o) (outputs es) ≡ map (dueOver o (rowsIn (rightColumns o) (rightFrames es) ++ F)) (turnedOf o (leftFrames es) (outputs es))
+    settled-so-far st F q sf = S st (sorted-cut o (rowsIn (rightColumns o) (rightFrames es)) F sf .0) .matches F q sf
+
     -- 1. What is written.
-    written-so-far : matchesIn (outputs es) ≡ map (λ x. asWritten (wholeTable o (rowsIn (columns o) (rightFrames es)) x)) (turnedOf o (leftFrames es) (outputs es))
-    unfolding wholeTable
-    written-so-far = rw (append-nil (rowsIn (columns o) (rightFrames es))) at (S sl sr .matches [] (λ t. refl) (rw (append-nil (rowsIn (columns o) (rightFrames es))) sr))
+    pub written-so-far : sorted o (turnedOf o (leftFrames es) (outputs es)) ≡ true → sorted o (rowsIn (rightColumns o) (rightFrames es)) ≡ true
+        → matchesIn (answerColumns o) (outputs es) ≡ map (dueOver o (rowsIn (rightColumns o) (rightFrames es))) (turnedOf o (leftFrames es) (outputs es))
+    written-so-far st sr =
+        let z = append-nil (rowsIn (rightColumns o) (rightFrames es)) in
+        rw z at (settled-so-far st [] (λ t. refl) (rw z sr))
 
     -- The next turn, where right has ended, the node is not done and output and sequence numbers are left: it writes.
-    module _ (ended : rightEnded es ≡ true) (undone : nodeDone es ≡ false) (left-over : length (leftFrames es) < 2 ^ 63) (f : Words) (rest : List Words)
-        (e : drop (length (outputs es)) (leftFrames es) ≡ f ∷ rest) (out : Words) (room : 2 + 2 * rowCount f ≤ length out) where
+    module _ (sl : sorted o (rowsIn (columns o) (leftFrames es)) ≡ true) (sr : sorted o (rowsIn (rightColumns o) (rightFrames es)) ≡ true) (ended : rightEnded es ≡ true) (undone : nodeDone es ≡ false) (left-over : length (leftFrames es) < 2 ^ 63) (f : Words) (rest : List Words)
+        (e : drop (length (outputs es)) (leftFrames es) ≡ f ∷ rest) (out : Words) (room : frameWords (rowCount f) (answerColumns o) ≤ length out) where
       abbrev j : Join
       j = w .join
 
@@ -92,11 +106,13 @@ module _ (o : Options) (l r : Words) (allowed : badOptions o ≡ false) where
       turn-writes =
           let rs = rows o l r allowed es w i f rest e in
           let hs = held o l r allowed es w i in
-          let fits : ltb (length out) (2 + 2 * length rs) ≡ false = le-ltb (length out) (2 + 2 * length rs) (rw (rows-count o l r allowed es w i f rest e) room) in
+          let st = next-sorted o (leftFrames es) (outputs es) f rest e sl in
+          let words = frameWords (length rs) (answerColumns o) in
+          let fits : ltb (length out) words ≡ false = le-ltb (length out) words (rw (rows-count o l r allowed es w i f rest e) room) in
           let more : length (outputs es) < length (leftFrames es) = omega (arith, length-drop (length (outputs es)) (leftFrames es), ap length e) in
           let seq : eqb (j .sequence) lastSequence ≡ false = ne-eqb (j .sequence) lastSequence (λ (h : j .sequence ≡ lastSequence). omega (arith, i .stock .sequence)) in
           answer-is o l r allowed es w i f rest e out
-          ∙ judged-writes o j rs hs out (S sl sr .unfailed) (i .flags .done ∙ undone) (i .flags .ended ∙ ended) fits seq (no-left-fault o l r allowed es w i S sl sr f rest e) (no-right-fault o l r allowed es w i S sl sr f rest e)
+          ∙ judged-writes o j rs hs out (S (turned-sorted o (leftFrames es) (outputs es) sl) sr .unfailed sl) (i .flags .done ∙ undone) (i .flags .ended ∙ ended) fits seq (no-left-fault o l r allowed es w i S sr f rest e st) (no-right-fault o l r allowed es w i S sr f rest e st)
 
       -- Its event and what it leaves.
       step-writes : step w (turn out) ≡ record { event = onTurn (Wrote (j .sequence)) (turned j (w .left) (w .right) out .out); world = record { join = turned j (w .left) (w .right) out .join; left = turned j (w .left) (w .right) out .left; right = turned j (w .left) (w .right) out .right } }
@@ -110,8 +126,8 @@ each-nil ends = refl
 each-cons : {A B : Type 0} {P : A → B → Type 0} {xs : List A} {y : B} {ys : List B} → Each P xs (y ∷ ys) → (x : A) × (rest : List A) × (xs ≡ x ∷ rest) × P x y × Each P rest ys
 each-cons (pairs {a} {b} {xs} {ys} p q) = (a, xs, refl, p, q)
 
-stitch : (xs : List Words) (out : Words) (ys : List Words) → matchesIn xs ++ matchesIn ((out ∷ []) ++ ys) ≡ matchesIn (xs ++ (out ∷ [])) ++ matchesIn ys
-stitch xs out ys = rw (matches-append (out ∷ []) ys, matches-append xs (out ∷ [])) (sym (append-assoc (matchesIn xs) (matchesIn (out ∷ [])) (matchesIn ys)))
+stitch : (c : ℕ) (xs : List Words) (out : Words) (ys : List Words) → matchesIn c xs ++ matchesIn c ((out ∷ []) ++ ys) ≡ matchesIn c (xs ++ (out ∷ [])) ++ matchesIn c ys
+stitch c xs out ys = rw (matches-append c (out ∷ []) ys, matches-append c xs (out ∷ [])) (sym (append-assoc (matchesIn c xs) (matchesIn c (out ∷ [])) (matchesIn c ys)))
 
 -- A turn that wrote adds its output, and nothing else.
 module _ (es : List Event) (q : ℕ) (out : Words) where
@@ -138,16 +154,16 @@ module _ (es : List Event) (q : ℕ) (out : Words) where
   unfolding doneBy
   wrote-done = done-snoc [] es wrote ∙ or-false (nodeDone es)
 
-module _ (o : Options) (l r : Words) (allowed : badOptions o ≡ false) where
+module _ (o : Options) (l r : Words) (allowed : refusedOptions o ≡ false) where
   abbrev Room : List Words → List Words → Type 0
-  Room fs outs = Each (λ f out. 2 + 2 * rowCount f ≤ length out) fs outs
+  Room fs outs = Each (λ f out. frameWords (rowCount f) (answerColumns o) ≤ length out) fs outs
 
   -- What is to be shown of further turns from the events es and the world w.
   record Finishes (es : List Event) (w : World) (outs : List Words) : Type 0 where
     all-write : length (outputs (events w (map turn outs))) ≡ length outs
-    all-matched : matchesIn (outputs es) ++ matchesIn (outputs (events w (map turn outs))) ≡ map (λ x. asWritten (wholeTable o (rowsIn (columns o) (rightFrames es)) x)) (rowsIn (columns o) (leftFrames es))
+    all-matched : matchesIn (answerColumns o) (outputs es) ++ matchesIn (answerColumns o) (outputs (events w (map turn outs))) ≡ map (dueOver o (rowsIn (rightColumns o) (rightFrames es))) (rowsIn (columns o) (leftFrames es))
 
-  finish : (outs : List Words) (es : List Event) (w : World) → Inv o l r es w → SoundAt o es w → sorted o (rowsIn (columns o) (leftFrames es)) ≡ true → sorted o (rowsIn (columns o) (rightFrames es)) ≡ true
+  finish : (outs : List Words) (es : List Event) (w : World) → Inv o l r es w → SoundAt o es w → sorted o (rowsIn (columns o) (leftFrames es)) ≡ true → sorted o (rowsIn (rightColumns o) (rightFrames es)) ≡ true
       → rightEnded es ≡ true → nodeDone es ≡ false → length (leftFrames es) < 2 ^ 63 → Room (drop (length (outputs es)) (leftFrames es)) outs → Finishes es w outs
   unfolding events outputs matchesIn turnedOf
   finish [] es w i S sl sr en un few room =
@@ -156,7 +172,7 @@ module _ (o : Options) (l r : Words) (allowed : badOptions o ≡ false) where
       let t : take k (leftFrames es) ≡ leftFrames es = sym (append-nil (take k (leftFrames es))) ∙ ap (λ (z : List Words). take k (leftFrames es) ++ z) (sym d) ∙ take-append-drop k (leftFrames es) in
       record {
         all-write = refl;
-        all-matched = append-nil (matchesIn (outputs es)) ∙ written-so-far o l r allowed es w i S sl sr ∙ ap (λ (z : List Words). map (λ x. asWritten (wholeTable o (rowsIn (columns o) (rightFrames es)) x)) (rowsIn (columns o) z)) t;
+        all-matched = append-nil (matchesIn (answerColumns o) (outputs es)) ∙ written-so-far o l r allowed es w i S (turned-sorted o (leftFrames es) (outputs es) sl) sr ∙ ap (λ (z : List Words). map (dueOver o (rowsIn (rightColumns o) (rightFrames es))) (rowsIn (columns o) z)) t;
       }
   finish (out ∷ outs) es w i S sl sr en un few room =
       let c = each-cons room in
@@ -177,12 +193,12 @@ module _ (o : Options) (l r : Words) (allowed : badOptions o ≡ false) where
       record {
         all-write = rw se (ap suc (ih .all-write));
         all-matched =
-            ap (λ (z : Event). matchesIn (outputs es) ++ matchesIn (outputIn z ++ outputs (events w′ (map turn outs)))) se
-            ∙ stitch (outputs es) out′ (outputs (events w′ (map turn outs)))
-            ∙ ap (λ (z : List Words). matchesIn z ++ matchesIn (outputs (events w′ (map turn outs)))) (sym eo)
+            ap (λ (z : Event). matchesIn (answerColumns o) (outputs es) ++ matchesIn (answerColumns o) (outputIn z ++ outputs (events w′ (map turn outs)))) se
+            ∙ stitch (answerColumns o) (outputs es) out′ (outputs (events w′ (map turn outs)))
+            ∙ ap (λ (z : List Words). matchesIn (answerColumns o) z ++ matchesIn (answerColumns o) (outputs (events w′ (map turn outs)))) (sym eo)
             ∙ ih .all-matched
-            ∙ ap (λ (z : List Words). map (λ x. asWritten (wholeTable o (rowsIn (columns o) z) x)) (rowsIn (columns o) (leftFrames es′))) er
-            ∙ ap (λ (z : List Words). map (λ x. asWritten (wholeTable o (rowsIn (columns o) (rightFrames es)) x)) (rowsIn (columns o) z)) el;
+            ∙ ap (λ (z : List Words). map (dueOver o (rowsIn (rightColumns o) z)) (rowsIn (columns o) (leftFrames es′))) er
+            ∙ ap (λ (z : List Words). map (dueOver o (rowsIn (rightColumns o) (rightFrames es))) (rowsIn (columns o) z)) el;
       }
 
 -- ---- 4. accepted left rows are those written and those in the queue
@@ -190,7 +206,7 @@ queue-rows : (o : Options) (w : World) (fs : List Words) → w .join .options �
 unfolding queueRows
 queue-rows o w fs e q p = rw (q, e) (ap (rowsIn (columns o)) (frames-back (columns o) (length (backToBack fs)) fs p (omega arith)))
 
-left-count : (o : Options) (l r : Words) (es : List Event) (w : World) → Inv o l r es w → length (rowsIn (columns o) (leftFrames es)) ≡ length (matchesIn (outputs es)) + length (queueRows w)
+left-count : (o : Options) (l r : Words) (es : List Event) (w : World) → Inv o l r es w → length (rowsIn (columns o) (leftFrames es)) ≡ length (matchesIn (answerColumns o) (outputs es)) + length (queueRows w)
 left-count o l r es w i =
     let k = length (outputs es) in
     let q = queue-rows o w (drop k (leftFrames es)) (i .stock .options) (i .stock .waits) (frames-drop (columns o) k (leftFrames es) (i .stock .left-frames)) in
@@ -218,15 +234,18 @@ whole-table-theorem o allowed l r calls =
     let i : Inv o l r es w = inv-list o l r allowed calls [] (start o l r) (inv-start o l r allowed) in
     let S : SoundAt o es w = sound-list o l r allowed calls [] (start o l r) (inv-start o l r allowed) (sound-start o l r allowed) in
     let k = length (outputs es) in
+    let turned = turned-sorted o (leftFrames es) (outputs es) in
     record {
-      whole-table = λ d. written-so-far o l r allowed es w i S (d .0) (d .1);
-      none-exactly = λ d. rw (written-so-far o l r allowed es w i S (d .0) (d .1)) (each-correct o (rowsIn (columns o) (rightFrames es)) (d .1) (rowsIn (columns o) (take k (leftFrames es))));
+      whole-table = λ d. written-so-far o l r allowed es w i S (turned (d .0)) (d .1);
+      none-exactly = λ d.
+          rw (written-so-far o l r allowed es w i S (turned (d .0)) (d .1)) (each-correct o (rowsIn (rightColumns o) (rightFrames es)) (d .1) (rowsIn (columns o) (take k (leftFrames es))));
       rest-written = λ d en un outs room few.
-          let enough = each-map {Q = λ (f out : Words). 2 + 2 * rowCount f ≤ length out} (λ f out e. omega (arith, e)) (drop k (leftFrames es)) outs room in
+          let enough = each-map {Q = λ (f out : Words). frameWords (rowCount f) (answerColumns o) ≤ length out} (λ f out e. omega (arith, e)) (drop k (leftFrames es)) outs room in
           let z = finish o l r allowed outs es w i S (d .0) (d .1) en un (omega (arith, few)) enough in
           (z .all-write, z .all-matched);
       counts = (i .stock .rows, left-count o l r es w i);
       never-broken = (i .flags .unbroken, i .flags .fronts);
-      no-false-alarm = λ d. or-false-both (refusedWith 8 es) (refusedWith 9 es) (sym (i .flags .failed) ∙ S (d .0) (d .1) .unfailed);
+      no-false-alarm = λ d. or-false-both (refusedWith 8 es) (refusedWith 9 es) (sym (i .flags .failed) ∙ S (turned (d .0)) (d .1) .unfailed (d .0));
       words-kept = (i .stock .waits, i .stock .values, i .stock .marks, i .stock .left-length, i .stock .right-length);
+      settled = settled-so-far o l r allowed es w i S;
     }

@@ -10,12 +10,12 @@ use lib.ListN.{length}
 use Rattle.callrules.specs.Judged.{leftJudged, endJudged, rightJudged}
 use Rattle.frames.specs.Cells.{Words}
 use Rattle.frames.specs.Frame.{rowCount, isFrame}
-use Rattle.options.specs.Options.{badOptions}
+use Rattle.options.specs.Options.{refusedOptions}
 use Rattle.frames.specs.Front.{HasCount}
 use Rattle.options.specs.declared.Options.{Options}
 use Rattle.frames.proofs.FrontLaws.{frame-parts}
 use Rattle.area.specs.Area.{capacity}
-use Rattle.callrules.proofs.FeedLaws.{or-both, few-columns}
+use Rattle.options.proofs.OptionLaws.{or-both, allowed-parts}
 use Rattle.node.specs.State.{fresh, leftWidth, rightWidth, badJoin, overRight, overLeft, overRows, oddSequence}
 use Rattle.outcomes.specs.Answers.{isRunning, isDone, mostRows}
 use Rattle.node.specs.Calls.{leftAnswer, rightAnswer, endAnswer}
@@ -33,8 +33,9 @@ passed false n t e = (refl, e)
 
 -- ---- a join that is not bad
 pub record Good (j : Join) (left right : Words) : Type 0 where
-  pub options : badOptions (j .options) ≡ false
+  pub options : refusedOptions (j .options) ≡ false
   pub few : j .options .by ≤ 4
+  pub carried : j .options .carried ≤ 8
   pub right-room : j .base + j .held ≤ capacity (rightWidth j) right
   pub left-room : j .«queue_start» + j .«queue_words» ≤ length left
   pub rows : j .pruned + j .held ≤ mostRows
@@ -43,14 +44,16 @@ pub record Good (j : Join) (left right : Words) : Type 0 where
 pub good : (j : Join) (left right : Words) → badJoin j left right ≡ false → Good j left right
 unfolding badJoin
 good j left right h =
-    let a = badOptions (j .options) in
+    let a = refusedOptions (j .options) in
     let p = or-both (a || overRight j right || overLeft j left || overRows j) (oddSequence j) h in
     let q = or-both (a || overRight j right || overLeft j left) (overRows j) (p .0) in
     let r = or-both (a || overRight j right) (overLeft j left) (q .0) in
     let s = or-both a (overRight j right) (r .0) in
+    let t = allowed-parts (j .options) (s .0) in
     record {
       options = s .0;
-      few = few-columns (j .options) (s .0);
+      few = t .few;
+      carried = t .carried;
       right-room = ltb-false (capacity (rightWidth j) right) (j .base + j .held) (s .1);
       left-room = ltb-false (length left) (j .«queue_start» + j .«queue_words») (r .1);
       rows = ltb-false mostRows (j .pruned + j .held) (q .1);
@@ -58,7 +61,7 @@ good j left right h =
     }
 
 -- The join of a refused opening is bad, with any areas.
-pub opened-bad : (o : Options) (left right : Words) → badOptions o ≡ true → badJoin (fresh o) left right ≡ true
+pub opened-bad : (o : Options) (left right : Words) → refusedOptions o ≡ true → badJoin (fresh o) left right ≡ true
 unfolding badJoin
 opened-bad o left right e = rw e
 

@@ -7,8 +7,9 @@ use lib.Dec.{ltb, eqb}
 use lib.ListN.{length, take, drop, length-take}
 use lib.Seq.{take-take}
 use Rattle.frames.specs.Cells.{Rows, Words}
-use Rattle.frames.specs.Frame.{isFrame, frameRows, front}
+use Rattle.frames.specs.Frame.{frameWords, isFrame, frameRows, front}
 use Rattle.frames.specs.Front.{frontOf}
+use Rattle.options.specs.Options.{answerColumns}
 use Rattle.frames.specs.declared.Front.{Front}
 use Rattle.frames.specs.declared.Front.the-variants.{Words as Long, Nothing}
 use Rattle.frames.proofs.FrontLaws.{Fronted, front-told}
@@ -16,8 +17,7 @@ use Rattle.area.specs.Area.{capacity, heldRows}
 use Rattle.searching.specs.Reach.{needMore}
 use Rattle.area.proofs.PushLaws.{capacity-room}
 use Rattle.area.proofs.AreaLaws.{rows-words}
-use Rattle.matching.specs.Groups.{matchFrame}
-use Rattle.matching.specs.Answer.{answered}
+use Rattle.matching.specs.Answer.{frameAnswer, answered}
 use Rattle.matching.proofs.ChoiceLaws.{cond-ind}
 use Rattle.node.specs.State.{markedFailed, leftWidth, rightWidth, badJoin, heldOf, waiting}
 use Rattle.outcomes.specs.Answers.{isDone, lastSequence, wrote}
@@ -53,7 +53,7 @@ through false false false s x = refl
 
 chain : (j : Part) (rows held : Rows) (room : ℕ) → rowsAnswer j rows held room ≡
     cond (not (j .«right_ended») && needMore (j .options) rows held) WantsRight
-    (cond (ltb room (2 + 2 * length rows)) (Refused NoRoom)
+    (cond (ltb room (frameWords (length rows) (answerColumns (j .options)))) (Refused NoRoom)
     (cond (eqb (j .sequence) lastSequence) (Refused UsedUp)
     (cond (badLeft (j .options) (j .«last_left») rows) (Refused LeftOrder)
     (cond (badRight (j .options) (j .«last_right») rows held) (Refused RightOrder)
@@ -61,7 +61,7 @@ chain : (j : Part) (rows held : Rows) (room : ℕ) → rowsAnswer j rows held ro
 unfolding rowsAnswer roomAnswer orderAnswer
 chain j rows held room =
     rw (← split-known (j .options) (j .«last_right») rows held)
-    (through (not (j .«right_ended») && needMore (j .options) rows held) (ltb room (2 + 2 * length rows)) (eqb (j .sequence) lastSequence) (j .sequence) (orderAnswer j rows held (lastPrune (j .options) rows held)))
+    (through (not (j .«right_ended») && needMore (j .options) rows held) (ltb room (frameWords (length rows) (answerColumns (j .options)))) (eqb (j .sequence) lastSequence) (j .sequence) (orderAnswer j rows held (lastPrune (j .options) rows held)))
 
 -- A chain that passes its first tests comes to the rest; one that does not goes on as before.
 comes-to : (a b c d e : Bool) (x : Answer) → a ≡ false → b ≡ false → c ≡ false → d ≡ false → e ≡ true →
@@ -172,7 +172,7 @@ module _ (j : Join) (left right out : Words) where
 
       turned-rows : turned j left right out ≡ after (Wrote (j .sequence))
           (joinWith j (leftPart (partOf j) (frameRows (leftWidth j) f) (keptRows (j .options) (frameRows (leftWidth j) f) (heldOf j right)) (firstPrune (j .options) (frameRows (leftWidth j) f) (heldOf j right)) (lastPrune (j .options) (frameRows (leftWidth j) f) (heldOf j right)) (length f)))
-          left right (answered (matchFrame (j .options) (j .pruned + firstPrune (j .options) (frameRows (leftWidth j) f) (heldOf j right)) (keptRows (j .options) (frameRows (leftWidth j) f) (heldOf j right)) (frameRows (leftWidth j) f)) out)
+          left right (answered (j .options) (frameAnswer (j .options) (j .pruned + firstPrune (j .options) (frameRows (leftWidth j) f) (heldOf j right)) (keptRows (j .options) (frameRows (leftWidth j) f) (heldOf j right)) (frameRows (leftWidth j) f)) out)
       unfolding turned dropped dequeued leftPart keptRows lastPrune
       turned-rows = rw fronted
 

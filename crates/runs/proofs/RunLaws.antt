@@ -1,33 +1,37 @@
 -- A run of turns: that a turn that writes stays within its output; and the run after some of its turns. Assumes nothing.
 use mathlib.Core.Path.{_≡_, refl, sym, ap, _∙_}
-use mathlib.Core.Bool.{true, false, not, _&&_}
-use mathlib.Core.List.{List, [], _++_, append-assoc, append-nil}
-use Prim.Native.Nat.{ℕ, suc, _+_, _-_, _*_, _≤_, _<_}
+use mathlib.Core.Bool.{Bool, true, false, cond, not, _&&_}
+use mathlib.Core.List.{[], _++_, append-assoc, append-nil}
+use Prim.Native.Nat.{ℕ, suc, _+_, _-_, _≤_, _<_}
 use native.Mathlib.Omega.{arith}
 use borrow.Author.Tests.{ltb-false, le-leb, not-false}
 use lib.Dec.{ltb, eqb}
 use lib.ListN.{length, take, drop, length-append, length-drop, take-append-drop, drop-of-length-le}
 use lib.Seq.{take-all, drop-at, length-take-le, take-append-add, drop-append-add}
 use Rattle.frames.specs.Cells.{Rows, Words}
-use Rattle.frames.specs.Frame.{isFrame, frameRows, front}
+use Rattle.frames.specs.Frame.{frameWords, isFrame, frameRows, front}
 use Rattle.frames.specs.Front.{HasCount}
+use Rattle.options.specs.Options.{answerColumns}
+use Rattle.options.specs.declared.Options.{Options}
 use Rattle.frames.proofs.FrameLaws.{frame-rows}
 use Rattle.frames.proofs.FrontLaws.{frame-few}
 use Rattle.searching.specs.Reach.{needMore}
+use Rattle.tables.proofs.TableLaws.{Wide}
 use Rattle.matching.specs.Groups.{matchFrame}
-use Rattle.matching.specs.Answer.{answerWords, answered}
-use Rattle.matching.specs.declared.Choice.{Choice}
-use Rattle.matching.proofs.AnswerLaws.{answered-is, answered-rest, answered-count, answer-length}
+use Rattle.matching.specs.Answer.{frameAnswer, answered}
+use Rattle.matching.proofs.AnswerLaws.{answered-is, answered-rest, answered-count, answered-length}
+use Rattle.matching.proofs.AnswerRows.{answer-wide, answer-count}
 use Rattle.matching.proofs.GroupLaws.{frame-length}
-use Rattle.node.specs.State.{leftWidth, badJoin, heldOf, waiting}
+use Rattle.node.specs.State.{markedFailed, leftWidth, badJoin, heldOf, waiting}
 use Rattle.outcomes.specs.Answers.{isDone, wrote}
-use Rattle.node.specs.Calls.{After, turnAnswer, turned, turnCall}
+use Rattle.node.specs.Calls.{After, turnAnswer, dropped, dequeued, turned, turnCall}
 use Rattle.turnrows.specs.Prunes.{firstPrune}
 use Rattle.runs.specs.Run.{Ran, ran, stopOf, turnWords, andThen, runCall}
 use Rattle.node.specs.Contracts.{TurnContract}
 use Rattle.runs.specs.RunContract.{RunContract}
 use Rattle.outcomes.proofs.Tests.{past}
 use Rattle.node.specs.declared.Join.{Join}
+use Rattle.refusals.specs.Refusals.{marksFailed}
 use Rattle.refusals.specs.declared.Refusal.{Refusal}
 use Rattle.refusals.specs.declared.Refusal.the-variants.{BadJoin, Failed, Closed, BadFrame, NoRoom}
 use Rattle.outcomes.specs.declared.Answer.{Answer}
@@ -37,22 +41,18 @@ use Rattle.outcomes.specs.declared.Stop.the-variants.{Used}
 use Rattle.node.specs.declared.TurnedJoin.{TurnedJoin}
 
 -- ---- what a turn that writes leaves in its output
--- The words that were written are there, as many as the first of them gives; the rest is as it was.
-pub record Fits (out out′ : Words) : Type 0 where
+-- The words that were written are there, as many as the first of them gives for rows of c columns; the rest is as it was.
+pub record Fits (c : ℕ) (out out′ : Words) : Type 0 where
   pub count : HasCount out′
-  pub room : turnWords out′ ≤ length out
-  pub rest : drop (turnWords out′) out′ ≡ drop (turnWords out′) out
+  pub room : turnWords c out′ ≤ length out
+  pub rest : drop (turnWords c out′) out′ ≡ drop (turnWords c out′) out
 
-answered-fits : (ms : List Choice) (out : Words) → length ms ≤ 4096 → 2 + 2 * length ms ≤ length out → Fits out (answered ms out)
-answered-fits ms out few room = record {
-  count = rw (answered-is ms out) (record { long = omega arith; few = rw (le-leb 0 (length ms) (omega arith), le-leb (length ms) 4096 few) });
-  room = rw (answered-count ms out) room;
-  rest = rw (answered-count ms out, answered-rest ms out) (drop-at (answerWords ms) (drop (2 + 2 * length ms) out) (2 + 2 * length ms) (answer-length ms));
+answered-fits : (o : Options) (rs : Rows) (out : Words) → Wide (answerColumns o) rs → length rs ≤ 4096 → frameWords (length rs) (answerColumns o) ≤ length out → Fits (answerColumns o) out (answered o rs out)
+answered-fits o rs out wide few room = record {
+  count = rw (answered-is o rs out) (record { long = omega arith; few = rw (le-leb 0 (length rs) (omega arith), le-leb (length rs) 4096 few) });
+  room = rw (answered-count o rs out) room;
+  rest = rw (answered-count o rs out) (answered-rest o rs out wide);
 }
-
-answered-length : (ms : List Choice) (out : Words) → 2 + 2 * length ms ≤ length out → length (answered ms out) ≡ length out
-answered-length ms out room =
-    rw (answered-rest ms out, length-append, answer-length ms, length-drop) (omega arith)
 
 apart : (n : Refusal) (s : ℕ) → Refused n ≡ Wrote s → ⊥
 apart n s e = let z : _≡_ {A = ℕ} 0 1 = cc in omega arith
@@ -64,7 +64,7 @@ module _ (j : Join) (left right out : Words) where
   -- A turn that answers Wrote had a frame and room.
   pub record Passed : Type 0 where
     pub frame : isFrame (leftWidth j) (front (leftWidth j) (waiting j left)) ≡ true
-    pub room : 2 + 2 * length rows ≤ length out
+    pub room : frameWords (length rows) (answerColumns (j .options)) ≤ length out
 
   passed : (s : ℕ) → turnAnswer j left right out ≡ Wrote s → Passed
   unfolding turnAnswer
@@ -75,30 +75,44 @@ module _ (j : Join) (left right out : Words) where
       let pi = past (eqb (j .«queue_words») 0) Idle _ (Wrote s) (λ x. let z : _≡_ {A = ℕ} 0 1 = cc in omega arith) (p4 .1) in
       let p5 = past (not (isFrame (leftWidth j) (front (leftWidth j) (waiting j left)))) (Refused BadFrame) _ (Wrote s) (apart BadFrame s) (pi .1) in
       let pw = past (not (j .«right_ended») && needMore (j .options) rows (heldOf j right)) WantsRight _ (Wrote s) (λ x. let z : _≡_ {A = ℕ} 0 1 = cc in omega arith) (p5 .1) in
-      let p6 = past (ltb (length out) (2 + 2 * length rows)) (Refused NoRoom) _ (Wrote s) (apart NoRoom s) (pw .1) in
-      record { frame = not-false (isFrame (leftWidth j) (front (leftWidth j) (waiting j left))) (p5 .0); room = ltb-false (length out) (2 + 2 * length rows) (p6 .0) }
+      let p6 = past (ltb (length out) (frameWords (length rows) (answerColumns (j .options)))) (Refused NoRoom) _ (Wrote s) (apart NoRoom s) (pw .1) in
+      record { frame = not-false (isFrame (leftWidth j) (front (leftWidth j) (waiting j left))) (p5 .0); room = ltb-false (length out) (frameWords (length rows) (answerColumns (j .options))) (p6 .0) }
 
-  -- The answer that is written has as many rows as the frame.
-  matches : List Choice
-  matches =
-      matchFrame (j .options) (j .pruned + firstPrune (j .options) rows (heldOf j right)) (drop (firstPrune (j .options) rows (heldOf j right)) (heldOf j right)) rows
+  -- The answer that is written: its rows are as many as the frame's, and as wide as an answer is.
+  abbrev first : ℕ
+  first = firstPrune (j .options) rows (heldOf j right)
+
+  abbrev kept : Rows
+  kept = drop first (heldOf j right)
+
+  matches : Rows
+  matches = frameAnswer (j .options) (j .pruned + first) kept rows
 
   matches-length : length matches ≡ length rows
   unfolding matches
-  matches-length = frame-length (j .options) _ _ rows
+  matches-length =
+      let n = frame-length (j .options) (j .pruned + first) kept rows in
+      answer-count (j .options) (j .pruned + first) kept rows (matchFrame (j .options) (j .pruned + first) kept rows) (sym n) ∙ n
 
-  turned-out : turned j left right out .out ≡ answered matches out
+  matches-wide : Wide (answerColumns (j .options)) matches
+  unfolding matches
+  matches-wide = answer-wide (j .options) (j .pruned + first) kept rows (matchFrame (j .options) (j .pruned + first) kept rows)
+
+  matches-room : (s : ℕ) → turnAnswer j left right out ≡ Wrote s → frameWords (length matches) (answerColumns (j .options)) ≤ length out
+  matches-room s e = rw matches-length (passed s e .room)
+
+  turned-out : turned j left right out .out ≡ answered (j .options) matches out
   unfolding turned matches
   turned-out = refl
 
-  pub turn-fits : wrote (turnCall j left right out .answer) ≡ true → Fits out (turnCall j left right out .out)
+  pub turn-fits : wrote (turnCall j left right out .answer) ≡ true → Fits (answerColumns (j .options)) out (turnCall j left right out .out)
   unfolding turnCall
   turn-fits = go (turnAnswer j left right out) refl
     where
-      go : (a : Answer) → turnAnswer j left right out ≡ a → wrote (turnCall j left right out .answer) ≡ true → Fits out (turnCall j left right out .out)
+      go : (a : Answer) → turnAnswer j left right out ≡ a → wrote (turnCall j left right out .answer) ≡ true → Fits (answerColumns (j .options)) out (turnCall j left right out .out)
       go (Wrote s) e = rw (e, turnCall) (λ g.
           let p = passed s e in
-          rw turned-out (answered-fits matches out (omega (arith, matches-length, frame-rows (leftWidth j) _ (p .frame), frame-few (leftWidth j) _ (p .frame))) (omega (arith, matches-length, p .room))))
+          rw turned-out (answered-fits (j .options) matches out matches-wide (omega (arith, matches-length, frame-rows (leftWidth j) _ (p .frame), frame-few (leftWidth j) _ (p .frame))) (matches-room s e)))
       go WantsRight e = rw (e, turnCall) (λ g. let z : _≡_ {A = ℕ} 0 1 = cc in absurd (omega arith))
       go Idle e = rw (e, turnCall) (λ g. let z : _≡_ {A = ℕ} 0 1 = cc in absurd (omega arith))
       go (Refused n) e = rw (e, turnCall) (λ g. let z : _≡_ {A = ℕ} 0 1 = cc in absurd (omega arith))
@@ -109,7 +123,7 @@ module _ (j : Join) (left right out : Words) where
   turn-length = go (turnAnswer j left right out) refl
     where
       go : (a : Answer) → turnAnswer j left right out ≡ a → length (turnCall j left right out .out) ≡ length out
-      go (Wrote s) e = rw (e, turnCall, turned-out) (answered-length matches out (omega (arith, matches-length, passed s e .room)))
+      go (Wrote s) e = rw (e, turnCall, turned-out) (answered-length (j .options) matches out matches-wide (matches-room s e))
       go WantsRight e = rw (e, turnCall)
       go Idle e = rw (e, turnCall)
       go (Refused n) e = rw (e, turnCall)
@@ -134,6 +148,21 @@ module _ (j : Join) (left right out : Words) where
       go WantsRight e = rw (e, turnCall) (refl, refl)
       go Idle e = rw (e, turnCall) (refl, refl)
       go (Refused n) e = rw (e, turnCall) (refl, refl)
+
+-- A turn keeps the options.
+pub turn-options : (j : Join) (left right out : Words) → turnCall j left right out .join .options ≡ j .options
+unfolding turnCall turned dequeued dropped
+turn-options j left right out = go (turnAnswer j left right out) refl
+  where
+    spoilt : (b : Bool) → (cond b (markedFailed j) j) .options ≡ j .options
+    spoilt true = refl
+    spoilt false = refl
+
+    go : (a : Answer) → turnAnswer j left right out ≡ a → turnCall j left right out .join .options ≡ j .options
+    go (Wrote s) e = rw (e, turnCall)
+    go WantsRight e = rw (e, turnCall)
+    go Idle e = rw (e, turnCall)
+    go (Refused n) e = rw (e, turnCall) (spoilt (marksFailed n))
 
 -- ---- a run
 then-then : (a b c d : ℕ) (xs ys : Words) (r : Ran) → andThen a b xs (andThen c d ys r) ≡ andThen (a + c) (b + d) (xs ++ ys) r
@@ -219,14 +248,14 @@ module _ (k : ℕ) (j₀ : Join) (left right out₀ : Words) where
         writes : wrote (t .answer) ≡ true
         writes = rw (leaves-it .answer) at g
 
-        fits : Fits (drop at out) (t .out)
+        fits : Fits (answerColumns (j .options)) (drop at out) (t .out)
         fits = turn-fits j left right (drop at out) writes
 
         pub run-count : HasCount (take (length put - at) (drop at put))
         run-count = rw behind (fits .count)
 
-        module _ (n : ℕ) (is : n ≡ turnWords (take (length put - at) (drop at put))) where
-          many : n ≡ turnWords (t .out)
+        module _ (n : ℕ) (is : n ≡ turnWords (answerColumns (j .options)) (take (length put - at) (drop at put))) where
+          many : n ≡ turnWords (answerColumns (j .options)) (t .out)
           many = rw behind at is
 
           pub run-within : at + n ≤ length out

@@ -14,8 +14,8 @@ ghost use Prim.Native.Nat.{ℕ, _<_};
 ghost use Rattle.frames.specs.Cells.{rowFrom, rowsOf};
 ghost use Rattle.options.specs.Options.{columns};
 ghost use Rattle.order.specs.Order.{isGreater};
-ghost use Rattle.order.specs.Keyed.{rowAt, recall, rememberAt, outOfOrder};
-ghost use Rattle.order.specs.Requires.{RowAt};
+ghost use Rattle.order.specs.Keyed.{firstKeyed, rowAt, recall, rememberAt, outOfOrder};
+ghost use Rattle.order.specs.Requires.{RowAt, RowsIn};
 ghost use Rattle.splitcheck.specs.Split.{wordsBefore, hasBefore, outOfOrderAt};
 ghost use Rattle.splitcheck.specs.Requires.{BeforeIn, SplitIn, FoundIn, FoundAmong};
 
@@ -59,7 +59,7 @@ fn is_greater(order: Order) -> bool
     }
 }
 
-// Whether the row at the front of pv and pm is greater than the row found, of n rows that are each w wide.
+// Whether the row at the front of pv and pm is greater than the row found, of rows that are each w wide.
 fn above_found(
     pv: &[i64],
     pm: &[i64],
@@ -76,6 +76,23 @@ fn above_found(
         return false;
     };
     is_greater(cmp_row(pv, pm, 0, values, marks, i * w, o))
+}
+
+// Whether the row at the front of pv and pm is greater than the first row with a key, of n rows that are each w wide.
+fn above_first(
+    pv: &[i64],
+    pm: &[i64],
+    values: &[i64],
+    marks: &[i64],
+    n: usize,
+    w: usize,
+    o: Options,
+) -> bool
+    requires { ⌜ RowAt o 0 (now pv) (now pm) × RowsIn o w n (now values) (now marks) ⌝ }
+    ensures { λ r. ⌜ ((wp : ℕ) → o .by < wp → r ≡ outOfOrder o (some (rowFrom wp 0 (now (pv .entry)) (now (pm .entry)))) (rowAt (rowsOf w n (now (values .entry)) (now (marks .entry))) (firstKeyed o (rowsOf w n (now (values .entry)) (now (marks .entry)))))) ⌝ }
+{
+    let first = first_keyed(marks, n, w, o);
+    above_found(pv, pm, first, values, marks, w, o)
 }
 
 // Whether the remembered row is greater than the row found, of rows that are each w wide.
@@ -113,8 +130,7 @@ pub fn bad_split(m: Row, s: usize, rv: &[i64], rm: &[i64], n: usize, w: usize, o
     let values = before_split(rv, &lv, found, c, w);
     let marks = before_split(rm, &lm, found, c, w);
     let p = s * w;
-    let first = first_keyed(&rm[p..], n - s, w, o);
-    above_found(values, marks, first, &rv[p..], &rm[p..], w, o)
+    above_first(values, marks, &rv[p..], &rm[p..], n - s, w, o)
 }
 
 // What is remembered by the row found, of rows that are each w wide: that row, or the row m if none was found.

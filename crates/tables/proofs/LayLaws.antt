@@ -1,12 +1,12 @@
 -- The cells of a table, laid one by one behind its two head words, are the table's words. Assumes nothing.
 use mathlib.Core.Path.{_≡_, refl, sym, ap, _∙_}
 use mathlib.Core.List.{List, [], _∷_, _++_, map, append-assoc}
-use Prim.Native.Nat.{ℕ, suc, _+_, _-_, _*_, _≤_}
+use Prim.Native.Nat.{ℕ, suc, _+_, _-_, _*_, _≤_, _<_}
 use native.Mathlib.Nat.{add-zero}
 use native.Mathlib.Omega.{arith}
 use lib.IntN.{ℤ, pos}
-use lib.ListN.{length, take, drop, set, length-append, length-map, length-drop, length-set, take-append-drop}
-use lib.Seq.{set-at, length-take-le, drop-drop, take-length}
+use lib.ListN.{length, take, drop, getD, set, length-append, length-map, length-drop, length-set, take-append-drop}
+use lib.Seq.{set-at, set-set, set-comm, getD-set-other, length-take-le, drop-drop, take-length}
 use Rattle.frames.specs.Cells.{Cell, valueWord, markWord, Rows, Words}
 use Rattle.frames.proofs.WordLaws.{map-append}
 use Rattle.tables.specs.Table.{wordsOf, tableOf, laid}
@@ -39,6 +39,70 @@ module _ (m : ℕ) where
   unfolding layCells
   lay-length k [] out = refl
   lay-length k (a ∷ A) out = lay-length (suc k) A (set (set out (2 + k) (valueWord a)) (2 + m + k) (markWord a)) ∙ simp length-set
+
+  -- Place p holds no word of n cells from cell k on.
+  abbrev pub Apart : ℕ → ℕ → ℕ → Type 0
+  Apart k n p = (i : ℕ) → k ≤ i → i < k + n → (p ≡ 2 + i → ⊥) × (p ≡ 2 + m + i → ⊥)
+
+  -- The words of earlier cells are apart from those of later ones.
+  pub value-apart : (k n j : ℕ) → j < k → k + n ≤ m → Apart k n (2 + j)
+  value-apart k n j h l i a b = (λ e. omega arith, λ e. omega arith)
+
+  pub mark-apart : (k n j : ℕ) → j < k → k + n ≤ m → Apart k n (2 + m + j)
+  mark-apart k n j h l i a b = (λ e. omega arith, λ e. omega arith)
+
+  -- A word apart from the cells that are laid stays.
+  pub lay-keeps : (k : ℕ) (A : List Cell) (out : Words) (p : ℕ) → Apart k (length A) p → getD (layCells m k A out) p (pos 0) ≡ getD out p (pos 0)
+  unfolding layCells
+  lay-keeps k [] out p h = refl
+  lay-keeps k (a ∷ A) out p h =
+      let q = h k (omega arith) (omega arith) in
+      lay-keeps (suc k) A (set (set out (2 + k) (valueWord a)) (2 + m + k) (markWord a)) p (λ i l r. h i (omega arith) (omega arith))
+      ∙ getD-set-other (set out (2 + k) (valueWord a)) (2 + m + k) p (markWord a) (pos 0) (q .1)
+      ∙ getD-set-other out (2 + k) p (valueWord a) (pos 0) (q .0)
+
+  -- Such a word may be written before or after them.
+  pub lay-set : (k : ℕ) (A : List Cell) (out : Words) (p : ℕ) (v : ℤ) → Apart k (length A) p → layCells m k A (set out p v) ≡ set (layCells m k A out) p v
+  unfolding layCells
+  lay-set k [] out p v h = refl
+  lay-set k (a ∷ A) out p v h =
+      let q = h k (omega arith) (omega arith) in
+      let e : set (set (set out p v) (2 + k) (valueWord a)) (2 + m + k) (markWord a) ≡ set (set (set out (2 + k) (valueWord a)) (2 + m + k) (markWord a)) p v =
+      ap (λ (z : Words). set z (2 + m + k) (markWord a)) (set-comm out p (2 + k) v (valueWord a) (q .0))
+      ∙ set-comm (set out (2 + k) (valueWord a)) p (2 + m + k) v (markWord a) (q .1) in
+      ap (layCells m (suc k) A) e
+      ∙ lay-set (suc k) A (set (set out (2 + k) (valueWord a)) (2 + m + k) (markWord a)) p v (λ i l r. h i (omega arith) (omega arith))
+
+  -- An earlier cell may be laid before or after later ones.
+  lay-first : (k : ℕ) (A : List Cell) (out : Words) (j : ℕ) (x : Cell) → j < k → k + length A ≤ m
+      → layCells m k A (set (set out (2 + j) (valueWord x)) (2 + m + j) (markWord x)) ≡ set (set (layCells m k A out) (2 + j) (valueWord x)) (2 + m + j) (markWord x)
+  lay-first k A out j x h l =
+      lay-set k A (set out (2 + j) (valueWord x)) (2 + m + j) (markWord x) (mark-apart k (length A) j h l)
+      ∙ ap (λ (z : Words). set z (2 + m + j) (markWord x)) (lay-set k A out (2 + j) (valueWord x) (value-apart k (length A) j h l))
+
+  -- And so may earlier cells.
+  pub lay-order : (j : ℕ) (A : List Cell) (k : ℕ) (B : List Cell) (out : Words) → j + length A ≤ k → k + length B ≤ m
+      → layCells m k B (layCells m j A out) ≡ layCells m j A (layCells m k B out)
+  unfolding layCells
+  lay-order j [] k B out h l = refl
+  lay-order j (a ∷ A) k B out h l =
+      lay-order (suc j) A k B (set (set out (2 + j) (valueWord a)) (2 + m + j) (markWord a)) (omega arith) l
+      ∙ ap (layCells m (suc j) A) (lay-first k B out j a (omega arith) l)
+
+  -- Of cells that are laid over by others no word is left.
+  pub lay-over : (k : ℕ) (A B : List Cell) (out : Words) → length B ≤ length A → k + length A ≤ m → layCells m k A (layCells m k B out) ≡ layCells m k A out
+  unfolding layCells
+  lay-over k A [] out h l = refl
+  lay-over k [] (b ∷ B) out h l = absurd (omega arith)
+  lay-over k (a ∷ A) (b ∷ B) out h l =
+      let u : Words = set (set out (2 + k) (valueWord b)) (2 + m + k) (markWord b) in
+      let e : set (set u (2 + k) (valueWord a)) (2 + m + k) (markWord a) ≡ set (set out (2 + k) (valueWord a)) (2 + m + k) (markWord a) =
+      ap (λ (z : Words). set z (2 + m + k) (markWord a)) (set-comm (set out (2 + k) (valueWord b)) (2 + m + k) (2 + k) (markWord b) (valueWord a) (λ z. omega arith))
+      ∙ set-set (set (set out (2 + k) (valueWord b)) (2 + k) (valueWord a)) (2 + m + k) (markWord b) (markWord a)
+      ∙ ap (λ (z : Words). set z (2 + m + k) (markWord a)) (set-set out (2 + k) (valueWord b) (valueWord a)) in
+      ap (layCells m (suc k) A) (sym (lay-first (suc k) B u k a (omega arith) (omega arith)))
+      ∙ lay-over (suc k) A B (set (set u (2 + k) (valueWord a)) (2 + m + k) (markWord a)) (omega arith) (omega arith)
+      ∙ ap (layCells m (suc k) A) e
 
   -- Values go from B's places on, marks from D's.
   lay-parts : (i : ℕ) (xs : List Cell) (A B C D E : Words) → length A ≡ 2 + i → length B ≡ length xs → length C ≡ i → length D ≡ length xs → i + length xs ≡ m

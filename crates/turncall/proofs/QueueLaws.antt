@@ -95,6 +95,7 @@ module _ (j : Part) (area right : Words) (k : ℕ) (told : frontOf (columns (j .
   frame-in g s l m =
       record {
         few = g .few;
+        carried = g .carried;
         frame = front-frame;
         held = g .right-room;
         counts = record {

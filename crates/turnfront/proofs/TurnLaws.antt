@@ -9,12 +9,12 @@ use lib.Dec.{ltb, eqb}
 use lib.ListN.{length, take, drop, length-take, length-drop}
 use Rattle.frames.specs.Cells.{Rows, Words, rowsOf}
 use Rattle.frames.specs.Frame.{rowCount, frameWords, valuesIn, marksIn, isFrame, frameRows}
-use Rattle.options.specs.Options.{columns, rightColumns}
+use Rattle.options.specs.Options.{columns, rightColumns, answerColumns}
 use Rattle.order.specs.Requires.{RowsIn}
 use Rattle.frames.specs.Front.{HasCount}
 use Rattle.options.specs.declared.Options.{Options}
 use Rattle.frames.proofs.WordLaws.{rows-length, rows-drop}
-use Rattle.frames.proofs.FrontLaws.{frame-parts, values-part, marks-part}
+use Rattle.frames.proofs.FrontLaws.{frame-parts, frame-few, values-part, marks-part}
 use Rattle.area.specs.Requires.{BaseIn}
 use Rattle.area.specs.Area.{capacity, heldRows}
 use Rattle.area.proofs.AreaLaws.{held-in}
@@ -53,7 +53,7 @@ module _ (j : Part) (rows held : Rows) where
   unfolding roomAnswer
   room-all P room pw p6 p7 p =
       cond-ind P (not (j .«right_ended») && needMore (j .options) rows held) (λ t. pw) (λ t.
-      cond-ind P (ltb room (2 + 2 * length rows)) (λ u. p6) (λ u.
+      cond-ind P (ltb room (frameWords (length rows) (answerColumns (j .options)))) (λ u. p6) (λ u.
       cond-ind P (eqb (j .sequence) lastSequence) (λ v. p7) (λ v. p)))
 
   order-all : (P : Answer → Type 0) (s : ℕ) → P (Refused LeftOrder) → P (Refused RightOrder) → P (Wrote (j .sequence)) → P (orderAnswer j rows held s)
@@ -71,13 +71,13 @@ module _ (j : Part) (rows held : Rows) where
   order-writes s t e g = order-all (λ a. wrote a ≡ true → a ≡ Wrote (j .sequence)) s (λ x. cc) (λ x. cc) (λ x. refl) (sym (ap wrote e) ∙ g)
 
   -- What a turn that has what it needs can count on.
-  pub room-there : (room : ℕ) → roomAnswer j rows held room ≡ Wrote (j .sequence) → (2 + 2 * length rows ≤ room) × (j .sequence ≡ lastSequence → ⊥)
+  pub room-there : (room : ℕ) → roomAnswer j rows held room ≡ Wrote (j .sequence) → (frameWords (length rows) (answerColumns (j .options)) ≤ room) × (j .sequence ≡ lastSequence → ⊥)
   unfolding roomAnswer
   room-there room e =
       let p = past (not (j .«right_ended») && needMore (j .options) rows held) WantsRight _ (Wrote (j .sequence)) (λ x. let z : _≡_ {A = ℕ} 0 1 = cc in omega arith) e in
-      let q = past (ltb room (2 + 2 * length rows)) (Refused NoRoom) _ (Wrote (j .sequence)) (λ x. let z : _≡_ {A = ℕ} 0 1 = cc in omega arith) (p .1) in
+      let q = past (ltb room (frameWords (length rows) (answerColumns (j .options)))) (Refused NoRoom) _ (Wrote (j .sequence)) (λ x. let z : _≡_ {A = ℕ} 0 1 = cc in omega arith) (p .1) in
       let r = past (eqb (j .sequence) lastSequence) (Refused UsedUp) (Wrote (j .sequence)) (Wrote (j .sequence)) (λ x. let z : _≡_ {A = ℕ} 0 1 = cc in omega arith) (q .1) in
-      (ltb-false room (2 + 2 * length rows) (q .0), eqb-false (j .sequence) lastSequence (r .0))
+      (ltb-false room (frameWords (length rows) (answerColumns (j .options))) (q .0), eqb-false (j .sequence) lastSequence (r .0))
 
   module _ (k : ℕ) (out : Words) where
     not-written : (a : Answer) → rowsAnswer j rows held (length out) ≡ a → wrote a ≡ false → RowsTurned j rows held k out (record { answer = a; part = stopped j a }) out
@@ -167,6 +167,7 @@ module _ {j : Part} {c w n : ℕ} {lv lm rv rm : Words} (t : TurnIn j c w n lv l
             record {
               columns = t .columns;
               wide = t .wide;
+              carried = t .carried;
               left = t .left;
               kept = kept-in;
               within = both-in;
@@ -195,6 +196,8 @@ module _ {j : Part} {f right : Words} (p : FrameIn j f right) (c w n e : ℕ) (n
       record {
         columns = narrow;
         wide = wide;
+        carried = p .carried;
+        short = rw count (frame-few (columns (j .options)) f (p .frame));
         left = record {
           few = p .few;
           wide = omega (arith, narrow);
@@ -214,6 +217,6 @@ module _ {j : Part} {f right : Words} (p : FrameIn j f right) (c w n e : ℕ) (n
 -- The held rows start within the capacity.
 pub base-in : {j : Part} {f right : Words} → FrameIn j f right → (w : ℕ) → w ≡ rightColumns (j .options) → BaseIn w (j .base) right
 base-in p w wide = record {
-  columns = record { some = omega (arith, wide); few = omega (arith, wide, p .few) };
+  columns = record { some = omega (arith, wide); few = omega (arith, wide, p .few, p .carried) };
   within = rw wide (omega (arith, p .held));
 }

@@ -1,10 +1,10 @@
 // What a turn works on: the join without its state, which no turn reads or moves; what the turn has and needs, and what it writes and leaves.
 use matchframe::match_frame;
-use narrowing::need_more;
 use options::Options;
 use options::answer_columns;
 use order::Row;
 use outcomes::Answer;
+use pruning::need_more;
 use refusals::Refusal;
 use turnrows::bad_left;
 use turnrows::bad_right;

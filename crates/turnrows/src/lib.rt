@@ -1,13 +1,13 @@
 // What a turn asks of rows: whether they are in order, how many its prunes drop, which row is remembered. No join is seen here.
 use keyed::first_keyed;
 use keyed::last_keyed;
-use narrowing::prune_by;
 use neighbours::is_sorted;
 use options::Options;
 use options::is_on;
 use options::is_strict;
 use order::Keyed;
 use order::Row;
+use pruning::prune_by;
 use splitcheck::bad_split;
 use splitcheck::out_of_order;
 use splitcheck::remember_found;

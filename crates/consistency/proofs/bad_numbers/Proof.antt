@@ -1,45 +1,45 @@
 use mathlib.Core.Path.{_≡_, sym, _∙_}
 use mathlib.Core.Bool.{false}
 use native.Mathlib.Omega.{arith}
-use Prim.Native.Nat.{_+_, _≤_}
+use Prim.Native.Nat.{_+_}
 use denote.Ref.{now}
 use lib.Dec.{ltb}
-use Rattle.options.specs.Options.{badOptions, rightColumns}
+use Rattle.options.specs.Options.{refusedOptions, rightColumns}
 use Rattle.area.specs.Area.{capacity}
 use Rattle.callrules.specs.Judged.{badNumbers}
-use Rattle.callrules.proofs.FeedLaws.{few-columns}
+use Rattle.options.proofs.OptionLaws.{Allowed, allowed-parts}
 use borrow.Author.Needs.{needs}
 use Rattle.consistency.proofs.bad_numbers.Statement.{statement}
 use Rattle.consistency.proofs.bad_numbers.Tie as tie
 use Rattle.consistency.proofs.bad_numbers.Reads as reads
 use Rattle.consistency.proofs.bad_numbers.Lts as lts
-use Rattle.options.proofs.bad_options.Reads as bad-options-reads
+use Rattle.options.proofs.refused_options.Reads as refused-options-reads
 use Rattle.options.proofs.right_columns.Reads as right-columns-reads
 use Rattle.outcomes.proofs.above.Reads as above-reads
 
-bad-options-requires : tie.Need-bad-options-requires
-bad-options-requires c κs = search needs
+refused-options-requires : tie.Need-refused-options-requires
+refused-options-requires c κs = search needs
 
 returns : tie.Need-returns
 unfolding badNumbers
-returns c = simp (← c .before .bad-options .ensures, c .if1 .taken)
+returns c = simp (← c .before .refused-options .ensures, c .if1 .taken)
 
--- The options are not refused, so there are at most four by-columns.
-fine : (c : tie.Else1) → badOptions (c .before .before .args .o) ≡ false
-fine c = sym (c .before .bad-options .ensures) ∙ c .if1 .left
+-- The options are not refused, so they have few columns.
+fine : (c : tie.Else1) → refusedOptions (c .before .before .args .o) ≡ false
+fine c = sym (c .before .refused-options .ensures) ∙ c .if1 .left
 
-few : (c : tie.Else1) → c .before .before .args .o .by ≤ 4
-few c = few-columns _ (fine c)
+allowed : (c : tie.Else1) → Allowed (c .before .before .args .o)
+allowed c = allowed-parts _ (fine c)
 
 -- The first sum that is tested is that of the held rows.
 rows : (c : tie.After-above) → let a = c .before .before .before .before .args in c .above .result ≡ ltb (capacity (rightColumns (a .o)) (now (a .right))) (a .base + a .held)
 rows c = rw (c .before .right-columns .ensures) at (c .above .ensures)
 
 right-columns-requires : tie.Need-right-columns-requires
-right-columns-requires c κs = few c
+right-columns-requires c κs = (allowed c .few, allowed c .carried)
 
 mul-above : tie.Need-mul-above
-mul-above c = omega (arith, c .right-columns .ensures, few (c .before))
+mul-above c = omega (arith, c .right-columns .ensures, allowed (c .before))
 
 div-above : tie.Need-div-above
 div-above c = search needs
@@ -82,7 +82,7 @@ pub bad-numbers-spec : {M : Type 1} → statement M
 bad-numbers-spec =
     tie.close
     (tie.spec
-    bad-options-requires
+    refused-options-requires
     returns
     right-columns-requires
     mul-above

@@ -15,7 +15,7 @@ use Rattle.framerule.proofs.row_count.Reads as row-count-reads
 use Rattle.judges.proofs.judge_right.Reads as judge-right-reads
 
 judge-right-requires : tie.Need-judge-right-requires
-judge-right-requires c κs = λ e. let h = c .before .pre e in (h .few, h .rows)
+judge-right-requires c κs = λ e. let h = c .before .pre e in (h .few, h .carried, h .rows)
 
 enum-told : tie.Need-enum-told
 enum-told c = search needs
@@ -37,13 +37,13 @@ holds : (c : tie.After-enum-told2) → let a = c .before .before .before .before
 holds c = c .before .before .before .before .pre (taken c .unbroken)
 
 right-columns-requires : tie.Need-right-columns-requires
-right-columns-requires c κs = holds c .few
+right-columns-requires c κs = (holds c .few, holds c .carried)
 
 push-requires : tie.Need-push-requires
 push-requires c κs =
     let t = taken (c .before .before) in
     let h = holds (c .before .before) in
-    rw (c .before .right-columns .ensures) (record { columns = record { some = omega arith; few = omega (arith, h .few) }; frame = t .frame; within = h .room; room = t .room })
+    rw (c .before .right-columns .ensures) (record { columns = record { some = omega arith; few = omega (arith, h .few, h .carried) }; frame = t .frame; within = h .room; room = t .room })
 
 row-count-requires : tie.Need-row-count-requires
 row-count-requires c κs = has-count _ _ (taken (c .before .before .before .before) .frame)

@@ -43,11 +43,11 @@ judged : (c : tie.After-enum-told2) → let a = c .before .before .before .args 
 judged c = right-open _ _ _ _ _ _ _ _ _ (unended c)
 
 -- The join is not bad.
-holds : (c : tie.After-enum-told2) → let a = c .before .before .before .args in (a .o .by ≤ 4) × (a .pruned + a .held ≤ mostRows)
+holds : (c : tie.After-enum-told2) → let a = c .before .before .before .args in (a .o .by ≤ 4) × (a .o .carried ≤ 8) × (a .pruned + a .held ≤ mostRows)
 holds c = c .before .before .before .pre (end-taken _ _ _ _ (unended c) .unbroken)
 
 right-columns-requires : tie.Need-right-columns-requires
-right-columns-requires c κs = holds c .0
+right-columns-requires c κs = (holds c .0, holds c .1)
 
 is-frame-requires : tie.Need-is-frame-requires
 is-frame-requires c κs = search needs
@@ -71,7 +71,7 @@ row-count-requires : tie.Need-row-count-requires
 row-count-requires c κs = has-count _ _ (sym (frame (c .before)) ∙ not-false (c .before .is-frame .result) (c .if1 .left))
 
 mul-above : tie.Need-mul-above
-mul-above c = omega (arith, c .before .before .before .right-columns .ensures, holds (c .before .before .before .before) .0)
+mul-above c = omega (arith, c .before .before .before .right-columns .ensures, holds (c .before .before .before .before))
 
 div-above : tie.Need-div-above
 div-above c = search needs
@@ -88,7 +88,7 @@ returns-3 c =
 add-above : tie.Need-add-above
 add-above c =
     let o = c .before .before .before .before .before .before in
-    omega (arith, holds o .1)
+    omega (arith, holds o .2)
 
 above-requires-2 : tie.Need-above-requires-2
 above-requires-2 c κs = search needs

@@ -1,42 +1,51 @@
-use Prim.Native.Nat.{_<_, _^_}
+use mathlib.Core.Path.{_≡_, refl, sym, ap, subst}
+use Prim.Native.Nat.{ℕ, _*_}
 use native.Mathlib.Omega.{arith}
 use denote.Ref.{now}
-use lib.ListN.{length-set}
-use mir.Syntax.{w64}
-use mir.ValLaws.{toZ-pos}
-use Rattle.matching.proofs.LayLaws.{frame-answer}
+use Rattle.options.specs.Options.{answerColumns}
+use Rattle.matching.specs.Requires.{AnswerRoom}
+use Rattle.carrying.proofs.LaidLaws.{answer-whole}
 use borrow.Author.Needs.{needs}
 use Rattle.matchframe.proofs.match_frame.Statement.{statement}
 use Rattle.matchframe.proofs.match_frame.Tie as tie
 
-match-rows-requires : tie.Need-match-rows-requires
-match-rows-requires c κs = search needs
+answer-columns-requires : tie.Need-answer-columns-requires
+answer-columns-requires c κs = search needs
 
-cast-out : tie.Need-cast-out
-cast-out c = search needs
+-- there is room for the cells that the code counts
+room : (c : tie.After-answer-columns) →
+    let a = c .before .args in
+    AnswerRoom (a .o) (a .wl) (a .nl) (now (a .lv)) (now (a .lm)) (a .wr) (a .nr) (now (a .rv)) (now (a .rm)) (a .number) (a .nl * c .answer-columns .result) (now (a .out))
+room c =
+    let a = c .before .args in
+    subst (λ (z : ℕ). AnswerRoom (a .o) (a .wl) (a .nl) (now (a .lv)) (now (a .lm)) (a .wr) (a .nr) (now (a .rv)) (now (a .rm)) (a .number) (a .nl * z) (now (a .out))) (sym (c .answer-columns .ensures)) (c .before .pre)
 
-slice-set-from-out : tie.Need-slice-set-from-out
-slice-set-from-out c = search needs
+mul-answer-rows : tie.Need-mul-answer-rows
+mul-answer-rows c = let r = room c .room in omega arith
 
-slice-set-of-out : tie.Need-slice-set-of-out
-slice-set-of-out c =
-    let r = c .before .before .before .pre .room in
-    let k = c .before .match-rows .kept .1 .1 .1 .1 .1 .1 .1 .1 .1 .1 .0 in
-    simp length-set (omega arith)
+answer-rows-requires : tie.Need-answer-rows-requires
+answer-rows-requires c κs = room (c .before)
+
+put-head-requires : tie.Need-put-head-requires
+put-head-requires c κs = search needs
 
 same-length : tie.Need-same-length
 same-length c = search needs
 
 returns : tie.Need-returns
 returns c =
-    let s = c .before .before .before in
-    let a = s .args in
-    let r = s .pre .room in
-    let g = s .good .1 .1 .1 .1 .1 .1 .1 .1 .1 .1 .0 in
-    let l : a .nl < 2 ^ 63 = omega (arith, g .0, g .1) in
-    rw (toZ-pos w64 (a .nl) l, c .before .match-rows .ensures) (frame-answer (a .o) (a .number) (a .wl) (a .nl) (now (a .lv)) (now (a .lm)) (a .wr) (a .nr) (now (a .rv)) (now (a .rm)) (now (a .out)) r)
+    let e = c .before .before .before .before .before .before in
+    let a = e .before .args in
+    let k = e .answer-columns .result in
+    answer-whole (a .o) (a .wl) (a .nl) (now (a .lv)) (now (a .lm)) (a .wr) (a .nr) (now (a .rv)) (now (a .rm)) (a .number) (a .nl * k) (now (a .out)) (room e) k _ _ refl (e .answer-columns .ensures) (c .before .before .before .before .answer-rows .ensures) (c .before .put-head .ensures)
 
 pub match-frame-spec : {M : Type 1} → statement M
 match-frame-spec =
     tie.close
-    (tie.spec match-rows-requires cast-out slice-set-from-out slice-set-of-out same-length returns)
+    (tie.spec
+    answer-columns-requires
+    mul-answer-rows
+    answer-rows-requires
+    put-head-requires
+    same-length
+    returns)

@@ -17,12 +17,12 @@ use Rattle.matchframe.proofs.match_groups.Statement.{statement}
 use Rattle.matchframe.proofs.match_groups.Tie as tie
 
 abbrev Inv-loop : tie.InvT-loop
-Inv-loop lv lm nl wl rv rm nr wr number o out₀ at₀ end₀ i₀ out at end i =
+Inv-loop lv lm nl wl rv rm nr wr number o m out₀ at₀ end₀ i₀ out at end i =
     (i ≤ nl) × (length out ≡ length out₀) × RunAt o wr nr rv rm at end
-    × (lay nl 0 (byRuns o number (runs o (rowsOf wr nr rv rm)) (runs o (rowsOf wl nl lv lm))) out₀ ≡ lay nl i (groupsFrom o number wl nl lv lm wr nr rv rm at i) out)
+    × (lay m 0 (byRuns o number (runs o (rowsOf wr nr rv rm)) (runs o (rowsOf wl nl lv lm))) out₀ ≡ lay m i (groupsFrom o number m wl nl lv lm wr nr rv rm at i) out)
 
 abbrev μ-loop : tie.MeasureT-loop
-μ-loop lv lm nl wl rv rm nr wr number o out₀ at₀ end₀ i₀ out at end i = nl - i
+μ-loop lv lm nl wl rv rm nr wr number o m out₀ at₀ end₀ i₀ out at end i = nl - i
 
 -- the left run at row i has a row and ends within the rows
 ahead : (c : tie.After-run-end2 Inv-loop μ-loop) → (c .before .before .loop .i < c .run-end2 .result) × (c .run-end2 .result ≤ c .before .before .before .before .args .nl)
@@ -47,7 +47,7 @@ loop-holds c =
       omega arith,
       refl,
       record { rows = s .pre .right; within = omega arith; run = c .run-end .ensures },
-      ap (λ (ms : List Choice). lay (a .nl) 0 ms (now (a .out))) (groups-all (a .o) (a .number) (a .wl) (a .nl) (now (a .lv)) (now (a .lm)) (a .wr) (a .nr) (now (a .rv)) (now (a .rm))),
+      ap (λ (ks : List Choice). lay (a .m) 0 ks (now (a .out))) (groups-all (a .o) (a .number) (a .m) (a .wl) (a .nl) (now (a .lv)) (now (a .lm)) (a .wr) (a .nr) (now (a .rv)) (now (a .rm))),
     )
 
 run-end-requires-2 : tie.Need-run-end-requires-2 Inv-loop μ-loop
@@ -71,10 +71,11 @@ match-run-requires c κs =
     let g = c .before .serve .ensures .0 in
     let u = ahead e in
     let h = mul-le-mul-right {m = c .before .serve .result .used} {n = s .args .nr} (s .args .wr) (g .within) in
+    let k = mul-le-mul-right {m = e .run-end2 .result} {n = s .args .nl} (s .args .wl) (u .1) in
     record {
-      left = p .left;
+      left = record { few = p .left .few; wide = p .left .wide; values = omega (arith, k, p .left .values); marks = omega (arith, k, p .left .marks) };
       upward = omega arith;
-      within = u .1;
+      within = omega (arith, u .1, p .within);
       right = record { few = p .right .few; wide = p .right .wide; values = omega (arith, h, p .right .values); marks = omega (arith, h, p .right .marks) };
       run = g .upward;
       numbers = omega (arith, g .within, p .numbers);
@@ -91,7 +92,7 @@ loop-again c =
     let s = e .before .before .before .before in
     let a = s .args in
     let g = c .before .before .before .serve in
-    let m = groups-more (a .o) (a .number) (a .wl) (a .nl) (now (a .lv)) (now (a .lm)) (a .wr) (a .nr) (now (a .rv)) (now (a .rm)) (l .at) (l .i) (e .run-end2 .result) (g .result) (l .out) (e .before .loop-test .taken) (e .run-end2 .ensures) (g .ensures .1 (a .wl) (s .pre .left .wide)) in (
+    let m = groups-more (a .o) (a .number) (a .m) (a .wl) (a .nl) (now (a .lv)) (now (a .lm)) (a .wr) (a .nr) (now (a .rv)) (now (a .rm)) (l .at) (l .i) (e .run-end2 .result) (g .result) (l .out) (e .before .loop-test .taken) (e .run-end2 .ensures) (g .ensures .1 (a .wl) (s .pre .left .wide)) in (
       ahead e .1,
       c .before .match-run .kept .1 .1 .1 .1 .1 .1 .1 .1 .1 .1 .1 .1 .1 .0 ∙ l .inv .1,
       g .ensures .0 .run,
@@ -106,7 +107,7 @@ returns c =
     let l = c .before .loop in
     let a = c .before .before .before .args in
     let e : l .i ≡ a .nl = omega (arith, c .loop-test .left, l .inv .0) in
-    sym (l .inv .3 ∙ rw e (groups-end (a .o) (a .number) (a .wl) (a .nl) (now (a .lv)) (now (a .lm)) (a .wr) (a .nr) (now (a .rv)) (now (a .rm)) (l .at) (l .out)))
+    sym (l .inv .3 ∙ rw e (groups-end (a .o) (a .number) (a .m) (a .wl) (a .nl) (now (a .lv)) (now (a .lm)) (a .wr) (a .nr) (now (a .rv)) (now (a .rm)) (l .at) (l .out)))
 
 pub match-groups-spec : {M : Type 1} → statement M
 match-groups-spec =

@@ -20,7 +20,7 @@ same-length c = search needs
 returns : tie.Need-returns
 returns c =
     let a = c .before .before .before .before .before .args in
-    c .before .match-run .ensures ∙ ap (λ (ms : List Choice). lay (a .nl) 0 ms (now (a .out))) (frame-plain (a .o) (a .number) (a .wl) (a .nl) (now (a .lv)) (now (a .lm)) (a .wr) (a .nr) (now (a .rv)) (now (a .rm)) (c .before .before .before .if1 .taken))
+    c .before .match-run .ensures ∙ ap (λ (ks : List Choice). lay (a .m) 0 ks (now (a .out))) (frame-plain (a .o) (a .number) (a .m) (a .wl) (a .nl) (now (a .lv)) (now (a .lm)) (a .wr) (a .nr) (now (a .rv)) (now (a .rm)) (c .before .before .before .if1 .taken))
 
 same-length-2 : tie.Need-same-length-2
 same-length-2 c = search needs
@@ -28,7 +28,7 @@ same-length-2 c = search needs
 returns-2 : tie.Need-returns-2
 returns-2 c =
     let a = c .before .before .before .before .before .args in
-    c .before .match-groups .ensures ∙ ap (λ (ms : List Choice). lay (a .nl) 0 ms (now (a .out))) (frame-grouped (a .o) (a .number) (a .wl) (a .nl) (now (a .lv)) (now (a .lm)) (a .wr) (a .nr) (now (a .rv)) (now (a .rm)) (c .before .before .before .if1 .left))
+    c .before .match-groups .ensures ∙ ap (λ (ks : List Choice). lay (a .m) 0 ks (now (a .out))) (frame-grouped (a .o) (a .number) (a .m) (a .wl) (a .nl) (now (a .lv)) (now (a .lm)) (a .wr) (a .nr) (now (a .rv)) (now (a .rm)) (c .before .before .before .if1 .left))
 
 pub match-rows-spec : {M : Type 1} → statement M
 match-rows-spec =

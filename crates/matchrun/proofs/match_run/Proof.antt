@@ -4,7 +4,6 @@ use mathlib.Core.Bool.{true}
 use native.Mathlib.Omega.{arith}
 use borrow.Author.Tests.{not-false}
 use denote.Ref.{now}
-use Rattle.order.specs.Requires.{RowsIn}
 use Rattle.matching.specs.Inner.{RunRoom}
 use Rattle.matching.specs.Moves.{keysSorted}
 use Rattle.matching.specs.Stretches.{between}
@@ -12,12 +11,8 @@ use Rattle.matching.proofs.RestLaws.{rows-less}
 use Rattle.matchrun.proofs.match_run.Statement.{statement}
 use Rattle.matchrun.proofs.match_run.Tie as tie
 
--- the rows of the left run are there
-left-rows : (c : tie.Start) → let a = c .args in RowsIn (a .o) (a .wl) (a .to) (now (a .lv)) (now (a .lm))
-left-rows c = let a = c .args in rows-less (a .o) (a .wl) (now (a .lv)) (now (a .lm)) (a .to) (a .n) (c .pre .within) (c .pre .left)
-
 keys-sorted-requires : tie.Need-keys-sorted-requires
-keys-sorted-requires c κs = (left-rows c, c .pre .upward)
+keys-sorted-requires c κs = (c .pre .left, c .pre .upward)
 
 scan-run-requires : tie.Need-scan-run-requires
 scan-run-requires c κs = c .before .before .before .pre
@@ -35,13 +30,13 @@ left-sorted c = sym (c .before .keys-sorted .ensures) ∙ not-false (c .before .
 candidates-requires : tie.Need-candidates-requires
 candidates-requires c κs =
     let s = c .before .before in
-    (record { rows = left-rows s; upward = s .pre .upward; sorted = left-sorted c }, s .pre .right, s .pre .run)
+    (record { rows = s .pre .left; upward = s .pre .upward; sorted = left-sorted c }, s .pre .right, s .pre .run)
 
 -- what is asked of the right run is so of its candidates
 part-room : (c : tie.After-candidates) →
     let a = c .before .before .before .args in
     let r = c .candidates .result in
-    RunRoom (a .o) (a .wl) (a .n) (now (a .lv)) (now (a .lm)) (a .from) (a .to) (a .wr) (now (a .rv)) (now (a .rm)) (r .from) (r .to) (a .number) (now (a .out))
+    RunRoom (a .o) (a .wl) (a .m) (now (a .lv)) (now (a .lm)) (a .from) (a .to) (a .wr) (now (a .rv)) (now (a .rm)) (r .from) (r .to) (a .number) (now (a .out))
 part-room c =
     let s = c .before .before .before in
     let a = s .args in

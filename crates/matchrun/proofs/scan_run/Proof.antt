@@ -15,20 +15,19 @@ use Rattle.matchrun.proofs.scan_run.Statement.{statement}
 use Rattle.matchrun.proofs.scan_run.Tie as tie
 
 abbrev Inv-loop : tie.InvT-loop
-Inv-loop lv lm n wl from to rv rm wr at end number o out₀ i₀ out i =
+Inv-loop lv lm m wl from to rv rm wr at end number o out₀ i₀ out i =
     (from ≤ i) × (i ≤ to) × (length out ≡ length out₀)
-    × (lay n from (map (matchIn o (number + at) (between wr at end rv rm)) (between wl from to lv lm)) out₀
-    ≡ lay n i (map (matchIn o (number + at) (between wr at end rv rm)) (between wl i to lv lm)) out)
+    × (lay m from (map (matchIn o (number + at) (between wr at end rv rm)) (between wl from to lv lm)) out₀
+    ≡ lay m i (map (matchIn o (number + at) (between wr at end rv rm)) (between wl i to lv lm)) out)
 
 abbrev μ-loop : tie.MeasureT-loop
-μ-loop lv lm n wl from to rv rm wr at end number o out₀ i₀ out i = to - i
+μ-loop lv lm m wl from to rv rm wr at end number o out₀ i₀ out i = to - i
 
 -- row i ends within the left rows
-room : (c : tie.In-loop Inv-loop μ-loop) → let a = c .before .before .args in c .before .loop .i * a .wl + a .wl ≤ a .n * a .wl
+room : (c : tie.In-loop Inv-loop μ-loop) → let a = c .before .before .args in c .before .loop .i * a .wl + a .wl ≤ a .to * a .wl
 room c =
     let s = c .before .before in
-    let t = c .loop-test .taken in
-    row-room (c .before .loop .i) (s .args .n) (s .args .wl) (omega (arith, s .pre .within))
+    row-room (c .before .loop .i) (s .args .to) (s .args .wl) (c .loop-test .taken)
 
 -- the choice of row i
 choice : (c : tie.After-match-row Inv-loop μ-loop) →
@@ -75,7 +74,7 @@ loop-again c =
       omega arith,
       omega arith,
       c .before .put .kept .0 ∙ l .inv .2,
-      l .inv .3 ∙ lay-more (a .n) f (a .wl) (now (a .lv)) (now (a .lm)) (l .i) (a .to) (l .out) t ∙ rw (c .before .put .ensures, choice (c .before .before .before)),
+      l .inv .3 ∙ lay-more (a .m) f (a .wl) (now (a .lv)) (now (a .lm)) (l .i) (a .to) (l .out) t ∙ rw (c .before .put .ensures, choice (c .before .before .before)),
     )
 
 same-length : tie.Need-same-length Inv-loop μ-loop
@@ -87,7 +86,7 @@ returns c =
     let a = c .before .before .args in
     let f = matchIn (a .o) (a .number + a .at) (between (a .wr) (a .at) (a .end) (now (a .rv)) (now (a .rm))) in
     let e : l .i ≡ a .to = omega (arith, c .loop-test .left, l .inv .1) in
-    sym (l .inv .3 ∙ rw e (lay-done (a .n) f (a .wl) (now (a .lv)) (now (a .lm)) (a .to) (l .out)))
+    sym (l .inv .3 ∙ rw e (lay-done (a .m) f (a .wl) (now (a .lv)) (now (a .lm)) (a .to) (l .out)))
 
 pub scan-run-spec : {M : Type 1} → statement M
 scan-run-spec =

@@ -16,32 +16,31 @@ use Rattle.matching.specs.Moves.{NotAbove, Rising, Behind, keyAt}
 use Rattle.matching.proofs.WalkLaws.{between-length}
 use Rattle.matching.proofs.BestLaws.{match-small}
 use Rattle.matching.proofs.LayLaws.{lay-more, lay-done}
-use Rattle.matching.proofs.RestLaws.{rows-less, sorted-rising}
+use Rattle.matching.proofs.RestLaws.{sorted-rising}
 use Rattle.matchrun.proofs.walk_run.Statement.{statement}
 use Rattle.matchrun.proofs.walk_run.Tie as tie
 
 abbrev Inv-loop : tie.InvT-loop
-Inv-loop lv lm n wl from to rv rm wr at end number o out₀ s c₀ i₀ moved₀ out c i moved =
+Inv-loop lv lm m wl from to rv rm wr at end number o out₀ s c₀ i₀ moved₀ out c i moved =
     (from ≤ i) × (i ≤ to) × (length out ≡ length out₀) × (at ≤ c) × (c ≤ end) × (at < end → c < end) × (moved ≡ (i - from) + (c - at))
     × ((u : ℤ) → ((j : ℕ) → from ≤ j → j < i → NotAbove (keyAt o wl lv lm j) (value u)) → Behind s (o .«allow_eq») (keyAt o wr rv rm) at (value u) c)
-    × (lay n from (map (matchIn o (number + at) (between wr at end rv rm)) (between wl from to lv lm)) out₀
-    ≡ lay n i (map (matchIn o (number + at) (between wr at end rv rm)) (between wl i to lv lm)) out)
+    × (lay m from (map (matchIn o (number + at) (between wr at end rv rm)) (between wl from to lv lm)) out₀
+    ≡ lay m i (map (matchIn o (number + at) (between wr at end rv rm)) (between wl i to lv lm)) out)
 
 abbrev μ-loop : tie.MeasureT-loop
-μ-loop lv lm n wl from to rv rm wr at end number o out₀ s c₀ i₀ moved₀ out c i moved = to - i
+μ-loop lv lm m wl from to rv rm wr at end number o out₀ s c₀ i₀ moved₀ out c i moved = to - i
 
 -- row i ends within the left rows
-room : (c : tie.In-loop Inv-loop μ-loop) → let a = c .before .before .before .args in c .before .loop .i * a .wl + a .wl ≤ a .n * a .wl
+room : (c : tie.In-loop Inv-loop μ-loop) → let a = c .before .before .before .args in c .before .loop .i * a .wl + a .wl ≤ a .to * a .wl
 room c =
     let s = c .before .before .before in
-    let t = c .loop-test .taken in
-    row-room (c .before .loop .i) (s .args .n) (s .args .wl) (omega (arith, t, s .pre .room .within))
+    row-room (c .before .loop .i) (s .args .to) (s .args .wl) (c .loop-test .taken)
 
 -- the keys of both runs do not fall
 left-rising : (c : tie.Start Inv-loop μ-loop) → Rising (keyAt (c .args .o) (c .args .wl) (now (c .args .lv)) (now (c .args .lm))) (c .args .from) (c .args .to)
 left-rising c =
     let a = c .args in
-    sorted-rising (a .o) (a .wl) (now (a .lv)) (now (a .lm)) (a .from) (a .to) (rows-less (a .o) (a .wl) (now (a .lv)) (now (a .lm)) (a .to) (a .n) (c .pre .room .within) (c .pre .room .left)) (c .pre .left)
+    sorted-rising (a .o) (a .wl) (now (a .lv)) (now (a .lm)) (a .from) (a .to) (c .pre .room .left) (c .pre .left)
 
 right-rising : (c : tie.Start Inv-loop μ-loop) → Rising (keyAt (c .args .o) (c .args .wr) (now (c .args .rv)) (now (c .args .rm))) (c .args .at) (c .args .end)
 right-rising c = let a = c .args in sorted-rising (a .o) (a .wr) (now (a .rv)) (now (a .rm)) (a .at) (a .end) (c .pre .room .right) (c .pre .right)
@@ -141,7 +140,7 @@ loop-again c =
       g .there,
       omega (arith, l .inv .6, l .inv .0, l .inv .3, g .upward),
       λ u h. g .behind u (h (l .i) (l .inv .0) (omega arith)),
-      l .inv .8 ∙ lay-more (a .n) f (a .wl) (now (a .lv)) (now (a .lm)) (l .i) (a .to) (l .out) t ∙ rw (c .before .before .put .ensures, choice d),
+      l .inv .8 ∙ lay-more (a .m) f (a .wl) (now (a .lv)) (now (a .lm)) (l .i) (a .to) (l .out) t ∙ rw (c .before .before .put .ensures, choice d),
     )
 
 same-length : tie.Need-same-length Inv-loop μ-loop
@@ -153,7 +152,7 @@ returns c =
     let a = c .before .before .before .args in
     let f = matchIn (a .o) (a .number + a .at) (between (a .wr) (a .at) (a .end) (now (a .rv)) (now (a .rm))) in
     let e : l .i ≡ a .to = omega (arith, c .loop-test .left, l .inv .1) in
-    (record { come = l .c; upward = l .inv .3; within = l .inv .4; moves = rw e at (l .inv .6); most = omega (arith, e, l .inv .6, l .inv .4) }, sym (l .inv .8 ∙ rw e (lay-done (a .n) f (a .wl) (now (a .lv)) (now (a .lm)) (a .to) (l .out))))
+    (record { come = l .c; upward = l .inv .3; within = l .inv .4; moves = rw e at (l .inv .6); most = omega (arith, e, l .inv .6, l .inv .4) }, sym (l .inv .8 ∙ rw e (lay-done (a .m) f (a .wl) (now (a .lv)) (now (a .lm)) (a .to) (l .out))))
 
 pub walk-run-spec : {M : Type 1} → statement M
 walk-run-spec = tie.close (tie.spec Inv-loop μ-loop strategy-of-requires loop-holds mul-p walk-row-requires put-requires sub-moved add-moved add-moved-2 add-i loop-less loop-again same-length returns)

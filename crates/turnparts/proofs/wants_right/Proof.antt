@@ -3,7 +3,7 @@ use Rattle.turnparts.proofs.wants_right.Statement.{statement}
 use Rattle.turnparts.proofs.wants_right.Tie as tie
 use Rattle.turnparts.proofs.wants_right.Reads as reads
 use Rattle.turnparts.proofs.wants_right.Lts as lts
-use Rattle.narrowing.proofs.need_more.Reads as need-more-reads
+use Rattle.pruning.proofs.need_more.Reads as need-more-reads
 
 returns : tie.Need-returns
 returns c = simp (c .if1 .taken)

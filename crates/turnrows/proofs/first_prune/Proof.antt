@@ -4,7 +4,7 @@ use Rattle.turnrows.proofs.first_prune.Statement.{statement}
 use Rattle.turnrows.proofs.first_prune.Tie as tie
 use Rattle.turnrows.proofs.first_prune.Reads as reads
 use Rattle.turnrows.proofs.first_prune.Lts as lts
-use Rattle.narrowing.proofs.prune_by.Reads as prune-by-reads
+use Rattle.pruning.proofs.prune_by.Reads as prune-by-reads
 use Rattle.turnrows.proofs.checks.Reads as checks-reads
 
 checks-requires : tie.Need-checks-requires

@@ -6,7 +6,7 @@ use Rattle.turnrows.proofs.last_prune.Statement.{statement}
 use Rattle.turnrows.proofs.last_prune.Tie as tie
 use Rattle.turnrows.proofs.last_prune.Reads as reads
 use Rattle.turnrows.proofs.last_prune.Lts as lts
-use Rattle.narrowing.proofs.prune_by.Reads as prune-by-reads
+use Rattle.pruning.proofs.prune_by.Reads as prune-by-reads
 
 returns : tie.Need-returns
 unfolding pruneBy

@@ -9,8 +9,8 @@ use Rattle.frames.proofs.WordLaws.{rows-length}
 use Rattle.order.proofs.RowLaws.{row-room, row-cell, rows-from}
 use Rattle.searching.proofs.ReachLaws.{row-at, narrow-end, more-no-left, more-no-held, more-start, more-end, more-key}
 use borrow.Author.Needs.{needs}
-use Rattle.narrowing.proofs.need_more.Statement.{statement}
-use Rattle.narrowing.proofs.need_more.Tie as tie
+use Rattle.pruning.proofs.need_more.Statement.{statement}
+use Rattle.pruning.proofs.need_more.Tie as tie
 
 -- how many rows there are, and the last left one
 many-left : (c : tie.Start) → let a = c .args in length (rowsOf (a .wl) (a .nl) (now (a .lv)) (now (a .lm))) ≡ a .nl

@@ -1,7 +1,7 @@
 use mathlib.Core.Path.{_∙_}
 use borrow.Author.Needs.{needs}
-use Rattle.narrowing.proofs.step_back.Statement.{statement}
-use Rattle.narrowing.proofs.step_back.Tie as tie
+use Rattle.pruning.proofs.step_back.Statement.{statement}
+use Rattle.pruning.proofs.step_back.Tie as tie
 
 enum-told : tie.Need-enum-told
 enum-told c = search needs

@@ -5,8 +5,8 @@ use Rattle.frames.proofs.WordLaws.{rows-length}
 use Rattle.order.proofs.RowLaws.{row-cell}
 use Rattle.searching.proofs.ReachLaws.{column-in, narrow-end, split-is}
 use borrow.Author.Needs.{needs}
-use Rattle.narrowing.proofs.split_at.Statement.{statement}
-use Rattle.narrowing.proofs.split_at.Tie as tie
+use Rattle.pruning.proofs.split_at.Statement.{statement}
+use Rattle.pruning.proofs.split_at.Tie as tie
 
 narrow-requires : tie.Need-narrow-requires
 narrow-requires c κs = search needs

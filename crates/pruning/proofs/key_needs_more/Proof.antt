@@ -11,8 +11,8 @@ use Rattle.searching.specs.Reach.{findKey, seekOf}
 use Rattle.searching.proofs.FindLaws.{held-cell}
 use Rattle.searching.proofs.ReachLaws.{column-in, key-past, key-backward, key-forward, key-nearest}
 use borrow.Author.Needs.{needs}
-use Rattle.narrowing.proofs.key_needs_more.Statement.{statement}
-use Rattle.narrowing.proofs.key_needs_more.Tie as tie
+use Rattle.pruning.proofs.key_needs_more.Statement.{statement}
+use Rattle.pruning.proofs.key_needs_more.Tie as tie
 
 strategy-of-requires : tie.Need-strategy-of-requires
 strategy-of-requires c κs = search needs

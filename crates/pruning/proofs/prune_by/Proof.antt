@@ -7,8 +7,8 @@ use Rattle.frames.specs.Cells.{rowsOf}
 use Rattle.frames.proofs.WordLaws.{rows-length}
 use Rattle.order.proofs.RowLaws.{row-room, rows-from}
 use Rattle.searching.proofs.ReachLaws.{row-at, prune-no-left, prune-no-held, prune-split}
-use Rattle.narrowing.proofs.prune_by.Statement.{statement}
-use Rattle.narrowing.proofs.prune_by.Tie as tie
+use Rattle.pruning.proofs.prune_by.Statement.{statement}
+use Rattle.pruning.proofs.prune_by.Tie as tie
 
 -- how many rows there are; the chosen row is one of them
 many-left : (c : tie.Start) → let a = c .args in length (rowsOf (a .wl) (a .nl) (now (a .lv)) (now (a .lm))) ≡ a .nl

@@ -1,0 +1,53 @@
+-- What the inner functions of this crate ask of what they are handed, and what they write. Assumes nothing.
+use mathlib.Core.Path.{_≡_}
+use mathlib.Core.Bool.{false}
+use mathlib.Core.List.{List, [], _∷_}
+use Prim.Native.Nat.{ℕ, zero, suc, _+_, _-_, _*_, _^_, _≤_, _<_}
+use lib.IntN.{pos, natAbs}
+use lib.ListN.{length, getD, replicate}
+use Rattle.frames.specs.Cells.{Cell, null, value, isZero, Words}
+use Rattle.options.specs.Options.{columns, rightColumns, answerColumns}
+use Rattle.options.specs.declared.Options.{Options}
+use Rattle.order.specs.Requires.{cellAt}
+use Rattle.matching.specs.declared.Choice.{Choice}
+use Rattle.matching.specs.declared.Choice.the-variants.{Row, Nothing}
+use Rattle.carrying.specs.Spread.{choiceAt}
+
+-- p cells, whose words stand from place q of values and marks on.
+unfoldable pub cellsAt : ℕ → ℕ → Words → Words → List Cell
+cellsAt q zero vs ms = []
+cellsAt q (suc p) vs ms = cellAt q vs ms ∷ cellsAt (suc q) p vs ms
+
+-- SCOPE 12.5: the row of an answer by the words of the right rows, which are w wide and of which the first has this number.
+unfoldable pub rowWith : Options → ℕ → ℕ → Words → Words → Choice → List Cell
+rowWith o number w vs ms (Row k) = value (pos k) ∷ cellsAt ((k - number) * w + columns o) (o .carried) vs ms
+rowWith o number w vs ms Nothing = replicate (answerColumns o) null
+
+-- Cells k .. k + p of an answer of m cells are there, and the output has room for all.
+pub record CellsRoom (m k p : ℕ) (out : Words) : Type 0 where
+  pub within : k + p ≤ m
+  pub room : 2 + 2 * m ≤ length out
+
+-- The words of p cells are there, from place q on.
+pub record CellsIn (q p : ℕ) (vs ms : Words) : Type 0 where
+  pub values : q + p ≤ length vs
+  pub marks : q + p ≤ length ms
+
+-- The choice at place i of an answer of m cells is there; unless it is none, its number is not negative.
+pub record ChoiceIn (m i : ℕ) (out : Words) : Type 0 where
+  pub there : i < m
+  pub room : 2 + 2 * m ≤ length out
+  pub whole : isZero (getD out (2 + m + i) (pos 0)) ≡ false → getD out (2 + i) (pos 0) ≡ pos (natAbs (getD out (2 + i) (pos 0)))
+
+-- A choice is none; or it is the number of a right row that is there, with what it carries, and the number fits a word.
+abbrev pub RightIn : Options → ℕ → Words → Words → ℕ → Choice → Type 0
+RightIn o w vs ms number (Row k) = (number ≤ k) × (k < 2 ^ 63) × CellsIn ((k - number) * w) (rightColumns o) vs ms
+RightIn o w vs ms number Nothing = Unit {0}
+
+-- Row i of an answer of m cells is there, and so is what is written of its choice.
+pub record RowSpread (o : Options) (i w : ℕ) (vs ms : Words) (number m : ℕ) (out : Words) : Type 0 where
+  pub few : o .by ≤ 4
+  pub carried : o .carried ≤ 8
+  pub there : i * answerColumns o + answerColumns o ≤ m
+  pub choice : ChoiceIn m i out
+  pub chosen : RightIn o w vs ms number (choiceAt m out i)

@@ -1,0 +1,42 @@
+use denote.Ref.{now}
+use Rattle.carrying.proofs.LaidLaws.{frame-room, spread-in, answer-spread, answer-plain}
+use borrow.Author.Needs.{needs}
+use Rattle.matchframe.proofs.answer_rows.Statement.{statement}
+use Rattle.matchframe.proofs.answer_rows.Tie as tie
+
+match-rows-requires : tie.Need-match-rows-requires
+match-rows-requires c κs =
+    let s = c .before in
+    let a = s .args in
+    frame-room (a .o) (a .wl) (a .nl) (now (a .lv)) (now (a .lm)) (a .wr) (a .nr) (now (a .rv)) (now (a .rm)) (a .number) (a .m) (now (a .out)) (s .pre)
+
+same-length : tie.Need-same-length
+same-length c = search needs
+
+returns : tie.Need-returns
+returns c =
+    let s = c .before .before .before .before .before in
+    let a = s .args in
+    answer-plain (a .o) (a .wl) (a .nl) (now (a .lv)) (now (a .lm)) (a .wr) (a .nr) (now (a .rv)) (now (a .rm)) (a .number) (a .m) (now (a .out)) (s .pre) _ (c .if1 .taken) (c .before .before .before .match-rows .ensures)
+
+spread-rows-requires : tie.Need-spread-rows-requires
+spread-rows-requires c κs =
+    let f = c .before .before .before .before in
+    let s = f .before .before in
+    let a = s .args in
+    spread-in (a .o) (a .wl) (a .nl) (now (a .lv)) (now (a .lm)) (a .wr) (a .nr) (now (a .rv)) (now (a .rm)) (a .number) (a .m) (now (a .out)) (s .pre) _ (f .match-rows .kept .1 .1 .1 .1 .1 .1 .1 .1 .1 .1 .1 .0) (f .match-rows .ensures)
+
+same-length-2 : tie.Need-same-length-2
+same-length-2 c = search needs
+
+returns-2 : tie.Need-returns-2
+returns-2 c =
+    let f = c .before .before .before .before .before .before in
+    let s = f .before .before in
+    let a = s .args in
+    answer-spread (a .o) (a .wl) (a .nl) (now (a .lv)) (now (a .lm)) (a .wr) (a .nr) (now (a .rv)) (now (a .rm)) (a .number) (a .m) (now (a .out)) (s .pre) _ _ (f .match-rows .ensures) (c .before .spread-rows .ensures)
+
+pub answer-rows-spec : {M : Type 1} → statement M
+answer-rows-spec =
+    tie.close
+    (tie.spec match-rows-requires same-length returns spread-rows-requires same-length-2 returns-2)

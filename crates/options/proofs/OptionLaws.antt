@@ -1,0 +1,45 @@
+-- What is known of options that are not refused. Assumes nothing.
+use mathlib.Core.Path.{_≡_, refl}
+use mathlib.Core.Bool.{Bool, true, false, _||_}
+use Prim.Native.Nat.{ℕ, _≤_}
+use native.Mathlib.Omega.{arith}
+use borrow.Author.Tests.{ltb-false}
+use lib.Dec.{ltb}
+use lib.Signed.{ltZ}
+use Rattle.options.specs.Options.{badOptions, manyCarried, refusedOptions}
+use Rattle.options.specs.declared.Options.{Options}
+
+-- Of an `||` that is false each side is.
+pub or-both : (a b : Bool) → (a || b) ≡ false → (a ≡ false) × (b ≡ false)
+or-both true b e = let z : _≡_ {A = ℕ} 0 1 = cc in absurd (omega arith)
+or-both false b e = (refl, e)
+
+-- At most four by-columns.
+pub few-columns : (o : Options) → badOptions o ≡ false → o .by ≤ 4
+unfolding badOptions
+few-columns o e =
+    let p = or-both (ltb 4 (o .by) || ltb 2 (o .strategy) || ltZ (o .tolerance) _) _ e in
+    let q = or-both (ltb 4 (o .by) || ltb 2 (o .strategy)) _ (p .0) in
+    ltb-false 4 (o .by) (or-both (ltb 4 (o .by)) _ (q .0) .0)
+
+-- Options that opening does not refuse: SCOPE 3.6 and 3.8 hold of them, so their columns are few.
+pub record Allowed (o : Options) : Type 0 where
+  pub options : badOptions o ≡ false
+  pub few : o .by ≤ 4
+  pub carried : o .carried ≤ 8
+
+pub allowed-parts : (o : Options) → refusedOptions o ≡ false → Allowed o
+unfolding refusedOptions
+allowed-parts o e =
+    let p = or-both (badOptions o) (manyCarried o) e in
+    record { options = p .0; few = few-columns o (p .0); carried = ltb-false 8 (o .carried) (p .1) }
+
+-- Invalid options are refused.
+pub bad-refused : (o : Options) → badOptions o ≡ true → refusedOptions o ≡ true
+unfolding refusedOptions
+bad-refused o e = rw e
+
+-- Options that are valid and carry few columns are not refused.
+pub good-allowed : (o : Options) → badOptions o ≡ false → manyCarried o ≡ false → refusedOptions o ≡ false
+unfolding refusedOptions
+good-allowed o e f = rw (e, f)
