@@ -5,7 +5,7 @@ use mathlib.Core.List.{List, [], _∷_, map}
 use Prim.Native.Nat.{ℕ, zero, suc}
 use lib.IntN.{pos, negsuc}
 use Rattle.frames.specs.Cells.{null, Words}
-use Rattle.order.proofs.Samples.{options, row, frameOf}
+use Rattle.order.proofs.Samples.{options, carrying, row, frameOf}
 use Rattle.options.specs.declared.Options.{Options}
 use Rattle.turnrows.specs.Prunes.{keptRows, lastPrune}
 use Rattle.lists.proofs.Script.{leftArea, rightArea, space, speakAll}
@@ -57,3 +57,17 @@ pub counts : told (at (upTo 16 1)) 10 8 10 ∷ told (at (upTo 17 1)) 10 8 10
     ≡ 0 ∷ 18 ∷ 0 ∷ 18 ∷ []
 unfolding told cutAnswer cutBy cutAt anyShort tooShort wordsFor fullHeights inFrames plan planFrom lastPrune keptRows isTable badBoundaries ascending anyNull speakAll
 counts = refl
+
+-- With a price behind each right key: R = 2 wants 12 words, an answer of four rows and two columns 18. A left table as wide as the right one: 5. Nine carried columns: 10, behind 1.
+unfoldable pub priced : Words
+priced = frameOf 3 (map row ((1 ∷ 10 ∷ 7 ∷ []) ∷ (2 ∷ 3 ∷ 8 ∷ []) ∷ (4 ∷ 1 ∷ 9 ∷ []) ∷ (4 ∷ 20 ∷ 6 ∷ []) ∷ []))
+
+unfoldable pub toldPriced : Options → Words → ℕ → ℕ → ℕ
+unfolding priced
+toldPriced x left r n = cutAnswer x left priced (at (2 ∷ 3 ∷ [])) (leftArea 10) (rightArea r) (space n)
+
+pub carried : toldPriced (carrying 1 o) lefts 12 18 ∷ toldPriced (carrying 1 o) lefts 11 18 ∷ toldPriced (carrying 1 o) lefts 12 17 ∷ toldPriced (carrying 1 o) priced 12 18
+    ∷ toldPriced (carrying 9 o) [] 0 0 ∷ toldPriced (carrying 9 (options 5 0 true (negsuc 0) false [] [])) [] 0 0 ∷ []
+    ≡ 0 ∷ 6 ∷ 6 ∷ 5 ∷ 10 ∷ 1 ∷ []
+unfolding toldPriced lefts cutAnswer cutBy cutAt anyShort tooShort wordsFor fullHeights inFrames plan planFrom lastPrune keptRows isTable badBoundaries ascending anyNull speakAll
+carried = refl

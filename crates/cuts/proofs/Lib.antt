@@ -1,5 +1,6 @@
 pub mod Samples
 pub mod CutLaws
+pub mod DueLaws
 pub mod Uncut
 pub mod DriverSamples
 pub mod LoadLaws

@@ -10,10 +10,11 @@ use lib.Dec.{ltb, eqb}
 use lib.ListN.{length, take, drop, length-append, length-drop, replicate}
 use lib.Seq.{length-take-le}
 use Rattle.frames.specs.Cells.{Rows, Words, rowsOf}
-use Rattle.frames.specs.Frame.{rowCount, pairsFine, isFrame, frameRows}
-use Rattle.options.specs.Options.{columns, badOptions}
+use Rattle.frames.specs.Frame.{rowCount, frameWords, pairsFine, isFrame, frameRows}
+use Rattle.options.specs.Options.{columns, rightColumns, answerColumns, badOptions, manyCarried, refusedOptions}
 use Rattle.order.specs.Order.{sorted}
 use Rattle.options.specs.declared.Options.{Options}
+use Rattle.options.proofs.OptionLaws.{good-allowed}
 use Rattle.order.proofs.SortedLaws.{sorted-take, sorted-drop}
 use Rattle.frames.proofs.BoolLaws.{and-true}
 use Rattle.frames.proofs.WordLaws.{rows-length, rows-read, rows-drop}
@@ -98,28 +99,33 @@ others-fine c a s h f =
     }
 
 -- ---- one pair
-module _ (o : Options) (allowed : badOptions o ≡ false) (l r : Words) where
-  pair-fits : (x y : Stretch) → Fine (columns o) x → Fine (columns o) y → sorted o (rowsWithin (columns o) x) ≡ true → sorted o (rowsWithin (columns o) y) ≡ true → x .rows < 2 ^ 63 → y .rows ≤ mostRows
-      → tooShort o l r (record { left = rowsWithin (columns o) x; right = rowsWithin (columns o) y }) ≡ false → (e : Lent) → length (e .left) ≡ length l → length (e .right) ≡ length r
-      → Each (λ f out. 2 + 2 * rowCount f ≤ length out) (framesOf (columns o) x) (e .outs) → Fits o (record { left = rowsWithin (columns o) x; right = rowsWithin (columns o) y }) (loadOf (columns o) x y e)
+module _ (o : Options) (allowed : refusedOptions o ≡ false) (l r : Words) where
+  -- The rows of two stretches.
+  abbrev pairOf : Stretch → Stretch → Pair
+  pairOf x y = record { left = rowsWithin (columns o) x; right = rowsWithin (rightColumns o) y }
+
+  pair-fits : (x y : Stretch) → Fine (columns o) x → Fine (rightColumns o) y → sorted o (rowsWithin (columns o) x) ≡ true → sorted o (rowsWithin (rightColumns o) y) ≡ true → x .rows < 2 ^ 63 → y .rows ≤ mostRows
+      → tooShort o l r (pairOf x y) ≡ false → (e : Lent) → length (e .left) ≡ length l → length (e .right) ≡ length r
+      → Each (λ f out. frameWords (rowCount f) (answerColumns o) ≤ length out) (framesOf (columns o) x) (e .outs) → Fits o (pairOf x y) (loadOf o x y e)
   unfolding tooShort
   pair-fits x y fx fy sx sy nx ny short e el er outs =
       let c = columns o in
+      let d = rightColumns o in
       let tx = full-total (x .rows) in
       let ty = full-total (y .rows) in
       let mx : total (fullHeights (x .rows)) * c ≡ x .rows * c = ap (λ (k : ℕ). k * c) tx in
-      let my : total (fullHeights (y .rows)) * c ≡ y .rows * c = ap (λ (k : ℕ). k * c) ty in
+      let my : total (fullHeights (y .rows)) * d ≡ y .rows * d = ap (λ (k : ℕ). k * d) ty in
       let X = table-frames c (fullHeights (x .rows)) (x .values) (x .marks) (full-few (x .rows)) (omega (arith, mx, fx .values)) (omega (arith, mx, fx .marks)) (fx .fits) in
-      let Y = table-frames c (fullHeights (y .rows)) (y .values) (y .marks) (full-few (y .rows)) (omega (arith, my, fy .values)) (omega (arith, my, fy .marks)) (fy .fits) in
+      let Y = table-frames d (fullHeights (y .rows)) (y .values) (y .marks) (full-few (y .rows)) (omega (arith, my, fy .values)) (omega (arith, my, fy .marks)) (fy .fits) in
       let FX = framed c (fullHeights (x .rows)) (x .values) (x .marks) (omega (arith, mx, fx .values)) (omega (arith, mx, fx .marks)) in
-      let FY = framed c (fullHeights (y .rows)) (y .values) (y .marks) (omega (arith, my, fy .values)) (omega (arith, my, fy .marks)) in
+      let FY = framed d (fullHeights (y .rows)) (y .values) (y .marks) (omega (arith, my, fy .values)) (omega (arith, my, fy .marks)) in
       let rx = rows-length c (x .rows) (x .values) (x .marks) in
-      let ry = rows-length c (y .rows) (y .values) (y .marks) in
+      let ry = rows-length d (y .rows) (y .values) (y .marks) in
       let X₁ = rw tx at (X .1) in
       let Y₁ = rw ty at (Y .1) in
-      let s = or-none (ltb (length l) (wordsFor c (fullHeights (length (rowsWithin c x))))) (ltb (capacity c r) (plan o (fullFrames (rowsWithin c x)) (fullFrames (rowsWithin c y)) .rows)) short in
+      let s = or-none (ltb (length l) (wordsFor c (fullHeights (length (rowsWithin c x))))) (ltb (capacity d r) (plan o (fullFrames (rowsWithin c x)) (fullFrames (rowsWithin d y)) .rows)) short in
       let s₁ = rw rx at (ltb-false (length l) (wordsFor c (fullHeights (length (rowsWithin c x)))) (s .0)) in
-      let s₂ = rw (rx, ry) at (ltb-false (capacity c r) (plan o (fullFrames (rowsWithin c x)) (fullFrames (rowsWithin c y)) .rows) (s .1)) in
+      let s₂ = rw (rx, ry) at (ltb-false (capacity d r) (plan o (fullFrames (rowsWithin c x)) (fullFrames (rowsWithin d y)) .rows) (s .1)) in
       record {
         planned = record {
           allowed = allowed;
@@ -137,29 +143,29 @@ module _ (o : Options) (allowed : badOptions o ≡ false) (l r : Words) where
         right = Y₁;
       }
 
-  all-fit : (gs : Rows) (x y : Stretch) → Fine (columns o) x → Fine (columns o) y → sorted o (rowsWithin (columns o) x) ≡ true → sorted o (rowsWithin (columns o) y) ≡ true → x .rows < 2 ^ 63 → y .rows ≤ mostRows
-      → anyShort o l r (cutBy o gs (record { left = rowsWithin (columns o) x; right = rowsWithin (columns o) y })) ≡ false → (es : List Lent) → LentWell o (length l) (length r) gs x es
-      → Each (Fits o) (cutBy o gs (record { left = rowsWithin (columns o) x; right = rowsWithin (columns o) y })) (loads o gs x y es)
+  all-fit : (gs : Rows) (x y : Stretch) → Fine (columns o) x → Fine (rightColumns o) y → sorted o (rowsWithin (columns o) x) ≡ true → sorted o (rowsWithin (rightColumns o) y) ≡ true → x .rows < 2 ^ 63 → y .rows ≤ mostRows
+      → anyShort o l r (cutBy o gs (pairOf x y)) ≡ false → (es : List Lent) → LentWell o (length l) (length r) gs x es → Each (Fits o) (cutBy o gs (pairOf x y)) (loads o gs x y es)
   unfolding cutBy anyShort LentWell loads
   all-fit [] x y fx fy sx sy nx ny a [] w = absurd w
-  all-fit [] x y fx fy sx sy nx ny a (e ∷ es) w = pairs (pair-fits x y fx fy sx sy nx ny (or-none (tooShort o l r (record { left = rowsWithin (columns o) x; right = rowsWithin (columns o) y })) false a .0) e (w .0) (w .1) (w .2)) ends
+  all-fit [] x y fx fy sx sy nx ny a (e ∷ es) w = pairs (pair-fits x y fx fy sx sy nx ny (or-none (tooShort o l r (pairOf x y)) false a .0) e (w .0) (w .1) (w .2)) ends
   all-fit (g ∷ gs) x y fx fy sx sy nx ny a [] w = absurd w
   all-fit (g ∷ gs) x y fx fy sx sy nx ny a (e ∷ es) w =
       let c = columns o in
+      let d = rightColumns o in
       let i = cutAt o g (rowsWithin c x) in
-      let k = cutAt o g (rowsWithin c y) in
+      let k = cutAt o g (rowsWithin d y) in
       let hi : i ≤ x .rows = omega (arith, cut-within o g (rowsWithin c x), rows-length c (x .rows) (x .values) (x .marks)) in
-      let hk : k ≤ y .rows = omega (arith, cut-within o g (rowsWithin c y), rows-length c (y .rows) (y .values) (y .marks)) in
+      let hk : k ≤ y .rows = omega (arith, cut-within o g (rowsWithin d y), rows-length d (y .rows) (y .values) (y .marks)) in
       let x₁ : rowsWithin c (firstOf i x) ≡ take i (rowsWithin c x) = rows-take c (x .rows) i (x .values) (x .marks) hi in
-      let y₁ : rowsWithin c (firstOf k y) ≡ take k (rowsWithin c y) = rows-take c (y .rows) k (y .values) (y .marks) hk in
+      let y₁ : rowsWithin d (firstOf k y) ≡ take k (rowsWithin d y) = rows-take d (y .rows) k (y .values) (y .marks) hk in
       let x₂ : rowsWithin c (othersOf c i x) ≡ drop i (rowsWithin c x) = rows-drop c (x .rows) i (x .values) (x .marks) hi in
-      let y₂ : rowsWithin c (othersOf c k y) ≡ drop k (rowsWithin c y) = rows-drop c (y .rows) k (y .values) (y .marks) hk in
-      let p : Pair = record { left = rowsWithin c x; right = rowsWithin c y } in
-      let p₁ : record { left = rowsWithin c (firstOf i x); right = rowsWithin c (firstOf k y) } ≡ before o g p = rw (x₁, y₁) refl in
-      let p₂ : record { left = rowsWithin c (othersOf c i x); right = rowsWithin c (othersOf c k y) } ≡ behind o g p = rw (x₂, y₂) refl in
+      let y₂ : rowsWithin d (othersOf d k y) ≡ drop k (rowsWithin d y) = rows-drop d (y .rows) k (y .values) (y .marks) hk in
+      let p : Pair = pairOf x y in
+      let p₁ : pairOf (firstOf i x) (firstOf k y) ≡ before o g p = rw (x₁, y₁) refl in
+      let p₂ : pairOf (othersOf c i x) (othersOf d k y) ≡ behind o g p = rw (x₂, y₂) refl in
       let q = or-none (tooShort o l r (before o g p)) (anyShort o l r (cutBy o gs (behind o g p))) a in
-      let f₁ = pair-fits (firstOf i x) (firstOf k y) (first-fine c i x hi fx) (first-fine c k y hk fy) (rw x₁ (sorted-take o i (rowsWithin c x) sx)) (rw y₁ (sorted-take o k (rowsWithin c y) sy)) (omega arith) (omega arith) (rw p₁ (q .0)) e (w .0) (w .1) (w .2) in
-      let f₂ = all-fit gs (othersOf c i x) (othersOf c k y) (others-fine c i x hi fx) (others-fine c k y hk fy) (rw x₂ (sorted-drop o i (rowsWithin c x) sx)) (rw y₂ (sorted-drop o k (rowsWithin c y) sy)) (omega arith) (omega arith) (rw p₂ (q .1)) es (w .3) in
+      let f₁ = pair-fits (firstOf i x) (firstOf k y) (first-fine c i x hi fx) (first-fine d k y hk fy) (rw x₁ (sorted-take o i (rowsWithin c x) sx)) (rw y₁ (sorted-take o k (rowsWithin d y) sy)) (omega arith) (omega arith) (rw p₁ (q .0)) e (w .0) (w .1) (w .2) in
+      let f₂ = all-fit gs (othersOf c i x) (othersOf d k y) (others-fine c i x hi fx) (others-fine d k y hk fy) (rw x₂ (sorted-drop o i (rowsWithin c x) sx)) (rw y₂ (sorted-drop o k (rowsWithin d y) sy)) (omega arith) (omega arith) (rw p₂ (q .1)) es (w .3) in
       pairs (rw p₁ at f₁) (rw p₂ at f₂)
 
 -- ---- the whole
@@ -170,31 +176,34 @@ pub driver-fits : DriverFits
 unfolding cutAnswer frameRows
 driver-fits o left right boundaries l r out e nl nr es w =
     let c = columns o in
+    let d = rightColumns o in
     let t = tables o left right boundaries l r out in
     let gs = groups o left right boundaries l r out in
     let p₁ = passes (badOptions o) 0 _ e in
-    let p₅ = passes (not (isTable c left && isTable c right && isFrame (o .by) boundaries)) 4 _ (p₁ .1) in
-    let u = and-true (isTable c left && isTable c right) (isFrame (o .by) boundaries) (not-false (isTable c left && isTable c right && isFrame (o .by) boundaries) (p₅ .0)) in
-    let v = and-true (isTable c left) (isTable c right) (u .0) in
+    let p₁₀ = passes (manyCarried o) 9 _ (p₁ .1) in
+    let p₅ = passes (not (isTable c left && isTable d right && isFrame (o .by) boundaries)) 4 _ (p₁₀ .1) in
+    let u = and-true (isTable c left && isTable d right) (isFrame (o .by) boundaries) (not-false (isTable c left && isTable d right && isFrame (o .by) boundaries) (p₅ .0)) in
+    let v = and-true (isTable c left) (isTable d right) (u .0) in
     let p₁₄ = passes (not (sorted o (t .left) && sorted o (t .right))) 13 _ (p₅ .1) in
     let s = and-true (sorted o (t .left)) (sorted o (t .right)) (not-false (sorted o (t .left) && sorted o (t .right)) (p₁₄ .0)) in
     let p₁₈ = passes (badBoundaries o gs) 17 _ (p₁₄ .1) in
-    let p₆ = passes (anyShort o l r (cutBy o gs t) || ltb (length out) (2 + 2 * length (t .left))) 5 0 (p₁₈ .1) in
-    let a = or-none (anyShort o l r (cutBy o gs t)) (ltb (length out) (2 + 2 * length (t .left))) (p₆ .0) in
-    all-fit o (p₁ .0) l r gs (wholeOf c left) (wholeOf c right) (whole-fine c left (v .0)) (whole-fine c right (v .1)) (s .0) (s .1) nl nr (a .0) es w
+    let words = frameWords (length (t .left)) (answerColumns o) in
+    let p₆ = passes (anyShort o l r (cutBy o gs t) || ltb (length out) words) 5 0 (p₁₈ .1) in
+    let a = or-none (anyShort o l r (cutBy o gs t)) (ltb (length out) words) (p₆ .0) in
+    all-fit o (good-allowed o (p₁ .0) (p₁₀ .0)) l r gs (wholeOf c left) (wholeOf d right) (whole-fine c left (v .0)) (whole-fine d right (v .1)) (s .0) (s .1) nl nr (a .0) es w
 
 -- Both tables are sorted where the answer is 0.
 both-sorted : (o : Options) (left right boundaries l r out : Words) → cutAnswer o left right boundaries l r out ≡ 0 → BothSorted o (tables o left right boundaries l r out)
 unfolding cutAnswer
 both-sorted o left right boundaries l r out e =
-    let c = columns o in
     let t = tables o left right boundaries l r out in
     let p₁ = passes (badOptions o) 0 _ e in
-    let p₅ = passes (not (isTable c left && isTable c right && isFrame (o .by) boundaries)) 4 _ (p₁ .1) in
+    let p₁₀ = passes (manyCarried o) 9 _ (p₁ .1) in
+    let p₅ = passes (not (isTable (columns o) left && isTable (rightColumns o) right && isFrame (o .by) boundaries)) 4 _ (p₁₀ .1) in
     let p₁₄ = passes (not (sorted o (t .left) && sorted o (t .right))) 13 _ (p₅ .1) in
     and-true (sorted o (t .left)) (sorted o (t .right)) (not-false (sorted o (t .left) && sorted o (t .right)) (p₁₄ .0))
 
 pub driver-writes : DriverWrites
 driver-writes o left right boundaries l r out e nl nr es w =
     uncut-scheduled o (groups o left right boundaries l r out) (tables o left right boundaries l r out) (both-sorted o left right boundaries l r out e)
-    (loads o (groups o left right boundaries l r out) (wholeOf (columns o) left) (wholeOf (columns o) right) es) (driver-fits o left right boundaries l r out e nl nr es w)
+    (loads o (groups o left right boundaries l r out) (wholeOf (columns o) left) (wholeOf (rightColumns o) right) es) (driver-fits o left right boundaries l r out e nl nr es w)

@@ -11,6 +11,8 @@ use Rattle.order.proofs.Samples.{options, row}
 use Rattle.options.specs.declared.Options.{Options}
 use Rattle.matching.specs.Match.{choose, takesOver, fits, tolerate, matchTable, wholeTable}
 use Rattle.matching.specs.declared.Choice.the-variants.{Row, Nothing}
+use Rattle.lists.specs.Lists.{Entry}
+use Rattle.cuts.specs.Apart.{laterEntry}
 use Rattle.cuts.specs.Cut.{cutAt, Pair, cutBy, joined, appended}
 
 -- Backward, one by-column; the same descending, nulls last.
@@ -65,3 +67,11 @@ whole = refl
 pub parts : appended up 0 (cutBy up (map row ((2 ∷ []) ∷ (3 ∷ []) ∷ [])) season) ≡ Nothing ∷ Row 1 ∷ Row 1 ∷ Nothing ∷ Row 3 ∷ Row 4 ∷ []
 unfolding appended cutBy cutAt joined season wholeTable matchTable choose takesOver fits tolerate cmpFirst nullIn
 parts = refl
+
+-- Counted on by two: a number, not what is carried behind it; none stays as it is.
+abbrev pub entry : List ℕ → List ℕ → Entry
+entry vs ms = record { values = map pos vs; marks = map pos ms }
+
+pub counted : map (laterEntry 2) (entry (1 ∷ 500 ∷ []) (1 ∷ 1 ∷ []) ∷ entry (0 ∷ 0 ∷ []) (1 ∷ 0 ∷ []) ∷ entry (0 ∷ 0 ∷ []) (0 ∷ 0 ∷ []) ∷ [])
+    ≡ entry (3 ∷ 500 ∷ []) (1 ∷ 1 ∷ []) ∷ entry (2 ∷ 0 ∷ []) (1 ∷ 0 ∷ []) ∷ entry (0 ∷ 0 ∷ []) (0 ∷ 0 ∷ []) ∷ []
+counted = refl

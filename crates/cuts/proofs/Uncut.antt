@@ -7,39 +7,29 @@ use native.Mathlib.Omega.{arith}
 use lib.ListN.{length, take, drop, take-append-drop}
 use lib.Seq.{length-take-le}
 use Rattle.frames.specs.Cells.{Cell, Rows}
-use Rattle.options.specs.Options.{badOptions}
+use Rattle.options.specs.Options.{columns, refusedOptions}
 use Rattle.options.specs.declared.Options.{Options}
-use Rattle.order.proofs.SortedLaws.{All, ordered, sorted-drop}
+use Rattle.order.proofs.SortedLaws.{ordered, sorted-drop}
 use Rattle.matching.specs.Match.{wholeTable}
 use Rattle.matching.specs.declared.Choice.{Choice}
-use Rattle.matching.specs.declared.Choice.the-variants.{Row, Nothing}
-use Rattle.lists.specs.WholeTables.{asWritten, Each, ends, pairs, lefts, rights}
+use Rattle.lists.specs.WholeTables.{dueOver, Each, ends, pairs, lefts, rights, turnedRows}
+use Rattle.lists.specs.Lists.{rowsIn}
 use Rattle.lists.proofs.WholeTableTheorem.{whole-table-theorem}
 use Rattle.isolation.proofs.Isolated.{all-turned}
 use Rattle.cuts.specs.Cut.{cutAt, Pair, before, behind, cutBy, joined, later, appended}
-use Rattle.cuts.specs.Apart.{BothSorted, UncutTables, Job, Joins, written, laterEntry, allWritten, UncutCalls}
+use Rattle.cuts.specs.Apart.{BothSorted, UncutTables, Job, Joins, written, allWritten, UncutCalls}
 use Rattle.cuts.specs.Scheduled.{Load, Fits, scheduled, allScheduled, UncutScheduled}
 use Rattle.plan.proofs.Ends.{writes-all}
+use Rattle.cuts.proofs.DueLaws.{map-agree, all-to, later-twice, later-zero, allDue, uncut-due}
 use Rattle.cuts.proofs.CutLaws.{cut-before, cut-behind, cut-within, match-before, match-behind}
-
--- Two functions that agree on each row.
-map-agree : {A : Type 0} (f g : List Cell → A) (xs : Rows) → All (λ x. f x ≡ g x) xs → map f xs ≡ map g xs
-map-agree f g [] h = refl
-map-agree f g (x ∷ xs) h = rw (h .0, map-agree f g xs (h .1))
-
-all-to : (P Q : List Cell → Type 0) (f : (x : List Cell) → P x → Q x) (xs : Rows) → All P xs → All Q xs
-all-to P Q f [] h = tt
-all-to P Q f (x ∷ xs) h = (f x (h .0), all-to P Q f xs (h .1))
 
 later-later : (n k : ℕ) (ms : List Choice) → map (later (n + k)) ms ≡ map (later n) (map (later k) ms)
 later-later n k [] = refl
-later-later n k (Row i ∷ ms) = let q : n + k + i ≡ n + (k + i) = omega arith in rw (q, later-later n k ms)
-later-later n k (Nothing ∷ ms) = rw (later-later n k ms)
+later-later n k (m ∷ ms) = rw (later-twice n k m, later-later n k ms)
 
 later-none : (ms : List Choice) → map (later 0) ms ≡ ms
 later-none [] = refl
-later-none (Row i ∷ ms) = let q : 0 + i ≡ i = omega arith in rw (q, later-none ms)
-later-none (Nothing ∷ ms) = rw (later-none ms)
+later-none (m ∷ ms) = rw (later-zero m, later-none ms)
 
 -- One cut.
 module _ (o : Options) (g : List Cell) (p : Pair) (s : BothSorted o p) where
@@ -80,45 +70,36 @@ pub uncut-tables : UncutTables
 uncut-tables o gs p s = cuts o gs 0 p s ∙ later-none (joined o p)
 
 -- ---- lists of calls
-later-entry : (n : ℕ) (ms : List Choice) → map (laterEntry n) (map asWritten ms) ≡ map asWritten (map (later n) ms)
-later-entry n [] = refl
-later-entry n (Row i ∷ ms) = rw (later-entry n ms)
-later-entry n (Nothing ∷ ms) = rw (later-entry n ms)
-
-module _ (o : Options) (allowed : badOptions o ≡ false) where
-  -- A job writes the join of its pair, by the whole-table theorem.
-  job-writes : (p : Pair) (j : Job) → Joins o p j → written o j ≡ map asWritten (joined o p)
-  unfolding joined
+module _ (o : Options) (allowed : refusedOptions o ≡ false) where
+  -- A job writes what is due for its pair, by the whole-table theorem.
+  job-writes : (p : Pair) (j : Job) → Joins o p j → written o j ≡ map (dueOver o (p .right)) (p .left)
   job-writes p j w =
       whole-table-theorem o allowed (j .left) (j .right) (j .calls) .whole-table (w .finished .declared)
-      ∙ rw (all-turned o (j .left) (j .right) (j .calls) (w .finished), w .left, w .right) (sym (map-map asWritten (wholeTable o (p .right)) (p .left)))
+      ∙ ap (λ (z : Rows). map (dueOver o z) (turnedRows o (j .left) (j .right) (j .calls))) (w .right)
+      ∙ ap (map (dueOver o (p .right))) (all-turned o (j .left) (j .right) (j .calls) (w .finished) ∙ w .left)
 
-  jobs-write : (n : ℕ) {ps : List Pair} {js : List Job} → Each (Joins o) ps js → allWritten o n ps js ≡ map asWritten (appended o n ps)
-  unfolding allWritten appended
+  jobs-write : (n : ℕ) {ps : List Pair} {js : List Job} → Each (Joins o) ps js → allWritten o n ps js ≡ allDue o n ps
+  unfolding allWritten allDue
   jobs-write n ends = refl
-  jobs-write n (pairs {a} {b} {xs} {ys} w ws) =
-      rw (job-writes a b w, later-entry n (joined o a), jobs-write (n + length (a .right)) ws)
-      (sym (map-append asWritten (map (later n) (joined o a)) (appended o (n + length (a .right)) xs)))
+  jobs-write n (pairs {a} {b} {xs} {ys} w ws) = rw (job-writes a b w, jobs-write (n + length (a .right)) ws) refl
 
 pub uncut-calls : UncutCalls
 uncut-calls o allowed gs p whole w js ws =
     let d = w .finished .declared in
     let s : BothSorted o p = (rw (w .left) at (d .0), rw (w .right) at (d .1)) in
-    jobs-write o allowed 0 ws ∙ ap (map asWritten) (uncut-tables o gs p s) ∙ sym (job-writes o allowed p whole w)
+    jobs-write o allowed 0 ws ∙ uncut-due o gs p s ∙ sym (job-writes o allowed p whole w)
 
 -- ---- each pair by its schedule
 module _ (o : Options) where
-  load-writes : (p : Pair) (j : Load) → Fits o p j → scheduled o j ≡ map asWritten (joined o p)
-  unfolding joined
+  load-writes : (p : Pair) (j : Load) → Fits o p j → scheduled o j ≡ map (dueOver o (p .right)) (p .left)
   load-writes p j h =
-      writes-all o (j .left) (j .right) (j .lefts) (j .rights) (j .outs) (h .planned) (h .room) ∙ rw (h .left, h .right) (sym (map-map asWritten (wholeTable o (p .right)) (p .left)))
+      writes-all o (j .left) (j .right) (j .lefts) (j .rights) (j .outs) (h .planned) (h .room) 
+      ∙ ap (λ (z : Rows). map (dueOver o z) (rowsIn (columns o) (j .lefts))) (h .right) ∙ ap (map (dueOver o (p .right))) (h .left)
 
-  loads-write : (n : ℕ) {ps : List Pair} {js : List Load} → Each (Fits o) ps js → allScheduled o n ps js ≡ map asWritten (appended o n ps)
-  unfolding allScheduled appended
+  loads-write : (n : ℕ) {ps : List Pair} {js : List Load} → Each (Fits o) ps js → allScheduled o n ps js ≡ allDue o n ps
+  unfolding allScheduled allDue
   loads-write n ends = refl
-  loads-write n (pairs {a} {b} {xs} {ys} h hs) =
-      rw (load-writes a b h, later-entry n (joined o a), loads-write (n + length (a .right)) hs)
-      (sym (map-append asWritten (map (later n) (joined o a)) (appended o (n + length (a .right)) xs)))
+  loads-write n (pairs {a} {b} {xs} {ys} h hs) = rw (load-writes a b h, loads-write (n + length (a .right)) hs) refl
 
 pub uncut-scheduled : UncutScheduled
-uncut-scheduled o gs p s js hs = loads-write o 0 hs ∙ ap (map asWritten) (uncut-tables o gs p s)
+uncut-scheduled o gs p s js hs = loads-write o 0 hs ∙ uncut-due o gs p s

@@ -8,27 +8,27 @@ use borrow.Author.Tests.{le-ltb}
 use lib.ListN.{length, take, length-append, length-map, take-append-drop}
 use Rattle.frames.specs.Cells.{Rows, Words}
 use Rattle.frames.specs.Frame.{rowCount, frameRows}
-use Rattle.options.specs.Options.{columns, badOptions}
+use Rattle.options.specs.Options.{columns, rightColumns, answerColumns, refusedOptions}
 use Rattle.options.specs.declared.Options.{Options}
+use Rattle.order.specs.Order.{sorted}
 use Rattle.frames.proofs.FrameLaws.{frame-rows}
 use Rattle.searching.specs.Reach.{needMore}
-use Rattle.matching.specs.Match.{wholeTable}
 use Rattle.outcomes.specs.declared.Answer.the-variants.{Wrote, WantsRight}
 use Rattle.outcomes.specs.declared.Took.the-variants.{Accepted}
 use Rattle.node.specs.Calls.{rightAnswer, turnAnswer}
-use Rattle.lists.specs.Lists.{Call, left, right, end, turn, Event, onEnd, World, start, step, events, final, leftFrames, rightFrames, rowsIn, outputs, matchesIn}
-use Rattle.lists.specs.WholeTables.{asWritten}
+use Rattle.lists.specs.Lists.{Call, left, right, end, turn, Event, onEnd, World, start, step, events, final, leftFrames, rightFrames, rightEnded, rowsIn, outputs, matchesIn}
+use Rattle.lists.specs.WholeTables.{dueOver}
 use Rattle.lists.proofs.ListLaws.{events-append, final-append, rows-in-append}
-use Rattle.lists.proofs.Sound.{turnedOf}
+use Rattle.lists.proofs.WholeTableTheorem.{whole-table-theorem}
 use Rattle.plan.specs.Schedule.{endIf, rounds, schedule}
 use Rattle.plan.specs.Plan.{Figures, keptAfter, planFrom, plan, Planned}
 use Rattle.plan.specs.Written.{Writes}
 use Rattle.plan.proofs.EventLaws.{snoc-right}
-use Rattle.plan.proofs.Follow.{At, heldNow, held-count, right-now, turn-answers, wants-world, wants-left, wants-rights, wants-at, wants-held, wrote-left, wrote-rights, wrote-at, wrote-held, right-answers, took-left, took-rights, took-at, took-held, end-event, end-left, end-rights, end-at, end-held}
-use Rattle.plan.proofs.Rounds.{each-length, isNil, cap, F, rounds-wrote, rounds-wants, plan-takes, plan-turns, plan-last, plan-least}
+use Rattle.plan.proofs.Follow.{At, heldNow, held-count, turn-answers, wants-world, wants-left, wants-rights, wants-at, wants-held, wrote-left, wrote-rights, wrote-at, wrote-held, right-answers, took-left, took-rights, took-at, took-held, end-event, end-left, end-rights, end-at, end-held}
+use Rattle.plan.proofs.Rounds.{each-length, isNil, cap, F, G, rounds-wrote, rounds-wants, plan-takes, plan-turns, plan-last, plan-least}
 use Rattle.plan.proofs.Planned.{at-first, es₀, w₀, q₀, none-yet}
 
-module _ (o : Options) (l r : Words) (allowed : badOptions o ≡ false) where
+module _ (o : Options) (l r : Words) (allowed : refusedOptions o ≡ false) where
   -- After the calls no left frame waits; the frames `over` are the right frames that were never taken.
   pub record Ended (es : List Event) (w : World) (fs : List Words) (cs : List Call) : Type 0 where
     pub closed : Bool
@@ -55,11 +55,11 @@ module _ (o : Options) (l r : Words) (allowed : badOptions o ≡ false) where
   abbrev pub Hope : ℕ → Type 0
   Hope fuel =
       (es : List Event) (w : World) (e : Bool) (fs ls outs : List Words) → At o l r allowed es w e fs ls outs → e ≡ isNil fs → length ls + length fs ≤ fuel
-      → planFrom fuel o (heldNow o l r allowed es w) (map (F o l r allowed) fs) (map (F o l r allowed) ls) .rows ≤ cap o l r allowed → Ended es w fs (rounds fuel w fs outs)
+      → planFrom fuel o (heldNow o l r allowed es w) (map (G o l r allowed) fs) (map (F o l r allowed) ls) .rows ≤ cap o l r allowed → Ended es w fs (rounds fuel w fs outs)
 
   writes : (fuel : ℕ) → Hope fuel → (es : List Event) (w : World) (e : Bool) (fs : List Words) (f : Words) (ls : List Words) (out : Words) (outs : List Words) (a : At o l r allowed es w e fs (f ∷ ls) (out ∷ outs))
       → e ≡ isNil fs → suc (length ls) + length fs ≤ suc fuel → turnAnswer (w .join) (w .left) (w .right) out ≡ Wrote (w .join .sequence)
-      → planFrom fuel o (keptAfter o (frameRows (columns o) f) (heldNow o l r allowed es w)) (map (F o l r allowed) fs) (map (F o l r allowed) ls) .rows ≤ cap o l r allowed
+      → planFrom fuel o (keptAfter o (frameRows (columns o) f) (heldNow o l r allowed es w)) (map (G o l r allowed) fs) (map (F o l r allowed) ls) .rows ≤ cap o l r allowed
       → Ended es w fs (rounds (suc fuel) w fs (out ∷ outs))
   writes fuel ih es w e fs f ls out outs a n b q k =
       rw (rounds-wrote fuel w fs out outs (w .join .sequence) q)
@@ -69,7 +69,7 @@ module _ (o : Options) (l r : Words) (allowed : badOptions o ≡ false) where
   -- A turn that wants right, and the frame that it gets.
   module _ (fuel : ℕ) (es : List Event) (w : World) (g : Words) (gs : List Words) (f : Words) (ls : List Words) (out : Words) (outs : List Words) (a : At o l r allowed es w false (g ∷ gs) (f ∷ ls) (out ∷ outs))
       (q : turnAnswer (w .join) (w .left) (w .right) out ≡ WantsRight)
-      (k : planFrom fuel o (heldNow o l r allowed es w ++ frameRows (columns o) g) (map (F o l r allowed) gs) (frameRows (columns o) f ∷ map (F o l r allowed) ls) .rows ≤ cap o l r allowed) where
+      (k : planFrom fuel o (heldNow o l r allowed es w ++ frameRows (rightColumns o) g) (map (G o l r allowed) gs) (frameRows (columns o) f ∷ map (F o l r allowed) ls) .rows ≤ cap o l r allowed) where
     abbrev es₁ : List Event
     es₁ = es ++ (step w (turn out) .event ∷ [])
 
@@ -89,7 +89,7 @@ module _ (o : Options) (l r : Words) (allowed : badOptions o ≡ false) where
     fits =
         let hs = heldNow o l r allowed es w in
         let h₁ : u₁ .join .held ≡ w .join .held = ap (λ (z : World). z .join .held) (wants-world o l r allowed es w false (g ∷ gs) f ls out outs a q) in
-        omega (arith, k, plan-least fuel o (hs ++ frameRows (columns o) g) (map (F o l r allowed) gs) (frameRows (columns o) f ∷ map (F o l r allowed) ls), length-append hs (frameRows (columns o) g), held-count o l r allowed es w false (g ∷ gs) (f ∷ ls) (out ∷ outs) a, frame-rows (columns o) g (a .frames .0), h₁)
+        omega (arith, k, plan-least fuel o (hs ++ frameRows (rightColumns o) g) (map (G o l r allowed) gs) (frameRows (columns o) f ∷ map (F o l r allowed) ls), length-append hs (frameRows (rightColumns o) g), held-count o l r allowed es w false (g ∷ gs) (f ∷ ls) (out ∷ outs) a, frame-rows (rightColumns o) g (a .frames .0), h₁)
 
     taken : rightAnswer (u₁ .join) (u₁ .left) (u₁ .right) g ≡ Accepted
     taken = right-answers o l r allowed es₁ u₁ g gs (f ∷ ls) (out ∷ outs) a₁ ∙ rw (le-ltb (cap o l r allowed) (u₁ .join .held + rowCount g) fits) refl
@@ -97,8 +97,8 @@ module _ (o : Options) (l r : Words) (allowed : badOptions o ≡ false) where
     a₂ : At o l r allowed es₂ u₂ false gs (f ∷ ls) (out ∷ outs)
     a₂ = took-at o l r allowed es₁ u₁ g gs (f ∷ ls) (out ∷ outs) a₁ taken
 
-    held₂ : heldNow o l r allowed es₂ u₂ ≡ heldNow o l r allowed es w ++ frameRows (columns o) g
-    held₂ = took-held o l r allowed es₁ u₁ g gs (f ∷ ls) (out ∷ outs) a₁ taken ∙ ap (λ (z : Rows). z ++ frameRows (columns o) g) (wants-held o l r allowed es w false (g ∷ gs) f ls out outs a q)
+    held₂ : heldNow o l r allowed es₂ u₂ ≡ heldNow o l r allowed es w ++ frameRows (rightColumns o) g
+    held₂ = took-held o l r allowed es₁ u₁ g gs (f ∷ ls) (out ∷ outs) a₁ taken ∙ ap (λ (z : Rows). z ++ frameRows (rightColumns o) g) (wants-held o l r allowed es w false (g ∷ gs) f ls out outs a q)
 
     both : (cs : List Call) → Ended es₂ u₂ gs cs → Ended es w (g ∷ gs) (turn out ∷ right g ∷ cs)
     both cs d =
@@ -108,7 +108,7 @@ module _ (o : Options) (l r : Words) (allowed : badOptions o ≡ false) where
 
   takes : (fuel : ℕ) → Hope fuel → (es : List Event) (w : World) (g : Words) (gs : List Words) (f : Words) (ls : List Words) (out : Words) (outs : List Words) (a : At o l r allowed es w false (g ∷ gs) (f ∷ ls) (out ∷ outs))
       → suc (length ls) + suc (length gs) ≤ suc fuel → (q : turnAnswer (w .join) (w .left) (w .right) out ≡ WantsRight)
-      → planFrom fuel o (heldNow o l r allowed es w ++ frameRows (columns o) g) (map (F o l r allowed) gs) (frameRows (columns o) f ∷ map (F o l r allowed) ls) .rows ≤ cap o l r allowed
+      → planFrom fuel o (heldNow o l r allowed es w ++ frameRows (rightColumns o) g) (map (G o l r allowed) gs) (frameRows (columns o) f ∷ map (F o l r allowed) ls) .rows ≤ cap o l r allowed
       → Ended es w (g ∷ gs) ((turn out ∷ right g ∷ endIf gs) ++ rounds fuel (final w (turn out ∷ right g ∷ endIf gs)) gs (out ∷ outs))
   unfolding final
   takes fuel ih es w g [] f ls out outs a b q k =
@@ -128,18 +128,18 @@ module _ (o : Options) (l r : Words) (allowed : badOptions o ≡ false) where
 
   one-more : (fuel : ℕ) → Hope fuel → (es : List Event) (w : World) (g : Words) (gs : List Words) (f : Words) (ls : List Words) (out : Words) (outs : List Words) → At o l r allowed es w false (g ∷ gs) (f ∷ ls) (out ∷ outs)
       → suc (length ls) + suc (length gs) ≤ suc fuel
-      → planFrom (suc fuel) o (heldNow o l r allowed es w) (frameRows (columns o) g ∷ map (F o l r allowed) gs) (frameRows (columns o) f ∷ map (F o l r allowed) ls) .rows ≤ cap o l r allowed
+      → planFrom (suc fuel) o (heldNow o l r allowed es w) (frameRows (rightColumns o) g ∷ map (G o l r allowed) gs) (frameRows (columns o) f ∷ map (F o l r allowed) ls) .rows ≤ cap o l r allowed
       → Ended es w (g ∷ gs) (rounds (suc fuel) w (g ∷ gs) (out ∷ outs))
   one-more fuel ih es w g gs f ls out outs a b k = by (needMore o (frameRows (columns o) f) (heldNow o l r allowed es w)) refl
     where
       by : (t : Bool) → needMore o (frameRows (columns o) f) (heldNow o l r allowed es w) ≡ t → Ended es w (g ∷ gs) (rounds (suc fuel) w (g ∷ gs) (out ∷ outs))
       by true t =
           let q : turnAnswer (w .join) (w .left) (w .right) out ≡ WantsRight = turn-answers o l r allowed es w false (g ∷ gs) f ls out outs a ∙ rw t refl in
-          let p = ap (λ (z : Figures). z .rows) (plan-takes fuel o (heldNow o l r allowed es w) (frameRows (columns o) g) (map (F o l r allowed) gs) (frameRows (columns o) f) (map (F o l r allowed) ls) t) in
+          let p = ap (λ (z : Figures). z .rows) (plan-takes fuel o (heldNow o l r allowed es w) (frameRows (rightColumns o) g) (map (G o l r allowed) gs) (frameRows (columns o) f) (map (F o l r allowed) ls) t) in
           rw (rounds-wants fuel w g gs out outs q) (takes fuel ih es w g gs f ls out outs a b q (omega (arith, p, k)))
       by false t =
           let q : turnAnswer (w .join) (w .left) (w .right) out ≡ Wrote (w .join .sequence) = turn-answers o l r allowed es w false (g ∷ gs) f ls out outs a ∙ rw t refl in
-          let p = ap (λ (z : Figures). z .rows) (plan-turns fuel o (heldNow o l r allowed es w) (frameRows (columns o) g) (map (F o l r allowed) gs) (frameRows (columns o) f) (map (F o l r allowed) ls) t) in
+          let p = ap (λ (z : Figures). z .rows) (plan-turns fuel o (heldNow o l r allowed es w) (frameRows (rightColumns o) g) (map (G o l r allowed) gs) (frameRows (columns o) f) (map (F o l r allowed) ls) t) in
           writes fuel ih es w false (g ∷ gs) f ls out outs a refl b q (omega (arith, p, k))
 
   none-more : (fuel : ℕ) → Hope fuel → (es : List Event) (w : World) (f : Words) (ls : List Words) (out : Words) (outs : List Words) → At o l r allowed es w true [] (f ∷ ls) (out ∷ outs)
@@ -173,7 +173,7 @@ module _ (o : Options) (l r : Words) (allowed : badOptions o ≡ false) where
 
   -- ---- from a fresh join
   from-first : (lefts : List Words) (rights outs : List Words) (h : Planned o l lefts rights outs)
-      → planFrom (length lefts + length rights) o [] (map (frameRows (columns o)) rights) (map (frameRows (columns o)) lefts) .rows ≤ cap o l r allowed
+      → planFrom (length lefts + length rights) o [] (map (frameRows (rightColumns o)) rights) (map (frameRows (columns o)) lefts) .rows ≤ cap o l r allowed
       → Ended (es₀ o l r allowed lefts rights outs h) (w₀ o l r allowed lefts rights outs h) rights
       (endIf rights ++ rounds (length lefts + length rights) (final (w₀ o l r allowed lefts rights outs h) (endIf rights)) rights outs)
   unfolding final
@@ -193,24 +193,30 @@ module _ (o : Options) (l r : Words) (allowed : badOptions o ≡ false) where
       all-end (length lefts + suc (length fs)) e w false (f ∷ fs) lefts outs (at-first o l r allowed lefts (f ∷ fs) outs h) refl (omega arith) (rw n k)
 
   -- ---- what stands written at such an end
+  -- What is written is settled: `settled` of the whole-table theorem, told of events.
+  abbrev SettledAt : List Event → Type 0
+  SettledAt es =
+      sorted o (rowsIn (columns o) (take (length (outputs es)) (leftFrames es))) ≡ true → (more : Rows) → (rightEnded es ≡ true → more ≡ []) → sorted o (rowsIn (rightColumns o) (rightFrames es) ++ more) ≡ true
+      → matchesIn (answerColumns o) (outputs es) ≡ map (dueOver o (rowsIn (rightColumns o) (rightFrames es) ++ more)) (rowsIn (columns o) (take (length (outputs es)) (leftFrames es)))
+
   module _ (es : List Event) (w : World) (e : Bool) (over L R : List Words) (a : At o l r allowed es w e over [] []) (n : e ≡ isNil over) (el : leftFrames es ≡ L) (er : rightFrames es ++ over ≡ R) where
-    none-over : (fs : List Words) → isNil fs ≡ true → rowsIn (columns o) fs ≡ []
+    none-over : (fs : List Words) → isNil fs ≡ true → rowsIn (rightColumns o) fs ≡ []
     unfolding rowsIn
     none-over [] h = refl
     none-over (f ∷ fs) h = let z : _≡_ {A = ℕ} 0 1 = cc in absurd (omega arith)
 
-    all-rows : rowsIn (columns o) (rightFrames es) ++ rowsIn (columns o) over ≡ rowsIn (columns o) R
-    all-rows = sym (rows-in-append (columns o) (rightFrames es) over) ∙ ap (rowsIn (columns o)) er
+    all-rows : rowsIn (rightColumns o) (rightFrames es) ++ rowsIn (rightColumns o) over ≡ rowsIn (rightColumns o) R
+    all-rows = sym (rows-in-append (rightColumns o) (rightFrames es) over) ∙ ap (rowsIn (rightColumns o)) er
 
     every-left : take (length (outputs es)) (leftFrames es) ≡ leftFrames es
     every-left =
         let k = length (outputs es) in
         sym (append-nil (take k (leftFrames es))) ∙ ap (λ (z : List Words). take k (leftFrames es) ++ z) (sym (a .waits)) ∙ take-append-drop k (leftFrames es)
 
-    written : matchesIn (outputs es) ≡ map (λ x. asWritten (wholeTable o (rowsIn (columns o) R) x)) (rowsIn (columns o) L)
-    unfolding wholeTable turnedOf
-    written =
-        a .sound (a .sl) (right-now o l r allowed es w e over [] [] a) .matches (rowsIn (columns o) over) (λ h. none-over over (sym n ∙ sym (a .ended) ∙ h)) (rw (← rows-in-append (columns o) (rightFrames es) over) (a .sr))
+    -- The right frames that were never taken may as well come behind those that were.
+    written : SettledAt es → matchesIn (answerColumns o) (outputs es) ≡ map (dueOver o (rowsIn (rightColumns o) R)) (rowsIn (columns o) L)
+    written settled =
+        settled (rw every-left (a .sl)) (rowsIn (rightColumns o) over) (λ h. none-over over (sym n ∙ sym (a .ended) ∙ h)) (rw (← rows-in-append (rightColumns o) (rightFrames es) over) (a .sr))
         ∙ rw (all-rows, every-left, el) refl
 
 pub writes-all : Writes
@@ -220,7 +226,9 @@ writes-all o l r lefts rights outs h k =
     let e = es₀ o l r allowed lefts rights outs h in
     let w = w₀ o l r allowed lefts rights outs h in
     let cs = endIf rights ++ rounds (length lefts + length rights) (final w (endIf rights)) rights outs in
-    let d = from-first o l r allowed lefts rights outs h (rw (length-map lefts (frameRows (columns o)), length-map rights (frameRows (columns o))) at k) in
+    let d = from-first o l r allowed lefts rights outs h (rw (length-map lefts (frameRows (columns o)), length-map rights (frameRows (rightColumns o))) at k) in
     let q = q₀ o l r allowed lefts rights outs h in
-    rw (append-assoc (map left lefts) (endIf rights) (rounds (length lefts + length rights) (final (start o l r) (map left lefts ++ endIf rights)) rights outs), final-append (start o l r) (map left lefts) (endIf rights), events-append (start o l r) (map left lefts) cs)
-    (written o l r allowed (e ++ events w cs) (final w cs) (d .closed) (d .over) lefts rights (d .at-end) (d .all-taken) (d .same-left ∙ q .lefts) (d .same-right ∙ rw (q .rights) refl))
+    let same : events (start o l r) (schedule o l r lefts rights outs) ≡ e ++ events w cs =
+    rw (append-assoc (map left lefts) (endIf rights) (rounds (length lefts + length rights) (final (start o l r) (map left lefts ++ endIf rights)) rights outs), final-append (start o l r) (map left lefts) (endIf rights), events-append (start o l r) (map left lefts) cs) in
+    let settled : SettledAt o l r allowed (e ++ events w cs) = rw same at (whole-table-theorem o allowed l r (schedule o l r lefts rights outs) .settled) in
+    rw same (written o l r allowed (e ++ events w cs) (final w cs) (d .closed) (d .over) lefts rights (d .at-end) (d .all-taken) (d .same-left ∙ q .lefts) (d .same-right ∙ rw (q .rights) refl) settled)

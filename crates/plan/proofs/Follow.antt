@@ -2,7 +2,7 @@
 use mathlib.Core.Path.{_≡_, refl, sym, ap, _∙_}
 use mathlib.Core.Bool.{Bool, true, false, cond, not, _&&_, or-false}
 use mathlib.Core.List.{List, [], _∷_, _++_, append-nil, append-assoc}
-use Prim.Native.Nat.{suc, _+_, _-_, _*_, _^_, _≤_, _<_}
+use Prim.Native.Nat.{suc, _+_, _-_, _^_, _≤_, _<_}
 use native.Mathlib.Omega.{arith}
 use borrow.Author.Tests.{le-ltb, ne-eqb}
 use lib.Dec.{ltb, eqb}
@@ -10,8 +10,8 @@ use lib.ListN.{length, drop, length-append, length-drop}
 use lib.Seq.{drop-drop}
 use Rattle.callrules.specs.Judged.{endJudged, rightJudged}
 use Rattle.frames.specs.Cells.{Rows, Words}
-use Rattle.frames.specs.Frame.{rowCount, frameRows}
-use Rattle.options.specs.Options.{columns, badOptions}
+use Rattle.frames.specs.Frame.{rowCount, frameWords, frameRows}
+use Rattle.options.specs.Options.{columns, rightColumns, answerColumns, refusedOptions}
 use Rattle.order.specs.Order.{sorted}
 use Rattle.options.specs.declared.Options.{Options}
 use Rattle.frames.proofs.FrameLaws.{frame-rows}
@@ -32,6 +32,7 @@ use Rattle.lists.proofs.ListLaws.{rows-in-append, drop-more, drop-next}
 use Rattle.lists.proofs.Stock.{Frames}
 use Rattle.lists.proofs.Invariant.{Inv, good}
 use Rattle.lists.proofs.Turn.{judged, leftBy, held, rows, rows-count, answer-is, turned-is}
+use Rattle.lists.proofs.Turned.{turned-sorted, next-sorted}
 use Rattle.lists.proofs.Steps.{SoundAt, no-left-fault, no-right-fault, inv-step, sound-step}
 use Rattle.plan.specs.Schedule.{rounds}
 use Rattle.plan.specs.Plan.{keptAfter}
@@ -39,60 +40,60 @@ use Rattle.plan.proofs.EventLaws.{snoc-left, snoc-right, snoc-out, snoc
 
 -- ---- a turn over a waiting frame, where nothing is refused
 judged-is : (o : Options) (j : Join) (rows held : Rows) (out : Words) → j .failed ≡ false → isDone (j .state) ≡ false
-    → ltb (length out) (2 + 2 * length rows) ≡ false → eqb (j .sequence) lastSequence ≡ false → badLeft o (j .«last_left») rows ≡ false → badRight o (j .«last_right») rows held ≡ false
+    → ltb (length out) (frameWords (length rows) (answerColumns o)) ≡ false → eqb (j .sequence) lastSequence ≡ false → badLeft o (j .«last_left») rows ≡ false → badRight o (j .«last_right») rows held ≡ false
     → judged o j rows held out ≡ cond (not (j .«right_ended») && needMore o rows held) WantsRight (Wrote (j .sequence))
 unfolding judged
 judged-is o j rows held out e₁ e₂ e₄ e₅ e₆ e₇ = rw (e₁, e₂, e₄, e₅, e₆, e₇)
 
-abbrev pub Room : List Words → List Words → Type 0
-Room fs outs = Each (λ f out. 2 + 2 * rowCount f ≤ length out) fs outs
+abbrev pub Room : Options → List Words → List Words → Type 0
+Room o fs outs = Each (λ f out. frameWords (rowCount f) (answerColumns o) ≤ length out) fs outs
 
-head-room : {f out : Words} {ls outs : List Words} → Room (f ∷ ls) (out ∷ outs) → 2 + 2 * rowCount f ≤ length out
-head-room (pairs p q) = p
+head-room : (o : Options) {f out : Words} {ls outs : List Words} → Room o (f ∷ ls) (out ∷ outs) → frameWords (rowCount f) (answerColumns o) ≤ length out
+head-room o (pairs p q) = p
 
-tail-room : {f out : Words} {ls outs : List Words} → Room (f ∷ ls) (out ∷ outs) → Room ls outs
-tail-room (pairs p q) = q
+tail-room : (o : Options) {f out : Words} {ls outs : List Words} → Room o (f ∷ ls) (out ∷ outs) → Room o ls outs
+tail-room o (pairs p q) = q
 
-module _ (o : Options) (l r : Words) (allowed : badOptions o ≡ false) where
+module _ (o : Options) (l r : Words) (allowed : refusedOptions o ≡ false) where
   -- After the events es: whether right has ended is e, the right frames fs are still to come, the left frames ls wait, and there is an output for each.
   pub record At (es : List Event) (w : World) (e : Bool) (fs ls outs : List Words) : Type 0 where
     pub inv : Inv o l r es w
     pub sound : SoundAt o es w
     pub sl : sorted o (rowsIn (columns o) (leftFrames es)) ≡ true
-    pub sr : sorted o (rowsIn (columns o) (rightFrames es ++ fs)) ≡ true
+    pub sr : sorted o (rowsIn (rightColumns o) (rightFrames es ++ fs)) ≡ true
     pub waits : drop (length (outputs es)) (leftFrames es) ≡ ls
-    pub room : Room ls outs
+    pub room : Room o ls outs
     pub ended : rightEnded es ≡ e
     pub undone : nodeDone es ≡ false
-    pub few : length (rowsIn (columns o) (rightFrames es ++ fs)) ≤ mostRows
-    pub frames : Frames (columns o) fs
+    pub few : length (rowsIn (rightColumns o) (rightFrames es ++ fs)) ≤ mostRows
+    pub frames : Frames (rightColumns o) fs
     pub short : length (leftFrames es) < 2 ^ 63
 
   -- The rows held.
   abbrev pub heldNow : List Event → World → Rows
-  heldNow es w = drop (w .join .pruned) (rowsIn (columns o) (rightFrames es))
+  heldNow es w = drop (w .join .pruned) (rowsIn (rightColumns o) (rightFrames es))
 
   module _ (es : List Event) (w : World) (e : Bool) (fs ls outs : List Words) (a : At es w e fs ls outs) where
     abbrev j : Join
     j = w .join
 
-    pub right-now : sorted o (rowsIn (columns o) (rightFrames es)) ≡ true
-    right-now = sorted-cut o (rowsIn (columns o) (rightFrames es)) (rowsIn (columns o) fs) (rw (← rows-in-append (columns o) (rightFrames es) fs) (a .sr)) .0
+    pub right-now : sorted o (rowsIn (rightColumns o) (rightFrames es)) ≡ true
+    right-now = sorted-cut o (rowsIn (rightColumns o) (rightFrames es)) (rowsIn (rightColumns o) fs) (rw (← rows-in-append (rightColumns o) (rightFrames es) fs) (a .sr)) .0
 
     pub unfailed : j .failed ≡ false
-    unfailed = a .sound (a .sl) right-now .unfailed
+    unfailed = a .sound (turned-sorted o (leftFrames es) (outputs es) (a .sl)) right-now .unfailed (a .sl)
 
     pub not-done : isDone (j .state) ≡ false
     not-done = a .inv .flags .done ∙ a .undone
 
     pub held-count : length (heldNow es w) ≡ j .held
-    held-count = length-drop (j .pruned) (rowsIn (columns o) (rightFrames es)) ∙ omega (arith, a .inv .stock .rows)
+    held-count = length-drop (j .pruned) (rowsIn (rightColumns o) (rightFrames es)) ∙ omega (arith, a .inv .stock .rows)
 
     -- What a call leaves, where it moves no left frame.
     pub moved-on : (cl : Call) (e′ : Bool) (fs′ ls′ outs′ : List Words)
         → leftFrames (es ++ (step w cl .event ∷ [])) ≡ leftFrames es → rightFrames (es ++ (step w cl .event ∷ [])) ++ fs′ ≡ rightFrames es ++ fs
-        → drop (length (outputs (es ++ (step w cl .event ∷ [])))) (leftFrames (es ++ (step w cl .event ∷ []))) ≡ ls′ → Room ls′ outs′
-        → rightEnded (es ++ (step w cl .event ∷ [])) ≡ e′ → nodeDone (es ++ (step w cl .event ∷ [])) ≡ false → Frames (columns o) fs′
+        → drop (length (outputs (es ++ (step w cl .event ∷ [])))) (leftFrames (es ++ (step w cl .event ∷ []))) ≡ ls′ → Room o ls′ outs′
+        → rightEnded (es ++ (step w cl .event ∷ [])) ≡ e′ → nodeDone (es ++ (step w cl .event ∷ [])) ≡ false → Frames (rightColumns o) fs′
         → At (es ++ (step w cl .event ∷ [])) (step w cl .world) e′ fs′ ls′ outs′
     moved-on cl e′ fs′ ls′ outs′ el er ew rm en un fr = record {
       inv = inv-step o l r allowed es w (a .inv) cl;
@@ -117,13 +118,15 @@ module _ (o : Options) (l r : Words) (allowed : badOptions o ≡ false) where
         let rs = rows o l r allowed es w i f ls (a .waits) in
         let hs = held o l r allowed es w i in
         let sn = right-now es w e fs (f ∷ ls) (out ∷ outs) a in
-        let fits : ltb (length out) (2 + 2 * length rs) ≡ false = le-ltb (length out) (2 + 2 * length rs) (rw (rows-count o l r allowed es w i f ls (a .waits)) (head-room (a .room))) in
+        let st = next-sorted o (leftFrames es) (outputs es) f ls (a .waits) (a .sl) in
+        let words = frameWords (length rs) (answerColumns o) in
+        let fits : ltb (length out) words ≡ false = le-ltb (length out) words (rw (rows-count o l r allowed es w i f ls (a .waits)) (head-room o (a .room))) in
         let more : length (outputs es) < length (leftFrames es) = omega (arith, length-drop (length (outputs es)) (leftFrames es), ap length (a .waits)) in
         let seq : eqb (w .join .sequence) lastSequence ≡ false = ne-eqb (w .join .sequence) lastSequence (λ (h : w .join .sequence ≡ lastSequence). omega (arith, i .stock .sequence, a .short)) in
         let en : w .join .«right_ended» ≡ e = i .flags .ended ∙ a .ended in
         answer-is o l r allowed es w i f ls (a .waits) out
         ∙ judged-is o (w .join) rs hs out (unfailed es w e fs (f ∷ ls) (out ∷ outs) a) (not-done es w e fs (f ∷ ls) (out ∷ outs) a) fits seq
-        (no-left-fault o l r allowed es w i (a .sound) (a .sl) sn f ls (a .waits)) (no-right-fault o l r allowed es w i (a .sound) (a .sl) sn f ls (a .waits))
+        (no-left-fault o l r allowed es w i (a .sound) sn f ls (a .waits) st) (no-right-fault o l r allowed es w i (a .sound) sn f ls (a .waits) st)
         ∙ rw en refl
 
     -- It wants right: nothing changes.
@@ -182,29 +185,29 @@ module _ (o : Options) (l r : Words) (allowed : badOptions o ≡ false) where
       wrote-at =
           let ev = onTurn (Wrote (w .join .sequence)) (turned (w .join) (w .left) (w .right) out .out) in
           let eo : length (outputs (es ++ (step w (turn out) .event ∷ []))) ≡ suc (length (outputs es)) = rw wrote-event (ap length (snoc-out es ev) ∙ length-append (outputs es) (turned (w .join) (w .left) (w .right) out .out ∷ []) ∙ omega arith) in
-          moved-on es w e fs (f ∷ ls) (out ∷ outs) a (turn out) e fs ls outs wrote-left (ap (λ (z : List Words). z ++ fs) wrote-rights) (rw (eo, wrote-left) (drop-next (length (outputs es)) (leftFrames es) f ls (a .waits))) (tail-room (a .room))
+          moved-on es w e fs (f ∷ ls) (out ∷ outs) a (turn out) e fs ls outs wrote-left (ap (λ (z : List Words). z ++ fs) wrote-rights) (rw (eo, wrote-left) (drop-next (length (outputs es)) (leftFrames es) f ls (a .waits))) (tail-room o (a .room))
           (rw wrote-event (snoc-ended es ev ∙ or-false (rightEnded es) ∙ a .ended)) (rw wrote-event (snoc-done es ev ∙ or-false (nodeDone es) ∙ a .undone)) (a .frames)
 
       pub wrote-held : heldNow (es ++ (step w (turn out) .event ∷ [])) (step w (turn out) .world) ≡ keptAfter o x (heldNow es w)
       wrote-held =
           let n = firstPrune o x (heldNow es w) + lastPrune o x (heldNow es w) in
-          rw (wrote-pruned, wrote-rights) (sym (drop-drop n (w .join .pruned) (rowsIn (columns o) (rightFrames es))))
+          rw (wrote-pruned, wrote-rights) (sym (drop-drop n (w .join .pruned) (rowsIn (rightColumns o) (rightFrames es))))
 
   -- ---- a right frame
   module _ (es : List Event) (w : World) (f : Words) (fs ls outs : List Words) (a : At es w false (f ∷ fs) ls outs) where
-    pub same-room : capacity (columns o) (w .right) ≡ capacity (columns o) r
+    pub same-room : capacity (rightColumns o) (w .right) ≡ capacity (rightColumns o) r
     same-room = rw (a .inv .stock .right-length) refl
 
     few-more : w .join .pruned + w .join .held + rowCount f ≤ mostRows
     unfolding rowsIn
     few-more =
-        let n = frame-rows (columns o) f (a .frames .0) in
-        let k = ap length (rows-in-append (columns o) (rightFrames es) (f ∷ fs)) ∙ length-append (rowsIn (columns o) (rightFrames es)) (frameRows (columns o) f ++ rowsIn (columns o) fs) in
-        let m = length-append (frameRows (columns o) f) (rowsIn (columns o) fs) in
+        let n = frame-rows (rightColumns o) f (a .frames .0) in
+        let k = ap length (rows-in-append (rightColumns o) (rightFrames es) (f ∷ fs)) ∙ length-append (rowsIn (rightColumns o) (rightFrames es)) (frameRows (rightColumns o) f ++ rowsIn (rightColumns o) fs) in
+        let m = length-append (frameRows (rightColumns o) f) (rowsIn (rightColumns o) fs) in
         omega (arith, a .few, a .inv .stock .rows, n, k, m)
 
     -- It is judged by its room alone.
-    pub right-answers : rightAnswer (w .join) (w .left) (w .right) f ≡ cond (ltb (capacity (columns o) r) (w .join .held + rowCount f)) (Refused NoRoom) Accepted
+    pub right-answers : rightAnswer (w .join) (w .left) (w .right) f ≡ cond (ltb (capacity (rightColumns o) r) (w .join .held + rowCount f)) (Refused NoRoom) Accepted
     unfolding rightJudged
     right-answers =
         let i = a .inv in
@@ -241,12 +244,12 @@ module _ (o : Options) (l r : Words) (allowed : badOptions o ≡ false) where
           moved-on es w false (f ∷ fs) ls outs a (right f) false fs ls outs took-left (rw took-rights (append-assoc (rightFrames es) (f ∷ []) fs)) (rw (eo, took-left) (a .waits)) (a .room)
           (rw took-event (snoc-ended es ev ∙ or-false (rightEnded es) ∙ a .ended)) (rw took-event (snoc-done es ev ∙ or-false (nodeDone es) ∙ a .undone)) (a .frames .1)
 
-      pub took-held : heldNow (es ++ (step w (right f) .event ∷ [])) (step w (right f) .world) ≡ heldNow es w ++ frameRows (columns o) f
+      pub took-held : heldNow (es ++ (step w (right f) .event ∷ [])) (step w (right f) .world) ≡ heldNow es w ++ frameRows (rightColumns o) f
       unfolding pushedRight rowsIn
       took-held =
           let p : step w (right f) .world .join .pruned ≡ w .join .pruned = ap (λ s. s .world .join .pruned) took-step in
-          rw (p, took-rights, rows-in-append (columns o) (rightFrames es) (f ∷ []), append-nil (frameRows (columns o) f))
-          (drop-more (w .join .pruned) (rowsIn (columns o) (rightFrames es)) (frameRows (columns o) f) (omega (arith, a .inv .stock .rows)))
+          rw (p, took-rights, rows-in-append (rightColumns o) (rightFrames es) (f ∷ []), append-nil (frameRows (rightColumns o) f))
+          (drop-more (w .join .pruned) (rowsIn (rightColumns o) (rightFrames es)) (frameRows (rightColumns o) f) (omega (arith, a .inv .stock .rows)))
 
   -- ---- the end of right
   module _ (es : List Event) (w : World) (ls outs : List Words) (a : At es w false [] ls outs) where

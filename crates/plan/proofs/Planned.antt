@@ -9,7 +9,7 @@ use lib.ListN.{length, drop, length-append, length-map}
 use Rattle.callrules.specs.Judged.{leftJudged}
 use Rattle.frames.specs.Cells.{Rows, Words}
 use Rattle.frames.specs.Frame.{isFrame, frameRows}
-use Rattle.options.specs.Options.{columns, badOptions}
+use Rattle.options.specs.Options.{columns, rightColumns, refusedOptions}
 use Rattle.order.specs.Order.{sorted}
 use Rattle.options.specs.declared.Options.{Options}
 use Rattle.order.proofs.SortedLaws.{sorted-cut}
@@ -21,6 +21,7 @@ use Rattle.lists.specs.Lists.{Call, left, right, end, turn, Event, onLeft, onEn
 use Rattle.lists.proofs.ListLaws.{rows-in-append, words-append, final-append, left-ended-append}
 use Rattle.lists.proofs.Stock.{Frames, waiting-length}
 use Rattle.lists.proofs.Invariant.{Inv, good}
+use Rattle.lists.proofs.Turned.{turned-sorted}
 use Rattle.lists.proofs.Steps.{SoundAt, inv-step, sound-step, inv-start, sound-start}
 use Rattle.plan.specs.Schedule.{endIf, rounds, schedule, noRoomRight}
 use Rattle.plan.specs.Plan.{Figures, planFrom, plan, AllFrames, Planned, figures, Holds, Plans}
@@ -36,7 +37,7 @@ dropped-none : (n : ℕ) (rs : Rows) → rs ≡ [] → drop n rs ≡ []
 dropped-none zero rs e = e
 dropped-none (suc n) rs e = rw e refl
 
-module _ (o : Options) (l r : Words) (allowed : badOptions o ≡ false) where
+module _ (o : Options) (l r : Words) (allowed : refusedOptions o ≡ false) where
   -- The left frames `done` wait, and nothing else has come.
   pub record Queued (es : List Event) (w : World) (done : List Words) : Type 0 where
     pub inv : Inv o l r es w
@@ -59,7 +60,7 @@ module _ (o : Options) (l r : Words) (allowed : badOptions o ≡ false) where
   module _ (es : List Event) (w : World) (done : List Words) (a : Queued es w done) where
     none-held : w .join .held ≡ 0
     unfolding rowsIn
-    none-held = let z : length (rowsIn (columns o) (rightFrames es)) ≡ 0 = rw (a .rights) refl in omega (arith, a .inv .stock .rows)
+    none-held = let z : length (rowsIn (rightColumns o) (rightFrames es)) ≡ 0 = rw (a .rights) refl in omega (arith, a .inv .stock .rows)
 
     module _ (f : Words) (frame : isFrame (columns o) f ≡ true) (sl : sorted o (rowsIn (columns o) (done ++ (f ∷ []))) ≡ true) (room : length (backToBack done) + length f ≤ length l) where
       running : isRunning (w .join .state) ≡ true
@@ -68,7 +69,8 @@ module _ (o : Options) (l r : Words) (allowed : badOptions o ≡ false) where
       unfailed : w .join .failed ≡ false
       unfolding rowsIn sorted
       unfailed =
-          a .sound (rw (a .lefts) (sorted-cut o (rowsIn (columns o) done) (rowsIn (columns o) (f ∷ [])) (rw (← rows-in-append (columns o) done (f ∷ [])) sl) .0)) (rw (a .rights) refl) .unfailed
+          let s : sorted o (rowsIn (columns o) (leftFrames es)) ≡ true = rw (a .lefts) (sorted-cut o (rowsIn (columns o) done) (rowsIn (columns o) (f ∷ [])) (rw (← rows-in-append (columns o) done (f ∷ [])) sl) .0) in
+          a .sound (turned-sorted o (leftFrames es) (outputs es) s) (rw (a .rights) refl) .unfailed s
 
       waiting-words : w .join .«queue_words» ≡ length (backToBack done)
       waiting-words =
@@ -155,18 +157,18 @@ module _ (o : Options) (l r : Words) (allowed : badOptions o ≡ false) where
       ended = q₀ .unclosed;
       undone = q₀ .undone;
       few = rw (q₀ .rights) (h .few-rights);
-      frames = all-frames (columns o) rights (h .right-frames);
+      frames = all-frames (rightColumns o) rights (h .right-frames);
       short = rw (q₀ .lefts) (h .few-lefts);
     }
 
     pub none-yet : (es : List Event) (w : World) → rightFrames es ≡ [] → heldNow o l r allowed es w ≡ []
     unfolding rowsIn
-    none-yet es w e = dropped-none (w .join .pruned) (rowsIn (columns o) (rightFrames es)) (rw e refl)
+    none-yet es w e = dropped-none (w .join .pruned) (rowsIn (rightColumns o) (rightFrames es)) (rw e refl)
 
   -- Where there are right frames, and where there is none.
   first-rounds : (lefts : List Words) (rights outs : List Words) (h : Planned o l lefts rights outs)
       → Result o l r allowed (final (start o l r) (map left lefts)) (endIf rights ++ rounds (length lefts + length rights) (final (final (start o l r) (map left lefts)) (endIf rights)) rights outs)
-      (planFrom (length lefts + length rights) o [] (map (frameRows (columns o)) rights) (map (frameRows (columns o)) lefts)) (length outs)
+      (planFrom (length lefts + length rights) o [] (map (frameRows (rightColumns o)) rights) (map (frameRows (columns o)) lefts)) (length outs)
   unfolding final
   first-rounds lefts [] outs h =
       let a = at-first lefts [] outs h in
@@ -188,10 +190,10 @@ module _ (o : Options) (l r : Words) (allowed : badOptions o ≡ false) where
   whole : (lefts rights outs : List Words) (h : Planned o l lefts rights outs) → Result o l r allowed (start o l r) (schedule o l r lefts rights outs) (figures o l r lefts rights outs) (length outs)
   unfolding schedule plan
   whole lefts rights outs h =
-      rw (append-assoc (map left lefts) (endIf rights) (rounds (length lefts + length rights) (final (start o l r) (map left lefts ++ endIf rights)) rights outs), final-append (start o l r) (map left lefts) (endIf rights), length-map lefts (frameRows (columns o)), length-map rights (frameRows (columns o)))
+      rw (append-assoc (map left lefts) (endIf rights) (rounds (length lefts + length rights) (final (start o l r) (map left lefts ++ endIf rights)) rights outs), final-append (start o l r) (map left lefts) (endIf rights), length-map lefts (frameRows (columns o)), length-map rights (frameRows (rightColumns o)))
       (all-queued lefts rights outs h .same _ _ _ (first-rounds lefts rights outs h))
 
-holds : (o : Options) (l r : Words) (lefts rights outs : List Words) (h : Planned o l lefts rights outs) → figures o l r lefts rights outs .rows ≤ capacity (columns o) r → Holds o l r lefts rights outs
+holds : (o : Options) (l r : Words) (lefts rights outs : List Words) (h : Planned o l lefts rights outs) → figures o l r lefts rights outs .rows ≤ capacity (rightColumns o) r → Holds o l r lefts rights outs
 holds o l r lefts rights outs h b =
     let f = whole o l r (h .allowed) lefts rights outs h .fit b in
     record { unrefused = f .unrefused; written = f .written ∙ sym (each-length (h .outputs)); rows = f .most; turns = f .turns; rights-taken = f .rights }

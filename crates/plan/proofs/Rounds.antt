@@ -9,7 +9,7 @@ use borrow.Author.Tests.{lt-ltb, le-ltb}
 use lib.ListN.{length, length-append}
 use Rattle.frames.specs.Cells.{Rows, Words}
 use Rattle.frames.specs.Frame.{rowCount, frameRows}
-use Rattle.options.specs.Options.{columns, badOptions}
+use Rattle.options.specs.Options.{columns, rightColumns, refusedOptions}
 use Rattle.options.specs.declared.Options.{Options}
 use Rattle.frames.proofs.FrameLaws.{frame-rows}
 use Rattle.area.specs.Area.{capacity}
@@ -107,9 +107,9 @@ pub plan-last : (fuel : ℕ) (o : Options) (held : Rows) (x : Rows) (xs : List R
 unfolding planFrom
 plan-last fuel o held x xs = refl
 
-module _ (o : Options) (l r : Words) (allowed : badOptions o ≡ false) where
+module _ (o : Options) (l r : Words) (allowed : refusedOptions o ≡ false) where
   abbrev pub cap : ℕ
-  cap = capacity (columns o) r
+  cap = capacity (rightColumns o) r
 
   -- With room for the first figure the calls have the figures; with less they meet refusal 6.
   pub record Result (w : World) (cs : List Call) (p : Figures) (n : ℕ) : Type 0 where
@@ -117,7 +117,7 @@ module _ (o : Options) (l r : Words) (allowed : badOptions o ≡ false) where
     pub short : cap < p .rows → meetsNoRoom (events w cs) ≡ true
 
   within : (es : List Event) (w : World) (e : Bool) (fs ls outs : List Words) → At o l r allowed es w e fs ls outs → w .join .held ≤ cap
-  within es w e fs ls outs a = let s = a .inv .stock in let c : capacity (columns o) (w .right) ≡ cap = rw (s .right-length) refl in omega (arith, s .right-room, c)
+  within es w e fs ls outs a = let s = a .inv .stock in let c : capacity (rightColumns o) (w .right) ≡ cap = rw (s .right-length) refl in omega (arith, s .right-room, c)
 
   -- Nothing is left to write.
   none-left : (w : World) (held : Rows) → length held ≡ w .join .held → w .join .held ≤ cap → Result w [] (rest held) 0
@@ -180,11 +180,15 @@ module _ (o : Options) (l r : Words) (allowed : badOptions o ≡ false) where
     }
 
   -- ---- the induction
+  -- The rows of a left frame, and of a right frame.
   abbrev pub F : Words → Rows
   F f = frameRows (columns o) f
 
+  abbrev pub G : Words → Rows
+  G g = frameRows (rightColumns o) g
+
   abbrev pub Goal : ℕ → List Event → World → List Words → List Words → List Words → Type 0
-  Goal fuel es w fs ls outs = Result w (rounds fuel w fs outs) (planFrom fuel o (heldNow o l r allowed es w) (map F fs) (map F ls)) (length outs)
+  Goal fuel es w fs ls outs = Result w (rounds fuel w fs outs) (planFrom fuel o (heldNow o l r allowed es w) (map G fs) (map F ls)) (length outs)
 
   abbrev pub Hyp : ℕ → Type 0
   Hyp fuel =
@@ -193,14 +197,14 @@ module _ (o : Options) (l r : Words) (allowed : badOptions o ≡ false) where
   -- A turn that writes.
   writes : (fuel : ℕ) → Hyp fuel → (es : List Event) (w : World) (e : Bool) (fs : List Words) (f : Words) (ls : List Words) (out : Words) (outs : List Words) (a : At o l r allowed es w e fs (f ∷ ls) (out ∷ outs))
       → e ≡ isNil fs → suc (length ls) + length fs ≤ suc fuel → turnAnswer (w .join) (w .left) (w .right) out ≡ Wrote (w .join .sequence)
-      → Result w (rounds (suc fuel) w fs (out ∷ outs)) (afterTurn (heldNow o l r allowed es w) (planFrom fuel o (keptAfter o (F f) (heldNow o l r allowed es w)) (map F fs) (map F ls))) (suc (length outs))
+      → Result w (rounds (suc fuel) w fs (out ∷ outs)) (afterTurn (heldNow o l r allowed es w) (planFrom fuel o (keptAfter o (F f) (heldNow o l r allowed es w)) (map G fs) (map F ls))) (suc (length outs))
   writes fuel ih es w e fs f ls out outs a n b q =
       let es′ = es ++ (step w (turn out) .event ∷ []) in
       let w′ = step w (turn out) .world in
       let g : Goal fuel es′ w′ fs ls outs = ih es′ w′ e fs ls outs (wrote-at o l r allowed es w e fs f ls out outs a q) n (omega arith) in
       let k = rw (wrote-held o l r allowed es w e fs f ls out outs a q) at g in
       rw (rounds-wrote fuel w fs out outs (w .join .sequence) q)
-      (turns-on w out (rounds fuel w′ fs outs) (heldNow o l r allowed es w) (planFrom fuel o (keptAfter o (F f) (heldNow o l r allowed es w)) (map F fs) (map F ls)) (length outs) (w .join .sequence) (turned (w .join) (w .left) (w .right) out .out)
+      (turns-on w out (rounds fuel w′ fs outs) (heldNow o l r allowed es w) (planFrom fuel o (keptAfter o (F f) (heldNow o l r allowed es w)) (map G fs) (map F ls)) (length outs) (w .join .sequence) (turned (w .join) (w .left) (w .right) out .out)
       (wrote-event o l r allowed es w e fs f ls out outs a q) (held-count o l r allowed es w e fs (f ∷ ls) (out ∷ outs) a) (within es w e fs (f ∷ ls) (out ∷ outs) a) k)
 
   -- A turn that wants right.
@@ -224,8 +228,8 @@ module _ (o : Options) (l r : Words) (allowed : badOptions o ≡ false) where
     hs-count : length hs ≡ w .join .held
     hs-count = held-count o l r allowed es w false (g ∷ gs) (f ∷ ls) (out ∷ outs) a
 
-    g-count : length (F g) ≡ rowCount g
-    g-count = frame-rows (columns o) g (a .frames .0)
+    g-count : length (G g) ≡ rowCount g
+    g-count = frame-rows (rightColumns o) g (a .frames .0)
 
     abbrev es₂ : List Event
     es₂ = es₁ ++ (step u₁ (right g) .event ∷ [])
@@ -234,13 +238,13 @@ module _ (o : Options) (l r : Words) (allowed : badOptions o ≡ false) where
     u₂ = step u₁ (right g) .world
 
     abbrev next : Figures
-    next = planFrom fuel o (hs ++ F g) (map F gs) (F f ∷ map F ls)
+    next = planFrom fuel o (hs ++ G g) (map G gs) (F f ∷ map F ls)
 
     no-room : cap < u₁ .join .held + rowCount g → (cs : List Call) → Result w (turn out ∷ right g ∷ cs) (afterTaking hs next) (suc (length outs))
     no-room h cs =
         refused-on w out g cs (afterTaking hs next) (suc (length outs))
         (refused-event o l r allowed es₁ u₁ g gs (f ∷ ls) (out ∷ outs) a₁ (right-answers o l r allowed es₁ u₁ g gs (f ∷ ls) (out ∷ outs) a₁ ∙ rw (lt-ltb cap (u₁ .join .held + rowCount g) h) refl))
-        (omega (arith, plan-least fuel o (hs ++ F g) (map F gs) (F f ∷ map F ls), length-append hs (F g), hs-count, g-count, same-held))
+        (omega (arith, plan-least fuel o (hs ++ G g) (map G gs) (F f ∷ map F ls), length-append hs (G g), hs-count, g-count, same-held))
 
     module _ (h : cap < u₁ .join .held + rowCount g → ⊥) where
       taken : rightAnswer (u₁ .join) (u₁ .left) (u₁ .right) g ≡ Accepted
@@ -249,8 +253,8 @@ module _ (o : Options) (l r : Words) (allowed : badOptions o ≡ false) where
       a₂ : At o l r allowed es₂ u₂ false gs (f ∷ ls) (out ∷ outs)
       a₂ = took-at o l r allowed es₁ u₁ g gs (f ∷ ls) (out ∷ outs) a₁ taken
 
-      held₂ : heldNow o l r allowed es₂ u₂ ≡ hs ++ F g
-      held₂ = took-held o l r allowed es₁ u₁ g gs (f ∷ ls) (out ∷ outs) a₁ taken ∙ ap (λ (z : Rows). z ++ F g) (wants-held o l r allowed es w false (g ∷ gs) f ls out outs a q)
+      held₂ : heldNow o l r allowed es₂ u₂ ≡ hs ++ G g
+      held₂ = took-held o l r allowed es₁ u₁ g gs (f ∷ ls) (out ∷ outs) a₁ taken ∙ ap (λ (z : Rows). z ++ G g) (wants-held o l r allowed es w false (g ∷ gs) f ls out outs a q)
 
       took : step u₁ (right g) .event ≡ onRight g Accepted
       took = took-event o l r allowed es₁ u₁ g gs (f ∷ ls) (out ∷ outs) a₁ taken
@@ -264,13 +268,13 @@ module _ (o : Options) (l r : Words) (allowed : badOptions o ≡ false) where
   takes : (fuel : ℕ) (ih : Hyp fuel) (es : List Event) (w : World) (g : Words) (gs : List Words) (f : Words) (ls : List Words) (out : Words) (outs : List Words) (a : At o l r allowed es w false (g ∷ gs) (f ∷ ls) (out ∷ outs))
       (b : suc (length ls) + suc (length gs) ≤ suc fuel) (q : turnAnswer (w .join) (w .left) (w .right) out ≡ WantsRight)
       → Result w ((turn out ∷ right g ∷ endIf gs) ++ rounds fuel (final w (turn out ∷ right g ∷ endIf gs)) gs (out ∷ outs))
-      (afterTaking (heldNow o l r allowed es w) (planFrom fuel o (heldNow o l r allowed es w ++ F g) (map F gs) (F f ∷ map F ls))) (suc (length outs))
+      (afterTaking (heldNow o l r allowed es w) (planFrom fuel o (heldNow o l r allowed es w ++ G g) (map G gs) (F f ∷ map F ls))) (suc (length outs))
   unfolding final
   takes fuel ih es w g [] f ls out outs a b q = by (decLt cap (u₁ fuel ih es w g [] f ls out outs a b q .join .held + rowCount g))
     where
       by : Dec (cap < u₁ fuel ih es w g [] f ls out outs a b q .join .held + rowCount g)
           → Result w (turn out ∷ right g ∷ end ∷ rounds fuel (step (step (step w (turn out) .world) (right g) .world) end .world) [] (out ∷ outs))
-          (afterTaking (heldNow o l r allowed es w) (planFrom fuel o (heldNow o l r allowed es w ++ F g) [] (F f ∷ map F ls))) (suc (length outs))
+          (afterTaking (heldNow o l r allowed es w) (planFrom fuel o (heldNow o l r allowed es w ++ G g) [] (F f ∷ map F ls))) (suc (length outs))
       by (yes h) = no-room fuel ih es w g [] f ls out outs a b q h (end ∷ rounds fuel (step (step (step w (turn out) .world) (right g) .world) end .world) [] (out ∷ outs))
       by (no h) =
           let x₂ = a₂ fuel ih es w g [] f ls out outs a b q h in
@@ -279,20 +283,20 @@ module _ (o : Options) (l r : Words) (allowed : badOptions o ≡ false) where
           let x₃ = end-at o l r allowed e₂ z₂ (f ∷ ls) (out ∷ outs) x₂ in
           let i = ih (e₂ ++ (step z₂ end .event ∷ [])) (step z₂ end .world) true [] (f ∷ ls) (out ∷ outs) x₃ refl (omega arith) in
           let k = rw (end-held o l r allowed e₂ z₂ (f ∷ ls) (out ∷ outs) x₂ ∙ held₂ fuel ih es w g [] f ls out outs a b q h) at i in
-          ends-on w out g (rounds fuel (step z₂ end .world) [] (out ∷ outs)) (heldNow o l r allowed es w) (planFrom fuel o (heldNow o l r allowed es w ++ F g) [] (F f ∷ map F ls)) (suc (length outs))
+          ends-on w out g (rounds fuel (step z₂ end .world) [] (out ∷ outs)) (heldNow o l r allowed es w) (planFrom fuel o (heldNow o l r allowed es w ++ G g) [] (F f ∷ map F ls)) (suc (length outs))
           (wanted fuel ih es w g [] f ls out outs a b q h) (took fuel ih es w g [] f ls out outs a b q h) (end-event o l r allowed e₂ z₂ (f ∷ ls) (out ∷ outs) x₂) (hs-count fuel ih es w g [] f ls out outs a b q)
           (same-held fuel ih es w g [] f ls out outs a b q) (ap (λ s. s .world .join .held) (end-step o l r allowed e₂ z₂ (f ∷ ls) (out ∷ outs) x₂)) (room-now fuel ih es w g [] f ls out outs a b q h) k
   takes fuel ih es w g (m ∷ gs) f ls out outs a b q = by (decLt cap (u₁ fuel ih es w g (m ∷ gs) f ls out outs a b q .join .held + rowCount g))
     where
       by : Dec (cap < u₁ fuel ih es w g (m ∷ gs) f ls out outs a b q .join .held + rowCount g)
           → Result w (turn out ∷ right g ∷ rounds fuel (step (step w (turn out) .world) (right g) .world) (m ∷ gs) (out ∷ outs))
-          (afterTaking (heldNow o l r allowed es w) (planFrom fuel o (heldNow o l r allowed es w ++ F g) (F m ∷ map F gs) (F f ∷ map F ls))) (suc (length outs))
+          (afterTaking (heldNow o l r allowed es w) (planFrom fuel o (heldNow o l r allowed es w ++ G g) (G m ∷ map G gs) (F f ∷ map F ls))) (suc (length outs))
       by (yes h) = no-room fuel ih es w g (m ∷ gs) f ls out outs a b q h (rounds fuel (step (step w (turn out) .world) (right g) .world) (m ∷ gs) (out ∷ outs))
       by (no h) =
           let x₂ = a₂ fuel ih es w g (m ∷ gs) f ls out outs a b q h in
           let i = ih (es₂ fuel ih es w g (m ∷ gs) f ls out outs a b q) (u₂ fuel ih es w g (m ∷ gs) f ls out outs a b q) false (m ∷ gs) (f ∷ ls) (out ∷ outs) x₂ refl (omega arith) in
           let k = rw (held₂ fuel ih es w g (m ∷ gs) f ls out outs a b q h) at i in
-          takes-on w out g (rounds fuel (step (step w (turn out) .world) (right g) .world) (m ∷ gs) (out ∷ outs)) (heldNow o l r allowed es w) (planFrom fuel o (heldNow o l r allowed es w ++ F g) (F m ∷ map F gs) (F f ∷ map F ls)) (suc (length outs))
+          takes-on w out g (rounds fuel (step (step w (turn out) .world) (right g) .world) (m ∷ gs) (out ∷ outs)) (heldNow o l r allowed es w) (planFrom fuel o (heldNow o l r allowed es w ++ G g) (G m ∷ map G gs) (F f ∷ map F ls)) (suc (length outs))
           (wanted fuel ih es w g (m ∷ gs) f ls out outs a b q h) (took fuel ih es w g (m ∷ gs) f ls out outs a b q h) (hs-count fuel ih es w g (m ∷ gs) f ls out outs a b q)
           (same-held fuel ih es w g (m ∷ gs) f ls out outs a b q) (room-now fuel ih es w g (m ∷ gs) f ls out outs a b q h) k
 
@@ -304,10 +308,10 @@ module _ (o : Options) (l r : Words) (allowed : badOptions o ≡ false) where
       by : (t : Bool) → needMore o (F f) (heldNow o l r allowed es w) ≡ t → Goal (suc fuel) es w (g ∷ gs) (f ∷ ls) (out ∷ outs)
       by true t =
           let q : turnAnswer (w .join) (w .left) (w .right) out ≡ WantsRight = turn-answers o l r allowed es w false (g ∷ gs) f ls out outs a ∙ rw t refl in
-          rw (rounds-wants fuel w g gs out outs q, plan-takes fuel o (heldNow o l r allowed es w) (F g) (map F gs) (F f) (map F ls) t) (takes fuel ih es w g gs f ls out outs a b q)
+          rw (rounds-wants fuel w g gs out outs q, plan-takes fuel o (heldNow o l r allowed es w) (G g) (map G gs) (F f) (map F ls) t) (takes fuel ih es w g gs f ls out outs a b q)
       by false t =
           let q : turnAnswer (w .join) (w .left) (w .right) out ≡ Wrote (w .join .sequence) = turn-answers o l r allowed es w false (g ∷ gs) f ls out outs a ∙ rw t refl in
-          rw (plan-turns fuel o (heldNow o l r allowed es w) (F g) (map F gs) (F f) (map F ls) t) (writes fuel ih es w false (g ∷ gs) f ls out outs a refl b q)
+          rw (plan-turns fuel o (heldNow o l r allowed es w) (G g) (map G gs) (F f) (map F ls) t) (writes fuel ih es w false (g ∷ gs) f ls out outs a refl b q)
 
   none-more : (fuel : ℕ) → Hyp fuel → (es : List Event) (w : World) (f : Words) (ls : List Words) (out : Words) (outs : List Words) → At o l r allowed es w true [] (f ∷ ls) (out ∷ outs)
       → suc (length ls) + 0 ≤ suc fuel → Goal (suc fuel) es w [] (f ∷ ls) (out ∷ outs)

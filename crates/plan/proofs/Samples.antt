@@ -1,11 +1,11 @@
 -- Plans by computation, and the schedule at the first figure and one row below it. Assumes nothing.
 use mathlib.Core.Path.{_≡_, refl}
 use mathlib.Core.Bool.{true, false}
-use mathlib.Core.List.{List, [], _∷_}
+use mathlib.Core.List.{List, [], _∷_, map}
 use Prim.Native.Nat.{ℕ}
 use lib.IntN.{pos, negsuc}
-use Rattle.frames.specs.Cells.{Words}
-use Rattle.order.proofs.Samples.{plain, keys, frameOf}
+use Rattle.frames.specs.Cells.{Cell, Words}
+use Rattle.order.proofs.Samples.{plain, carrying, row, keys, frameOf}
 use Rattle.turnrows.specs.Prunes.{keptRows, lastPrune}
 use Rattle.lists.specs.Lists.{start, events, final, leftFrames, rightFrames, outputs, turnsIn}
 use Rattle.lists.proofs.Script.{leftArea, rightArea, space, speakAll}
@@ -67,3 +67,22 @@ pub follows : (mostHeld (start (plain 0 true) (leftArea 20) (rightArea 8)) (sche
     × (meetsNoRoom (events (start (plain 0 true) (leftArea 20) (rightArea 6)) (schedule (plain 0 true) (leftArea 20) (rightArea 6) lefts rights outs)) ≡ true)
 unfolding lefts rights outs schedule rounds mostHeld meetsNoRoom speakAll events final leftFrames rightFrames outputs turnsIn
 follows = (refl, refl, refl, refl, refl)
+
+-- The same notices with a price behind each key: the figures are the same, and four rows of two columns want 16 words.
+abbrev pub priced : ℕ → ℕ → List Cell
+priced k p = row (k ∷ p ∷ [])
+
+unfoldable pub prices : List Words
+prices =
+    frameOf 2 (priced 10 100 ∷ priced 20 200 ∷ []) ∷ frameOf 2 (priced 20 201 ∷ priced 30 300 ∷ []) ∷ frameOf 2 (priced 40 400 ∷ []) ∷ []
+
+unfoldable pub longer : List Words
+longer = space 10 ∷ space 10 ∷ []
+
+pub carried : (figures (carrying 1 (plain 0 true)) (leftArea 20) (rightArea 16) lefts prices longer ≡ told 4 4 2)
+    × (meetsNoRoom (events (start (carrying 1 (plain 0 true)) (leftArea 20) (rightArea 16)) (schedule (carrying 1 (plain 0 true)) (leftArea 20) (rightArea 16) lefts prices longer)) ≡ false)
+    × (meetsNoRoom (events (start (carrying 1 (plain 0 true)) (leftArea 20) (rightArea 15)) (schedule (carrying 1 (plain 0 true)) (leftArea 20) (rightArea 15) lefts prices longer)) ≡ true)
+    × (outputs (events (start (carrying 1 (plain 0 true)) (leftArea 20) (rightArea 16)) (schedule (carrying 1 (plain 0 true)) (leftArea 20) (rightArea 16) lefts prices longer))
+    ≡ map pos (2 ∷ 2 ∷ 0 ∷ 0 ∷ 0 ∷ 100 ∷ 0 ∷ 0 ∷ 1 ∷ 1 ∷ []) ∷ map pos (2 ∷ 2 ∷ 2 ∷ 201 ∷ 2 ∷ 201 ∷ 1 ∷ 1 ∷ 1 ∷ 1 ∷ []) ∷ [])
+unfolding lefts prices longer plan planFrom lastPrune keptRows schedule rounds meetsNoRoom speakAll events final leftFrames rightFrames outputs
+carried = (refl, refl, refl, refl)

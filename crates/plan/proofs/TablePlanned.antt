@@ -12,9 +12,9 @@ use lib.ListN.{length, drop, getD, length-drop}
 use lib.Seq.{length-take-le}
 use Rattle.frames.specs.Cells.{Words}
 use Rattle.frames.specs.Frame.{sameZ, rowCount, frameWords, pairsFine, valuesIn, marksIn, frameRows}
-use Rattle.options.specs.Options.{columns, badOptions}
+use Rattle.options.specs.Options.{columns, rightColumns, badOptions, manyCarried}
 use Rattle.order.specs.Order.{sorted}
-use Rattle.options.specs.declared.Options.{Options}
+use Rattle.options.proofs.OptionLaws.{good-allowed}
 use Rattle.frames.proofs.BoolLaws.{and-true}
 use Rattle.frames.proofs.WordLaws.{rows-length}
 use Rattle.outcomes.specs.Answers.{mostRows}
@@ -64,14 +64,13 @@ few-heights (z ∷ zs) e =
     few (negsuc n) a b = let y : _≡_ {A = ℕ} 0 1 = cc in absurd (omega arith)
 
 -- ---- one side
-record Side (o : Options) (f hs : Words) : Type 0 where
-  frames : AllFrames (columns o) (cutInto o f hs)
-  rows : rowsIn (columns o) (cutInto o f hs) ≡ frameRows (columns o) f
+record Side (c : ℕ) (f hs : Words) : Type 0 where
+  frames : AllFrames c (cutInto c f hs)
+  rows : rowsIn c (cutInto c f hs) ≡ frameRows c f
 
-side : (o : Options) (f hs : Words) → isTable (columns o) f ≡ true → badHeights (rowCount f) hs ≡ false → Side o f hs
+side : (c : ℕ) (f hs : Words) → isTable c f ≡ true → badHeights (rowCount f) hs ≡ false → Side c f hs
 unfolding badHeights frameRows
-side o f hs t b =
-    let c = columns o in
+side c f hs t b =
     let p = or-none (anyBad hs) (not (eqb (total (heightsOf hs)) (rowCount f))) b in
     let n : total (heightsOf hs) ≡ rowCount f = eqb-true (total (heightsOf hs)) (rowCount f) (not-false (eqb (total (heightsOf hs)) (rowCount f)) (p .1)) in
     let m : total (heightsOf hs) * c ≡ rowCount f * c = ap (λ (k : ℕ). k * c) n in
@@ -96,29 +95,31 @@ pub table-plans : TablePlans
 unfolding planAnswer
 table-plans o left right hl hr l r outs e g =
     let c = columns o in
+    let d = rightColumns o in
     let p₁ = passes (badOptions o) 0 _ e in
-    let p₅ = passes (not (isTable c left && isTable c right)) 4 _ (p₁ .1) in
-    let t = and-true (isTable c left) (isTable c right) (not-false (isTable c left && isTable c right) (p₅ .0)) in
-    let p₁₄ = passes (not (sorted o (frameRows c left) && sorted o (frameRows c right))) 13 _ (p₅ .1) in
-    let s = and-true (sorted o (frameRows c left)) (sorted o (frameRows c right)) (not-false (sorted o (frameRows c left) && sorted o (frameRows c right)) (p₁₄ .0)) in
+    let p₁₀ = passes (manyCarried o) 9 _ (p₁ .1) in
+    let p₅ = passes (not (isTable c left && isTable d right)) 4 _ (p₁₀ .1) in
+    let t = and-true (isTable c left) (isTable d right) (not-false (isTable c left && isTable d right) (p₅ .0)) in
+    let p₁₄ = passes (not (sorted o (frameRows c left) && sorted o (frameRows d right))) 13 _ (p₅ .1) in
+    let s = and-true (sorted o (frameRows c left)) (sorted o (frameRows d right)) (not-false (sorted o (frameRows c left) && sorted o (frameRows d right)) (p₁₄ .0)) in
     let p₁₇ = passes (badHeights (rowCount left) hl || badHeights (rowCount right) hr) 16 _ (p₁₄ .1) in
     let b = or-none (badHeights (rowCount left) hl) (badHeights (rowCount right) hr) (p₁₇ .0) in
-    let L = side o left hl (t .0) (b .0) in
-    let R = side o right hr (t .1) (b .1) in
+    let L = side c left hl (t .0) (b .0) in
+    let R = side d right hr (t .1) (b .1) in
     let n = frames-count c (heightsOf hl) (valuesIn c left) (marksIn c left) in
-    let h : Planned o l (cutInto o left hl) (cutInto o right hr) outs = record {
-      allowed = p₁ .0;
+    let h : Planned o l (cutInto c left hl) (cutInto d right hr) outs = record {
+      allowed = good-allowed o (p₁ .0) (p₁₀ .0);
       left-frames = L .frames;
       right-frames = R .frames;
       left-sorted = rw (L .rows) (s .0);
       right-sorted = rw (R .rows) (s .1);
       left-room = g .left-room;
       outputs = g .outputs;
-      few-rights = rw (R .rows) (rows-few (columns o) right (g .few-rights));
+      few-rights = rw (R .rows) (rows-few d right (g .few-rights));
       few-lefts = omega (arith, n, heights-count hl, g .few-lefts);
     } in
     record {
-      enough = plans .enough o l r (cutInto o left hl) (cutInto o right hr) outs h;
-      short = plans .short o l r (cutInto o left hl) (cutInto o right hr) outs h;
-      written = λ k. writes-all o l r (cutInto o left hl) (cutInto o right hr) outs h k ∙ rw (L .rows, R .rows) refl;
+      enough = plans .enough o l r (cutInto c left hl) (cutInto d right hr) outs h;
+      short = plans .short o l r (cutInto c left hl) (cutInto d right hr) outs h;
+      written = λ k. writes-all o l r (cutInto c left hl) (cutInto d right hr) outs h k ∙ rw (L .rows, R .rows) refl;
     }
