@@ -1,19 +1,19 @@
 -- The choices of an answer, laid at its first places: they are read back there, and spread they are the answer's cells. Assumes nothing.
 use mathlib.Core.Path.{_≡_, refl, sym, ap, subst, _∙_}
 use mathlib.Core.Bool.{true, false}
-use mathlib.Core.List.{List, [], _∷_, _++_, map}
+use mathlib.Core.List.{List, [], _∷_, map}
 use Prim.Native.Nat.{ℕ, suc, _+_, _*_, _≤_, _<_}
 use native.Mathlib.Decide.{ℕ-discrete}
-use native.Mathlib.Nat.{le-mul-of-pos-right, mul-le-mul-right}
+use native.Mathlib.Nat.{le-mul-of-pos-right}
 use native.Mathlib.Omega.{arith}
-use lib.IntN.{ℤ, pos, natAbs}
+use lib.IntN.{pos}
 use lib.ListN.{length, getD, set, length-append, length-map, length-set}
 use lib.Seq.{getD-set-same, getD-set-other}
 use Rattle.frames.specs.Cells.{Cell, null, value, isZero, rowsOf, Rows, Words}
 use Rattle.frames.proofs.WordLaws.{rows-length}
 use Rattle.options.specs.Options.{answerColumns}
 use Rattle.options.specs.declared.Options.{Options}
-use Rattle.tables.specs.Table.{tableOf, laid}
+use Rattle.tables.specs.Table.{laid}
 use Rattle.tables.specs.Lay.{flat, layCells}
 use Rattle.tables.proofs.TableLaws.{Wide}
 use Rattle.tables.proofs.LayLaws.{lay-keeps, lay-over, lay-table, value-apart, mark-apart}
@@ -40,6 +40,7 @@ lay-cells m i [] out = refl
 lay-cells m i (Row k ∷ ks) out = lay-cells m (suc i) ks (set (set out (2 + i) (pos k)) (2 + m + i) (pos 1))
 lay-cells m i (Nothing ∷ ks) out = lay-cells m (suc i) ks (set (set out (2 + i) (pos 0)) (2 + m + i) (pos 0))
 
+-- Rows of c cells have c cells each.
 flat-length : (c : ℕ) (rs : Rows) → Wide c rs → length (flat rs) ≡ length rs * c
 unfolding flat
 flat-length c [] h = omega arith
@@ -120,6 +121,7 @@ module _ (m : ℕ) where
 
 -- ---- the answer of a frame
 module _ (o : Options) (wl nl : ℕ) (lv lm : Words) (wr nr : ℕ) (rv rm : Words) (number m : ℕ) (out : Words) (h : AnswerRoom o wl nl lv lm wr nr rv rm number m out) where
+  -- The held rows, the frame's rows, and their choices.
   abbrev held : Rows
   held = rowsOf wr nr rv rm
 

@@ -194,10 +194,10 @@ module _ (o : Options) (number w : ℕ) (vs ms : Words) (m n : ℕ) (out : Words
         let z : (i + 1) * c ≡ i * c + length r = omega arith in
         let f : (i + 1) * c + length (cellsOn (i + 1)) ≤ m = fits (i + 1) (omega arith) in
         rw (k, e) (
-          sym (lay-order m (i * c) r ((i + 1) * c) (cellsOn (i + 1)) out (omega arith) f)
-          ∙ ap (λ (q : ℕ). layCells m q (cellsOn (i + 1)) (layCells m (i * c) r out)) z
-          ∙ sym (lay-append m (i * c) r (cellsOn (i + 1)) out)
-          ∙ ap (λ (q : List Cell). layCells m (i * c) q out) (sym (cells-on i h))
+        sym (lay-order m (i * c) r ((i + 1) * c) (cellsOn (i + 1)) out (omega arith) f)
+        ∙ ap (λ (q : ℕ). layCells m q (cellsOn (i + 1)) (layCells m (i * c) r out)) z
+        ∙ sym (lay-append m (i * c) r (cellsOn (i + 1)) out)
+        ∙ ap (λ (q : List Cell). layCells m (i * c) q out) (sym (cells-on i h))
         )
 
 module _ (o : Options) (n w nr : ℕ) (vs ms : Words) (number m : ℕ) (out : Words) (h : SpreadIn o n w nr vs ms number m out) where

@@ -1,11 +1,10 @@
-use mathlib.Core.Path.{_≡_, refl, sym, _∙_}
+use mathlib.Core.Path.{_≡_, sym, _∙_}
 use mathlib.Core.Bool.{true, false}
 use lib.IntN.{pos}
 use lib.ListN.{getD}
 use denote.Ref.{now}
-use Rattle.frames.specs.Cells.{isNull, isZero}
+use Rattle.frames.specs.Cells.{isZero}
 use Rattle.frames.proofs.Signed.{back}
-use Rattle.order.specs.Requires.{cellAt}
 use Rattle.order.proofs.RowLaws.{null-mark}
 use borrow.Author.Needs.{needs}
 use Rattle.carrying.proofs.carry_cell.Statement.{statement}

@@ -1,8 +1,7 @@
-use mathlib.Core.Path.{_≡_, refl, sym, ap, subst}
+use mathlib.Core.Path.{refl, sym, subst}
 use Prim.Native.Nat.{ℕ, _*_}
 use native.Mathlib.Omega.{arith}
 use denote.Ref.{now}
-use Rattle.options.specs.Options.{answerColumns}
 use Rattle.matching.specs.Requires.{AnswerRoom}
 use Rattle.carrying.proofs.LaidLaws.{answer-whole}
 use borrow.Author.Needs.{needs}
