@@ -25,7 +25,7 @@ module _ (o : Options) (i : ℕ) (rights : Rows) where
   -- Each row of an answer has as many columns as the answer.
   pub row-wide : (x : List Cell) (m : Choice) → length (answerRow o i rights x m) ≡ answerColumns o
   unfolding answerRow
-  row-wide x (Row k) = ap suc (cells-wide (columns o) (o .carried) (getD rights (k - i) []))
+  row-wide x (Row k) = ap suc (cells-wide (columns o) (o .carried) _)
   row-wide x Nothing = nulls-wide (answerColumns o)
 
   pub answer-wide : (xs : Rows) (ms : List Choice) → Wide (answerColumns o) (answerRows o i rights xs ms)
