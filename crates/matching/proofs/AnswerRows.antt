@@ -1,9 +1,9 @@
 -- The rows of an answer: their width, their count, and what they are over joined stretches and for choices made by a rule. Assumes nothing.
 use mathlib.Core.Path.{_≡_, refl, ap}
 use mathlib.Core.List.{List, [], _∷_, _++_, map}
-use Prim.Native.Nat.{ℕ, zero, suc, _-_}
+use Prim.Native.Nat.{ℕ, zero, suc}
 use native.Mathlib.Omega.{arith}
-use lib.ListN.{length, getD, replicate}
+use lib.ListN.{length, replicate}
 use Rattle.frames.specs.Cells.{Cell, null, Rows}
 use Rattle.options.specs.Options.{columns, answerColumns}
 use Rattle.options.specs.declared.Options.{Options}
