@@ -38,6 +38,14 @@ module _ (o : Options) where
   abbrev pub unsorted : Option (List Cell) → Rows → Bool
   unsorted last rows = outOfOrder o last (rowAt rows (firstLeft o rows)) || not (sorted o rows)
 
+  -- What is remembered is asked as the last of the rows T.
+  abbrev pub Recalls : Rows → Row → Type 0
+  Recalls T m = (rows : Rows) → unsorted (recall (columns o) m) rows ≡ unsorted (rowAt T (lastRow T)) rows
+
+  pub recalled-none : Recalls [] noRow
+  unfolding recall
+  recalled-none rows = refl
+
   module _ (strict : isStrict (o .check) ≡ true) where
     -- Its first row is compared.
     asked : (last : Option (List Cell)) (rows : Rows) → unsorted last rows ≡ (outOfOrder o last (rowAt rows (firstRow rows)) || not (sorted o rows))
@@ -69,15 +77,7 @@ module _ (o : Options) where
         go (At i) = rw (compared-alike o t (getD rows i []))
         go Nothing = refl
 
-    -- What is remembered is asked as the last of the rows T.
-    abbrev pub Recalls : Rows → Row → Type 0
-    Recalls T m = (rows : Rows) → unsorted (recall (columns o) m) rows ≡ unsorted (rowAt T (lastRow T)) rows
-
-    pub recalled-none : Recalls [] noRow
-    unfolding recall
-    recalled-none rows = refl
-
-    -- So it is once a frame went by: its last row is remembered, or, where it has no rows, what was.
+    -- So it is once a frame went by: its last row is remembered, or what was, if it has no rows.
     pub recalled : (T rows : Rows) (m : Row) → All (λ r. columns o ≤ length r) rows → Recalls T m → Recalls (T ++ rows) (rememberAt o m rows (lastLeft o rows))
     recalled T [] m wide h = λ more. rw (last-strict o [] strict, remember-none o m [], append-nil T) (h more)
     recalled T (r ∷ rows) m wide h = λ more.
