@@ -3,7 +3,8 @@ use native.Mathlib.Omega.{arith}
 use borrow.Author.Tests.{not-true, not-false}
 use denote.Ref.{now}
 use Rattle.frames.specs.Cells.{rowsOf}
-use Rattle.turnrows.proofs.LeftLaws.{first-loose, first-none, first-some}
+use Rattle.order.proofs.KeyedLaws.{first-loose}
+use Rattle.turnrows.proofs.LeftLaws.{first-none, first-some}
 use borrow.Author.Needs.{needs}
 use Rattle.turnrows.proofs.first_left.Statement.{statement}
 use Rattle.turnrows.proofs.first_left.Tie as tie

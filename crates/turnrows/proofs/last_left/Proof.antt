@@ -3,7 +3,8 @@ use native.Mathlib.Omega.{arith}
 use borrow.Author.Tests.{not-true, not-false}
 use denote.Ref.{now}
 use Rattle.frames.specs.Cells.{rowsOf}
-use Rattle.turnrows.proofs.LeftLaws.{last-loose, last-none, last-some}
+use Rattle.order.proofs.KeyedLaws.{last-loose}
+use Rattle.turnrows.proofs.LeftLaws.{last-none, last-some}
 use borrow.Author.Needs.{needs}
 use Rattle.turnrows.proofs.last_left.Statement.{statement}
 use Rattle.turnrows.proofs.last_left.Tie as tie
