@@ -22,7 +22,7 @@ static const char *const CALL_NAMES[CALLS] = {"open", "left", "right", "end_righ
 /* The answers that each call can give, and at the end no answer. The run fails if one was never met. */
 enum { MOST_ANSWERS = 12, NO_ANSWER = -1 };
 static const int POSSIBLE[CALLS][MOST_ANSWERS] = {
-    {0, 1, NO_ANSWER},
+    {0, 1, 10, NO_ANSWER},
     {0, 2, 3, 4, 5, 6, NO_ANSWER},
     {0, 2, 3, 4, 5, 6, 7, NO_ANSWER},
     {0, 2, 3, 4, NO_ANSWER},
@@ -57,6 +57,9 @@ static lend left_lend, right_lend, frame_lend, out_lend, new_left_lend, new_righ
 static uint64_t seed, state, made, met[CALLS][ANSWERS], altered_joins, altered_past_2;
 /* Of runs: the turns that they made, those of more than one, and what stopped those in which a turn wrote. */
 static uint64_t run_turns, several, met_after[ANSWERS];
+/* Of turns and runs that wrote: carried cells with a value, and null ones of matched rows. Of accepted right frames: those with
+   carried columns. */
+static uint64_t carried_values, carried_nulls, carried_frames;
 
 /* Any 64 bits (splitmix64). */
 static uint64_t any(void) {
@@ -104,6 +107,13 @@ static uint64_t any_count(uint64_t old, uint64_t limit) {
     }
 }
 
+/* How many columns are carried: mostly few; now and then too many, up to numbers that make no width. */
+static uint64_t any_carried(void) {
+    static const uint64_t MANY[] = {9, 10, 13, (uint64_t)1 << 32, INT64_MAX, UINT64_MAX - 8, UINT64_MAX - 4, UINT64_MAX};
+    if (percent(3)) return MANY[below(sizeof MANY / sizeof *MANY)];
+    return percent(85) ? below(4) : below(ROWKEEPER_MOST_CARRIED + 1);
+}
+
 /* Options, now and then refused ones. */
 static rowkeeper_options any_options(void) {
     rowkeeper_options o;
@@ -113,6 +123,7 @@ static rowkeeper_options any_options(void) {
     o.allow_eq = o.strategy == 2 ? 1 : below(2);
     o.tolerance = percent(60) ? -1 : (int64_t)below(20);
     o.check = below(2);
+    o.carried = any_carried();
     for (j = 0; j < 4; j++) {
         o.descending[j] = percent(15);
         o.nulls_last[j] = percent(15);
@@ -131,9 +142,25 @@ static void next_row(int64_t *group, int64_t *key) {
     if (percent(1)) *key -= 5;
 }
 
-/* A side's next frame with at most this many rows; a row's by-values are alike, some cells are null. */
-static size_t next_frame(int64_t *group, int64_t *key, size_t most) {
-    size_t c = now.join.options.by > 4 ? 5 : now.join.options.by + 1, n, i, j;
+/* The columns of a row without what it carries, also where no join has such options. */
+static size_t keyed_columns(void) {
+    return now.join.options.by > 4 ? 5 : (size_t)now.join.options.by + 1;
+}
+
+/* The columns that are carried, also where no join carries so many. */
+static size_t carried_columns(void) {
+    return now.join.options.carried > ROWKEEPER_MOST_CARRIED ? 9 : (size_t)now.join.options.carried;
+}
+
+/* A cell of a row: its group, its key, or behind them anything that it carries. */
+static int64_t next_cell(size_t column, int64_t group, int64_t key) {
+    if (column >= keyed_columns()) return any_word();
+    return column + 1 == keyed_columns() ? key : now.join.options.descending[column] == 1 ? -group : group;
+}
+
+/* A side's next frame of so many columns with at most this many rows; a row's by-values are alike, some cells are null. */
+static size_t next_frame(size_t c, int64_t *group, int64_t *key, size_t most) {
+    size_t n, i, j;
     if (most > (LEND_MOST - 2) / (2 * c)) most = (LEND_MOST - 2) / (2 * c);
     n = below(most + 1);
     frame[0] = (int64_t)n;
@@ -141,13 +168,12 @@ static size_t next_frame(int64_t *group, int64_t *key, size_t most) {
     for (i = 0; i < n; i++) {
         next_row(group, key);
         for (j = 0; j < c; j++) {
-            int64_t value = j + 1 == c ? *key : now.join.options.descending[j] == 1 ? -*group : *group;
-            int present = !percent(2);
-            frame[2 + i * c + j] = present ? value : 0;
+            int present = !percent(j < keyed_columns() ? 2 : 20);
+            frame[2 + i * c + j] = present ? next_cell(j, *group, *key) : 0;
             frame[2 + n * c + i * c + j] = present;
         }
     }
-    return ROWKEEPER_FRAME_WORDS(n, c - 1);
+    return 2 + 2 * n * c;
 }
 
 /* Alters the frame: another length, other words, or random words throughout. */
@@ -178,8 +204,8 @@ static uint64_t other_layout(void) {
 /* Alters a word of the join so that it may still hold together. */
 static void alter_join(void) {
     rowkeeper_join *j = &now.join;
-    uint64_t capacity = now.right_len / (2 * (j->options.by % 8 + 1));
-    switch (below(15)) {
+    uint64_t capacity = now.right_len / (2 * (j->options.by % 8 + 1 + j->options.carried % 16));
+    switch (below(16)) {
     case 0: j->base = any_count(j->base, capacity - j->held % (capacity + 1)); break;
     case 1: j->held = any_count(j->held, capacity - j->base % (capacity + 1)); break;
     case 2: j->pruned = percent(50) ? INT64_MAX - j->held - below(40) : any_count(j->pruned, INT64_MAX); break;
@@ -193,6 +219,7 @@ static void alter_join(void) {
     case 10: ((int64_t *)&j->last_left)[below(11)] = percent(50) ? 1 : any_word(); break;
     case 11: ((int64_t *)&j->last_right)[below(11)] = percent(50) ? 1 : any_word(); break;
     case 12: j->layout = percent(50) ? ROWKEEPER_LAYOUT : other_layout(); break;
+    case 13: j->options.carried = percent(50) ? any_carried() : any_count(j->options.carried, ROWKEEPER_MOST_CARRIED); break;
     default: ((int64_t *)j)[below(JOIN_WORDS)] = any_word(); break;
     }
 }
@@ -359,7 +386,7 @@ static const char *same_by_turns(const attempt *a, const outcome *o) {
         t = rowkeeper_turn(last.join, a->left, a->left_len, a->right, a->right_len, again + at, a->out_len - at);
         turned(&last, t);
         if (last.answer == 0) {
-            at += ROWKEEPER_OUTPUT_WORDS(again[at]);
+            at += ROWKEEPER_OUTPUT_WORDS(again[at], last.join.options.carried);
             turns++;
         }
     }
@@ -368,10 +395,25 @@ static const char *same_by_turns(const attempt *a, const outcome *o) {
     return memcmp(again, o->out, a->out_len * sizeof *again) == 0 ? NULL : "single turns write otherwise";
 }
 
-/* Counts an answer, and what a run made. */
+/* Counts the carried cells of matches among these words. */
+static void count_carried(const int64_t *words, size_t len) {
+    size_t at, i, j;
+    for (at = 0; at < len; at += 2 + 2 * (size_t)(words[at] * words[at + 1])) {
+        size_t n = (size_t)words[at], c = (size_t)words[at + 1];
+        for (i = 0; i < n; i++) {
+            const int64_t *marks = words + at + 2 + n * c + i * c;
+            for (j = 1; j < c && marks[0] == 1; j++) *(marks[j] == 1 ? &carried_values : &carried_nulls) += 1;
+        }
+    }
+}
+
+/* Counts an answer, what a run made, and what was carried. */
 static void count(const attempt *a, const outcome *o) {
     met[a->call][o->answer]++;
+    carried_frames += a->call == CALL_RIGHT && o->answer == 0 && a->join.options.carried > 0;
+    if (a->call == CALL_TURN && o->answer == 0) count_carried(o->out, 1);
     if (a->call != CALL_RUN) return;
+    count_carried(o->out, (size_t)o->words);
     run_turns += o->turns;
     several += o->turns > 1;
     met_after[o->answer] += o->turns > 0;
@@ -441,7 +483,8 @@ static size_t any_turns(void) {
 
 /* The length of a run's output: for all that waits, or too short for it, or any. */
 static size_t run_output(void) {
-    size_t enough = now.join.queue_words < 4000 ? (size_t)now.join.queue_words : 4000;
+    size_t waiting = now.join.queue_words < 4000 ? (size_t)now.join.queue_words : 4000;
+    size_t enough = waiting * (1 + carried_columns()) < 8000 ? waiting * (1 + carried_columns()) : 8000;
     if (percent(10)) return any_length();
     return percent(40) ? below(enough + 1) : enough + below(30);
 }
@@ -459,7 +502,7 @@ static size_t new_length(uint64_t words) {
 
 /* Gives a move the areas that it goes to, with any words. */
 static void equip_move(attempt *a) {
-    uint64_t row = 2 * (a->join.options.by % 8 + 1);
+    uint64_t row = 2 * (keyed_columns() + carried_columns());
     size_t i;
     a->new_left_len = new_length(a->join.queue_words);
     a->new_right_len = new_length(a->join.held < LEND_MOST ? a->join.held * row : LEND_MOST);
@@ -469,11 +512,13 @@ static void equip_move(attempt *a) {
 
 /* Gives a call its frame, its output or its ports. */
 static void equip(attempt *a) {
-    size_t i, most = below(percent(3) ? 1200 : 12);
-    if (a->call == CALL_LEFT) a->frame_len = next_frame(&now.left_group, &now.left_key, most);
-    if (a->call == CALL_RIGHT) a->frame_len = next_frame(&now.right_group, &now.right_key, most);
+    size_t i, most = below(percent(3) ? 1200 : 12), left = keyed_columns(), right = left + carried_columns();
+    size_t row = 2 * (1 + carried_columns()), enough = 2 + row * most + below(30);
+    /* Now and then a frame as wide as those of the other side. */
+    if (a->call == CALL_LEFT) a->frame_len = next_frame(percent(96) ? left : right, &now.left_group, &now.left_key, most);
+    if (a->call == CALL_RIGHT) a->frame_len = next_frame(percent(96) ? right : left, &now.right_group, &now.right_key, most);
     if (a->call <= CALL_RIGHT && percent(12)) a->frame_len = alter_frame(a->frame_len);
-    if (a->call == CALL_TURN) a->out_len = percent(10) ? any_length() : percent(95) ? 2 + 2 * most + below(30) : LEND_MOST;
+    if (a->call == CALL_TURN) a->out_len = percent(10) ? any_length() : percent(95) && enough < LEND_MOST ? enough : LEND_MOST;
     if (a->call == CALL_RUN) a->out_len = run_output();
     if (a->call == CALL_RUN) a->turns = any_turns();
     if (a->call == CALL_MOVE) equip_move(a);
@@ -561,7 +606,13 @@ static int report(void) {
     all &= report_line("run, later", met_after, POSSIBLE_AFTER);
     printf("runs made %" PRIu64 " turns, %" PRIu64 " runs more than one; 'later' are runs in which a turn wrote\n", run_turns,
            several);
+    printf("carried: %" PRIu64 " right frames accepted, %" PRIu64 " values and %" PRIu64 " nulls written with matches\n",
+           carried_frames, carried_values, carried_nulls);
     if (!all) printf("FAIL an answer that a call can give was never met\n");
+    if (carried_frames == 0 || carried_values == 0 || carried_nulls == 0) {
+        printf("FAIL nothing was carried\n");
+        all = 0;
+    }
     printf("hostile: seed %" PRIu64 ", %" PRIu64 " calls, %" PRIu64 " on altered joins, %" PRIu64
            " of these not refused by 2; no fault\n", seed, made, altered_joins, altered_past_2);
     return all;

@@ -16,8 +16,19 @@ static int strange_flags(const rowkeeper_options *o) {
     return strange;
 }
 
-int judge_bad_options(const rowkeeper_options *o) {
-    return strange_flags(o) || o->by > 4 || o->strategy > 2 || o->tolerance < -1 || (o->strategy == 2 && o->allow_eq == 0);
+int judge_options(const rowkeeper_options *o) {
+    if (strange_flags(o) || o->by > 4 || o->strategy > 2 || o->tolerance < -1 || (o->strategy == 2 && o->allow_eq == 0))
+        return ROWKEEPER_BAD_OPTIONS;
+    return o->carried > ROWKEEPER_MOST_CARRIED ? ROWKEEPER_TOO_MANY_CARRIED : 0;
+}
+
+size_t judge_right_columns(const rowkeeper_options *o) {
+    return (size_t)(o->by + 1 + o->carried);
+}
+
+/* The words that a turn writes for a frame of so many rows. */
+static size_t answer_words(const rowkeeper_options *o, int64_t rows) {
+    return 2 + 2 * (size_t)rows * (size_t)(1 + o->carried);
 }
 
 /* Whether no join has these numbers. */
@@ -27,8 +38,8 @@ static int no_join(const rowkeeper_join *j) {
 }
 
 int judge_bad_join(const rowkeeper_join *j, size_t left_len, size_t right_len) {
-    if (no_join(j) || judge_bad_options(&j->options)) return 1;
-    return above(j->base, j->held, right_len / (2 * (j->options.by + 1))) ||
+    if (no_join(j) || judge_options(&j->options) != 0) return 1;
+    return above(j->base, j->held, right_len / (2 * judge_right_columns(&j->options))) ||
            above(j->queue_start, j->queue_words, left_len) || above(j->pruned, j->held, INT64_MAX) || j->sequence % 2 == 1;
 }
 
@@ -68,7 +79,7 @@ static int closed(const attempt *a) {
 /* The refusal that a left or right frame meets by its words and for room, or 0. */
 static int frame_refusal(const attempt *a) {
     const rowkeeper_join *j = &a->join;
-    uint64_t c = j->options.by + 1;
+    uint64_t c = a->call == CALL_LEFT ? j->options.by + 1 : judge_right_columns(&j->options);
     if (!is_frame(a->frame, a->frame_len, c)) return ROWKEEPER_BAD_FRAME;
     if (a->call == CALL_LEFT) return above(j->queue_words, a->frame_len, a->left_len) ? ROWKEEPER_NO_ROOM : 0;
     if (above(j->held, (uint64_t)a->frame[0], a->right_len / (2 * c))) return ROWKEEPER_NO_ROOM;
@@ -77,13 +88,14 @@ static int frame_refusal(const attempt *a) {
 
 /* Whether the areas that a move goes to are too short for what waits or for what is held. */
 static int short_of_room(const attempt *a) {
-    return a->join.queue_words > a->new_left_len || a->join.held > a->new_right_len / (2 * (a->join.options.by + 1));
+    return a->join.queue_words > a->new_left_len ||
+           a->join.held > a->new_right_len / (2 * judge_right_columns(&a->join.options));
 }
 
 /* The answer that is known before rows are compared, or -1 for a turn that goes on from there. */
 static int known_answer(const attempt *a) {
     const uint64_t *p = a->ports;
-    if (a->call == CALL_OPEN) return judge_bad_options(&a->join.options) ? ROWKEEPER_BAD_OPTIONS : 0;
+    if (a->call == CALL_OPEN) return judge_options(&a->join.options);
     if (judge_bad_join(&a->join, a->left_len, a->right_len)) return ROWKEEPER_BAD_JOIN;
     if (a->call == CALL_PORTS && (p[0] > 2 || p[1] > 2 || p[2] > 2)) return ROWKEEPER_BAD_JOIN;
     if (a->call == CALL_MOVE) return short_of_room(a) ? ROWKEEPER_NO_ROOM : 0;
@@ -98,7 +110,7 @@ static int known_answer(const attempt *a) {
 /* Whether a turn that got past Idle and refusal 5 may answer so. */
 static int turn_may(const attempt *a, int answer) {
     int64_t n = a->left[a->join.queue_start];
-    int room = a->out_len >= ROWKEEPER_OUTPUT_WORDS(n), last = a->join.sequence == UINT64_MAX - 1;
+    int room = a->out_len >= answer_words(&a->join.options, n), last = a->join.sequence == UINT64_MAX - 1;
     switch (answer) {
     case ANSWER_WANTS: return a->join.right_ended == 0 && n > 0;
     case ROWKEEPER_NO_ROOM: return !room;
@@ -128,7 +140,7 @@ static int left_taken(const attempt *a, const outcome *o) {
 
 /* Whether the held words of one array, values or marks, and then the frame's, stand in the right area. */
 static int rows_taken(const attempt *a, const outcome *o, size_t array, const int64_t *cells) {
-    size_t c = a->join.options.by + 1, kept = a->join.held * c;
+    size_t c = judge_right_columns(&a->join.options), kept = a->join.held * c;
     const int64_t *was = a->right + array + a->join.base * c, *now = o->right + array + o->join.base * c;
     return memcmp(now, was, kept * sizeof *now) == 0 &&
            memcmp(now + kept, cells, (size_t)a->frame[0] * c * sizeof *now) == 0;
@@ -136,7 +148,7 @@ static int rows_taken(const attempt *a, const outcome *o, size_t array, const in
 
 /* Whether the rows that were held, and then the frame's, are held. */
 static int right_taken(const attempt *a, const outcome *o) {
-    size_t c = a->join.options.by + 1, capacity = a->right_len / (2 * c), n = (size_t)a->frame[0];
+    size_t c = judge_right_columns(&a->join.options), capacity = a->right_len / (2 * c), n = (size_t)a->frame[0];
     rowkeeper_join want = a->join;
     want.base = above(want.base + want.held, n, capacity) ? 0 : want.base;
     want.held += n;
@@ -151,7 +163,7 @@ static int copied(const int64_t *now, const int64_t *words, size_t n, const int6
 
 /* Whether what waited and the rows that were held stand at the fronts of the new areas, all other words as they were. */
 static int all_moved(const attempt *a, const outcome *o) {
-    size_t c = a->join.options.by + 1, held = a->join.held * c, from = a->join.base * c;
+    size_t c = judge_right_columns(&a->join.options), held = a->join.held * c, from = a->join.base * c;
     size_t half = a->right_len / (2 * c) * c, new_half = a->new_right_len / (2 * c) * c;
     rowkeeper_join want = a->join;
     want.queue_start = 0;
@@ -179,15 +191,39 @@ static int ports_told(const attempt *a, const outcome *o) {
     return same_join(&want, &o->join) && memcmp(told[want.state], o->told, sizeof o->told) == 0;
 }
 
-/* Whether these words have the shape of the matches of the frame that waits first, with numbers of rows that were held. */
+/* Whether a row of an answer is that of a match with this held row: its carried cells, each with mark 1 or as 0 and 0. */
+static int is_carried(const attempt *a, uint64_t place, const int64_t *values, const int64_t *marks) {
+    const rowkeeper_options *o = &a->join.options;
+    size_t c = judge_right_columns(o), capacity = a->right_len / (2 * c), j;
+    const int64_t *row = a->right + (a->join.base + place) * c + o->by + 1, *present = row + capacity * c;
+    for (j = 0; j < o->carried; j++) {
+        int some = present[j] != 0;
+        if (marks[j] != some || values[j] != (some ? row[j] : 0)) return 0;
+    }
+    return 1;
+}
+
+/* Whether a row of an answer is null in all its columns. */
+static int is_none(const int64_t *values, const int64_t *marks, size_t columns) {
+    size_t j;
+    for (j = 0; j < columns; j++)
+        if (values[j] != 0 || marks[j] != 0) return 0;
+    return 1;
+}
+
+/* Whether these words have the shape of the matches of the frame that waits first, with numbers of rows that were held and
+   what these rows carry. */
 static int are_matches(const attempt *a, const int64_t *words) {
-    int64_t n = a->left[a->join.queue_start], i;
-    const int64_t *numbers = words + 2, *marks = words + 2 + n;
+    size_t c = (size_t)(1 + a->join.options.carried), n = (size_t)a->left[a->join.queue_start], i;
     uint64_t first = a->join.pruned, held = a->join.held;
-    if (words[0] != n || words[1] != 1) return 0;
+    if (words[0] != (int64_t)n || words[1] != (int64_t)c) return 0;
     for (i = 0; i < n; i++) {
-        uint64_t place = (uint64_t)numbers[i] - first;
-        if (marks[i] == 0 ? numbers[i] != 0 : marks[i] != 1 || (uint64_t)numbers[i] < first || place >= held) return 0;
+        const int64_t *values = words + 2 + i * c, *marks = values + n * c;
+        uint64_t number = (uint64_t)values[0];
+        if (marks[0] == 0 ? !is_none(values, marks, c)
+                          : marks[0] != 1 || number < first || number - first >= held ||
+                                !is_carried(a, number - first, values + 1, marks + 1))
+            return 0;
     }
     return 1;
 }
@@ -199,7 +235,8 @@ static int rest_untouched(const attempt *a, const outcome *o, size_t words) {
 
 /* Whether a turn's output has its matches and nothing else. */
 static int matches_written(const attempt *a, const outcome *o) {
-    return are_matches(a, o->out) && rest_untouched(a, o, ROWKEEPER_OUTPUT_WORDS(a->left[a->join.queue_start]));
+    return are_matches(a, o->out) &&
+           rest_untouched(a, o, answer_words(&a->join.options, a->left[a->join.queue_start]));
 }
 
 /* Whether turns that wrote moved the join on to this sequence and these words of the queue, and dropped rows from the front
@@ -257,7 +294,7 @@ static const char *judge_written(attempt *next, const outcome *o, size_t *at) {
         if (known_answer(next) >= 0 || !turn_may(next, 0)) return "a turn of the run cannot have written";
         if (!are_matches(next, o->out + *at)) return "the output is not one of matches";
         frame = front(next);
-        words = ROWKEEPER_OUTPUT_WORDS(next->left[next->join.queue_start]);
+        words = answer_words(&next->join.options, next->left[next->join.queue_start]);
         next->join.queue_start += frame;
         next->join.queue_words -= frame;
         next->join.sequence += 2;

@@ -33,8 +33,11 @@ typedef struct outcome {
     const int64_t *left, *right, *out, *new_left, *new_right;
 } outcome;
 
-/* Whether these options are refused. */
-int judge_bad_options(const rowkeeper_options *o);
+/* The refusal that these options meet at opening, or 0. */
+int judge_options(const rowkeeper_options *o);
+
+/* The columns of a right row with options that are not refused. */
+size_t judge_right_columns(const rowkeeper_options *o);
 
 /* Whether every call on this join is refused by 2. */
 int judge_bad_join(const rowkeeper_join *j, size_t left_len, size_t right_len);

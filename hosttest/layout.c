@@ -79,7 +79,7 @@ typedef struct field {
 /* All fields. A word that no line is about fails the test. */
 static const field FIELDS[] = {
     FIELD(layout, ROWKEEPER_LAYOUT + 1), FIELD(options.by, 5), FIELD(options.strategy, 3), FIELD(options.allow_eq, 2), FIELD(options.tolerance, (uint64_t)-2),
-    FIELD(options.check, 2), FIELD(options.descending, 2), FIELD(options.nulls_last, 2),
+    FIELD(options.check, 2), FIELD(options.descending, 2), FIELD(options.nulls_last, 2), FIELD(options.carried, 9),
     FIELD(base, 7), FIELD(held, 7), FIELD(pruned, (uint64_t)1 << 63), FIELD(queue_start, LEFT + 1), FIELD(queue_words, LEFT + 1),
     FIELD(state, 3), FIELD(right_ended, 2), FIELD(failed, 2), FIELD(sequence, 1),
     FIELD(last_left.some, 2), FIELD(last_left.values, 0), FIELD(last_left.marks, 0),
@@ -166,13 +166,45 @@ static void runs(rowkeeper_join join) {
     join = rowkeeper_end_right(join, left, LEFT, right, RIGHT).join;
     ran = rowkeeper_run(join, 0, left, LEFT, right, RIGHT, out, 9);
     want(says(ran, 0, 0, ROWKEEPER_TURNS_USED, 0, 12), "a run of no turns", AT(rowkeeper_join, queue_words));
-    ran = rowkeeper_run(join, 1, left, LEFT, right, RIGHT, out, ROWKEEPER_RUN_WORDS(1, 1));
+    ran = rowkeeper_run(join, 1, left, LEFT, right, RIGHT, out, ROWKEEPER_RUN_WORDS(1, 1, 0));
     want(says(ran, 1, 4, ROWKEEPER_TURNS_USED, 0, 6), "a run of one turn", AT(rowkeeper_join, queue_words));
-    ran = rowkeeper_run(join, 9, left, LEFT, right, RIGHT, out, ROWKEEPER_RUN_WORDS(2, 1) - 1);
+    ran = rowkeeper_run(join, 9, left, LEFT, right, RIGHT, out, ROWKEEPER_RUN_WORDS(2, 1, 0) - 1);
     want(says(ran, 1, 4, ROWKEEPER_REFUSED, ROWKEEPER_NO_ROOM, 6) && out[4] == -1, "a run without room", AT(rowkeeper_join, queue_words));
     ran = rowkeeper_run(join, 9, left, LEFT, right, RIGHT, out, 9);
     want(says(ran, 2, 8, ROWKEEPER_IDLE, 0, 0), "a run that is idle at last", AT(rowkeeper_join, queue_words));
     want(memcmp(out, BOTH, sizeof out) == 0, "a run's output", NO_WORD);
+}
+
+/* What carried columns bring at their places: two behind the key, one of them null, written behind the number of their row. */
+static void carried(rowkeeper_options options) {
+    static const int64_t FOUR[] = {1, 4, 9, 4, 70, 0, 1, 1, 1, 0}, FIVE[] = {1, 2, 9, 5, 1, 1}, WANT[] = {1, 3, 0, 70, 0, 1, 1, 0, -1};
+    int64_t out[9] = {-1, -1, -1, -1, -1, -1, -1, -1, -1};
+    rowkeeper_took took;
+    rowkeeper_turned turned;
+    options.carried = 2;
+    took = rowkeeper_open(options);
+    want(took.refusal == 0 && took.join.options.carried == 2, "opening with carried columns", AT(rowkeeper_join, options));
+    took = rowkeeper_right(took.join, left, LEFT, right, RIGHT, FIVE, 6);
+    want(took.refusal == ROWKEEPER_BAD_FRAME, "a right frame without carried columns", NO_WORD);
+    took = rowkeeper_right(took.join, left, LEFT, right, RIGHT, FOUR, ROWKEEPER_RIGHT_FRAME_WORDS(1, 1, 2));
+    want(took.refusal == 0 && took.join.held == 1, "a right frame with carried columns", AT(rowkeeper_join, held));
+    took = rowkeeper_left(took.join, left, LEFT, right, RIGHT, FOUR, 10);
+    want(took.refusal == ROWKEEPER_BAD_FRAME, "a left frame with carried columns", NO_WORD);
+    took = rowkeeper_left(took.join, left, LEFT, right, RIGHT, FIVE, ROWKEEPER_FRAME_WORDS(1, 1));
+    took = rowkeeper_end_right(took.join, left, LEFT, right, RIGHT);
+    turned = rowkeeper_turn(took.join, left, LEFT, right, RIGHT, out, ROWKEEPER_OUTPUT_WORDS(1, 2) - 1);
+    want(turned.refusal == ROWKEEPER_NO_ROOM && out[0] == -1, "an output one word short of carried cells", NO_WORD);
+    turned = rowkeeper_turn(took.join, left, LEFT, right, RIGHT, out, ROWKEEPER_OUTPUT_WORDS(1, 2));
+    want(turned.answer == ROWKEEPER_WROTE && memcmp(out, WANT, sizeof out) == 0, "an output with carried cells", NO_WORD);
+    want(ROWKEEPER_RIGHT_WORDS(3, 1, 2) == RIGHT && ROWKEEPER_RUN_WORDS(2, 1, 2) == 16, "lengths with carried columns", NO_WORD);
+    for (options.carried = ROWKEEPER_MOST_CARRIED; options.carried <= ROWKEEPER_MOST_CARRIED + 1; options.carried++)
+        want(rowkeeper_open(options).refusal == (options.carried > ROWKEEPER_MOST_CARRIED ? ROWKEEPER_TOO_MANY_CARRIED : 0),
+             "opening with the most carried columns, and with one more", NO_WORD);
+    options.carried = UINT64_MAX;
+    took = rowkeeper_open(options);
+    want(took.refusal == ROWKEEPER_TOO_MANY_CARRIED && took.join.layout == ROWKEEPER_LAYOUT, "a refused opening", NO_WORD);
+    took = rowkeeper_end_right(took.join, left, LEFT, right, RIGHT);
+    want(took.refusal == ROWKEEPER_BAD_JOIN, "the join of a refused opening", NO_WORD);
 }
 
 /* What a join of another layout gets: 2 from every call, a run of no turns too, and itself as it came. The first word of
@@ -251,6 +283,7 @@ int main(void) {
     other_layouts(took.join);
     answers(took.join);
     runs(took.join);
+    carried(options);
     spans();
     options.by = 5;
     took = rowkeeper_open(options);

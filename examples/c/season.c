@@ -30,11 +30,12 @@
 
 #include "rowkeeper.h"
 
-/* One by-column, the performance; the key is the minute. */
-enum { BY = 1, COLUMNS = BY + 1 };
+/* One by-column, the performance; the key is the minute. Notices carry one column more, the price, which comes with the match. */
+enum { BY = 1, CARRIED = 1, COLUMNS = BY + 1, NOTICE_COLUMNS = COLUMNS + CARRIED, MATCH_COLUMNS = 1 + CARRIED };
 /* Rows are handed in by so many at once. One left frame waits at a time, so the left area has room for one. */
 enum { FRAME_ROWS = 8 };
-enum { FRAME_WORDS = 2 + 2 * FRAME_ROWS * COLUMNS, OUT_WORDS = 2 + 2 * FRAME_ROWS, LEFT_WORDS = FRAME_WORDS };
+enum { FRAME_WORDS = 2 + 2 * FRAME_ROWS * NOTICE_COLUMNS, LEFT_WORDS = 2 + 2 * FRAME_ROWS * COLUMNS };
+enum { OUT_WORDS = 2 + 2 * FRAME_ROWS * MATCH_COLUMNS };
 
 /* A notice or a sale; a sale has no price. */
 typedef struct row {
@@ -57,7 +58,7 @@ typedef struct kept {
     rowkeeper_join join;
 } kept;
 
-static const uint64_t MARK = 0x314e4f5341455300u;
+static const uint64_t MARK = 0x324e4f5341455300u;
 
 /* All that the program has. */
 typedef struct till {
@@ -170,6 +171,7 @@ static void begin(till *t) {
     options.allow_eq = 1;
     options.tolerance = ROWKEEPER_NO_TOLERANCE;
     options.check = 1;
+    options.carried = CARRIED;
     took = rowkeeper_open(options);
     if (took.refusal != ROWKEEPER_ACCEPTED) die("opening is refused by %" PRIu64, took.refusal);
     t->kept.join = took.join;
@@ -206,17 +208,19 @@ static void open_matches(till *t, const char *name) {
         die("%s: %s", name, strerror(errno));
 }
 
-/* Lays the next rows of a side down as a frame; how many they are. */
-static size_t fill_frame(int64_t *frame, const table *from, size_t first) {
+/* Lays the next rows of a side down as a frame of so many columns, the price where there is a third; how many rows they are. */
+static size_t fill_frame(int64_t *frame, size_t columns, const table *from, size_t first) {
     size_t left = from->count - first, n = left < FRAME_ROWS ? left : FRAME_ROWS, i;
-    int64_t *values = frame + 2, *marks = values + n * COLUMNS;
+    int64_t *values = frame + 2, *marks = values + n * columns;
     frame[0] = (int64_t)n;
-    frame[1] = COLUMNS;
+    frame[1] = (int64_t)columns;
     for (i = 0; i < n; i++) {
-        values[i * COLUMNS] = from->rows[first + i].performance;
-        values[i * COLUMNS + 1] = from->rows[first + i].minute;
+        const row *r = &from->rows[first + i];
+        values[i * columns] = r->performance;
+        values[i * columns + 1] = r->minute;
+        if (columns == NOTICE_COLUMNS) values[i * columns + 2] = r->pence;
     }
-    for (i = 0; i < n * COLUMNS; i++) marks[i] = 1;
+    for (i = 0; i < n * columns; i++) marks[i] = 1;
     return n;
 }
 
@@ -229,7 +233,7 @@ static void accept(till *t, rowkeeper_took took, const char *what) {
 /* Hands in the next sales. */
 static void hand_sales(till *t) {
     int64_t frame[FRAME_WORDS];
-    size_t n = fill_frame(frame, &t->sales, t->kept.sales);
+    size_t n = fill_frame(frame, COLUMNS, &t->sales, t->kept.sales);
     accept(t, rowkeeper_left(t->kept.join, t->left, LEFT_WORDS, t->right, t->right_words, frame,
                              ROWKEEPER_FRAME_WORDS(n, BY)), "a frame of sales");
     t->kept.sales += n;
@@ -238,34 +242,34 @@ static void hand_sales(till *t) {
 /* Hands in the next notices, or says that there are no more. */
 static void hand_notices(till *t) {
     int64_t frame[FRAME_WORDS];
-    size_t n = fill_frame(frame, &t->notices, t->kept.notices);
+    size_t n = fill_frame(frame, NOTICE_COLUMNS, &t->notices, t->kept.notices);
     if (n == 0) {
         accept(t, rowkeeper_end_right(t->kept.join, t->left, LEFT_WORDS, t->right, t->right_words), "the end of notices");
         return;
     }
     accept(t, rowkeeper_right(t->kept.join, t->left, LEFT_WORDS, t->right, t->right_words, frame,
-                              ROWKEEPER_FRAME_WORDS(n, BY)), "a frame of notices");
+                              ROWKEEPER_RIGHT_FRAME_WORDS(n, BY, CARRIED)), "a frame of notices");
     t->kept.notices += n;
 }
 
-/* The line of one sale and its match. */
-static size_t match_line(const till *t, char *line, size_t room, size_t sale, int64_t number, int64_t matched) {
+/* The line of one sale and the price of its match. */
+static size_t match_line(const till *t, char *line, size_t room, size_t sale, int64_t pence, int64_t matched) {
     const row *r = &t->sales.rows[sale];
-    int n = matched ? snprintf(line, room, "%" PRId64 " %" PRId64 " %" PRId64 "\n", r->performance, r->minute,
-                               t->notices.rows[number].pence)
+    int n = matched ? snprintf(line, room, "%" PRId64 " %" PRId64 " %" PRId64 "\n", r->performance, r->minute, pence)
                     : snprintf(line, room, "%" PRId64 " %" PRId64 " none\n", r->performance, r->minute);
     return (size_t)n;
 }
 
-/* Writes a turn's matches behind those that are there, and syncs them. */
+/* Writes a turn's matches behind those that are there, and syncs them. A row of the output is the number of a notice and its
+   price; the number is not needed. */
 static void write_matches(till *t, const int64_t *out) {
     size_t n = (size_t)out[0], i, length;
     char line[100];
+    if (out[1] != MATCH_COLUMNS) die("%s is tampered with: matches without a price", t->state_name);
     if (n > t->sales.count - t->kept.answered) die("%s is tampered with: more matches than sales", t->state_name);
     for (i = 0; i < n; i++) {
-        int64_t number = out[2 + i], matched = out[2 + n + i];
-        if (matched && (uint64_t)number >= t->notices.count) die("%s is tampered with: no such notice", t->state_name);
-        length = match_line(t, line, sizeof line, t->kept.answered + i, number, matched);
+        size_t price = i * MATCH_COLUMNS + 1;
+        length = match_line(t, line, sizeof line, t->kept.answered + i, out[2 + price], out[2 + n * MATCH_COLUMNS + price]);
         write_all(t->matches, line, length, "matches");
         t->kept.bytes += length;
     }
@@ -311,7 +315,7 @@ static void lay_out(till *t, const char *state_name) {
     t->new_name = name_with(state_name, ".new");
     t->folder_name = name_with(dirname(copy), "");
     free(copy);
-    t->right_words = ROWKEEPER_RIGHT_WORDS(t->notices.count, BY);
+    t->right_words = ROWKEEPER_RIGHT_WORDS(t->notices.count, BY, CARRIED);
     t->right = calloc(t->right_words + 1, sizeof *t->right);
     if (t->right == NULL) die("no memory");
 }

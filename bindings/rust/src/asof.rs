@@ -2,10 +2,12 @@
 use alloc::vec::Vec;
 use core::iter::FusedIterator;
 
-use crate::{Join, Matches, Options, Refusal, Turn};
+use crate::join::match_of;
+use crate::{Join, Match, Matches, Options, Refusal, Turn};
 
 /// Joins two tables, each an iterator of frames, to an iterator of matches: for each left row, in order, the number of its
-/// right row, which is its place among all right rows from 0, or none.
+/// right row, which is its place among all right rows from 0, or none. [`AsOf::carrying`] gives what the right row carries
+/// too.
 ///
 /// A frame is whatever has the words of one: a [`Frame`](crate::Frame), one of [`Frames`](crate::Frames), a vector of words,
 /// a reference to any of them. Frames may be cut anywhere and may be empty; those of 4,096 rows are the quickest. A left
@@ -13,7 +15,7 @@ use crate::{Join, Matches, Options, Refusal, Turn};
 /// last left row has its match, no further one. What is in memory at any time is one left frame, its matches, and the right
 /// rows that are held; the areas for these grow as frames need them, at least to twice their length, and never shrink.
 ///
-/// Refused by 1 if the options are invalid. A frame or a turn that is refused is an item of the iterator, and its last.
+/// Refused by 1 if the options are invalid, by 10 if too many columns are carried. A frame or a turn that is refused is an item of the iterator, and its last.
 ///
 /// If the source of a table can fail, it must not just end there: where right rows are missing, matches are wrong. Such a
 /// host makes the calls of [`Join`] itself, or drops the matches if it finds out later.
@@ -39,13 +41,15 @@ where
 {
     let join = Join::open(options, 0, 0)?;
     let (lefts, rights) = (lefts.into_iter(), rights.into_iter());
-    Ok(AsOf { join, lefts, rights, output: Vec::new(), rows: 0, given: 0, ended: false })
+    Ok(AsOf { join, columns: 1 + options.carried, lefts, rights, output: Vec::new(), rows: 0, given: 0, ended: false })
 }
 
 /// The matches of two tables, row by row: what [`asof`] gives.
 #[derive(Clone, Debug)]
 pub struct AsOf<L, R> {
     join: Join,
+    /// The columns of what a turn writes.
+    columns: usize,
     lefts: L,
     rights: R,
     /// What the last turn wrote.
@@ -81,9 +85,49 @@ impl<L: Iterator<Item: AsRef<[i64]>>, R: Iterator<Item: AsRef<[i64]>>> AsOf<L, R
         Ok(Some(Matches::of(&self.output).rest(from)))
     }
 
+    /// The same matches, each with what its right row carries.
+    ///
+    /// ```
+    /// use rowkeeper::{Frames, Match, Options, asof};
+    ///
+    /// // Sales, and price notices with the price and the number of the sheet that it is on.
+    /// let (sale_at, notice_at) = (vec![5, 15, 25], vec![10, 20]);
+    /// let (price, sheet) = (vec![1800, 2200], vec![7, 7]);
+    /// let options = Options { carried: 2, ..Options::default() };
+    /// let joined = asof(&options, Frames::of_columns(&[&sale_at])?, Frames::of_columns(&[&notice_at, &price, &sheet])?)?;
+    ///
+    /// let matches: Vec<Option<Match<2>>> = joined.carrying().collect::<Result<_, _>>()?;
+    /// assert_eq!(matches[0], None);
+    /// assert_eq!(matches[1], Some(Match { number: 0, carried: [Some(1800), Some(7)] }));
+    /// assert_eq!(matches[2], Some(Match { number: 1, carried: [Some(2200), Some(7)] }));
+    /// # Ok::<(), Box<dyn std::error::Error>>(())
+    /// ```
+    ///
+    /// # Panics
+    ///
+    /// If P is not the number of carried columns that the options have.
+    pub fn carrying<const P: usize>(self) -> Carrying<L, R, P> {
+        assert_eq!(1 + P, self.columns, "the join carries another number of columns");
+        Carrying(self)
+    }
+
     /// The join as the last call left it: what is held, how many words its areas have.
     pub fn join(&self) -> &Join {
         &self.join
+    }
+
+    /// Goes on to the next left row; where its match begins in the output, its values and its marks.
+    fn next_place(&mut self) -> Option<Result<[usize; 2], Refusal>> {
+        if self.given == self.rows {
+            match self.fill() {
+                Ok(true) => {},
+                Ok(false) => return None,
+                Err(refusal) => return Some(Err(refusal)),
+            }
+        }
+        let place = 2 + self.given * self.columns;
+        self.given += 1;
+        Some(Ok([place, place + self.rows * self.columns]))
     }
 
     /// Makes calls until there are matches to give; whether there are any. After a refusal there are none.
@@ -122,7 +166,7 @@ impl<L: Iterator<Item: AsRef<[i64]>>, R: Iterator<Item: AsRef<[i64]>>> AsOf<L, R
             answer => answer?,
         }
         // An accepted frame has its rows in its first word. What the last turn wrote was given.
-        let words = Join::output_words(frame[0] as usize);
+        let words = 2 + 2 * frame[0] as usize * self.columns;
         if words > self.output.len() {
             self.output.resize(words.max(2 * self.output.len()), 0);
         }
@@ -146,16 +190,7 @@ impl<L: Iterator<Item: AsRef<[i64]>>, R: Iterator<Item: AsRef<[i64]>>> Iterator 
 
     /// The match of the next left row.
     fn next(&mut self) -> Option<Self::Item> {
-        if self.given == self.rows {
-            match self.fill() {
-                Ok(true) => {},
-                Ok(false) => return None,
-                Err(refusal) => return Some(Err(refusal)),
-            }
-        }
-        let (number, mark) = (self.output[2 + self.given], self.output[2 + self.rows + self.given]);
-        self.given += 1;
-        Some(Ok((mark != 0).then_some(number as u64)))
+        Some(self.next_place()?.map(|[value, mark]| (self.output[mark] != 0).then_some(self.output[value] as u64)))
     }
 
     /// The matches that are written come in any case; how many left rows follow is not known.
@@ -166,3 +201,27 @@ impl<L: Iterator<Item: AsRef<[i64]>>, R: Iterator<Item: AsRef<[i64]>>> Iterator 
 }
 
 impl<L: Iterator<Item: AsRef<[i64]>>, R: Iterator<Item: AsRef<[i64]>>> FusedIterator for AsOf<L, R> {}
+
+/// The matches of two tables, row by row, with what the right rows carry: what [`AsOf::carrying`] gives.
+#[derive(Clone, Debug)]
+pub struct Carrying<L, R, const P: usize>(AsOf<L, R>);
+
+impl<L: Iterator<Item: AsRef<[i64]>>, R: Iterator<Item: AsRef<[i64]>>, const P: usize> Iterator for Carrying<L, R, P> {
+    type Item = Result<Option<Match<P>>, Refusal>;
+
+    /// The match of the next left row.
+    fn next(&mut self) -> Option<Self::Item> {
+        let place = self.0.next_place()?;
+        Some(place.map(|[values, marks]| match_of(&self.0.output[values..], &self.0.output[marks..])))
+    }
+
+    /// As without what is carried.
+    fn size_hint(&self) -> (usize, Option<usize>) {
+        self.0.size_hint()
+    }
+}
+
+impl<L: Iterator<Item: AsRef<[i64]>>, R: Iterator<Item: AsRef<[i64]>>, const P: usize> FusedIterator
+    for Carrying<L, R, P>
+{
+}

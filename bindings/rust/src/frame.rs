@@ -100,7 +100,7 @@ fn rows_of<'a>(mut columns: impl Iterator<Item = Column<'a>> + Clone) -> Result<
 }
 
 impl Frame {
-    /// The frame of these rows: by-values in order, the key last; `None` is a null.
+    /// The frame of these rows: by-values in order, the key, and of right rows what they carry; `None` is a null.
     pub fn new<R: AsRef<[Option<i64>]>>(columns: usize, rows: &[R]) -> Result<Frame, FrameError> {
         if rows.len() > MOST_ROWS {
             return Err(FrameError::TooManyRows);
@@ -119,7 +119,8 @@ impl Frame {
         Frame::of_columns(&[keys])
     }
 
-    /// The frame of these columns: the by-columns in order, the key last, all of one length. [`Frames`] cuts longer ones.
+    /// The frame of these columns: the by-columns in order, the key, and of right rows the carried columns, all of one length.
+    /// [`Frames`] cuts longer ones.
     ///
     /// ```
     /// use rowkeeper::{Column, Frame};
@@ -190,7 +191,8 @@ pub struct Frames<'a> {
 }
 
 impl<'a> Frames<'a> {
-    /// The frames of these columns: the by-columns in order, the key last, all of one length, whatever it is.
+    /// The frames of these columns: the by-columns in order, the key, and of right rows the carried columns, all of one length,
+    /// whatever it is.
     pub fn of_columns<C: Into<Column<'a>> + Copy>(columns: &[C]) -> Result<Frames<'a>, FrameError> {
         let columns: Vec<Column<'a>> = columns.iter().map(|column| (*column).into()).collect();
         let rows = rows_of(columns.iter().copied())?;

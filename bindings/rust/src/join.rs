@@ -1,6 +1,7 @@
 //! The join and its calls.
 use alloc::vec;
 use alloc::vec::Vec;
+use core::array;
 
 use crate::raw::{self, safe};
 use crate::{NodeState, Options, Port, Ports, Refusal};
@@ -76,45 +77,110 @@ impl<'o> Written<'o> {
         let (first, mut rest) = (self.first, self.words);
         (0..self.turns as u64).map(move |turn| {
             let matches = Matches::of(rest);
-            rest = &rest[2 + 2 * matches.len()..];
+            rest = &rest[matches.words()..];
             (first + 2 * turn, matches)
         })
     }
 }
 
+/// The match of a left row: its right row, which carries P columns.
+#[derive(Clone, Copy, Debug, PartialEq, Eq)]
+pub struct Match<const P: usize> {
+    /// The number of the right row: its place among all right rows, from 0.
+    pub number: u64,
+    /// What the right row carries, in the order of its columns; `None` is a null.
+    pub carried: [Option<i64>; P],
+}
+
 /// The matches that a turn wrote, one for each row of its frame.
 #[derive(Clone, Copy, Debug, PartialEq, Eq)]
 pub struct Matches<'o> {
-    numbers: &'o [i64],
+    /// The number of a right row and what it carries.
+    columns: usize,
+    values: &'o [i64],
     marks: &'o [i64],
 }
 
 impl<'o> Matches<'o> {
     /// The matches at the front of an output.
     pub(crate) fn of(output: &'o [i64]) -> Matches<'o> {
-        let n = output[0] as usize;
-        Matches { numbers: &output[2..2 + n], marks: &output[2 + n..2 + 2 * n] }
+        let (rows, columns) = (output[0] as usize, output[1] as usize);
+        let (values, marks) = output[2..2 + 2 * rows * columns].split_at(rows * columns);
+        Matches { columns, values, marks }
     }
 
     /// Those from a row on.
     pub(crate) fn rest(self, from: usize) -> Matches<'o> {
-        Matches { numbers: &self.numbers[from..], marks: &self.marks[from..] }
+        let from = from * self.columns;
+        Matches { columns: self.columns, values: &self.values[from..], marks: &self.marks[from..] }
+    }
+
+    /// How many words of the output they are, with the two in front of them.
+    fn words(&self) -> usize {
+        2 + 2 * self.values.len()
     }
 
     /// How many rows the frame has.
     pub fn len(&self) -> usize {
-        self.numbers.len()
+        self.values.len() / self.columns
     }
 
     /// Whether the frame has no row.
     pub fn is_empty(&self) -> bool {
-        self.numbers.is_empty()
+        self.values.is_empty()
+    }
+
+    /// How many columns the right rows carry.
+    pub fn carried(&self) -> usize {
+        self.columns - 1
     }
 
     /// For each row of the frame, in order, the number of its right row: its place among all right rows, from 0.
     pub fn iter(&self) -> impl Iterator<Item = Option<u64>> + use<'o> {
-        self.numbers.iter().zip(self.marks).map(|(number, mark)| (*mark != 0).then_some(*number as u64))
+        let cells = self.values.iter().zip(self.marks).step_by(self.columns);
+        cells.map(|(number, mark)| (*mark != 0).then_some(*number as u64))
     }
+
+    /// For each row of the frame, in order, its match: the number of the right row and what it carries.
+    ///
+    /// ```
+    /// use rowkeeper::{Frame, Join, Match, Options, Turn};
+    ///
+    /// let mut join = Join::open_rows(&Options { carried: 1, ..Options::default() }, 10, 10)?;
+    /// join.right(&Frame::new(2, &[[Some(10), Some(1800)], [Some(20), None], [Some(30), Some(2500)]])?)?;
+    /// join.left(&Frame::of_keys(&[5, 15, 25])?)?;
+    /// let mut output = [0; 64];
+    /// let Turn::Wrote { matches, .. } = join.turn(&mut output)? else { panic!("nothing was written") };
+    /// let prices: Vec<_> = matches.carrying().map(|found| found.map(|Match { carried: [price], .. }| price)).collect();
+    /// assert_eq!(prices, [None, Some(Some(1800)), Some(None)]);
+    /// # Ok::<(), Box<dyn std::error::Error>>(())
+    /// ```
+    ///
+    /// # Panics
+    ///
+    /// If P is not [`Matches::carried`].
+    pub fn carrying<const P: usize>(&self) -> impl Iterator<Item = Option<Match<P>>> + use<'o, P> {
+        assert_eq!(P, self.carried(), "the join carries another number of columns");
+        let (values, marks) = (self.values.chunks_exact(self.columns), self.marks.chunks_exact(self.columns));
+        values.zip(marks).map(|(values, marks)| match_of(values, marks))
+    }
+
+    /// What the right row of a row of the frame carries in a column, from 0: `None` is a null, or that there is no match.
+    ///
+    /// # Panics
+    ///
+    /// If the frame has no such row, or as many columns are not carried.
+    pub fn cell(&self, row: usize, column: usize) -> Option<i64> {
+        assert!(column < self.carried(), "the join carries {} columns", self.carried());
+        let at = row * self.columns + 1 + column;
+        (self.marks[at] != 0).then_some(self.values[at])
+    }
+}
+
+/// The match of a row of an output: the number of the right row and P cells.
+pub(crate) fn match_of<const P: usize>(values: &[i64], marks: &[i64]) -> Option<Match<P>> {
+    let cell = |at: usize| (marks[at] != 0).then_some(values[at]);
+    cell(0).map(|number| Match { number: number as u64, carried: array::from_fn(|column| cell(1 + column)) })
 }
 
 impl Join<Vec<i64>> {
@@ -137,7 +203,8 @@ impl Join<Vec<i64>> {
 
     /// Opens a join with areas of so many words. [`Join::left_words`] and [`Join::right_words`] say what is needed.
     pub fn open(options: &Options, left_words: usize, right_words: usize) -> Result<Self, Refusal> {
-        Join::with_areas(options, vec![0; left_words], vec![0; right_words])
+        let join = opened(options)?;
+        Ok(Join { join, left: vec![0; left_words], right: vec![0; right_words] })
     }
 
     /// The words of the left area for so many waiting frames of so many rows each.
@@ -147,18 +214,19 @@ impl Join<Vec<i64>> {
 
     /// The words of the right area for so many held rows.
     pub fn right_words(options: &Options, rows: usize) -> usize {
-        row_words(rows, options.columns())
+        row_words(rows, options.right_columns())
     }
 
-    /// The words of an output for a frame of so many rows.
-    pub fn output_words(rows: usize) -> usize {
-        row_words(rows, 1).saturating_add(2)
+    /// The words of an output for a left frame of so many rows.
+    pub fn output_words(options: &Options, rows: usize) -> usize {
+        row_words(rows, options.carried.saturating_add(1)).saturating_add(2)
     }
 
-    /// The words of an output for a run of so many turns, where no frame has more rows than this. As many words as wait
-    /// ([`Join::waiting_words`]) are enough for any number of turns.
-    pub fn run_words(turns: usize, rows: usize) -> usize {
-        turns.saturating_mul(Join::output_words(rows))
+    /// The words of an output for a run of so many turns, where no left frame has more rows than this. As many words as wait
+    /// ([`Join::waiting_words`]) are enough for any number of turns if no more columns are carried than there are by-columns;
+    /// else 1 + carried times as many are.
+    pub fn run_words(options: &Options, turns: usize, rows: usize) -> usize {
+        turns.saturating_mul(Join::output_words(options, rows))
     }
 
     /// Makes the right area larger, to hold so many rows at least; what is held and what waits stays. Nothing is done if it
@@ -176,9 +244,11 @@ impl Join<Vec<i64>> {
     /// # Ok::<(), Box<dyn std::error::Error>>(())
     /// ```
     pub fn grow_right(&mut self, rows: usize) -> Result<(), Refusal> {
-        let by = usize::try_from(self.join.options.by).ok().filter(|by| *by <= raw::MOST_BY);
-        let words = row_words(rows, by.ok_or(Refusal::BadJoin)? + 1);
-        self.grow(self.left.len(), words)
+        let raw::Options { by, carried, .. } = self.join.options;
+        if by > raw::MOST_BY as u64 || carried > raw::MOST_CARRIED as u64 {
+            return Err(Refusal::BadJoin);
+        }
+        self.grow(self.left.len(), row_words(rows, (by + 1 + carried) as usize))
     }
 
     /// Makes the left area larger, to so many words at least; what waits and what is held stays. Nothing is done if it has
@@ -198,15 +268,20 @@ impl Join<Vec<i64>> {
 
 /// The words of so many rows, their values and their marks; the greatest number if there is no such number.
 fn row_words(rows: usize, columns: usize) -> usize {
-    rows.saturating_mul(2 * columns)
+    rows.saturating_mul(columns.saturating_mul(2))
+}
+
+/// A fresh join of these options.
+fn opened(options: &Options) -> Result<raw::Join, Refusal> {
+    let took = raw::rowkeeper_open(options.raw());
+    Refusal::of(took.refusal)?;
+    Ok(took.join)
 }
 
 impl<A: AsRef<[i64]> + AsMut<[i64]>> Join<A> {
     /// Opens a join over these areas; their words may be anything.
     pub fn with_areas(options: &Options, left: A, right: A) -> Result<Self, Refusal> {
-        let took = raw::rowkeeper_open(options.raw());
-        Refusal::of(took.refusal)?;
-        Ok(Join { join: took.join, left, right })
+        Ok(Join { join: opened(options)?, left, right })
     }
 
     /// A join of parts that [`Join::parts`] gave, perhaps to a file. They may be anything: every call judges them.

@@ -50,6 +50,26 @@
 //! # Ok::<(), Box<dyn std::error::Error>>(())
 //! ```
 //!
+//! Right rows may carry up to eight columns behind their key, which come with the match: a price, say, that need not be looked
+//! up by the number of its row then.
+//!
+//! ```
+//! use rowkeeper::{Frames, Match, Options, asof};
+//!
+//! // The same rows; the right ones have prices.
+//! let (left, right, price) = (vec![5, 20, 25], vec![10, 20, 20, 30], vec![1800, 2200, 2300, 2500]);
+//! let options = Options { carried: 1, ..Options::default() };
+//! let joined = asof(&options, Frames::of_columns(&[&left])?, Frames::of_columns(&[&right, &price])?)?;
+//! for found in joined.carrying() {
+//!     match found? {
+//!         Some(Match { number, carried: [Some(price)] }) => println!("right row {number} at {price}"),
+//!         Some(Match { number, carried: [None] }) => println!("right row {number}, which has no price"),
+//!         None => println!("no right row"),
+//!     }
+//! }
+//! # Ok::<(), Box<dyn std::error::Error>>(())
+//! ```
+//!
 //! Without a join, [`spans()`] lists which points lie inside the bounds of which intervals:
 //!
 //! ```
@@ -94,7 +114,8 @@
 //! # use rowkeeper::Refusal::*;
 //! fn known(refusal: rowkeeper::Refusal) -> bool {
 //!     match refusal {
-//!         BadOptions | BadJoin | Failed | Closed | BadFrame | NoRoom | UsedUp | LeftOrder | RightOrder | BadPoints => true,
+//!         BadOptions | BadJoin | Failed | Closed | BadFrame | NoRoom | UsedUp | LeftOrder | RightOrder => true,
+//!         TooManyCarried | BadPoints => true,
 //!     }
 //! }
 //! ```
@@ -113,9 +134,9 @@ mod numbers;
 pub mod raw;
 mod spans;
 
-pub use asof::{AsOf, asof};
+pub use asof::{AsOf, Carrying, asof};
 pub use frame::{Column, Frame, FrameError, Frames};
-pub use join::{Join, Matches, Run, Stop, Turn, Written};
+pub use join::{Join, Match, Matches, Run, Stop, Turn, Written};
 pub use numbers::{NodeState, Port, Refusal, Strategy};
 pub use spans::{Bounds, Pairs, spans, spans_words};
 
@@ -139,21 +160,35 @@ pub struct Options {
     pub tolerance: Option<u64>,
     /// Whether turns check that rows are in order.
     pub check: bool,
-    /// The by-columns, at most four. A row has one column more, the key.
+    /// The by-columns, at most four. Behind them a row has its key.
     pub by: Vec<ByColumn>,
+    /// How many columns right rows carry behind their key, at most eight. They come with the match.
+    pub carried: usize,
 }
 
 impl Default for Options {
-    /// Backward with equality, any distance, the check on, no by-columns.
+    /// Backward with equality, any distance, the check on, no by-columns, nothing carried.
     fn default() -> Self {
-        Options { strategy: Strategy::Backward, allow_eq: true, tolerance: None, check: true, by: Vec::new() }
+        Options {
+            strategy: Strategy::Backward,
+            allow_eq: true,
+            tolerance: None,
+            check: true,
+            by: Vec::new(),
+            carried: 0,
+        }
     }
 }
 
 impl Options {
-    /// How many columns a row has.
+    /// How many columns a left row has: the by-columns and the key.
     pub fn columns(&self) -> usize {
         self.by.len() + 1
+    }
+
+    /// How many columns a right row has: those of a left row, and behind them what it carries.
+    pub fn right_columns(&self) -> usize {
+        self.columns().saturating_add(self.carried)
     }
 
     /// The options in numbers. What no number can say is said by one that is refused.
@@ -167,6 +202,7 @@ impl Options {
             check: self.check as u64,
             descending: array::from_fn(|j| flag(j, |by| by.descending)),
             nulls_last: array::from_fn(|j| flag(j, |by| by.nulls_last)),
+            carried: self.carried as u64,
         }
     }
 }

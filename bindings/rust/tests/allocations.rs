@@ -28,13 +28,15 @@ unsafe impl GlobalAlloc for Counting {
 #[global_allocator]
 static ALLOCATOR: Counting = Counting;
 
-/// How many allocations a join of so many frames of ten rows on each side makes.
-fn allocations(frames: i64) -> usize {
-    let table: Vec<Frame> =
-        (0..frames).map(|i| Frame::of_keys(&(10 * i..10 * i + 10).collect::<Vec<_>>()).unwrap()).collect();
+/// How many allocations a join of so many frames of ten rows on each side makes, where right rows carry P columns.
+fn allocations<const P: usize>(frames: i64) -> usize {
+    let keys = |i: i64| (10 * i..10 * i + 10).collect::<Vec<_>>();
+    let lefts: Vec<Frame> = (0..frames).map(|i| Frame::of_keys(&keys(i)).unwrap()).collect();
+    let rights: Vec<Frame> = (0..frames).map(|i| Frame::of_columns(&vec![&keys(i)[..]; 1 + P]).unwrap()).collect();
+    let options = Options { carried: P, ..Options::default() };
     let before = COUNT.get();
-    let matched =
-        asof(&Options::default(), &table, &table).unwrap().filter(|found| matches!(found, Ok(Some(_)))).count();
+    let joined = asof(&options, &lefts, &rights).unwrap().carrying::<P>();
+    let matched = joined.filter(|found| matches!(found, Ok(Some(_)))).count();
     assert_eq!(matched as i64, 10 * frames);
     COUNT.get() - before
 }
@@ -42,7 +44,8 @@ fn allocations(frames: i64) -> usize {
 /// Ten times, a hundred times the rows: not one allocation more.
 #[test]
 fn none_in_the_loop() {
-    let few = allocations(10);
+    let few = allocations::<0>(10);
     assert!((1..=20).contains(&few), "{few} allocations");
-    assert_eq!((allocations(100), allocations(1000)), (few, few));
+    assert_eq!((allocations::<0>(100), allocations::<0>(1000)), (few, few));
+    assert_eq!((allocations::<3>(10), allocations::<3>(1000)), (few, few));
 }

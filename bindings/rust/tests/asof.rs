@@ -1,7 +1,8 @@
-//! The driver: whole tables by any cut and every option, what it asks for and when, areas that grow, and refusals.
+//! The driver: whole tables by any cut and every option, what it asks for and when, areas that grow, what is carried, and
+//! refusals.
 use std::cell::Cell;
 
-use rowkeeper::{ByColumn, Column, Frame, Frames, Options, Refusal, Strategy, asof};
+use rowkeeper::{ByColumn, Column, Frame, Frames, Match, Options, Refusal, Strategy, asof};
 
 type Row = [Option<i64>; 2];
 type Matches = Vec<Option<u64>>;
@@ -43,7 +44,8 @@ impl Random {
         let strategy = [Strategy::Backward, Strategy::Forward, Strategy::Nearest][self.below(3) as usize];
         let allow_eq = strategy == Strategy::Nearest || self.below(2) == 0;
         let tolerance = (self.below(2) == 0).then(|| self.below(5));
-        Options { strategy, allow_eq, tolerance, check: self.below(2) == 0, by: vec![ByColumn::default()] }
+        let (check, by) = (self.below(2) == 0, vec![ByColumn::default()]);
+        Options { strategy, allow_eq, tolerance, check, by, ..Options::default() }
     }
 }
 
@@ -95,6 +97,75 @@ fn any_cut_and_options() {
         assert_eq!(joined(&options, &lefts, &rights), want, "{options:?}, left {lefts:?}, right {rights:?}");
     }
     assert!(matched > 10_000, "{matched}");
+}
+
+/// A table with P carried cells behind each row, in no order, some of them null.
+fn carrying<const P: usize>(r: &mut Random, rows: &[Row]) -> Vec<(Row, [Option<i64>; P])> {
+    let mut cell = || (r.below(4) > 0).then(|| r.below(1000) as i64 - 500);
+    rows.iter().map(|row| (*row, std::array::from_fn(|_| cell()))).collect()
+}
+
+/// Both tables in any cut, with every option and P carried columns: the same matches, each with the cells of its right row.
+fn any_cut_with<const P: usize>(r: &mut Random) -> usize {
+    let (options, left, right, most) = (r.options(), r.table(), r.table(), 1 + r.below(20));
+    let options = Options { carried: P, ..options };
+    let right = carrying::<P>(r, &right);
+    let keyed: Vec<Row> = right.iter().map(|(row, _)| *row).collect();
+    let number = |row: &Row| plain_match(&options, row, &keyed);
+    let found = |number: u64| Match { number, carried: right[number as usize].1 };
+    let want: Vec<Option<Match<P>>> = left.iter().map(|row| number(row).map(found)).collect();
+    let wide: Vec<Vec<_>> = right.iter().map(|(row, cells)| [&row[..], cells].concat()).collect();
+    let cuts = wide.chunks(most as usize).map(|rows| Frame::new(2 + P, rows).unwrap());
+    let (lefts, rights): (_, Vec<Frame>) = (r.cut(&left, most), cuts.collect());
+    let joined = asof(&options, &lefts, &rights).unwrap();
+    assert_eq!(joined.clone().carrying().collect::<Result<Vec<_>, _>>().unwrap(), want, "{lefts:?} {rights:?}");
+    let numbers: Vec<_> = want.iter().map(|found| found.map(|found| found.number)).collect();
+    assert_eq!(joined.clone().collect::<Result<Vec<_>, _>>().unwrap(), numbers);
+    let (mut joined, mut by_frames) = (joined, vec![]);
+    while let Some(matches) = joined.next_matches().unwrap() {
+        assert_eq!(matches.carried(), P);
+        by_frames.extend(matches.carrying());
+    }
+    assert_eq!(by_frames, want);
+    want.iter().flatten().flat_map(|found| found.carried).flatten().count()
+}
+
+/// What is carried comes with the match, for no column, few and the most.
+#[test]
+fn any_cut_and_carried() {
+    let r = &mut Random(3);
+    let mut cells = [0; 4];
+    for _ in 0..400 {
+        let some = [any_cut_with::<0>(r), any_cut_with::<1>(r), any_cut_with::<2>(r), any_cut_with::<8>(r)];
+        (0..4).for_each(|i| cells[i] += some[i]);
+    }
+    assert!(cells[0] == 0 && cells[1..].iter().all(|n| *n > 1000), "{cells:?}");
+}
+
+/// Long columns with prices, cut into full frames; what is left of a frame that was begun has its cells too.
+#[test]
+fn columns_with_prices() {
+    let (keys, prices): (Vec<i64>, Vec<i64>) = (0..10_000).map(|key| (key, 7 * key)).unzip();
+    let known: Vec<bool> = keys.iter().map(|key| key % 3 > 0).collect();
+    let rights = [Column::new(&keys), Column::with_marks(&prices, &known)];
+    let options = Options { carried: 1, ..Options::default() };
+    let joined = asof(&options, Frames::of_columns(&[&keys]).unwrap(), Frames::of_columns(&rights).unwrap()).unwrap();
+    let want = |key: i64| Some(Match { number: key as u64, carried: [(key % 3 > 0).then_some(7 * key)] });
+    assert!(joined.clone().carrying().map(Result::unwrap).eq((0..10_000).map(want)));
+    let mut begun = joined;
+    assert_eq!((begun.next(), begun.next()), (Some(Ok(Some(0))), Some(Ok(Some(1)))));
+    let rest = begun.next_matches().unwrap().unwrap();
+    assert!(rest.len() == 4094 && rest.carrying().eq((2..4096).map(want)));
+    let carrying = begun.carrying::<1>();
+    assert_eq!(carrying.size_hint(), (0, None));
+    assert!(carrying.map(Result::unwrap).eq((4096..10_000).map(want)));
+}
+
+/// The driver is not taken for one that carries another number of columns.
+#[test]
+#[should_panic(expected = "the join carries another number of columns")]
+fn another_number_carried() {
+    drop(asof(&Options::default(), [keys(&[1])], [keys(&[1])]).unwrap().carrying::<1>());
 }
 
 /// Long columns with nulls first, cut into full frames: a left key takes the right row of the greatest even key not above it.
@@ -198,6 +269,10 @@ fn by_frames() {
 fn refusals() {
     let nearest = Options { strategy: Strategy::Nearest, allow_eq: false, ..Options::default() };
     assert_eq!(asof(&nearest, [keys(&[1])], [keys(&[1])]).unwrap_err(), Refusal::BadOptions);
+    for carried in [9, usize::MAX] {
+        let many = Options { carried, ..Options::default() };
+        assert_eq!(asof(&many, [keys(&[1])], [keys(&[1])]).unwrap_err(), Refusal::TooManyCarried);
+    }
     let cases = [
         (vec![keys(&[1, 2]), keys(&[4, 3])], vec![keys(&[1, 9])], 2, Refusal::LeftOrder),
         (vec![keys(&[1, 2]), keys(&[1])], vec![keys(&[1, 9])], 2, Refusal::LeftOrder),

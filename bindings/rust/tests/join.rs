@@ -1,5 +1,8 @@
-//! The wrapper over the archive: the worked cases, every refusal, any cut, runs, keeping a join, areas that grow, threads.
-use rowkeeper::{ByColumn, Frame, Join, NodeState, Options, Port, Ports, Refusal, Run, Stop, Strategy, Turn, raw};
+//! The wrapper over the archive: the worked cases, every refusal, any cut, what is carried, runs, keeping a join, areas that
+//! grow, threads.
+use rowkeeper::{
+    ByColumn, Frame, Join, Match, NodeState, Options, Port, Ports, Refusal, Run, Stop, Strategy, Turn, raw,
+};
 
 type Row = [Option<i64>; 2];
 
@@ -23,7 +26,7 @@ fn keys(keys: &[i64]) -> Frame {
 
 /// Options with the check off, as the counter's are.
 fn options(strategy: Strategy, allow_eq: bool, tolerance: Option<u64>) -> Options {
-    Options { strategy, allow_eq, tolerance, check: false, by: vec![] }
+    Options { strategy, allow_eq, tolerance, check: false, ..Options::default() }
 }
 
 /// A join that is open, with room enough.
@@ -103,8 +106,97 @@ fn bad_options() {
     for options in [five, far, nearest] {
         assert_eq!(Join::open(&options, 9, 9).unwrap_err(), Refusal::BadOptions);
     }
-    let most = Options { tolerance: Some((1 << 63) - 1), by: vec![ByColumn::default(); 4], ..Options::default() };
+    let by = vec![ByColumn::default(); 4];
+    let most = Options { tolerance: Some((1 << 63) - 1), by, carried: 8, ..Options::default() };
     assert!(Join::open(&most, 0, 0).is_ok());
+}
+
+/// 10: more columns than can be carried, whatever areas are asked for; options that are invalid too are refused by 1.
+#[test]
+fn too_many_carried() {
+    for carried in [9, 10, 1 << 32, usize::MAX - 1, usize::MAX] {
+        let options = Options { carried, ..Options::default() };
+        assert_eq!(Join::open(&options, 9, 9).unwrap_err(), Refusal::TooManyCarried);
+        assert_eq!(Join::open_rows(&options, 1 << 40, 1 << 40).unwrap_err(), Refusal::TooManyCarried);
+        assert_eq!(Join::output_words(&options, 1 << 60), usize::MAX);
+        let bad = Options { strategy: Strategy::Nearest, allow_eq: false, ..options };
+        assert_eq!(Join::open(&bad, 9, 9).unwrap_err(), Refusal::BadOptions);
+    }
+}
+
+/// Right 10, 20, 20 and 30 with the prices 1800, 2200, none and 2500.
+fn priced() -> Join {
+    let mut join = open(&Options { carried: 1, ..options(Strategy::Backward, true, None) });
+    let prices = [[Some(10), Some(1800)], [Some(20), Some(2200)], [Some(20), None], [Some(30), Some(2500)]];
+    join.right(&Frame::new(2, &prices).unwrap()).unwrap();
+    join
+}
+
+/// SCOPE 21.10: the price comes with the match; with an output that is a word short nothing is lost.
+#[test]
+fn carried() {
+    let mut join = priced();
+    join.left(&keys(&[5, 10, 20, 35])).unwrap();
+    join.end_right().unwrap();
+    let mut output = [7; 19];
+    assert_eq!(join.turn(&mut output[..17]), Err(Refusal::NoRoom));
+    assert_eq!(output, [7; 19]);
+    let Ok(Turn::Wrote { matches, .. }) = join.turn(&mut output) else { panic!() };
+    let of = |number, price| Some(Match { number, carried: [price] });
+    let want = [None, of(0, Some(1800)), of(2, None), of(3, Some(2500))];
+    assert_eq!(matches.carrying().collect::<Vec<_>>(), want);
+    assert_eq!(matches.iter().collect::<Vec<_>>(), [None, Some(0), Some(2), Some(3)]);
+    assert_eq!((matches.len(), matches.is_empty(), matches.carried()), (4, false, 1));
+    assert_eq!((0..4).map(|row| matches.cell(row, 0)).collect::<Vec<_>>(), [None, Some(1800), None, Some(2500)]);
+    assert_eq!(output, [4, 2, 0, 0, 0, 1800, 2, 0, 3, 2500, 0, 0, 1, 1, 1, 0, 1, 1, 7]);
+    assert_eq!((Join::output_words(&Options { carried: 1, ..Options::default() }, 4), join.pruned()), (18, 3));
+}
+
+/// Frames of the other side's width are none of this side's.
+#[test]
+fn widths() {
+    let options = Options { by: vec![ByColumn::default()], carried: 2, ..Options::default() };
+    assert_eq!((options.columns(), options.right_columns()), (2, 4));
+    let frame = |columns| Frame::new(columns, &[vec![Some(1); columns]]).unwrap();
+    let mut join = Join::open_rows(&options, 1, 1).unwrap();
+    assert_eq!((join.left(&frame(4)), join.right(&frame(2))), (Err(Refusal::BadFrame), Err(Refusal::BadFrame)));
+    assert_eq!((join.left(&frame(2)), join.right(&frame(4))), (Ok(()), Ok(())));
+    assert_eq!((join.left(&frame(2)), join.right(&frame(4))), (Err(Refusal::NoRoom), Err(Refusal::NoRoom)));
+}
+
+/// Matches are not taken for those of a join that carries another number of columns.
+#[test]
+#[should_panic(expected = "the join carries another number of columns")]
+fn another_number_carried() {
+    let (mut join, mut output) = (priced(), [0; 20]);
+    join.left(&keys(&[5])).unwrap();
+    let Ok(Turn::Wrote { matches, .. }) = join.turn(&mut output) else { panic!() };
+    drop(matches.carrying::<2>());
+}
+
+/// No cell is read behind the last column.
+#[test]
+#[should_panic(expected = "the join carries 1 columns")]
+fn no_such_column() {
+    let (mut join, mut output) = (priced(), [0; 20]);
+    join.left(&keys(&[5, 10])).unwrap();
+    let Ok(Turn::Wrote { matches, .. }) = join.turn(&mut output) else { panic!() };
+    matches.cell(0, 1);
+}
+
+/// A run over frames with what is carried: each turn's part has its own place.
+#[test]
+fn carried_in_runs() {
+    let mut join = priced();
+    [&[5, 10][..], &[], &[25]].into_iter().for_each(|left| join.left(&keys(left)).unwrap());
+    let mut output = [7; 30];
+    let run = join.run(9, &mut output);
+    let of = |number, price| Some(Match { number, carried: [price] });
+    let parts: Vec<(u64, Vec<_>)> =
+        run.written.iter().map(|(sequence, matches)| (sequence, matches.carrying().collect())).collect();
+    assert_eq!(parts, [(0, vec![None, of(0, Some(1800))]), (2, vec![]), (4, vec![of(2, None)])]);
+    assert_eq!(run.stop, Stop::Idle);
+    assert!(output[18..].iter().all(|w| *w == 7));
 }
 
 /// The library is of the version that the wrapper is for, and an opened join has its layout.
@@ -174,7 +266,8 @@ fn out_of_order() {
 /// Numbers, order and texts of refusals.
 #[test]
 fn numbers() {
-    let numbers = [1, 2, 3, 4, 5, 6, 7, 8, 9, 16];
+    let numbers = [1, 2, 3, 4, 5, 6, 7, 8, 9, 10, 16];
+    assert_eq!(Refusal::ALL.len(), numbers.len());
     for (refusal, number) in Refusal::ALL.iter().zip(numbers) {
         assert_eq!(refusal.number(), number);
         assert!(refusal.to_string().starts_with(&format!("refused by {number}: ")));
@@ -201,7 +294,7 @@ fn join_cut(r: &mut Random, left: &[Row], right: &[Row]) -> Vec<Option<u64>> {
     let options = Options { by: vec![ByColumn::default()], ..Options::default() };
     let (mut left_rest, mut right_rest, mut out) = (left, right, vec![]);
     let mut join = Join::open_rows(&options, 5, r.below(9) as usize).unwrap();
-    let mut output = vec![0; Join::output_words(5)];
+    let mut output = vec![0; Join::output_words(&options, 5)];
     loop {
         match join.turn(&mut output).unwrap() {
             Turn::Wrote { matches, .. } => out.extend(matches.iter()),
@@ -285,7 +378,8 @@ fn runs() {
         assert!(output[used..].iter().all(|w| *w == 7));
         assert_eq!(join.parts().0.sequence, 2 * made as u64);
     }
-    assert_eq!((Join::run_words(3, 2), three_frames().waiting_words()), (18, 12));
+    assert_eq!((Join::run_words(&Options::default(), 3, 2), three_frames().waiting_words()), (18, 12));
+    assert_eq!(Join::run_words(&Options { carried: 2, ..Options::default() }, 3, 2), 42);
 }
 
 /// A run that wants right rows after some turns, and one that finds an order fault then: what came before stands.
@@ -330,20 +424,23 @@ fn runs_of_no_turns() {
 fn runs_are_turns() {
     let r = &mut Random(2);
     let (mut several, mut short) = (0, 0);
-    let options = Options { by: vec![ByColumn::default()], ..Options::default() };
     for _ in 0..500 {
+        let carried = r.below(4) as usize;
+        let options = Options { by: vec![ByColumn::default()], carried, ..Options::default() };
         let (left, right) = (table(r), table(r));
-        let mut join = Join::open(&options, 400, 400).unwrap();
-        join.right(&Frame::new(2, &right).unwrap()).unwrap();
+        let mut join = Join::open(&options, 400, 800).unwrap();
+        let wide: Vec<_> =
+            right.iter().map(|row| [&row[..], &vec![row[1].map(|key| -key); carried]].concat()).collect();
+        join.right(&Frame::new(2 + carried, &wide).unwrap()).unwrap();
         left.chunks(1 + r.below(9) as usize).for_each(|rows| join.left(&Frame::new(2, rows).unwrap()).unwrap());
         (r.below(3) > 0).then(|| join.end_right().unwrap());
-        let (turns, words) = (r.below(8) as usize, r.below(120) as usize);
+        let (turns, words) = (r.below(8) as usize, r.below(120 * (1 + carried as u64)) as usize);
         let (mut one, mut output, mut other) = (join.clone(), vec![7; words], vec![7; words]);
         let run = join.run(turns, &mut output);
         let (mut made, mut at, mut last) = (0, 0, Stop::TurnsUsed);
         while made < turns && last == Stop::TurnsUsed {
             match one.turn(&mut other[at..]) {
-                Ok(Turn::Wrote { matches, .. }) => (made, at) = (made + 1, at + 2 + 2 * matches.len()),
+                Ok(Turn::Wrote { matches, .. }) => (made, at) = (made + 1, at + 2 + 2 * matches.len() * (1 + carried)),
                 Ok(Turn::WantsRight) => last = Stop::WantsRight,
                 Ok(Turn::Idle) => last = Stop::Idle,
                 Err(refusal) => last = Stop::Refused(refusal),
@@ -405,21 +502,22 @@ fn grows() {
     assert_eq!(rest(full).len(), 3);
 }
 
-/// With by-columns an area has fewer rows; growing counts in rows.
+/// With by-columns and carried ones an area has fewer rows; growing counts in rows.
 #[test]
 fn grows_by_rows() {
-    for by in 0..=4 {
-        let options = Options { by: vec![ByColumn::default(); by], ..Options::default() };
+    for (by, carried) in (0..=4).flat_map(|by| [0, 1, 3, 8].map(|carried| (by, carried))) {
+        let options = Options { by: vec![ByColumn::default(); by], carried, ..Options::default() };
         let mut join = Join::open(&options, 0, 0).unwrap();
-        let row = vec![Some(1); by + 1];
+        let columns = by + 1 + carried;
+        let row = vec![Some(1); columns];
         for rows in 1..5 {
             join.grow_right(rows).unwrap();
-            assert_eq!(join.right_area().len(), 2 * rows * (by + 1));
-            join.right(&Frame::new(by + 1, &[&row]).unwrap()).unwrap();
+            assert_eq!(join.right_area().len(), 2 * rows * columns);
+            join.right(&Frame::new(columns, &[&row]).unwrap()).unwrap();
         }
-        assert_eq!(join.right(&Frame::new(by + 1, &[&row]).unwrap()), Err(Refusal::NoRoom));
+        assert_eq!(join.right(&Frame::new(columns, &[&row]).unwrap()), Err(Refusal::NoRoom));
         let most = Join::open_rows(&options, 3, 2).unwrap();
-        assert_eq!((most.left_area().len(), most.right_area().len()), (3 * (2 + 2 * (by + 1)), 2 * 2 * (by + 1)));
+        assert_eq!((most.left_area().len(), most.right_area().len()), (3 * (2 + 2 * (by + 1)), 2 * 2 * columns));
     }
 }
 
@@ -440,11 +538,13 @@ fn moves() {
     let mut failed = altered(&join, |j| j.failed = 1);
     failed.grow_left(100).unwrap();
     assert_eq!((failed.failed(), failed.left_area().len()), (true, 100));
-    let alterations: [fn(&mut raw::Join); 6] = [
+    let alterations: [fn(&mut raw::Join); 8] = [
         |j| j.base = u64::MAX,
         |j| j.queue_start = 1 << 63,
         |j| j.held = 10,
         |j| j.options.by = u64::MAX,
+        |j| j.options.carried = 9,
+        |j| j.options.carried = u64::MAX,
         |j| j.sequence = 1,
         |j| j.state = 3,
     ];

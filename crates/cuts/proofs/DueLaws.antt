@@ -19,7 +19,7 @@ use Rattle.matching.specs.declared.Choice.the-variants.{Row, Nothing}
 use Rattle.matching.proofs.FromLaws.{From, table-from, row-from}
 use Rattle.lists.specs.Lists.{Entry}
 use Rattle.lists.specs.WholeTables.{asWritten, dueOver}
-use Rattle.cuts.specs.Cut.{cutAt, Pair, before, behind, cutBy, later}
+use Rattle.cuts.specs.Cut.{cutAt, Pair, behind, cutBy, later}
 use Rattle.cuts.specs.Apart.{BothSorted, laterEntry}
 use Rattle.cuts.proofs.CutLaws.{cut-before, cut-behind, cut-within, match-later, match-before, match-behind}
 

@@ -3,7 +3,6 @@ use mathlib.Core.Path.{_≡_, refl, sym, ap, _∙_}
 use mathlib.Core.Bool.{false}
 use mathlib.Core.List.{List, [], _∷_, _++_, append-nil, map, map-append, map-map}
 use Prim.Native.Nat.{ℕ, _+_}
-use native.Mathlib.Omega.{arith}
 use lib.ListN.{length, take, drop, take-append-drop}
 use lib.Seq.{length-take-le}
 use Rattle.frames.specs.Cells.{Cell, Rows}
@@ -93,7 +92,7 @@ uncut-calls o allowed gs p whole w js ws =
 module _ (o : Options) where
   load-writes : (p : Pair) (j : Load) → Fits o p j → scheduled o j ≡ map (dueOver o (p .right)) (p .left)
   load-writes p j h =
-      writes-all o (j .left) (j .right) (j .lefts) (j .rights) (j .outs) (h .planned) (h .room) 
+      writes-all o (j .left) (j .right) (j .lefts) (j .rights) (j .outs) (h .planned) (h .room)
       ∙ ap (λ (z : Rows). map (dueOver o z) (rowsIn (columns o) (j .lefts))) (h .right) ∙ ap (map (dueOver o (p .right))) (h .left)
 
   loads-write : (n : ℕ) {ps : List Pair} {js : List Load} → Each (Fits o) ps js → allScheduled o n ps js ≡ allDue o n ps

@@ -56,7 +56,7 @@ loads o (g ∷ gs) x y (e ∷ es) =
     let b = cutAt o g (rowsWithin (rightColumns o) y) in
     loadOf o (firstOf a x) (firstOf b y) e ∷ loads o gs (othersOf (columns o) a x) (othersOf (rightColumns o) b y) es
 
--- The areas keep their lengths, whatever words the pair before left in them, and each output is enough: 2 + 2n words.
+-- The areas keep their lengths, whatever words the pair before left in them, and each output is enough: 2 + 2n(1 + p) words.
 unfoldable pub LentWell : Options → ℕ → ℕ → Rows → Stretch → List Lent → Type 0
 LentWell o l r gs x [] = ⊥
 LentWell o l r [] x (e ∷ es) = (length (e .left) ≡ l) × (length (e .right) ≡ r) × Each (λ f out. frameWords (rowCount f) (answerColumns o) ≤ length out) (framesOf (columns o) x) (e .outs)

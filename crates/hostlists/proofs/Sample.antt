@@ -6,7 +6,7 @@ use mathlib.Core.List.{List, [], _∷_, map}
 use Prim.Native.Nat.{ℕ}
 use lib.IntN.{pos, negsuc}
 use Rattle.frames.specs.Cells.{Words}
-use Rattle.order.proofs.Samples.{keys, frameOf}
+use Rattle.order.proofs.Samples.{row, keys, frameOf}
 use Rattle.codes.specs.Codes.{areFlags, flagsOf, flagCodes}
 use Rattle.convert.specs.Convert.{isOptions, decodeOptions, isJoin, decode}
 use Rattle.convert.specs.declared.HostOptions.{HostOptions}
@@ -82,3 +82,31 @@ pub reads : (hostMatches h (leftArea 20) (rightArea 8) calls ≡ entry 0 0 ∷ e
     × (has h (leftArea 20) (rightArea 8) calls .join .state ≡ 0)
 unfolding speakAll calls hostEvents hostFinal hostStep openHost leftHost rightHost endHost portsHost turnHost runHost byJoin decode isJoin decodeOptions isOptions areFlags flagsOf flagCodes runCall hostLefts hostRights hostOutputs runOutputs matchesIn writtenIn entriesOf
 reads = (refl, refl, refl, refl)
+
+-- With a carried column: a run of two turns writes twice 2 + 2 × 2 words, number and price of each, and a host reads both off its output.
+abbrev carrying : HostOptions
+carrying = record {
+  by = 0;
+  strategy = 0;
+  «allow_eq» = 1;
+  tolerance = negsuc 0;
+  check = 1;
+  descending = 0 ∷ 0 ∷ 0 ∷ 0 ∷ [];
+  «nulls_last» = 0 ∷ 0 ∷ 0 ∷ 0 ∷ [];
+  carried = 1;
+}
+
+unfoldable pub prices : List HostCall
+prices =
+    right (frameOf 2 (row (10 ∷ 100 ∷ []) ∷ row (20 ∷ 200 ∷ []) ∷ []))
+    ∷ left (frameOf 1 (keys (15 ∷ [])))
+    ∷ left (frameOf 1 (keys (25 ∷ [])))
+    ∷ end
+    ∷ run 5 (space 12)
+    ∷ []
+
+pub carries : (map numbers (returned carrying (leftArea 20) (rightArea 8) prices) ≡ (0 ∷ []) ∷ (0 ∷ []) ∷ (0 ∷ []) ∷ (0 ∷ []) ∷ (2 ∷ 12 ∷ 2 ∷ 0 ∷ []) ∷ [])
+    × (hostMatches carrying (leftArea 20) (rightArea 8) prices
+    ≡ record { values = map pos (0 ∷ 100 ∷ []); marks = map pos (1 ∷ 1 ∷ []) } ∷ record { values = map pos (1 ∷ 200 ∷ []); marks = map pos (1 ∷ 1 ∷ []) } ∷ [])
+unfolding speakAll prices hostEvents hostFinal hostStep openHost leftHost rightHost endHost portsHost turnHost runHost byJoin decode isJoin decodeOptions isOptions areFlags flagsOf flagCodes runCall hostLefts hostRights hostOutputs runOutputs matchesIn writtenIn entriesOf
+carries = (refl, refl)

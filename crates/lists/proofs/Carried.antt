@@ -1,9 +1,9 @@
 -- One list of calls in which a price is carried along, by computation: its rows are sorted as declared, and what was written is the whole table's; then what a
 -- carried column changes besides: how many rows an area holds, what is remembered, what a join may say. Assumes nothing.
 use mathlib.Core.Path.{_≡_, refl}
-use mathlib.Core.Bool.{true, false}
+use mathlib.Core.Bool.{true}
 use mathlib.Core.List.{List, [], _∷_, _++_, map}
-use mathlib.Core.Option.{none, some}
+use mathlib.Core.Option.{some}
 use Prim.Native.Nat.{ℕ}
 use lib.IntN.{pos, negsuc}
 use Rattle.frames.specs.Cells.{null, value, Rows, Words}
@@ -14,7 +14,7 @@ use Rattle.matching.specs.Match.{choose, takesOver, fits, tolerate, matchTable,
 use Rattle.matching.specs.Answer.{cellsFrom, answerRow}
 use Rattle.lists.specs.Lists.{Call, left, right, end, turn, start, events, final, leftFrames, rightFrames, rowsIn, outputs, Entry, entriesOf, writtenIn, matchesIn}
 use Rattle.lists.specs.WholeTables.{dueOver, lefts, rights, turnedRows, matches}
-use Rattle.lists.proofs.Script.{Said, ok, refused, wrote, wants, leftArea, rightArea, space, says, speakAll}
+use Rattle.lists.proofs.Script.{ok, refused, wrote, wants, leftArea, rightArea, space, says, speakAll}
 
 -- Backward, one carried column.
 abbrev pub o : Options

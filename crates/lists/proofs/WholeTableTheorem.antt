@@ -247,5 +247,5 @@ whole-table-theorem o allowed l r calls =
       never-broken = (i .flags .unbroken, i .flags .fronts);
       no-false-alarm = λ d. or-false-both (refusedWith 8 es) (refusedWith 9 es) (sym (i .flags .failed) ∙ S (turned (d .0)) (d .1) .unfailed (d .0));
       words-kept = (i .stock .waits, i .stock .values, i .stock .marks, i .stock .left-length, i .stock .right-length);
-      settled = settled-so-far o l r allowed es w i S;
+      settled = λ st more none sf. settled-so-far o l r allowed es w i S st more (λ t. none t) sf;
     }

@@ -1,9 +1,9 @@
 -- The rows of an answer: their width, their count, and what they are over joined stretches and for choices made by a rule. Assumes nothing.
 use mathlib.Core.Path.{_≡_, refl, ap}
 use mathlib.Core.List.{List, [], _∷_, _++_, map}
-use Prim.Native.Nat.{ℕ, zero, suc, _-_}
+use Prim.Native.Nat.{ℕ, zero, suc}
 use native.Mathlib.Omega.{arith}
-use lib.ListN.{length, getD, replicate}
+use lib.ListN.{length, replicate}
 use Rattle.frames.specs.Cells.{Cell, null, Rows}
 use Rattle.options.specs.Options.{columns, answerColumns}
 use Rattle.options.specs.declared.Options.{Options}
@@ -25,7 +25,7 @@ module _ (o : Options) (i : ℕ) (rights : Rows) where
   -- Each row of an answer has as many columns as the answer.
   pub row-wide : (x : List Cell) (m : Choice) → length (answerRow o i rights x m) ≡ answerColumns o
   unfolding answerRow
-  row-wide x (Row k) = ap suc (cells-wide (columns o) (o .carried) (getD rights (k - i) []))
+  row-wide x (Row k) = ap suc (cells-wide (columns o) (o .carried) _)
   row-wide x Nothing = nulls-wide (answerColumns o)
 
   pub answer-wide : (xs : Rows) (ms : List Choice) → Wide (answerColumns o) (answerRows o i rights xs ms)

@@ -71,7 +71,7 @@ module _ (o : Options) (x : List Cell) (i : ℕ) (rows : Rows) where
 -- A row of the answer does not ask for the rows behind those that its choice is among.
 pub row-within : (o : Options) (d : ℕ) (rights F : Rows) (x : List Cell) (m : Choice) → From d (d + length rights) m → answerRow o d (rights ++ F) x m ≡ answerRow o d rights x m
 unfolding answerRow
-row-within o d rights F x (Row k) h = rw (List·getD-append rights F [] (k - d) (omega arith))
+row-within o d rights F x (Row k) h = let there : k - d < length rights = omega arith in rw List·getD-append
 row-within o d rights F x Nothing h = refl
 
 -- Of all right rows, those from d on are kept, numbered from d, and more may come behind them: a row of the answer is the same over the kept rows and over all.

@@ -5,11 +5,14 @@ use mathlib.Core.List.{List, [], _∷_, map}
 use Prim.Native.Nat.{ℕ}
 use lib.IntN.{pos, negsuc}
 use Rattle.frames.specs.Cells.{Cell, Words}
-use Rattle.order.proofs.Samples.{plain, carrying, row, keys, frameOf}
+use Rattle.options.specs.Options.{badOptions}
+use Rattle.order.proofs.Samples.{options, plain, carrying, row, keys, frameOf}
 use Rattle.turnrows.specs.Prunes.{keptRows, lastPrune}
 use Rattle.lists.specs.Lists.{start, events, final, leftFrames, rightFrames, outputs, turnsIn}
 use Rattle.lists.proofs.Script.{leftArea, rightArea, space, speakAll}
 use Rattle.plan.specs.Schedule.{rounds, schedule, mostHeld, turnCalls, rightsTaken, meetsNoRoom}
+use Rattle.plan.specs.Table.{isTable}
+use Rattle.plan.specs.TablePlan.{planAnswer}
 use Rattle.plan.specs.Plan.{Figures, planFrom, plan, figures}
 
 abbrev pub told : ℕ → ℕ → ℕ → Figures
@@ -86,3 +89,9 @@ pub carried : (figures (carrying 1 (plain 0 true)) (leftArea 20) (rightArea 16) 
     ≡ map pos (2 ∷ 2 ∷ 0 ∷ 0 ∷ 0 ∷ 100 ∷ 0 ∷ 0 ∷ 1 ∷ 1 ∷ []) ∷ map pos (2 ∷ 2 ∷ 2 ∷ 201 ∷ 2 ∷ 201 ∷ 1 ∷ 1 ∷ 1 ∷ 1 ∷ []) ∷ [])
 unfolding lefts prices longer plan planFrom lastPrune keptRows schedule rounds meetsNoRoom speakAll events final leftFrames rightFrames outputs
 carried = (refl, refl, refl, refl)
+
+-- Nine carried columns: 10, behind 1 and before 5.
+pub too-many : planAnswer (carrying 9 (plain 0 true)) [] [] [] [] ∷ planAnswer (carrying 9 (options 5 0 true (negsuc 0) false [] [])) [] [] [] [] ∷ planAnswer (carrying 8 (plain 0 true)) [] [] [] [] ∷ []
+    ≡ 10 ∷ 1 ∷ 5 ∷ []
+unfolding planAnswer isTable badOptions
+too-many = refl

@@ -36,6 +36,7 @@ pub(crate) fn options_of(given: &[i64]) -> HostOptions {
         check: number_at(given, 4),
         descending: flags_at(given, 5),
         nulls_last: flags_at(given, 9),
+        carried: number_at(given, 13) as usize,
     }
 }
 

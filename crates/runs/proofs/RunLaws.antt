@@ -30,6 +30,7 @@ use Rattle.runs.specs.Run.{Ran, ran, stopOf, turnWords, andThen, runCall
 use Rattle.node.specs.Contracts.{TurnContract}
 use Rattle.runs.specs.RunContract.{RunContract}
 use Rattle.outcomes.proofs.Tests.{past}
+use Rattle.node.proofs.Good.{good}
 use Rattle.node.specs.declared.Join.{Join}
 use Rattle.refusals.specs.Refusals.{marksFailed}
 use Rattle.refusals.specs.declared.Refusal.{Refusal}
@@ -61,8 +62,9 @@ module _ (j : Join) (left right out : Words) where
   abbrev rows : Rows
   rows = frameRows (leftWidth j) (front (leftWidth j) (waiting j left))
 
-  -- A turn that answers Wrote had a frame and room.
+  -- A turn that answers Wrote had a join that is not bad, a frame and room.
   pub record Passed : Type 0 where
+    pub unbroken : badJoin j left right ≡ false
     pub frame : isFrame (leftWidth j) (front (leftWidth j) (waiting j left)) ≡ true
     pub room : frameWords (length rows) (answerColumns (j .options)) ≤ length out
 
@@ -76,7 +78,18 @@ module _ (j : Join) (left right out : Words) where
       let p5 = past (not (isFrame (leftWidth j) (front (leftWidth j) (waiting j left)))) (Refused BadFrame) _ (Wrote s) (apart BadFrame s) (pi .1) in
       let pw = past (not (j .«right_ended») && needMore (j .options) rows (heldOf j right)) WantsRight _ (Wrote s) (λ x. let z : _≡_ {A = ℕ} 0 1 = cc in omega arith) (p5 .1) in
       let p6 = past (ltb (length out) (frameWords (length rows) (answerColumns (j .options)))) (Refused NoRoom) _ (Wrote s) (apart NoRoom s) (pw .1) in
-      record { frame = not-false (isFrame (leftWidth j) (front (leftWidth j) (waiting j left))) (p5 .0); room = ltb-false (length out) (frameWords (length rows) (answerColumns (j .options))) (p6 .0) }
+      record { unbroken = p2 .0; frame = not-false (isFrame (leftWidth j) (front (leftWidth j) (waiting j left))) (p5 .0); room = ltb-false (length out) (frameWords (length rows) (answerColumns (j .options))) (p6 .0) }
+
+  -- It carries few columns.
+  pub turn-carried : wrote (turnCall j left right out .answer) ≡ true → j .options .carried ≤ 8
+  unfolding turnCall
+  turn-carried = go (turnAnswer j left right out) refl
+    where
+      go : (a : Answer) → turnAnswer j left right out ≡ a → wrote (turnCall j left right out .answer) ≡ true → j .options .carried ≤ 8
+      go (Wrote s) e = λ g. good j left right (passed s e .unbroken) .carried
+      go WantsRight e = rw (e, turnCall) (λ g. let z : _≡_ {A = ℕ} 0 1 = cc in absurd (omega arith))
+      go Idle e = rw (e, turnCall) (λ g. let z : _≡_ {A = ℕ} 0 1 = cc in absurd (omega arith))
+      go (Refused n) e = rw (e, turnCall) (λ g. let z : _≡_ {A = ℕ} 0 1 = cc in absurd (omega arith))
 
   -- The answer that is written: its rows are as many as the frame's, and as wide as an answer is.
   abbrev first : ℕ
@@ -251,12 +264,19 @@ module _ (k : ℕ) (j₀ : Join) (left right out₀ : Words) where
         fits : Fits (answerColumns (j .options)) (drop at out) (t .out)
         fits = turn-fits j left right (drop at out) writes
 
+        -- The join is left with the options that it had.
+        kept-options : x .join .options ≡ j .options
+        kept-options = rw (leaves-it .join) (turn-options j left right (drop at out))
+
+        pub run-carried : x .join .options .carried ≤ 8
+        run-carried = rw kept-options (turn-carried j left right (drop at out) writes)
+
         pub run-count : HasCount (take (length put - at) (drop at put))
         run-count = rw behind (fits .count)
 
-        module _ (n : ℕ) (is : n ≡ turnWords (answerColumns (j .options)) (take (length put - at) (drop at put))) where
+        module _ (c n : ℕ) (wide : c ≡ answerColumns (x .join .options)) (is : n ≡ turnWords c (take (length put - at) (drop at put))) where
           many : n ≡ turnWords (answerColumns (j .options)) (t .out)
-          many = rw behind at is
+          many = rw (behind, wide, kept-options) at is
 
           pub run-within : at + n ≤ length out
           run-within = omega (arith, many, m .within, fits .room, length-drop at out)

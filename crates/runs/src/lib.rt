@@ -1,9 +1,11 @@
 // A run of turns: what it made, and what ends it.
 use framerule::row_count;
 use node::Join;
+use options::answer_columns;
 use outcomes::Answer;
 use outcomes::goes_on;
 ghost use mathlib.Core.Path.{_≡_};
+ghost use Prim.Native.Nat.{_≤_};
 ghost use Rattle.frames.specs.Front.{HasCount};
 ghost use Rattle.runs.specs.Run.{stopOf, turnWords};
 ghost use Rattle.runs.specs.RunContract.{RunContract};
@@ -29,12 +31,12 @@ fn stop_of(answer: Answer) -> Stop
     }
 }
 
-// How many words a turn wrote, by the row count that it wrote first.
-fn turn_words(out: &[i64]) -> usize
-    requires { ⌜ HasCount (now out) ⌝ }
-    ensures { λ r. ⌜ r ≡ turnWords (now (out .entry)) ⌝ }
+// How many words a turn wrote, by the row count that it wrote first and by the answer's columns, at most nine.
+fn turn_words(out: &[i64], c: usize) -> usize
+    requires { ⌜ HasCount (now out) × (c ≤ 9) ⌝ }
+    ensures { λ r. ⌜ r ≡ turnWords c (now (out .entry)) ⌝ }
 {
-    2 + 2 * row_count(out)
+    2 + 2 * (row_count(out) * c)
 }
 
 // Makes at most k turns, each writing behind the one before; it ends with the first that does not write.
@@ -55,7 +57,8 @@ pub fn run(mut join: Join, k: usize, left: &[i64], right: &[i64], out: &mut [i64
                 join: join,
             };
         }
-        at += turn_words(&out[at..]);
+        let c = answer_columns(join.options);
+        at += turn_words(&out[at..], c);
         made += 1;
     }
     RanJoin {

@@ -1,11 +1,12 @@
 -- What a turn has and writes, over plain values. Assumes nothing.
 use mathlib.Core.Path.{_≡_}
-use Prim.Native.Nat.{ℕ, _+_, _-_, _*_, _^_, _≤_, _<_}
+use Prim.Native.Nat.{ℕ, _+_, _-_, _*_, _≤_}
 use native.Mathlib.Nat.{mul-le-mul-left, mul-le-mul-right}
 use native.Mathlib.Omega.{arith}
 use lib.ListN.{length}
 use Rattle.frames.specs.Cells.{Words, rowsOf}
-use Rattle.frames.specs.Frame.{frameWords}
+use Rattle.frames.specs.Frame.{frameWords, frameLimit}
+use Rattle.options.specs.Options.{answerColumns}
 use Rattle.order.specs.declared.Row.{Row}
 use Rattle.order.specs.Requires.{RowsIn}
 use Rattle.splitcheck.proofs.BeforeLaws.{rows-take}
@@ -14,12 +15,11 @@ use Rattle.turnparts.specs.Part.{leftAt, leftPart, TurnIn, WriteIn}
 use Rattle.turnparts.specs.declared.Part.{Part}
 
 module _ {j : Part} {c w n : ℕ} {lv lm rv rm : Words} (t : TurnIn j c w n lv lm rv rm) where
-  -- The answer's length fits a word.
-  pub rows-fit : 2 + 2 * n < 2 ^ 64
-  rows-fit =
-      let l : j .options .by < c = t .left .wide in
-      let m : n * 1 ≤ n * c = mul-le-mul-left {m = 1} {n = c} n (omega arith) in
-      omega (arith, t .counts .words, t .counts .start)
+  -- The answer has few cells, so that its length fits a word.
+  pub cells-few : n * answerColumns (j .options) ≤ 9 * frameLimit
+  cells-few =
+      let m : n * answerColumns (j .options) ≤ n * 9 = mul-le-mul-left {m = answerColumns (j .options)} {n = 9} n (omega (arith, t .carried)) in
+      omega (arith, t .short)
 
 -- ---- what is written
 module _ {j : Part} {c w n : ℕ} {lv lm : Words} {first last : ℕ} {kv km out : Words} (t : WriteIn j c w n lv lm first last kv km out) where

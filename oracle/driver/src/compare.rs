@@ -3,7 +3,7 @@ use std::fmt;
 use std::panic::{AssertUnwindSafe, catch_unwind};
 
 use judges::rules::Fault;
-use judges::script::{Answer, Call, Judge, Ran, Stop};
+use judges::script::{self, Answer, Call, Judge, Ran, Stop};
 use judges::whole_table;
 
 use crate::pulled::Pulled;
@@ -18,6 +18,8 @@ pub struct Tally {
     pub written: u64,
     pub rows: u64,
     pub matched: u64,
+    /// Cells that came with matches: with a value, and null.
+    pub carried: [u64; 2],
     pub wants: u64,
     pub idle: u64,
     pub faults: [u64; 4],
@@ -37,6 +39,8 @@ pub struct Runs {
     pub several: u64,
     pub rows: u64,
     pub matched: u64,
+    /// Cells that came with matches: with a value, and null.
+    pub carried: [u64; 2],
     /// How often each stopped a run: k used, wants, idle, and the refusals 1 to 9 in the places 3 to 11.
     pub stops: [u64; 12],
     /// The same of runs in which a turn had written before.
@@ -51,6 +55,7 @@ impl Runs {
         self.several += other.several;
         self.rows += other.rows;
         self.matched += other.matched;
+        (0..2).for_each(|i| self.carried[i] += other.carried[i]);
         (0..12).for_each(|i| self.stops[i] += other.stops[i]);
         (0..12).for_each(|i| self.after[i] += other.after[i]);
     }
@@ -68,12 +73,11 @@ impl Runs {
         self.several += (ran.turns > 1) as u64;
         self.stops[stop] += 1;
         self.after[stop] += (ran.turns > 0) as u64;
-        let mut rest = &ran.words[..];
-        while let [n, _, cells @ ..] = rest {
-            let (written, further) = cells.split_at(2 * *n as usize);
-            self.rows += *n as u64;
-            self.matched += written[*n as usize..].iter().sum::<i64>() as u64;
-            rest = further;
+        for words in script::answers(&ran.words) {
+            let [matched, values, nulls] = script::written(words);
+            self.rows += words[0] as u64;
+            self.matched += matched;
+            self.carried = [self.carried[0] + values, self.carried[1] + nulls];
         }
     }
 }
@@ -81,8 +85,9 @@ impl Runs {
 impl fmt::Display for Runs {
     /// The counts on one line.
     fn fmt(&self, f: &mut fmt::Formatter<'_>) -> fmt::Result {
-        let Runs { made, turns, several, rows, matched, stops, after } = self;
-        write!(f, "{made} runs of {turns} turns, {several} of more than one, wrote {rows} rows, {matched} matched; ")?;
+        let Runs { made, turns, several, rows, matched, carried: [values, nulls], stops, after } = self;
+        write!(f, "{made} runs of {turns} turns, {several} of more than one, wrote {rows} rows, {matched} matched, ")?;
+        write!(f, "{values} carried values, {nulls} nulls; ")?;
         write!(
             f,
             "stopped by k {}, wants {}, idle {}, refused by 1 to 9 {:?}; ",
@@ -111,6 +116,7 @@ impl Tally {
         self.written += other.written;
         self.rows += other.rows;
         self.matched += other.matched;
+        (0..2).for_each(|i| self.carried[i] += other.carried[i]);
         self.wants += other.wants;
         self.idle += other.idle;
         self.in_flush += other.in_flush;
@@ -124,9 +130,11 @@ impl Tally {
     pub fn count(&mut self, answer: &Answer, state: u8) {
         match answer {
             Answer::Wrote(_, words) => {
+                let [matched, values, nulls] = script::written(words);
                 self.written += 1;
                 self.rows += words[0] as u64;
-                self.matched += words[2 + words[0] as usize..].iter().sum::<i64>() as u64;
+                self.matched += matched;
+                self.carried = [self.carried[0] + values, self.carried[1] + nulls];
                 self.in_flush += (state == 1) as u64;
             },
             Answer::Ran(ran) => self.runs.count(ran),
@@ -150,6 +158,7 @@ impl fmt::Display for Tally {
         let [running, flush, done] = self.states;
         write!(f, "{} scripts, {} calls, {} compared; ", self.scripts, self.calls, self.compared)?;
         write!(f, "{} turns wrote {} rows, {} matched, ", self.written, self.rows, self.matched)?;
+        write!(f, "{} carried values, {} nulls, ", self.carried[0], self.carried[1])?;
         write!(f, "{} of the turns in Flush; ", self.in_flush)?;
         write!(f, "{} wants, {} idle; ", self.wants, self.idle)?;
         write!(f, "faults 8: {continuity} between frames, {frame} in a frame, 9: {held} held, {split} split; ")?;
@@ -171,9 +180,9 @@ pub enum Difference {
     Inside(String),
 }
 
-/// Whether SCOPE refuses the call by 1 to 7, a run in its first turn: the Rust has no counterpart.
+/// Whether SCOPE refuses the call by 1 to 7 or 10, a run in its first turn: the Rust has no counterpart.
 pub fn no_counterpart(answer: &Answer) -> bool {
-    matches!(answer, Answer::Refused(1..=7) | Answer::State(_) | Answer::Areas(..) | Answer::NoJoin)
+    matches!(answer, Answer::Refused(1..=7 | 10) | Answer::State(_) | Answer::Areas(..) | Answer::NoJoin)
         || matches!(answer, Answer::Ran(Ran { turns: 0, stop: Stop::Refused(1..=7), .. }))
 }
 
@@ -210,7 +219,7 @@ fn rust_inside(rust: &Rust) -> Option<Inside> {
 /// Runs a script through both, and what they answered by the whole-table judge. An answer that differs comes before a
 /// difference inside, even a later one.
 fn run_both(calls: &[Call], ways: Ways, tally: &mut Tally) -> Result<(), Difference> {
-    let (mut rust, mut pulled) = (Rust { ways, join: None }, Pulled::new(ways.right_pipe));
+    let (mut rust, mut pulled) = (Rust::fed(ways), Pulled::new(ways.right_pipe));
     let (mut inside, mut answers) = (Ok(()), vec![]);
     for (i, call) in calls.iter().enumerate() {
         let state = pulled.rules.look().map_or(0, |l| l.state);
@@ -265,7 +274,7 @@ pub fn answers(judge: &mut impl Judge, calls: &[Call]) -> Vec<Answer> {
 /// Compares the Rust with the whole-table rule on one script of sorted sides.
 pub fn with_whole_table(calls: &[Call], ways: Ways, counts: &mut whole_table::Counts) -> Result<(), String> {
     let run = catch_unwind(AssertUnwindSafe(|| {
-        let said = answers(&mut Rust { ways, join: None }, calls);
+        let said = answers(&mut Rust::fed(ways), calls);
         whole_table::judge_whole(calls, &said)
     }));
     counts.add(&run.unwrap_or_else(|p| Err(format!("panic: {}", panic_text(p))))?);

@@ -2,7 +2,7 @@
 use std::panic::{AssertUnwindSafe, catch_unwind};
 
 use judges::generate::{Kind, script};
-use judges::script::{Answer, Call, Judge, Open, parse_script};
+use judges::script::{Answer, Call, Judge, Options, opening, parse_script};
 
 use crate::compare::answers;
 use crate::rust::{Join, Rust, Spoiled, Ways};
@@ -16,7 +16,7 @@ type Finding = (&'static str, fn() -> Found);
 /// The answers to a script, as lines.
 fn said(ways: Ways, text: &str) -> Vec<String> {
     let calls = parse_script(text).unwrap();
-    answers(&mut Rust { ways, join: None }, &calls).iter().map(|a| a.to_string()).collect()
+    answers(&mut Rust::fed(ways), &calls).iter().map(|a| a.to_string()).collect()
 }
 
 /// Holds where the two are equal.
@@ -25,9 +25,8 @@ fn equal<T: PartialEq + std::fmt::Debug>(what: &str, is: T, should: T) -> Found 
 }
 
 /// The options of a script's first line.
-fn open(text: &str) -> Open {
-    let Some(Call::Open(o)) = parse_script(text).unwrap().into_iter().next() else { panic!("a script opens first") };
-    o
+fn open(text: &str) -> Options {
+    opening(&parse_script(text).unwrap()).expect("a script opens first").0.options
 }
 
 /// 1: left and right faults in one turn arise side by side; SCOPE says 8.

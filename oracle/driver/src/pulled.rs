@@ -3,7 +3,7 @@
 use std::collections::VecDeque;
 
 use judges::rules::Rules;
-use judges::script::{Answer, Call, Judge, Open, Ran, Stop};
+use judges::script::{Answer, Call, Judge, Open, Options, Ran, Stop};
 
 /// Words enough for all frames of a script, in an area or an output.
 pub const ROOM: usize = 1 << 13;
@@ -88,6 +88,7 @@ impl Judge for Pulled {
             Call::Open(o) => {
                 return self.rules.call(&Call::Open(Open { left_words: ROOM, right_words: ROOM, ..o.clone() }));
             },
+            Call::Opens(..) => return self.rules.call(&Call::Opens(ROOM, ROOM)),
             Call::Move(..) => {},
             Call::Right(words) if self.right_open() => self.waiting.push_back(words.clone()),
             Call::Turn(output) => return self.turn(*output),
@@ -104,9 +105,10 @@ impl Judge for Pulled {
 
 /// What the rules write where all left frames wait, right frames come as they are wanted, and right ends once there is no
 /// more; and the order fault that stopped it, if one did.
-pub fn all_at_once(open: &Open, left: &[Vec<i64>], right: &[Vec<i64>]) -> (Vec<Answer>, Option<u8>) {
+pub fn all_at_once(options: &Options, left: &[Vec<i64>], right: &[Vec<i64>]) -> (Vec<Answer>, Option<u8>) {
     let mut pulled = Pulled { waiting: right.to_vec().into(), ..Pulled::new(true) };
-    pulled.call(&Call::Open(open.clone()));
+    pulled.call(&Call::Options(options.clone()));
+    pulled.call(&Call::Opens(ROOM, ROOM));
     left.iter().for_each(|frame| drop(pulled.rules.call(&Call::Left(frame.clone()))));
     let mut wrote = vec![];
     loop {

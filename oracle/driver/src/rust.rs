@@ -14,7 +14,7 @@ use polars_stream::nodes::joins::asof_join::AsOfJoinNode;
 use polars_stream::pipe::{PhysicalPipe, PortSender};
 use slotmap::Key;
 
-use judges::script::{Answer, Call, Judge, Open, Ran, Stop};
+use judges::script::{Answer, Call, Judge, Options, Ran, Stop, Told};
 
 use crate::{frame, range};
 
@@ -37,15 +37,26 @@ impl Default for Ways {
     }
 }
 
-/// The names of a side's by-columns, its key, and what stands beside it.
+/// The names of a side's by-columns, its key, what it carries, and what stands beside it.
 struct Names {
     by: [PlSmallStr; 4],
     key: PlSmallStr,
+    carried: &'static [PlSmallStr],
     number: Option<PlSmallStr>,
 }
 
 const KEY_LEFT: PlSmallStr = PlSmallStr::from_static("lk");
 const NUMBER: PlSmallStr = PlSmallStr::from_static("rn");
+const CARRIED: [PlSmallStr; 8] = [
+    PlSmallStr::from_static("rc0"),
+    PlSmallStr::from_static("rc1"),
+    PlSmallStr::from_static("rc2"),
+    PlSmallStr::from_static("rc3"),
+    PlSmallStr::from_static("rc4"),
+    PlSmallStr::from_static("rc5"),
+    PlSmallStr::from_static("rc6"),
+    PlSmallStr::from_static("rc7"),
+];
 const LEFT: Names = Names {
     by: [
         PlSmallStr::from_static("lb0"),
@@ -54,9 +65,10 @@ const LEFT: Names = Names {
         PlSmallStr::from_static("lb3"),
     ],
     key: KEY_LEFT,
+    carried: &[],
     number: None,
 };
-/// The right rows' numbers come as one more column, so that the matched rows tell them.
+/// The right rows' numbers come as one more column, so that the matched rows tell them, beside what they carry.
 const RIGHT: Names = Names {
     by: [
         PlSmallStr::from_static("rb0"),
@@ -65,20 +77,27 @@ const RIGHT: Names = Names {
         PlSmallStr::from_static("rb3"),
     ],
     key: PlSmallStr::from_static("rk"),
+    carried: &CARRIED,
     number: Some(NUMBER),
 };
 
 impl Names {
+    /// The columns of the side's frames: its by-columns, its key, and as much as it carries.
+    fn columns(&self, b: usize, carried: usize) -> impl Iterator<Item = PlSmallStr> {
+        let carried = self.carried.iter().copied().take(carried);
+        self.by.into_iter().take(b).chain([self.key]).chain(carried)
+    }
+
     /// The side's schema with b by-columns.
-    fn schema(&self, b: usize) -> SchemaRef {
-        Arc::new(Schema::of_names(self.by[..b].iter().copied().chain([self.key]).chain(self.number)))
+    fn schema(&self, b: usize, carried: usize) -> SchemaRef {
+        Arc::new(Schema::of_names(self.columns(b, carried).chain(self.number)))
     }
 
     /// A frame's words as the Rust's frame, or none where they break SCOPE's frame rule: no such frame can be made.
-    fn frame(&self, words: &[i64], b: usize, first_number: usize) -> Option<DataFrame> {
-        let cells = frame::columns(words, b + 1)?;
+    fn frame(&self, words: &[i64], b: usize, carried: usize, first_number: usize) -> Option<DataFrame> {
+        let cells = frame::columns(words, self.columns(b, carried).count())?;
         let n = cells[0].len();
-        let named = self.by[..b].iter().copied().chain([self.key]).zip(cells);
+        let named = self.columns(b, carried).zip(cells);
         let mut columns: Vec<Column> = named.map(|(name, cells)| Column::new(name, cells)).collect();
         let numbers = || (first_number..first_number + n).map(|i| Some(i as i64)).collect();
         columns.extend(self.number.map(|name| Column::new(name, numbers())));
@@ -112,6 +131,7 @@ pub struct Spoiled {
 /// An open join: the node and what the driver keeps beside it.
 pub struct Join {
     b: usize,
+    carried: usize,
     ways: Ways,
     node: AsOfJoinNode,
     accepted: usize,
@@ -120,13 +140,13 @@ pub struct Join {
     spoiled: Option<Spoiled>,
 }
 
-/// Whether SCOPE refuses these options by 1: it gives them no meaning that a stand-in could have.
-fn refused_by_1(o: &Open) -> bool {
-    o.b > 4 || !(0..=2).contains(&o.strategy) || o.tolerance < -1 || (o.strategy == 2 && !o.eq)
+/// Whether SCOPE refuses these options, by 1 or by 10: it gives them no meaning that a stand-in could have.
+fn refused(o: &Options) -> bool {
+    o.b > 4 || !(0..=2).contains(&o.strategy) || o.tolerance < -1 || (o.strategy == 2 && !o.eq) || o.carried > 8
 }
 
 /// The node of these options.
-fn node(o: &Open) -> AsOfJoinNode {
+fn node(o: &Options) -> AsOfJoinNode {
     let strategy = [AsofStrategy::Backward, AsofStrategy::Forward, AsofStrategy::Nearest][o.strategy as usize];
     let by = |names: &Names| (o.b > 0).then(|| names.by[..o.b].to_vec());
     let flags = |flags: &[bool]| (o.b > 0).then(|| flags.to_vec());
@@ -140,7 +160,7 @@ fn node(o: &Open) -> AsOfJoinNode {
     };
     let args = JoinArgs { how: JoinType::AsOf(Box::new(options)), suffix: None, build_side: None };
     let (descending, nulls_last) = (flags(&o.descending), flags(&o.nulls_last));
-    let (left, right) = (LEFT.schema(o.b), RIGHT.schema(o.b));
+    let (left, right) = (LEFT.schema(o.b, 0), RIGHT.schema(o.b, o.carried as usize));
     AsOfJoinNode::new(left, right, LEFT.key, RIGHT.key, None, None, descending, nulls_last, args)
 }
 
@@ -167,13 +187,24 @@ async fn sink(mut recv: polars_stream::pipe::PortReceiver, sent: &RefCell<Sent>)
 
 impl Join {
     /// A fresh join, or none where SCOPE refuses its options.
-    pub fn open(o: &Open, ways: Ways) -> Option<Self> {
-        (!refused_by_1(o)).then(|| Self::open_any(o, ways))
+    pub fn open(o: &Options, ways: Ways) -> Option<Self> {
+        (!refused(o)).then(|| Self::open_any(o, ways))
     }
 
     /// A fresh join of any options that the Rust takes.
-    pub fn open_any(o: &Open, ways: Ways) -> Self {
-        Join { b: o.b, ways, node: node(o), accepted: 0, right_waiting: vec![], ended: false, spoiled: None }
+    pub fn open_any(o: &Options, ways: Ways) -> Self {
+        let (b, carried) = (o.b, o.carried as usize);
+        Join { b, carried, ways, node: node(o), accepted: 0, right_waiting: vec![], ended: false, spoiled: None }
+    }
+
+    /// A left frame's words as the Rust's frame.
+    fn left_frame(&self, words: &[i64]) -> Option<DataFrame> {
+        LEFT.frame(words, self.b, 0, 0)
+    }
+
+    /// A right frame's words as the Rust's frame; its rows are numbered from this number on.
+    fn right_frame(&self, words: &[i64], first_number: usize) -> Option<DataFrame> {
+        RIGHT.frame(words, self.b, self.carried, first_number)
     }
 
     /// One phase: the node's real tasks between real pipes, with these frames in the left and right pipes; what the
@@ -235,7 +266,7 @@ impl Join {
         match (&sent[..], height, back) {
             ([], None, 0) => Answer::Idle,
             ([], Some(_), 1) if !self.ended => Answer::Wants,
-            ([(seq, df)], Some(n), 0) if df.height() == n => Answer::Wrote(*seq, written(df)),
+            ([(seq, df)], Some(n), 0) if df.height() == n => Answer::Wrote(*seq, written(df, self.carried)),
             _ => panic!("turn: {height:?} rows, {back} frames back, sent {sent:?}"),
         }
     }
@@ -270,7 +301,7 @@ impl Join {
     /// SCOPE 5.8, left: the frame joins the waiting ones. One that SCOPE refuses has no counterpart and is not taken.
     fn left(&mut self, words: &[i64]) {
         if !self.failed() && self.node.hook_state() == 0 {
-            let frame = LEFT.frame(words, self.b, 0);
+            let frame = self.left_frame(words);
             self.node.hook_left_buffer().extend(frame);
         }
     }
@@ -280,7 +311,7 @@ impl Join {
         if self.failed() || self.ended || self.node.hook_state() == 2 {
             return;
         }
-        let Some(df) = RIGHT.frame(words, self.b, self.accepted) else { return };
+        let Some(df) = self.right_frame(words, self.accepted) else { return };
         self.accepted += df.height();
         if self.ways.right_pipe {
             self.right_waiting.push(df);
@@ -333,10 +364,10 @@ impl Join {
     /// All these frames in one phase, and a second one with right ended: what the Rust writes when nobody counts turns, and
     /// what was seen of the order fault that stopped it.
     pub fn burst(&mut self, left: &[Vec<i64>], right: &[Vec<i64>]) -> Option<(Vec<Answer>, Option<Spoiled>)> {
-        let left = left.iter().map(|w| LEFT.frame(w, self.b, 0)).collect::<Option<_>>()?;
+        let left = left.iter().map(|w| self.left_frame(w)).collect::<Option<_>>()?;
         let number = |at: &mut usize, w: &Vec<i64>| {
             *at += w[0] as usize;
-            Some(RIGHT.frame(w, self.b, *at - w[0] as usize))
+            Some(self.right_frame(w, *at - w[0] as usize))
         };
         let right = right.iter().scan(0, number).collect::<Option<_>>()?;
         let mut sent = self.phase(left, right);
@@ -346,7 +377,7 @@ impl Join {
             sent.extend(self.phase(vec![], vec![]));
             spoiled = take_spoiled(sent.len());
         }
-        let wrote = sent.iter().map(|(seq, df)| Answer::Wrote(*seq, written(df))).collect();
+        let wrote = sent.iter().map(|(seq, df)| Answer::Wrote(*seq, written(df, self.carried))).collect();
         Some((wrote, spoiled))
     }
 
@@ -384,12 +415,14 @@ fn take_spoiled(sent: usize) -> Option<Spoiled> {
     (left || right).then_some(Spoiled { left, right, sent })
 }
 
-/// SCOPE 12.5: the words of an answer.
-fn written(df: &DataFrame) -> Vec<i64> {
-    let numbers = df.column(&NUMBER).unwrap().values();
-    let mut out = vec![df.height() as i64, 1];
-    out.extend(numbers.iter().map(|x| x.unwrap_or(0)));
-    out.extend(numbers.iter().map(|x| x.is_some() as i64));
+/// SCOPE 12.5: the words of an answer: of the rows that the Rust took, their numbers and what they carry.
+fn written(df: &DataFrame, carried: usize) -> Vec<i64> {
+    let names = [NUMBER].into_iter().chain(CARRIED).take(1 + carried);
+    let columns: Vec<_> = names.map(|name| df.column(&name).unwrap().values()).collect();
+    let cells = || (0..df.height()).flat_map(|i| columns.iter().map(move |column| column[i]));
+    let mut out = vec![df.height() as i64, 1 + carried as i64];
+    out.extend(cells().map(|x| x.unwrap_or(0)));
+    out.extend(cells().map(|x| x.is_some() as i64));
     out
 }
 
@@ -398,20 +431,29 @@ fn written(df: &DataFrame) -> Vec<i64> {
 pub struct Rust {
     pub ways: Ways,
     pub join: Option<Join>,
+    told: Told,
+}
+
+impl Rust {
+    /// No join yet; one is fed in this way.
+    pub fn fed(ways: Ways) -> Self {
+        Rust { ways, ..Rust::default() }
+    }
 }
 
 impl Judge for Rust {
     /// Opens, or asks the open join; points in intervals need none.
     fn call(&mut self, call: &Call) -> Answer {
-        match (call, &mut self.join) {
-            (Call::Spans(spans), _) => range::answer(spans, range::Ways::default()),
-            (Call::Open(o), join) => {
+        match (call, self.told.opens(call), &mut self.join) {
+            (Call::Spans(spans), ..) => range::answer(spans, range::Ways::default()),
+            (_, Some(Ok(open)), join) => {
                 FAULTS.take();
-                *join = Join::open(o, self.ways);
+                *join = Join::open(&open.options, self.ways);
                 if join.is_some() { Answer::Ok } else { Answer::Nothing }
             },
-            (_, None) => Answer::NoJoin,
-            (call, Some(join)) => join.call(call),
+            (_, Some(Err(answer)), _) => answer,
+            (_, _, None) => Answer::NoJoin,
+            (call, _, Some(join)) => join.call(call),
         }
     }
 }

@@ -4,21 +4,24 @@ use std::collections::BTreeMap;
 use std::fs;
 use std::path::Path;
 
-use judges::generate::{Kind, RECORDED, script};
+use judges::generate::{Kind, RECORDED, script_with_carried, script_without_carried};
 use judges::rules::{Rules, frame_rows};
-use judges::script::{Answer, Call, Open, parse_script};
+use judges::script::{Answer, Call, Options, opening, parse_script, written};
 
 use crate::compare::answers;
 use crate::rust::Rust;
 
 /// The seed of the sample's scripts.
 const SEED: u64 = 20;
-/// How many scripts it holds.
+/// How many scripts it holds that carry nothing, and how many others behind them.
 const SCRIPTS: usize = 2000;
+const CARRYING: usize = 500;
 /// How many scripts at most it takes for one combination of options and event.
 const ENOUGH: usize = 12;
-/// The longest script it takes, in bytes, so that the sample stays small.
-const LONGEST: usize = 260;
+/// The longest script it takes, in bytes, so that the sample stays small; one that carries something may be longer.
+const LONGEST: [usize; 2] = [260, 420];
+/// The longest output of a turn, in words, for which crates/replay has room.
+const OUTPUT: usize = 128;
 
 /// What a call did, as far as the coverage asks.
 fn event(call: &Call, answer: &Answer, state: u8) -> Option<String> {
@@ -26,8 +29,7 @@ fn event(call: &Call, answer: &Answer, state: u8) -> Option<String> {
     Some(match (call, answer) {
         (Call::Turn(_), Answer::Wrote(_, w)) if w[0] == 0 => format!("wrote no row in {mode}"),
         (Call::Turn(_), Answer::Wrote(_, w)) => {
-            let matched = w[2 + w[0] as usize..].contains(&1);
-            format!("wrote {} in {mode}", if matched { "matches" } else { "none" })
+            format!("wrote {} in {mode}", if written(w)[0] > 0 { "matches" } else { "none" })
         },
         (Call::Turn(_), answer) => format!("{answer} in {mode}"),
         (Call::Ports(_), Answer::Ports(_, to)) if *to != state => {
@@ -40,15 +42,15 @@ fn event(call: &Call, answer: &Answer, state: u8) -> Option<String> {
     })
 }
 
-/// Nulls and ends of the 64-bit range in a frame.
-fn cells(call: &Call) -> Vec<&'static str> {
+/// Nulls and ends of the 64-bit range in a frame with b by-columns.
+fn cells(call: &Call, b: usize) -> Vec<&'static str> {
     let (Call::Left(w) | Call::Right(w)) = call else { return vec![] };
     let rows = frame_rows(w[1] as usize, w);
     let mut out = vec![];
-    if rows.iter().any(|r| r.last().unwrap().is_none()) {
+    if rows.iter().any(|r| r[b].is_none()) {
         out.push("null key");
     }
-    if rows.iter().any(|r| r[..r.len() - 1].contains(&None)) {
+    if rows.iter().any(|r| r[..b].contains(&None)) {
         out.push("null group");
     }
     if rows.iter().flatten().any(|c| matches!(c, Some(i64::MIN | i64::MAX))) {
@@ -60,14 +62,21 @@ fn cells(call: &Call) -> Vec<&'static str> {
     out
 }
 
+/// What the matches of a turn brought along.
+fn carried(answer: &Answer) -> Vec<&'static str> {
+    let Answer::Wrote(_, words) = answer else { return vec![] };
+    let [_, values, nulls] = written(words);
+    [(values, "carried value"), (nulls, "carried null")].into_iter().filter(|(n, _)| *n > 0).map(|(_, w)| w).collect()
+}
+
 /// The options' part of a combination.
-fn options(o: &Open) -> String {
+fn options(o: &Options) -> String {
     let strategy = ["Backward", "Forward", "Nearest"][o.strategy as usize];
     format!("{strategy} {} check {}", if o.eq { "eq" } else { "no eq" }, if o.check { "on" } else { "off" })
 }
 
 /// A tolerance's class.
-fn tolerance(o: &Open) -> &'static str {
+fn tolerance(o: &Options) -> &'static str {
     match o.tolerance {
         -1 => "no tolerance",
         0 => "tolerance 0",
@@ -78,11 +87,15 @@ fn tolerance(o: &Open) -> &'static str {
 
 /// All combinations that a script covers: options with events, by-columns with events, and what stands alone.
 fn covers(calls: &[Call], said: &[Answer]) -> Vec<String> {
-    let Call::Open(o) = &calls[0] else { panic!("a script opens first") };
+    let o = &opening(calls).expect("a script opens first").0.options;
     let mut out = vec![];
     let mut state = 0;
     for (call, answer) in calls.iter().zip(said) {
-        for what in event(call, answer, state).into_iter().chain(cells(call).into_iter().map(String::from)) {
+        let shown = cells(call, o.b).into_iter().chain(carried(answer)).map(String::from);
+        for what in event(call, answer, state).into_iter().chain(shown) {
+            if o.carried > 0 {
+                out.push(format!("{} carried columns: {what}", o.carried));
+            }
             out.push(format!("{}: {what}", options(o)));
             out.push(format!("{} by-columns: {what}", o.b));
             out.push(format!("{}: {what}", tolerance(o)));
@@ -99,6 +112,9 @@ fn covers(calls: &[Call], said: &[Answer]) -> Vec<String> {
     out
 }
 
+/// How a script is made from its kind, seed and number.
+type Make = fn(Kind, u64, u64) -> Vec<Call>;
+
 /// A sample: scripts, the Rust's answers, and how often each combination is covered.
 struct Sample {
     scripts: String,
@@ -112,8 +128,11 @@ impl Sample {
     /// by 1 to 7.
     fn offer(&mut self, calls: &[Call], everything: bool) {
         let text: String = calls.iter().map(|c| format!("{c}\n")).collect();
+        let longest = LONGEST[calls.iter().any(|c| matches!(c, Call::Options(_))) as usize];
+        let roomy = |c: &Call| matches!(c, Call::Turn(output) if *output > OUTPUT);
         let ruled = answers(&mut Rules::default(), calls);
-        if text.len() > LONGEST || ruled.iter().any(|a| matches!(a, Answer::Refused(1..=7))) {
+        if text.len() > longest || calls.iter().any(roomy) || ruled.iter().any(|a| matches!(a, Answer::Refused(1..=7)))
+        {
             return;
         }
         let said = answers(&mut Rust::default(), calls);
@@ -128,19 +147,26 @@ impl Sample {
         self.count += 1;
     }
 
-    /// Chooses the sample: first what covers something new, then short scripts of every kind until there are enough.
-    fn choose() -> Self {
-        let mut out = Sample { scripts: String::new(), answers: String::new(), count: 0, coverage: BTreeMap::new() };
-        let offers = |from: u64| (from..).flat_map(|i| RECORDED.map(|kind: Kind| script(kind, SEED, i)));
+    /// Fills the sample up to a count of scripts: first what covers something new, then short scripts of every kind until
+    /// there are enough.
+    fn fill(&mut self, make: Make, count: usize) {
+        let offers = |from: u64| (from..).flat_map(move |i| RECORDED.map(|kind| make(kind, SEED, i)));
         offers(0).take(60_000).for_each(|calls| {
-            if out.count < SCRIPTS {
-                out.offer(&calls, false);
+            if self.count < count {
+                self.offer(&calls, false);
             }
         });
         let mut more = offers(100_000);
-        while out.count < SCRIPTS {
-            out.offer(&more.next().unwrap(), true);
+        while self.count < count {
+            self.offer(&more.next().unwrap(), true);
         }
+    }
+
+    /// Chooses the sample: scripts that carry nothing, which stay as they are, then others.
+    fn choose() -> Self {
+        let mut out = Sample { scripts: String::new(), answers: String::new(), count: 0, coverage: BTreeMap::new() };
+        out.fill(script_without_carried, SCRIPTS);
+        out.fill(script_with_carried, SCRIPTS + CARRYING);
         out
     }
 }
@@ -167,7 +193,7 @@ pub fn recorded(folder: &Path) -> Result<Vec<Recorded>, String> {
     let (scripts, said) = (read("scripts.txt")?, read("answers.txt")?);
     let mut out: Vec<Recorded> = vec![];
     for (call, answer) in parse_script(&scripts)?.into_iter().zip(said.lines()) {
-        if matches!(call, Call::Open(_)) {
+        if matches!(call, Call::Open(_) | Call::Options(_)) {
             out.push((vec![], vec![]));
         }
         let (calls, answers) = out.last_mut().ok_or("the sample does not begin with open")?;
@@ -188,6 +214,6 @@ pub fn replay(folder: &Path) -> Result<String, String> {
     } else if text(answers(&mut Rules::default(), &calls)) != recorded {
         return Err("the rules' answers are not the recorded ones".into());
     }
-    let opens = calls.iter().filter(|c| matches!(c, Call::Open(_))).count();
+    let opens = calls.iter().filter(|c| matches!(c, Call::Open(_) | Call::Opens(..))).count();
     Ok(format!("{opens} scripts, {} calls: the Rust and the rules answer as recorded", calls.len()))
 }

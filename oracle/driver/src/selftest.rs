@@ -4,9 +4,9 @@ use std::fmt;
 use std::time::Instant;
 
 use judges::exhaustive;
-use judges::generate::{COMPARED, Kind, script, script_with_runs};
+use judges::generate::{COMPARED, Kind, script, script_with_runs, script_without_carried};
 use judges::rules::{Rules, frame_rows};
-use judges::script::{Answer, Call, Judge, Open, parse_script};
+use judges::script::{Answer, Call, Judge, Options, opening, parse_script, written};
 use judges::whole_table::{self, Counts};
 
 use crate::compare::{self, Difference, Tally};
@@ -40,7 +40,7 @@ fn cases(text: &str) -> Step {
     let (mut rust, mut rules, mut parted, mut asked) = (Rust::default(), Rules::default(), false, 0);
     for (call, want) in calls.iter().zip(&expected) {
         let (said, ruled) = (rust.call(call), rules.call(call));
-        parted &= !matches!(call, Call::Open(_));
+        parted &= !matches!(call, Call::Open(_) | Call::Opens(..));
         let known = !parted && !compare::no_counterpart(&ruled);
         if ruled.to_string() != *want || (known && !compare::agrees(&said, &ruled)) {
             return Err(format!("{call}: wanted {want}, the Rust says {said}, the rules say {ruled}"));
@@ -66,18 +66,26 @@ pub fn move_cases() -> Step {
     cases(include_str!("../moves.txt"))
 }
 
-/// SCOPE 2.2: a frame has at most 4,096 rows.
+/// SCOPE 2.2: a frame has at most 4,096 rows, however many columns the right ones carry.
 pub fn longest_frames() -> Step {
-    let frame = |n: i64| [vec![n, 1], (0..n).collect(), vec![1; n as usize]].concat();
-    let open = parse_script("open 0 0 1 -1 1 8194 8192")?;
-    let turn = Call::Turn(8194);
-    let calls = [open, vec![Call::Right(frame(4096)), Call::Left(frame(4096)), Call::End, turn]].concat();
-    let mut tally = Tally::default();
-    compare::with_rules(&calls, Ways::default(), &mut tally).map_err(|d| format!("{d:?}"))?;
-    let mut rules = Rules::default();
-    let said = compare::answers(&mut rules, &[calls[0].clone(), Call::Left(frame(4097)), Call::Right(frame(4097))]);
-    if tally.matched != 4096 || said[1..] != [Answer::Refused(5), Answer::Refused(5)] {
-        return Err(format!("4,096 rows: {} matched; 4,097 rows: {} {}", tally.matched, said[1], said[2]));
+    let frame = |n: i64, c: i64| [vec![n, c], (0..n * c).map(|i| i / c).collect(), vec![1; (n * c) as usize]].concat();
+    for p in [0, 1, 8] {
+        let c = 1 + p;
+        let mut calls = parse_script(&format!("options 0 0 1 -1 1 {p} 0 0 0 0\nopens 8194 {}", 8192 * c))?;
+        let opens = calls.clone();
+        let turn = Call::Turn(2 + 8192 * c as usize);
+        calls.extend([Call::Right(frame(4096, c)), Call::Left(frame(4096, 1)), Call::End, turn]);
+        let mut tally = Tally::default();
+        compare::with_rules(&calls, Ways::default(), &mut tally).map_err(|d| format!("{d:?}"))?;
+        let mut rules = Rules::default();
+        compare::answers(&mut rules, &opens);
+        let said = [Call::Left(frame(4097, 1)), Call::Right(frame(4097, c))].map(|call| rules.call(&call));
+        if tally.matched != 4096
+            || tally.carried != [4096 * p as u64, 0]
+            || said != [Answer::Refused(5), Answer::Refused(5)]
+        {
+            return Err(format!("4,096 rows: {} matched; 4,097 rows: {} {}", tally.matched, said[0], said[1]));
+        }
     }
     Ok("4,096 rows match, 4,097 are refused".into())
 }
@@ -105,13 +113,13 @@ pub fn judges(seed: u64, count: u64) -> Step {
     for kind in COMPARED.into_iter().chain([Kind::Refusals]) {
         (0..count).try_for_each(|i| rules_by_whole_table(kind, seed, i, &mut all))?;
     }
-    let Counts { scripts, sorted, rows, whole, matched, faults, .. } = all;
-    if [sorted, whole, matched, faults, rows - whole, scripts - sorted].contains(&0) {
+    let Counts { scripts, sorted, rows, whole, matched, carried, faults, .. } = all;
+    if [sorted, whole, matched, carried, faults, rows - whole, scripts - sorted].contains(&0) {
         return Err("nothing was tested".into());
     }
     let said =
         format!("{scripts} scripts, {sorted} sorted; {rows} rows, {matched} matched, {whole} as the whole table gives");
-    Ok(format!("{said} and the others qualify; {faults} order faults where they are due"))
+    Ok(format!("{said} and the others qualify; {carried} carried cells; {faults} order faults where they are due"))
 }
 
 /// The rules' answers to one script, by the whole-table judge.
@@ -156,12 +164,47 @@ pub fn all_kinds(seed: u64, count: u64) -> Step {
     }
     let [continuity, frame, held, split] = all.faults;
     let reached = [all.matched, all.wants, all.idle, all.in_flush, continuity, frame, held];
-    if reached.contains(&0) || all.states.contains(&0) {
+    if reached.contains(&0) || all.states.contains(&0) || all.carried.contains(&0) {
         return Err("nothing was tested".into());
     } else if split != 0 {
         return Err("a fault at the split alone, which docs/DIFFERENCES.md calls impossible".into());
     }
     Ok(format!("{all}"))
+}
+
+/// A written turn's words without what is carried: n, 1, n right numbers, n marks.
+fn numbers_alone(words: &[i64]) -> Vec<i64> {
+    let (n, c) = (words[0], words[1] as usize);
+    [n, 1].into_iter().chain(words[2..].iter().copied().step_by(c)).collect()
+}
+
+/// SCOPE 12.7: what is carried changes nothing else. The same scripts with and without carried columns, by the step rules: the
+/// same matches and answers, and after each call the same join.
+pub fn carried(seed: u64, count: u64) -> Step {
+    let (mut rows, mut cells) = (0, 0);
+    for (kind, i) in COMPARED.into_iter().flat_map(|kind| (0..count).map(move |i| (kind, i))) {
+        let [with, without] = [script(kind, seed, i), script_without_carried(kind, seed, i)];
+        let (mut rules, mut plain) = (Rules::default(), Rules::default());
+        let lines = opening(&with).expect("a script opens first").1;
+        compare::answers(&mut rules, &with[..lines - 1]);
+        if with.len() != without.len() + lines - 1 {
+            return Err(failure("another script without carried columns", &with, &format!("{kind:?} {i}")));
+        }
+        for (call, other) in with[lines - 1..].iter().zip(&without) {
+            let (mut said, alone) = (rules.call(call), plain.call(other));
+            if let Answer::Wrote(_, words) = &mut said {
+                (rows, cells) = (rows + words[0], cells + words[0] * (words[1] - 1));
+                *words = numbers_alone(words);
+            }
+            if said != alone || rules.look() != plain.look() {
+                return Err(failure("what is carried changes more", &with, &format!("{call}: {said}, else {alone}")));
+            }
+        }
+    }
+    if cells == 0 {
+        return Err("nothing was tested".into());
+    }
+    Ok(format!("{rows} rows written, with {cells} carried cells: everything else is as without"))
 }
 
 /// Scripts with large tables, every second one with runs: by the step rules and by the whole-table judge. Longest frames must
@@ -178,7 +221,8 @@ pub fn large(seed: u64, count: u64) -> Step {
         longest[1] += full(|c| matches!(c, Call::Right(w) if w[0] == 4096));
     }
     let rows = tally.rows + tally.runs.rows;
-    if longest.contains(&0) || tally.judged.whole == 0 || tally.judged.matched == 0 || tally.judged.matched == rows {
+    let judged = &tally.judged;
+    if longest.contains(&0) || [judged.whole, judged.matched, judged.carried, rows - judged.matched].contains(&0) {
         return Err("nothing was tested".into());
     }
     Ok(format!("{tally}; frames of 4,096 rows: {} left, {} right", longest[0], longest[1]))
@@ -285,16 +329,16 @@ impl Bursts {
 
     /// All left and right frames of a script in one phase, as the Rust runs them when nobody counts turns.
     fn script(&mut self, calls: &[Call], sorted: bool) -> Result<(), String> {
-        let [Call::Open(open), rest @ ..] = calls else { panic!("a script opens first") };
-        let frames = |pick: fn(&Call) -> Option<&Vec<i64>>| rest.iter().filter_map(pick).cloned().collect::<Vec<_>>();
+        let options = opening(calls).expect("a script opens first").0.options;
+        let frames = |pick: fn(&Call) -> Option<&Vec<i64>>| calls.iter().filter_map(pick).cloned().collect::<Vec<_>>();
         let left = frames(|c| if let Call::Left(w) = c { Some(w) } else { None });
         let right = frames(|c| if let Call::Right(w) = c { Some(w) } else { None });
         let ways = Ways { pipelines: 3, ..Ways::default() };
-        let mut join = crate::rust::Join::open(open, ways).ok_or("refused")?;
+        let mut join = crate::rust::Join::open(&options, ways).ok_or("refused")?;
         let (wrote, spoiled) = join.burst(&left, &right).ok_or("no frame")?;
-        let (ruled, fault) = all_at_once(open, &left, &right);
+        let (ruled, fault) = all_at_once(&options, &left, &right);
         self.compare(&wrote, spoiled, &ruled, fault)?;
-        if sorted { by_whole_table(open, left, right, wrote) } else { Ok(()) }
+        if sorted { by_whole_table(options, left, right, wrote) } else { Ok(()) }
     }
 
     /// Without a fault the Rust wrote what the rules wrote. With one, what it wrote of the frames before is the same: its
@@ -337,22 +381,22 @@ impl fmt::Display for Bursts {
 /// How many rows a turn matched.
 fn matches(answer: &Answer) -> u64 {
     let Answer::Wrote(_, words) = answer else { return 0 };
-    words[2 + words[0] as usize..].iter().sum::<i64>() as u64
+    written(words)[0]
 }
 
 /// What a sorted script wrote where all its frames came in one phase, by the whole-table rule.
-fn by_whole_table(open: &Open, left: Vec<Vec<i64>>, right: Vec<Vec<i64>>, wrote: Vec<Answer>) -> Result<(), String> {
+fn by_whole_table(o: Options, left: Vec<Vec<i64>>, right: Vec<Vec<i64>>, wrote: Vec<Answer>) -> Result<(), String> {
     let handed = left.into_iter().map(Call::Left).chain(right.into_iter().map(Call::Right));
     let turns = vec![Call::Turn(ROOM); wrote.len()];
-    let open = Open { left_words: ROOM, right_words: ROOM, ..open.clone() };
-    let calls: Vec<Call> = [Call::Open(open)].into_iter().chain(handed).chain(turns).collect();
+    let opens = [Call::Options(o), Call::Opens(ROOM, ROOM)];
+    let calls: Vec<Call> = opens.into_iter().chain(handed).chain(turns).collect();
     let oks = vec![Answer::Ok; calls.len() - wrote.len()];
     whole_table::judge_whole(&calls, &[oks, wrote].concat()).map(|_| ())
 }
 
 /// SCOPE 15.12 and 16.1: the rules' own promises, over scripts full of refusals.
 pub fn refusals(seed: u64, count: u64) -> Step {
-    let mut refused = [0u64; 10];
+    let mut refused = [0u64; 11];
     for i in 0..count {
         let calls = script(Kind::Refusals, seed, i);
         let judged = keeps_count(&calls, &mut refused);
@@ -360,22 +404,24 @@ pub fn refusals(seed: u64, count: u64) -> Step {
             .and_then(|_| whole_table::judge(&calls, &compare::answers(&mut Rules::default(), &calls)).map(|_| ()));
         judged.map_err(|why| failure(&format!("refusals, seed {seed}, script {i}"), &calls, &why))?;
     }
-    if [1, 3, 4, 5, 6, 8, 9].iter().any(|n| refused[*n] == 0) {
+    if [1, 3, 4, 5, 6, 8, 9, 10].iter().any(|n| refused[*n] == 0) {
         return Err(format!("a refusal never came: {refused:?}"));
     }
-    Ok(format!("{count} scripts, refused by 1 to 9: {:?} (2 and 7 cannot be reached by scripts)", &refused[1..]))
+    Ok(format!("{count} scripts, refused by 1 to 10: {:?} (2 and 7 cannot be reached by scripts)", &refused[1..]))
 }
 
 /// Counts one script's accepted rows beside the rules.
-fn keeps_count(calls: &[Call], refused: &mut [u64; 10]) -> Result<(), String> {
+fn keeps_count(calls: &[Call], refused: &mut [u64; 11]) -> Result<(), String> {
     let mut rules = Rules::default();
     let (mut right, mut left, mut written, mut waiting) = (0, 0, 0, std::collections::VecDeque::new());
     for call in calls {
         let before = rules.look().cloned();
         let answer = rules.call(call);
         let Some(look) = rules.look() else {
-            refused[1] += 1;
-            return Ok(());
+            if let Answer::Refused(n) = answer {
+                refused[n as usize] += 1;
+            }
+            continue;
         };
         match (call, &answer) {
             (Call::Right(w), Answer::Ok) => right += frame_rows(w[1] as usize, w).len() as u64,
@@ -429,6 +475,7 @@ pub fn all(seed: u64, count: u64) -> bool {
         ("whole-table rule", Box::new(move || whole(seed, 2 * count, Ways::default()))),
         ("the two judges", Box::new(move || judges(seed, count))),
         ("step rules", Box::new(move || all_kinds(seed, count))),
+        ("carried columns", Box::new(move || carried(seed, count))),
         ("runs", Box::new(move || runs(seed, count))),
         ("large tables", Box::new(move || large(seed, 12.max(count / 200)))),
         ("ways of feeding", Box::new(move || ways(seed, count / 8))),

@@ -1,5 +1,5 @@
 //! Short scripts, all of them: every small table under every option, and every pair of port calls.
-use crate::script::{Call, Open};
+use crate::script::{Call, Open, Options};
 
 /// A row of one or two cells.
 type Row = Vec<Option<i64>>;
@@ -14,17 +14,25 @@ fn all_rows(b: usize, values: i64) -> Vec<Row> {
     rows
 }
 
-/// All tables of up to this many of these rows, as frames' words.
-fn all_frames(rows: &[Row], most: usize) -> Vec<Vec<i64>> {
+/// A cell that row i carries in column j: each row others, nulls among them.
+fn carried_cell(i: usize, j: usize) -> Option<i64> {
+    ((i + j) % 3 != 2).then_some(7 - 5 * i as i64 + j as i64)
+}
+
+/// All tables of up to this many of these rows, as frames' words, with so many carried cells behind each row.
+fn all_frames(rows: &[Row], most: usize, carried: usize) -> Vec<Vec<i64>> {
     let mut tables: Vec<Vec<&Row>> = vec![vec![]];
     let mut last = tables.clone();
     for _ in 0..most {
         last = last.iter().flat_map(|t| rows.iter().map(|r| [t.as_slice(), &[r]].concat())).collect();
         tables.extend(last.iter().cloned());
     }
-    let c = rows[0].len() as i64;
+    let c = (rows[0].len() + carried) as i64;
+    let row =
+        |(i, r): (usize, &&Row)| (*r).iter().copied().chain((0..carried).map(move |j| carried_cell(i, j))).collect();
     let frame = |t: &Vec<&Row>| {
-        let cells = || t.iter().flat_map(|r| r.iter());
+        let t: Vec<Row> = t.iter().enumerate().map(row).collect();
+        let cells = || t.iter().flatten();
         let mut out = vec![t.len() as i64, c];
         out.extend(cells().map(|x| x.unwrap_or(0)));
         out.extend(cells().map(|x| x.is_some() as i64));
@@ -33,24 +41,23 @@ fn all_frames(rows: &[Row], most: usize) -> Vec<Vec<i64>> {
     tables.iter().map(frame).collect()
 }
 
-/// All options with b by-columns, at most one, and these tolerances; the areas are enough for one small frame a side.
-fn all_options(b: usize, tolerances: &[i64]) -> Vec<Open> {
+/// All options with b by-columns, at most one, these tolerances and so many carried columns.
+fn all_options(b: usize, tolerances: &[i64], carried: u64) -> Vec<Options> {
     let mut out = vec![];
     for bits in 0..2 << (2 * b) {
         let on = |i: usize| bits >> i & 1 == 1;
         for (strategy, eq) in [(0, true), (0, false), (1, true), (1, false), (2, true)] {
             for tolerance in tolerances {
                 let (descending, nulls_last) = ((0..b).map(|j| on(1 + 2 * j)), (0..b).map(|j| on(2 + 2 * j)));
-                out.push(Open {
+                out.push(Options {
                     b,
                     strategy,
                     eq,
                     tolerance: *tolerance,
                     check: on(0),
+                    carried,
                     descending: descending.collect(),
                     nulls_last: nulls_last.collect(),
-                    left_words: 64,
-                    right_words: 64,
                 });
             }
         }
@@ -58,18 +65,35 @@ fn all_options(b: usize, tolerances: &[i64]) -> Vec<Open> {
     out
 }
 
+/// Opens with areas that are enough for one small frame a side.
+fn opens(options: &Options) -> Vec<Call> {
+    let open = Open { options: options.clone(), left_words: 64, right_words: 64 };
+    open.calls(options.carried == 0)
+}
+
 /// One right frame, one left frame, a turn with right open and one with right ended.
-fn one_frame_each(open: &Open, left: &[i64], right: &[i64]) -> Vec<Call> {
-    let turn = || Call::Turn(2 + 2 * left[0] as usize);
+fn one_frame_each(o: &Options, left: &[i64], right: &[i64]) -> Vec<Call> {
+    let turn = || Call::Turn(2 + 2 * left[0] as usize * (1 + o.carried as usize));
     let (left, right) = (Call::Left(left.to_vec()), Call::Right(right.to_vec()));
-    vec![Call::Open(open.clone()), right, left, turn(), Call::End, turn()]
+    opens(o).into_iter().chain([right, left, turn(), Call::End, turn()]).collect()
+}
+
+/// What the tables of short scripts are made of.
+struct Small<'a> {
+    b: usize,
+    /// Cells are null or numbers below this.
+    values: i64,
+    /// The most rows, left and right.
+    most: [usize; 2],
+    tolerances: &'a [i64],
+    carried: usize,
 }
 
 /// Hands every script of all small tables to `each`, until it says stop.
-fn tables(b: usize, values: i64, most: [usize; 2], tolerances: &[i64], each: &mut dyn FnMut(&[Call]) -> bool) -> bool {
-    let rows = all_rows(b, values);
-    let [left, right] = most.map(|n| all_frames(&rows, n));
-    let scripts = all_options(b, tolerances).into_iter().flat_map(|o| {
+fn tables(s: Small, each: &mut dyn FnMut(&[Call]) -> bool) -> bool {
+    let rows = all_rows(s.b, s.values);
+    let (left, right) = (all_frames(&rows, s.most[0], 0), all_frames(&rows, s.most[1], s.carried));
+    let scripts = all_options(s.b, s.tolerances, s.carried as u64).into_iter().flat_map(|o| {
         let right = &right;
         left.iter().flat_map(move |l| right.iter().map(move |r| (l, r))).map(move |(l, r)| one_frame_each(&o, l, r))
     });
@@ -79,18 +103,23 @@ fn tables(b: usize, values: i64, most: [usize; 2], tolerances: &[i64], each: &mu
 /// Every pair of port calls, with a frame waiting or none, and a turn after them.
 fn ports(each: &mut dyn FnMut(&[Call]) -> bool) -> bool {
     let all: Vec<[u8; 3]> = (0..27).map(|i| [i / 9, i / 3 % 3, i % 3]).collect();
-    let open = &all_options(0, &[-1])[0];
+    let open = opens(&all_options(0, &[-1], 0)[0]);
     let pairs = all.iter().flat_map(|p| all.iter().map(move |q| (p, q)));
     let mut scripts = pairs.flat_map(|(p, q)| [false, true].map(|waits| (p, q, waits)));
     scripts.all(|(p, q, waits)| {
-        let mut calls = vec![Call::Open(open.clone())];
+        let mut calls = open.clone();
         calls.extend(waits.then(|| Call::Left(vec![0, 1])));
         calls.extend([Call::Ports(*p), Call::Turn(2), Call::Ports(*q), Call::Turn(2), Call::Ports(*p)]);
         each(&calls)
     })
 }
 
-/// All of it: without by-columns keys null, 0, 1, 2; with one by-column groups and keys null, 0, 1.
+/// All of it: without by-columns keys null, 0, 1, 2; with one by-column groups and keys null, 0, 1; the same with fewer rows
+/// and one or two carried columns.
 pub fn all(each: &mut dyn FnMut(&[Call]) -> bool) -> bool {
-    ports(each) && tables(0, 3, [2, 3], &[-1, 0, 1], each) && tables(1, 2, [1, 2], &[-1], each)
+    let keys = Small { b: 0, values: 3, most: [2, 3], tolerances: &[-1, 0, 1], carried: 0 };
+    let groups = Small { b: 1, values: 2, most: [1, 2], tolerances: &[-1], carried: 0 };
+    let prices = Small { most: [2, 2], tolerances: &[-1, 0], carried: 2, ..keys };
+    let group_prices = Small { most: [1, 1], carried: 1, ..groups };
+    ports(each) && [keys, groups, prices, group_prices].into_iter().all(|small| tables(small, each))
 }

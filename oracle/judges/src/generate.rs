@@ -1,7 +1,8 @@
 //! Random scripts, made from a seed and a number alone, so that every one can be made again.
 use crate::rules::Rules;
-use crate::script::{Answer, Call, Judge, Open, Place};
+use crate::script::{Answer, Call, Judge, Open, Options, Place, opening};
 use crate::whole_table::{self, Row};
+use crate::words::{CARRIED, CHECK, COUNTERS, ENDED, PRUNED, QUEUE_START, ROWS, SEQUENCE, STATE};
 
 /// What a script is made to reach.
 #[derive(Clone, Copy, Debug, PartialEq)]
@@ -55,7 +56,13 @@ impl Random {
         Self::of_family(seed, kind as u64 + 1, number)
     }
 
-    /// The source of a number among a seed's scripts of a family: kinds of scripts over joins have 1 to 10.
+    /// The source of what a script carries: another one than that of its calls, which are the same whatever it carries.
+    fn of_carried(seed: u64, kind: Kind, number: u64) -> Self {
+        Self::of_family(seed, kind as u64 + 65, number)
+    }
+
+    /// The source of a number among a seed's scripts of a family: kinds of scripts over joins have 1 to 10, what they carry
+    /// 65 to 74.
     pub(crate) fn of_family(seed: u64, family: u64, number: u64) -> Self {
         let mut out = Random(seed ^ (family << 56));
         out.0 = out.next() ^ number.wrapping_mul(0x9E37_79B9_7F4A_7C15);
@@ -122,7 +129,7 @@ enum Arrangement {
 
 /// What a script's tables are made of.
 struct Shape {
-    open: Open,
+    options: Options,
     keys: Pool,
     groups: Pool,
     null_keys: usize,
@@ -143,19 +150,18 @@ fn tolerance(r: &mut Random, keys: Pool) -> i64 {
     }
 }
 
-/// Options with this many by-columns; the areas are set once the frames are known.
-fn open(r: &mut Random, b: usize, keys: Pool) -> Open {
+/// Options with this many by-columns that carry nothing.
+fn options(r: &mut Random, b: usize, keys: Pool) -> Options {
     let strategy = r.below(3) as i64;
-    Open {
+    Options {
         b,
         strategy,
         eq: strategy == 2 || r.percent(60),
         tolerance: tolerance(r, keys),
         check: r.percent(50),
+        carried: 0,
         descending: (0..b).map(|_| r.percent(50)).collect(),
         nulls_last: (0..b).map(|_| r.percent(50)).collect(),
-        left_words: 0,
-        right_words: 0,
     }
 }
 
@@ -176,13 +182,13 @@ fn shape(r: &mut Random, kind: Kind) -> Shape {
         3 | 4 => Pool::Below(2),
         _ => r.pick(&[Pool::Below(2), Pool::Below(3)]),
     };
-    let mut open = open(r, b, keys);
+    let mut options = options(r, b, keys);
     let (mut null_keys, mut null_groups) = (r.pick(&[0, 0, 10, 30]), r.pick(&[0, 0, 10, 25]));
     match kind {
         Kind::NullsLast => {
-            (open.nulls_last[0], open.check, null_groups) = (true, r.percent(15), 30);
+            (options.nulls_last[0], options.check, null_groups) = (true, r.percent(15), 30);
         },
-        Kind::Order => (open.check, null_keys) = (true, r.pick(&[0, 20, 40])),
+        Kind::Order => (options.check, null_keys) = (true, r.pick(&[0, 20, 40])),
         _ => {},
     }
     let rows = match kind {
@@ -190,7 +196,7 @@ fn shape(r: &mut Random, kind: Kind) -> Shape {
         _ if r.percent(2) => 60,
         _ => r.pick(&[3, 6, 10, 16, 24]),
     };
-    Shape { open, keys, groups, null_keys, null_groups, least: 0, rows }
+    Shape { options, keys, groups, null_keys, null_groups, least: 0, rows }
 }
 
 /// The shape of a script with large tables: few groups or many, keys in long runs or seldom equal.
@@ -200,14 +206,14 @@ fn large_shape(r: &mut Random) -> Shape {
     let keys = r.pick(&keys);
     let groups = r.pick(&[Pool::Below(1), Pool::Below(2), Pool::Below(3), Pool::Below(60), Pool::Ends]);
     let (null_keys, null_groups) = (r.pick(&[0, 0, 1, 10, 60]), r.pick(&[0, 0, 1, 10]));
-    let (open, rows) = (open(r, b, keys), r.pick(&[4000, 7000, 9000, 12_000]));
-    Shape { open, keys, groups, null_keys, null_groups, least: 1500, rows }
+    let (options, rows) = (options(r, b, keys), r.pick(&[4000, 7000, 9000, 12_000]));
+    Shape { options, keys, groups, null_keys, null_groups, least: 1500, rows }
 }
 
 /// A row of the shape.
 fn row(r: &mut Random, s: &Shape) -> Row {
     let mut out: Row = vec![];
-    for _ in 0..s.open.b {
+    for _ in 0..s.options.b {
         out.push(if r.percent(s.null_groups) { None } else { Some(s.groups.value(r)) });
     }
     out.push(if r.percent(s.null_keys) { None } else { Some(s.keys.value(r)) });
@@ -219,7 +225,7 @@ fn table(r: &mut Random, s: &Shape, how: Arrangement) -> Vec<Row> {
     let count = s.least + r.below(s.rows - s.least + 1);
     let mut rows: Vec<Row> = (0..count).map(|_| row(r, s)).collect();
     if how != Arrangement::Unsorted {
-        whole_table::sort(&s.open, &mut rows);
+        whole_table::sort(&s.options, &mut rows);
     }
     if how == Arrangement::Nearly && !rows.is_empty() {
         let (i, j) = (r.below(rows.len()), r.below(rows.len()));
@@ -230,6 +236,46 @@ fn table(r: &mut Random, s: &Shape, how: Arrangement) -> Vec<Row> {
         }
     }
     rows
+}
+
+/// What a script carries.
+struct Carried {
+    r: Random,
+    p: usize,
+    /// Whether one line opens the join, which can only say that nothing is carried.
+    one_line: bool,
+}
+
+impl Carried {
+    /// Nothing, as one line says.
+    fn nothing(seed: u64, kind: Kind, number: u64) -> Self {
+        Carried { r: Random::of_carried(seed, kind, number), p: 0, one_line: true }
+    }
+
+    /// Up to eight columns, often few, and at least so many.
+    fn at_least(least: usize, seed: u64, kind: Kind, number: u64) -> Self {
+        let mut r = Random::of_carried(seed, kind, number);
+        let p = if r.percent(12) { 4 + r.below(5) } else { r.pick(&[0, 0, 0, 1, 1, 1, 2, 2, 2, 3]) }.max(least);
+        let one_line = p == 0 && r.percent(50);
+        Carried { r, p, one_line }
+    }
+
+    /// Puts carried cells behind the right rows, in no order: nulls, small numbers, any 64 bits and both ends of their range.
+    fn carry(&mut self, right: &mut [Row]) {
+        let pools = [Pool::Below(3), Pool::Below(1000), Pool::Ends, Pool::Any];
+        let (pool, nulls) = (self.r.pick(&pools), self.r.pick(&[0, 10, 40, 100]));
+        for row in right {
+            for _ in 0..self.p {
+                row.push(if self.r.percent(nulls) { None } else { Some(pool.value(&mut self.r)) });
+            }
+        }
+    }
+
+    /// More columns than can be carried: one more, or so many that a width that counts them is no 64-bit number.
+    fn too_many(&mut self) -> u64 {
+        const MANY: [u64; 6] = [10, 1 << 32, i64::MAX as u64, 1 << 63, u64::MAX - 5, u64::MAX];
+        if self.r.percent(50) { 9 } else { self.r.pick(&MANY) }
+    }
 }
 
 /// A frame's words.
@@ -276,9 +322,17 @@ fn cut_large(r: &mut Random, rows: &[Row], c: usize) -> Vec<Vec<i64>> {
     frames
 }
 
+/// The columns of left frames, and of right ones.
+fn columns(o: &Options) -> [usize; 2] {
+    [o.b + 1, o.b + 1 + o.carried as usize]
+}
+
 /// What is still to be handed in, and the script so far. The rules' join stands beside it, to know when a turn would be
 /// idle and what SCOPE refuses.
 struct Draft {
+    /// What the join is opened with, and whether in one line.
+    open: Open,
+    one_line: bool,
     left: Vec<Vec<i64>>,
     right: Vec<Vec<i64>>,
     output: usize,
@@ -290,17 +344,27 @@ struct Draft {
 
 impl Draft {
     /// Cuts both tables, and opens with areas for all of them, so that 6 never arises.
-    fn new(r: &mut Random, mut s: Shape, tables: [&[Row]; 2], cut: Cut) -> Self {
-        let c = s.open.b + 1;
-        let [mut left, mut right] = tables.map(|rows| cut(r, rows, c));
-        s.open.left_words = left.iter().map(Vec::len).sum();
-        s.open.right_words = right.iter().map(|f| 2 * c * f[0] as usize).sum();
-        let output = 2 + 2 * left.iter().map(|f| f[0] as usize).max().unwrap_or(0);
+    fn new(r: &mut Random, options: Options, tables: [&[Row]; 2], cut: Cut, one_line: bool) -> Self {
+        let [left_columns, right_columns] = columns(&options);
+        let (mut left, mut right) = (cut(r, tables[0], left_columns), cut(r, tables[1], right_columns));
+        let left_words = left.iter().map(Vec::len).sum();
+        let right_words = right.iter().map(|f| 2 * right_columns * f[0] as usize).sum();
+        let longest = left.iter().map(|f| f[0] as usize).max().unwrap_or(0);
+        let output = 2 + 2 * longest * (1 + options.carried as usize);
         left.reverse();
         right.reverse();
-        let mut out = Draft { left, right, output, calls: vec![], rules: Rules::default(), keep_refused: false };
-        out.push(Call::Open(s.open));
+        let open = Open { options, left_words, right_words };
+        let (calls, rules, keep_refused) = (vec![], Rules::default(), false);
+        let mut out = Draft { open, one_line, left, right, output, calls, rules, keep_refused };
+        out.open();
         out
+    }
+
+    /// Begins the script anew, with what the join is opened with.
+    fn open(&mut self) {
+        self.calls.clear();
+        let calls = self.open.clone().calls(self.one_line);
+        calls.into_iter().for_each(|call| self.push(call));
     }
 
     /// Adds a call, unless SCOPE refuses it and such calls are left out.
@@ -455,26 +519,39 @@ pub(crate) fn broken_frame(r: &mut Random, c: usize) -> Vec<i64> {
     out
 }
 
-/// Other options than a draft began with: small areas, and now and then ones that SCOPE refuses.
-fn small_open(r: &mut Random, mut o: Open) -> Open {
-    o.left_words = r.below(o.left_words + 8);
-    o.right_words = r.below(o.right_words + 8);
-    match r.below(40) {
+/// A frame that a side may refuse: one that breaks the frame rule, or one with the other side's columns.
+fn bad_frame(r: &mut Random, [own, other]: [usize; 2]) -> Vec<i64> {
+    if r.percent(30) {
+        return words(&vec![vec![Some(1); other]; r.below(3)], other);
+    }
+    broken_frame(r, own)
+}
+
+/// Other options than a draft began with: small areas, and now and then ones that SCOPE refuses. The frames stay as they are.
+fn small_open(r: &mut Random, d: &mut Draft, carried: &mut Carried) {
+    let Open { options: o, left_words, right_words } = &mut d.open;
+    (*left_words, *right_words) = (r.below(*left_words + 8), r.below(*right_words + 8));
+    let change = r.below(40);
+    match change {
         0 => o.strategy = r.pick(&[-1, 3]),
         1 => o.tolerance = r.pick(&[-2, i64::MIN]),
         2 => (o.strategy, o.eq) = (2, false),
         _ => {},
     }
-    o
+    // Both refusals of an opening too: of two that apply the first counts.
+    if change == 3 || change == 4 || (change < 3 && carried.r.percent(30)) {
+        (o.carried, d.one_line) = (carried.too_many(), false);
+    }
 }
 
 /// Any call, also ones that SCOPE refuses.
-fn any_call(r: &mut Random, d: &mut Draft, c: usize) {
+fn any_call(r: &mut Random, d: &mut Draft, columns: [usize; 2]) {
+    let [left, right] = columns;
     match r.below(20) {
         0..=4 => d.left(),
         5..=9 => d.right(),
-        10 => d.push(Call::Left(broken_frame(r, c))),
-        11 => d.push(Call::Right(broken_frame(r, c))),
+        10 => d.push(Call::Left(bad_frame(r, [left, right]))),
+        11 => d.push(Call::Right(bad_frame(r, [right, left]))),
         12 if r.percent(30) => d.push(Call::End),
         13 => d.ports(r, 10, 3),
         14 => d.push(Call::Turn(r.below(d.output + 1))),
@@ -483,21 +560,22 @@ fn any_call(r: &mut Random, d: &mut Draft, c: usize) {
     }
 }
 
-/// Opens a draft again, with small areas if so said, and keeps what SCOPE refuses; the number of its columns.
-fn open_again(r: &mut Random, d: &mut Draft, small: bool) -> usize {
-    let Some(Call::Open(o)) = d.calls.pop() else { unreachable!() };
-    let c = o.b + 1;
+/// Opens a draft again, with small areas if so said, and keeps what SCOPE refuses; the columns of its frames.
+fn open_again(r: &mut Random, d: &mut Draft, small: bool, carried: &mut Carried) -> [usize; 2] {
+    let columns = columns(&d.open.options);
     d.keep_refused = true;
-    let open = if small { small_open(r, o) } else { o };
-    d.push(Call::Open(open));
-    c
+    if small {
+        small_open(r, d, carried);
+    }
+    d.open();
+    columns
 }
 
 /// Small areas, short outputs, broken frames and calls at the wrong time.
-fn refusals(r: &mut Random, mut d: Draft) -> Vec<Call> {
-    let c = open_again(r, &mut d, true);
+fn refusals(r: &mut Random, mut d: Draft, carried: &mut Carried) -> Vec<Call> {
+    let columns = open_again(r, &mut d, true, carried);
     for _ in 0..10 + r.below(30) {
-        any_call(r, &mut d, c);
+        any_call(r, &mut d, columns);
     }
     d.calls
 }
@@ -507,8 +585,9 @@ fn other_word(r: &mut Random, at: usize, old: i64) -> i64 {
     const NEAR: [i64; 6] = [-2, -1, 1, 2, 3, 4];
     const ENDS: [i64; 8] = [i64::MIN, i64::MIN + 1, i64::MAX, i64::MAX - 1, i64::MAX - 3, -1, -2, -4];
     match (at, r.below(10)) {
-        (16 | 22, 0..=4) => r.pick(&ENDS),
-        (3 | 5..=13 | 19..=21 | 23 | 34, 0..=7) => r.below(2) as i64,
+        (PRUNED | SEQUENCE, 0..=4) => r.pick(&ENDS),
+        (3 | CHECK..CARRIED | STATE..SEQUENCE, 0..=7) => r.below(2) as i64,
+        (at, 0..=7) if ROWS.contains(&at) => r.below(2) as i64,
         (_, 0) => r.pick(&ENDS),
         (_, 1..=6) => old.wrapping_add(r.pick(&NEAR)),
         _ => r.below(8) as i64,
@@ -516,16 +595,17 @@ fn other_word(r: &mut Random, at: usize, old: i64) -> i64 {
 }
 
 /// The host alters a word of the join; most words that make it refused in every call are set right after one call.
-fn alter_join(r: &mut Random, d: &mut Draft, c: usize) {
+fn alter_join(r: &mut Random, d: &mut Draft, columns: [usize; 2]) {
     let Some((words, ..)) = d.rules.all_words() else { return };
-    let at = match r.below(10) {
-        0..=4 => 14 + r.below(9),
-        5 | 6 => r.below(14),
-        _ => 23 + r.below(22),
+    let at = match r.below(11) {
+        0..=4 => COUNTERS + r.below(ROWS[0] - COUNTERS),
+        5 | 6 => r.below(COUNTERS),
+        7 => CARRIED,
+        _ => ROWS[0] + r.below(words.len() - ROWS[0]),
     };
     d.push(Call::Put(Place::Join, at, other_word(r, at, words[at])));
     if d.rules.broken() {
-        any_call(r, d, c);
+        any_call(r, d, columns);
         if r.percent(90) {
             d.push(Call::Put(Place::Join, at, words[at]));
         }
@@ -534,7 +614,7 @@ fn alter_join(r: &mut Random, d: &mut Draft, c: usize) {
 
 /// The host lays down a remembered row that no turn has left there, so that the check against it decides alone.
 fn alter_row(r: &mut Random, d: &mut Draft) {
-    let first = r.pick(&[23, 34, 34]);
+    let first = r.pick(&[ROWS[0], ROWS[1], ROWS[1]]);
     let keys = [0, 1, 2, 5, 11, i64::MIN, i64::MAX];
     d.push(Call::Put(Place::Join, first, 1));
     for j in 0..5 {
@@ -553,16 +633,33 @@ fn alter_area(r: &mut Random, d: &mut Draft) {
     }
 }
 
+/// The host alters a mark of a carried cell that is held, or its value, so that what stands there is no cell of a frame.
+fn alter_carried(r: &mut Random, d: &mut Draft) {
+    let Some((words, _, right)) = d.rules.all_words() else { return };
+    let ([first, width], look) = (columns(&d.open.options), d.rules.look().unwrap());
+    // Only where no width was altered, and so where all held rows are in the area.
+    if words[CARRIED] as usize != width - first || look.held == 0 || d.rules.broken() {
+        return;
+    }
+    let (capacity, row) = (right.len() / (2 * width), look.base + r.below(look.held));
+    if first < width {
+        let at = row * width + first + r.below(width - first);
+        d.push(Call::Put(Place::Right, capacity * width + at, r.pick(&[0, 0, 2, -1, 7, i64::MIN])));
+        d.push(Call::Put(Place::Right, at, r.pick(&[5, -5, i64::MAX])));
+    }
+}
+
 /// Calls on joins and areas that no call has left so.
-fn handed(r: &mut Random, mut d: Draft) -> Vec<Call> {
+fn handed(r: &mut Random, mut d: Draft, carried: &mut Carried) -> Vec<Call> {
     let small = r.percent(50);
-    let c = open_again(r, &mut d, small);
+    let columns = open_again(r, &mut d, small, carried);
     for _ in 0..10 + r.below(30) {
         match r.below(24) {
-            0..=2 => alter_join(r, &mut d, c),
+            0..=2 => alter_join(r, &mut d, columns),
             3 | 4 => alter_area(r, &mut d),
             5 => alter_row(r, &mut d),
-            _ => any_call(r, &mut d, c),
+            6 | 7 => alter_carried(r, &mut d),
+            _ => any_call(r, &mut d, columns),
         }
     }
     d.calls
@@ -589,13 +686,13 @@ fn tighten(r: &mut Random, calls: &mut [Call]) {
     let (mut left, mut held) = (0, 0);
     for call in calls.iter() {
         rules.call(call);
-        let look = rules.look().expect("a script opens first");
+        let Some(look) = rules.look() else { continue };
         (left, held) = (left.max(look.queue_words), held.max(look.held));
     }
-    if let Call::Open(o) = &mut calls[0] {
-        let row = 2 * (o.b + 1);
-        (o.left_words, o.right_words) = (left, row * held + r.below(row));
-    }
+    let (open, lines) = opening(calls).expect("a script opens first");
+    let row = 2 * columns(&open.options)[1];
+    let open = Open { left_words: left, right_words: row * held + r.below(row), ..open };
+    calls[..lines].clone_from_slice(&open.calls(lines == 1));
 }
 
 /// How many turns a run may make at most: none, few, or more than wait.
@@ -611,7 +708,7 @@ fn run_turns(r: &mut Random) -> usize {
 /// The length of a run's output: what its turns write, a little more, much more; or, in so many of a hundred cases, less,
 /// so that it is too short at first or after some turns.
 fn run_output(r: &mut Random, rules: &Rules, k: usize, short: usize, spare: usize) -> usize {
-    const ENOUGH: usize = 1 << 16;
+    const ENOUGH: usize = 9 << 16;
     let Answer::Ran(ran) = rules.clone().call(&Call::Run(k, ENOUGH)) else { return r.below(20) };
     match (r.percent(short), ran.words.len()) {
         (true, 0) => r.below(6),
@@ -626,11 +723,11 @@ fn run_output(r: &mut Random, rules: &Rules, k: usize, short: usize, spare: usiz
 fn alter_for_run(r: &mut Random, rules: &Rules) -> Vec<Call> {
     let Some((words, left, _)) = rules.all_words() else { return vec![] };
     let put = |at: usize, word: i64| Call::Put(Place::Join, at, word);
-    if left.get(words[17] as usize) == Some(&0) && r.percent(70) {
-        let row = (0..11).map(|j| put(34 + j, if (1..=5).contains(&j) { i64::MAX } else { 1 }));
-        return row.chain([put(5, 1), put(20, 1)]).collect();
+    if left.get(words[QUEUE_START] as usize) == Some(&0) && r.percent(70) {
+        let row = (0..11).map(|j| put(ROWS[1] + j, if (1..=5).contains(&j) { i64::MAX } else { 1 }));
+        return row.chain([put(CHECK, 1), put(ENDED, 1)]).collect();
     }
-    vec![put(22, r.pick(&[-2, -4, -4, -6, -8]))]
+    vec![put(SEQUENCE, r.pick(&[-2, -4, -4, -6, -8]))]
 }
 
 /// A script that gets runs in it, the rules' join beside it.
@@ -674,12 +771,17 @@ fn with_runs(r: &mut Random, kind: Kind, calls: Vec<Call>) -> Vec<Call> {
         Kind::Refusals | Kind::Handed => (30, r.pick(&[50, 80, 95])),
         _ => (6, r.pick(&[10, 50, 80])),
     };
-    let spare = if kind == Kind::Large { 2 + 2 * 4096 } else { 0 };
+    let spare = if kind == Kind::Large { 2 + 18 * 4096 } else { 0 };
     let mut out = Runs { calls: vec![], rules: Rules::default(), short, spare, alters: kind == Kind::Handed };
     for call in calls {
         match call {
             Call::Turn(_) if r.percent(piling) => {},
             Call::Turn(_) if r.percent(75) => out.run(r),
+            // What opens is one line or two, and nothing between.
+            Call::Options(_) => {
+                out.push(call);
+                continue;
+            },
             call => out.push(call),
         }
         if r.percent(5) {
@@ -696,7 +798,7 @@ fn move_with_room(r: &mut Random, o: &Open, rules: &Rules, short: bool) -> Vec<C
     const MORE: [usize; 6] = [0, 0, 1, 2, 7, 50];
     let Some(look) = rules.look() else { return vec![] };
     let full = Call::Move(o.left_words + r.pick(&MORE), o.right_words + r.pick(&MORE));
-    let (waiting, held) = (look.queue_words, 2 * (o.b + 1) * look.held);
+    let (waiting, held) = (look.queue_words, 2 * columns(&o.options)[1] * look.held);
     match r.below(10) {
         0 | 1 => vec![Call::Move(waiting, held), full],
         2 if short && waiting > 0 => vec![Call::Move(waiting - 1, o.right_words)],
@@ -708,12 +810,12 @@ fn move_with_room(r: &mut Random, o: &Open, rules: &Rules, short: bool) -> Vec<C
 /// A script with moves in it. One that is to find no room moves to areas of any lengths; one for the whole-table rule makes
 /// no move that is refused.
 fn with_moves(r: &mut Random, kind: Kind, calls: Vec<Call>) -> Vec<Call> {
-    let Some(Call::Open(o)) = calls.first().cloned() else { unreachable!() };
+    let Some((o, lines)) = opening(&calls) else { unreachable!() };
     let (mut out, mut rules) = (vec![], Rules::default());
-    for call in calls {
+    for (i, call) in calls.into_iter().enumerate() {
         rules.call(&call);
         out.push(call);
-        if !r.percent(8) {
+        if i + 1 < lines || !r.percent(8) {
             continue;
         }
         let moves = match with_room(kind) {
@@ -727,11 +829,13 @@ fn with_moves(r: &mut Random, kind: Kind, calls: Vec<Call>) -> Vec<Call> {
 }
 
 /// The calls of a kind's script over areas that are large enough, save for kinds that are to find no room.
-fn calls(r: &mut Random, kind: Kind) -> Vec<Call> {
+fn calls(r: &mut Random, kind: Kind, carried: &mut Carried) -> Vec<Call> {
     let large = kind == Kind::Large;
-    let s = if large { large_shape(r) } else { shape(r, kind) };
-    let [left, right] = arrangements(r, kind).map(|how| table(r, &s, how));
-    let d = Draft::new(r, s, [&left, &right], if large { cut_large } else { cut });
+    let mut s = if large { large_shape(r) } else { shape(r, kind) };
+    let [left, mut right] = arrangements(r, kind).map(|how| table(r, &s, how));
+    carried.carry(&mut right);
+    s.options.carried = carried.p as u64;
+    let d = Draft::new(r, s.options, [&left, &right], if large { cut_large } else { cut }, carried.one_line);
     match kind {
         Kind::Whole => whole(r, d),
         Kind::Mixed | Kind::Ends => mixed(r, d),
@@ -739,8 +843,8 @@ fn calls(r: &mut Random, kind: Kind) -> Vec<Call> {
         Kind::NullsLast | Kind::Order | Kind::Equal => plain(r, d, 90),
         // What the rules refuse stays, so that a frame that they should take is missed.
         Kind::Large => plain(r, Draft { keep_refused: true, ..d }, 100),
-        Kind::Refusals => refusals(r, d),
-        Kind::Handed => handed(r, d),
+        Kind::Refusals => refusals(r, d, carried),
+        Kind::Handed => handed(r, d, carried),
     }
 }
 
@@ -749,24 +853,41 @@ fn with_room(kind: Kind) -> bool {
     kind == Kind::Large || COMPARED.contains(&kind)
 }
 
-/// The script of this number among a seed's scripts of a kind.
-pub fn script(kind: Kind, seed: u64, number: u64) -> Vec<Call> {
+/// The calls of a script without runs and moves.
+fn with_turns(kind: Kind, seed: u64, number: u64, carried: &mut Carried) -> Vec<Call> {
     let r = &mut Random::new(seed, kind, number);
-    let mut calls = calls(r, kind);
+    let mut calls = calls(r, kind, carried);
     if with_room(kind) && r.percent(50) {
         tighten(r, &mut calls);
     }
     calls
 }
 
+/// The script of this number among a seed's scripts of a kind.
+pub fn script(kind: Kind, seed: u64, number: u64) -> Vec<Call> {
+    with_turns(kind, seed, number, &mut Carried::at_least(0, seed, kind, number))
+}
+
+/// The same script with at least one carried column.
+pub fn script_with_carried(kind: Kind, seed: u64, number: u64) -> Vec<Call> {
+    with_turns(kind, seed, number, &mut Carried::at_least(1, seed, kind, number))
+}
+
+/// The same script with nothing carried. Where all that it hands in finds room, its calls are the same but for the right
+/// frames and the lengths of right area and outputs.
+pub fn script_without_carried(kind: Kind, seed: u64, number: u64) -> Vec<Call> {
+    with_turns(kind, seed, number, &mut Carried::nothing(seed, kind, number))
+}
+
 /// The same script with runs in the place of turns, and with moves in half of all. One for the whole-table rule has outputs
 /// enough, and turns at its end what still waits; so does one with large tables.
 pub fn script_with_runs(kind: Kind, seed: u64, number: u64) -> Vec<Call> {
     let r = &mut Random::new(seed, kind, number);
-    let calls = calls(r, kind);
+    let carried = &mut Carried::at_least(0, seed, kind, number);
+    let calls = calls(r, kind, carried);
     let mut calls = with_runs(r, kind, calls);
     if matches!(kind, Kind::Whole | Kind::Large) {
-        calls.push(Call::Run(1 << 20, 1 << 16));
+        calls.push(Call::Run(1 << 20, (1 + carried.p) << 16));
     }
     if with_room(kind) && r.percent(50) {
         tighten(r, &mut calls);

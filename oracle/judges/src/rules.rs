@@ -3,14 +3,14 @@
 //! with the stand-ins or with the judge of the whole-table rule.
 use std::cmp::Ordering;
 
-use crate::script::{Answer, Call, JoinWords, Judge, Look, Open, Place, Ran, Stop};
+use crate::script::{Answer, Call, JoinWords, Judge, Look, Open, Options, Place, Ran, Stop, Told};
 use crate::spans;
 use crate::words::{self, RowWords};
 
 /// A cell: null, or a number.
 pub type Cell = Option<i64>;
 
-/// A row: b by-values, then the key.
+/// A row: b by-values, then the key, then, on the right, what it carries. Only writing looks at that.
 pub type Row = Vec<Cell>;
 
 /// "Null equals null; it stands before every value, or after where nulls last is set, whatever the direction. Values
@@ -38,7 +38,7 @@ fn compare_cells(x: Cell, y: Cell, descending: bool, nulls_last: bool) -> Orderi
 }
 
 /// "Rows compare by by-columns in order": two rows' groups.
-fn compare_groups(o: &Open, x: &Row, y: &Row) -> Ordering {
+fn compare_groups(o: &Options, x: &Row, y: &Row) -> Ordering {
     for j in 0..o.b {
         let by = compare_cells(x[j], y[j], o.descending[j], o.nulls_last[j]);
         if by != Ordering::Equal {
@@ -54,12 +54,12 @@ fn compare_keys(x: Cell, y: Cell) -> Ordering {
 }
 
 /// "Rows compare by by-columns in order, then key."
-fn compare_rows(o: &Open, x: &Row, y: &Row) -> Ordering {
+fn compare_rows(o: &Options, x: &Row, y: &Row) -> Ordering {
     compare_groups(o, x, y).then(compare_keys(x[o.b], y[o.b]))
 }
 
 /// "Sorted: no row is greater than the next."
-fn sorted(o: &Open, rows: &[Row]) -> bool {
+fn sorted(o: &Options, rows: &[Row]) -> bool {
     rows.windows(2).all(|two| compare_rows(o, &two[0], &two[1]) != Ordering::Greater)
 }
 
@@ -75,7 +75,7 @@ fn search(mut lower: usize, mut upper: usize, test: impl Fn(usize) -> bool) -> u
 
 /// "narrow start and end by each by-value of the last left row": the first held row that is not before the value, and
 /// the first that is after it, column by column.
-fn narrow(o: &Open, held: &[Row], by: &Row) -> (usize, usize) {
+fn narrow(o: &Options, held: &[Row], by: &Row) -> (usize, usize) {
     let (mut start, mut end) = (0, held.len());
     for j in 0..o.b {
         let at = |i: usize| compare_cells(held[i][j], by[j], o.descending[j], o.nulls_last[j]);
@@ -86,7 +86,7 @@ fn narrow(o: &Open, held: &[Row], by: &Row) -> (usize, usize) {
 }
 
 /// "Need more": whether the held rows may not be enough for this left frame.
-fn need_more(o: &Open, left: &[Row], held: &[Row]) -> bool {
+fn need_more(o: &Options, left: &[Row], held: &[Row]) -> bool {
     let Some(last) = left.last() else { return false };
     if held.is_empty() {
         return true;
@@ -110,27 +110,27 @@ fn need_more(o: &Open, left: &[Row], held: &[Row]) -> bool {
 }
 
 /// "the frame's first row with a key".
-fn first_keyed<'a>(o: &Open, rows: &'a [Row]) -> Option<&'a Row> {
+fn first_keyed<'a>(o: &Options, rows: &'a [Row]) -> Option<&'a Row> {
     rows.iter().find(|r| r[o.b].is_some())
 }
 
 /// "the frame's last row with a key".
-fn last_keyed<'a>(o: &Open, rows: &'a [Row]) -> Option<&'a Row> {
+fn last_keyed<'a>(o: &Options, rows: &'a [Row]) -> Option<&'a Row> {
     rows.iter().rev().find(|r| r[o.b].is_some())
 }
 
 /// Whether the earlier row, if any, is greater than the later one, if any.
-fn out_of_order(o: &Open, earlier: Option<&Row>, later: Option<&Row>) -> bool {
+fn out_of_order(o: &Options, earlier: Option<&Row>, later: Option<&Row>) -> bool {
     earlier.zip(later).is_some_and(|(e, l)| compare_rows(o, e, l) == Ordering::Greater)
 }
 
 /// "A group is null if any by-value is."
-fn null_group(o: &Open, row: &Row) -> bool {
+fn null_group(o: &Options, row: &Row) -> bool {
     row[..o.b].contains(&None)
 }
 
 /// "A run is consecutive rows of equal group; neighbouring null groups form one run.": where each run starts and ends.
-fn runs(o: &Open, rows: &[Row]) -> Vec<(usize, usize)> {
+fn runs(o: &Options, rows: &[Row]) -> Vec<(usize, usize)> {
     let mut out: Vec<(usize, usize)> = vec![];
     for (i, row) in rows.iter().enumerate() {
         let same = |before: &Row| match (null_group(o, before), null_group(o, row)) {
@@ -160,7 +160,7 @@ fn nearer(v: i64, earlier: i64, later: i64) -> bool {
 }
 
 /// "Matching": the place of the chosen row among rows of one group, for a left key.
-fn choose(o: &Open, key: Cell, rows: &[Row]) -> Option<usize> {
+fn choose(o: &Options, key: Cell, rows: &[Row]) -> Option<usize> {
     let v = key?;
     let mut chosen: Option<(usize, i64)> = None;
     for (i, row) in rows.iter().enumerate() {
@@ -180,7 +180,7 @@ fn choose(o: &Open, key: Cell, rows: &[Row]) -> Option<usize> {
 
 /// "One right cursor serves the frame: for each left run that isn't null it passes null runs and runs before the left
 /// group; an equal run is used, else an empty one.": each left row's place among the held rows.
-fn match_frame(o: &Open, left: &[Row], held: &[Row]) -> Vec<Option<usize>> {
+fn match_frame(o: &Options, left: &[Row], held: &[Row]) -> Vec<Option<usize>> {
     if o.b == 0 {
         return left.iter().map(|x| choose(o, x[0], held)).collect();
     }
@@ -202,16 +202,29 @@ fn match_frame(o: &Open, left: &[Row], held: &[Row]) -> Vec<Option<usize>> {
     out
 }
 
+/// The row of an answer for the place of the match among the held rows, of which the first has the number `first`.
+fn answer_row(o: &Options, first: u64, held: &[Row], chosen: Option<usize>) -> Row {
+    match chosen {
+        Some(i) => [&[Some((first + i as u64) as i64)], &held[i][o.b + 1..]].concat(),
+        None => vec![None; 1 + o.carried as usize],
+    }
+}
+
 /// "Prune": how many held rows stand before the split by this left row.
-fn split(o: &Open, by: &Row, held: &[Row]) -> usize {
+fn split(o: &Options, by: &Row, held: &[Row]) -> usize {
     let (start, end) = narrow(o, held, by);
     let first = search(start, end, |i| compare_keys(held[i][o.b], by[o.b]) != Ordering::Less);
     if o.strategy == 1 || first == start { first } else { first - 1 }
 }
 
 /// 1: "Opening with b above 4, strategy outside 0 to 2, tolerance below −1, or Nearest without equality gives no join."
-fn bad_options(o: &Open) -> bool {
+fn bad_options(o: &Options) -> bool {
     o.b > 4 || !(0..=2).contains(&o.strategy) || o.tolerance < -1 || (o.strategy == 2 && !o.eq)
+}
+
+/// 10: "p above 8, at opening after 1".
+fn many_carried(o: &Options) -> bool {
+    o.carried > 8
 }
 
 /// "Mark 1 is present, 0 is null with value 0; no other mark. Its length is exactly 2 + 2nc words."
@@ -256,7 +269,8 @@ impl Fault {
 
 /// What a turn that writes changes. Where a side has no row to remember, the remembered one stays.
 struct Written {
-    matches: Vec<Option<u64>>,
+    /// "An answer frame has 1 + p columns: the right number, then the matched row's carried values, all null for none."
+    answer: Vec<Row>,
     dropped: usize,
     left: Option<Row>,
     right: Option<Row>,
@@ -265,7 +279,7 @@ struct Written {
 /// An open join with its two areas.
 #[derive(Clone)]
 pub struct Join {
-    o: Open,
+    o: Options,
     left_area: Vec<i64>,
     right_area: Vec<i64>,
     look: Look,
@@ -288,10 +302,13 @@ fn new_right(length: usize) -> Vec<i64> {
 
 impl Join {
     /// "A fresh join is Running, right not ended, not failed, no row remembered, counters 0"; the areas' words are
-    /// those that scripts begin with.
-    fn open(o: &Open) -> Option<Join> {
-        if bad_options(o) {
-            return None;
+    /// those that scripts begin with. Or the refusal's number.
+    fn open(open: Open) -> Result<Join, u8> {
+        let o = open.options;
+        if bad_options(&o) {
+            return Err(1);
+        } else if many_carried(&o) {
+            return Err(10);
         }
         let look = Look {
             base: 0,
@@ -306,9 +323,9 @@ impl Join {
             left: None,
             right: None,
         };
-        let (left_area, right_area) = (new_left(o.left_words), new_right(o.right_words));
+        let (left_area, right_area) = (new_left(open.left_words), new_right(open.right_words));
         let rows = [[0; 11]; 2];
-        Some(Join { o: o.clone(), left_area, right_area, look, rows, strange: None, fault: None })
+        Ok(Join { o, left_area, right_area, look, rows, strange: None, fault: None })
     }
 
     /// The join's words, as the C interface lays them out.
@@ -350,29 +367,36 @@ impl Join {
         })
     }
 
-    /// "c = b + 1".
-    fn c(&self) -> usize {
+    /// "left frames b + 1".
+    fn left_columns(&self) -> usize {
         self.o.b + 1
     }
 
-    /// "Right capacity R is the area's words ÷ 2c, rounded down."
+    /// "right frames then have b + 1 + p columns, the carried ones after the key".
+    fn right_columns(&self) -> usize {
+        self.o.b + 1 + self.o.carried as usize
+    }
+
+    /// "Right capacity R is the area's words ÷ 2c, rounded down."; "R counts rows of the new width".
     fn capacity(&self) -> usize {
-        self.right_area.len() / (2 * self.c())
+        self.right_area.len() / (2 * self.right_columns())
     }
 
     /// "Held row i has values from word (base + i) × c and marks from (R + base + i) × c."
     fn held_rows(&self) -> Vec<Row> {
-        let (c, base) = (self.c(), self.look.base);
+        let (c, base) = (self.right_columns(), self.look.base);
         let values = &self.right_area[base * c..];
         let marks = &self.right_area[(self.capacity() + base) * c..];
         rows_of(c, self.look.held, values, marks)
     }
 
-    /// 2: whether the fields cannot be those of a join. No call reaches it; a host that alters its words can.
+    /// 2: whether the fields cannot be those of a join; "a join holding such a p is 2". No call reaches it; a host that alters
+    /// its words can.
     fn broken(&self) -> bool {
         let l = &self.look;
         self.strange.is_some()
             || bad_options(&self.o)
+            || many_carried(&self.o)
             || l.base as u128 + l.held as u128 > self.capacity() as u128
             || l.queue_start as u128 + l.queue_words as u128 > self.left_area.len() as u128
             || l.pruned as u128 + l.held as u128 > i64::MAX as u128
@@ -384,7 +408,7 @@ impl Join {
         let (room, waiting) = (self.left_area.len(), self.look.queue_words);
         if self.look.state != 0 {
             return Answer::Refused(4);
-        } else if !frame_ok(self.c(), words) {
+        } else if !frame_ok(self.left_columns(), words) {
             return Answer::Refused(5);
         } else if waiting + words.len() > room {
             return Answer::Refused(6);
@@ -404,7 +428,7 @@ impl Join {
     fn right(&mut self, words: &[i64]) -> Answer {
         if self.look.ended || self.look.state == 2 {
             return Answer::Refused(4);
-        } else if !frame_ok(self.c(), words) {
+        } else if !frame_ok(self.right_columns(), words) {
             return Answer::Refused(5);
         }
         let n = words[0] as usize;
@@ -419,7 +443,7 @@ impl Join {
 
     /// "Where an append would pass the end, the live rows or frames move to the front first".
     fn append_right(&mut self, n: usize, cells: &[i64]) {
-        let (c, r, held) = (self.c(), self.capacity(), self.look.held);
+        let (c, r, held) = (self.right_columns(), self.capacity(), self.look.held);
         if self.look.base + held + n > r {
             let from = self.look.base * c;
             self.right_area.copy_within(from..from + held * c, 0);
@@ -444,7 +468,7 @@ impl Join {
     /// A move: refusal 6, then "the words that wait stand from word 0 of the new left area on; the values of the held rows
     /// from word 0 of the new right area on, their marks from word R × c on … All other words of both stay."
     fn move_to(&mut self, left_words: usize, right_words: usize) -> Answer {
-        let (c, held, waiting) = (self.c(), self.look.held, self.look.queue_words);
+        let (c, held, waiting) = (self.right_columns(), self.look.held, self.look.queue_words);
         let (rows, new_rows) = (self.capacity(), right_words / (2 * c));
         if waiting > left_words || held > new_rows {
             return Answer::Refused(6);
@@ -488,8 +512,8 @@ impl Join {
     fn front(&self) -> Option<&[i64]> {
         let queue = &self.left_area[self.look.queue_start..][..self.look.queue_words];
         let rows = queue.first().filter(|n| (0..=4096).contains(*n))?;
-        let length = 2 + 2 * *rows as usize * self.c();
-        queue.get(..length).filter(|frame| frame_ok(self.c(), frame))
+        let length = 2 + 2 * *rows as usize * self.left_columns();
+        queue.get(..length).filter(|frame| frame_ok(self.left_columns(), frame))
     }
 
     /// "Left: the remembered row must not be greater than the frame's first row with a key; … Then frame and held rows
@@ -508,13 +532,13 @@ impl Join {
 
     /// "With the check on: the row before the split is the last row with a key in the part before it, or else the
     /// remembered row; it must not be greater than the first row with a key after the split, and is then remembered."
-    /// None where the remembered row stays.
+    /// None where the remembered row stays. "Order, search and groups ignore the carried ones": they are not remembered.
     fn split_check(&self, held: &[Row], at: usize) -> Result<Option<Row>, Fault> {
         let before = last_keyed(&self.o, &held[..at]);
         if out_of_order(&self.o, before.or(self.look.right.as_ref()), first_keyed(&self.o, &held[at..])) {
             return Err(Fault::Split);
         }
-        Ok(before.cloned())
+        Ok(before.map(|row| row[..=self.o.b].to_vec()))
     }
 
     /// "Otherwise: left continuity; prune by row 0 if the check is off; sorted checks; match; prune by the last row".
@@ -528,8 +552,8 @@ impl Join {
             dropped = split(o, first, held);
             held = &held[dropped..];
         }
-        let number = |i: usize| self.look.pruned + (dropped + i) as u64;
-        let matches = match_frame(o, left, held).into_iter().map(|m| m.map(number)).collect();
+        let first = self.look.pruned + dropped as u64;
+        let answer = match_frame(o, left, held).into_iter().map(|m| answer_row(o, first, held, m)).collect();
         let mut right = None;
         if let (Some(last), false) = (left.last(), held.is_empty()) {
             let at = split(o, last, held);
@@ -539,7 +563,7 @@ impl Join {
             dropped += at;
         }
         let keyed = last_keyed(o, left).filter(|_| o.check).cloned();
-        Ok(Written { matches, dropped, left: keyed, right })
+        Ok(Written { answer, dropped, left: keyed, right })
     }
 
     /// "Turn": refusals 4 to 9 in order, Idle, Wants right, or what it writes.
@@ -550,10 +574,10 @@ impl Join {
             return Answer::Idle;
         }
         let Some(front) = self.front() else { return Answer::Refused(5) };
-        let (length, left, held) = (front.len(), frame_rows(self.c(), front), self.held_rows());
+        let (length, left, held) = (front.len(), frame_rows(self.left_columns(), front), self.held_rows());
         if !self.look.ended && need_more(&self.o, &left, &held) {
             return Answer::Wants;
-        } else if output < 2 + 2 * left.len() {
+        } else if output < 2 + 2 * left.len() * (1 + self.o.carried as usize) {
             return Answer::Refused(6);
         } else if self.look.sequence == u64::MAX - 1 {
             return Answer::Refused(7);
@@ -568,7 +592,8 @@ impl Join {
         }
     }
 
-    /// "the frame leaves the queue, sequence + 2"; "Written: n, 1, n right numbers, n marks (none: 0 and 0)".
+    /// "the frame leaves the queue, sequence + 2"; written is a frame of 1 + p columns, "carried values … with mark 1, nulls as
+    /// 0 and 0".
     fn leave(&mut self, length: usize, written: Written) -> Answer {
         let look = &mut self.look;
         let sequence = look.sequence;
@@ -584,9 +609,10 @@ impl Join {
                 *remembered = Some(row);
             }
         }
-        let mut words = vec![written.matches.len() as i64, 1];
-        words.extend(written.matches.iter().map(|m| m.map_or(0, |number| number as i64)));
-        words.extend(written.matches.iter().map(|m| m.is_some() as i64));
+        let cells = || written.answer.iter().flatten();
+        let mut words = vec![written.answer.len() as i64, 1 + self.o.carried as i64];
+        words.extend(cells().map(|cell| cell.unwrap_or(0)));
+        words.extend(cells().map(|cell| cell.is_some() as i64));
         Answer::Wrote(sequence, words)
     }
 
@@ -627,8 +653,8 @@ impl Join {
             Call::End => self.end(),
             Call::Ports(ports) => self.ports(*ports),
             Call::Turn(output) => self.turn(*output),
-            Call::Open(_) | Call::Run(..) | Call::State | Call::Areas | Call::Words | Call::Put(..) => unreachable!(),
-            Call::Spans(_) | Call::Move(..) => unreachable!(),
+            Call::Open(_) | Call::Options(_) | Call::Opens(..) | Call::Spans(_) => unreachable!(),
+            Call::Run(..) | Call::Move(..) | Call::State | Call::Areas | Call::Words | Call::Put(..) => unreachable!(),
         }
     }
 }
@@ -636,6 +662,7 @@ impl Join {
 /// The judge that answers by SCOPE's step rules.
 #[derive(Default, Clone)]
 pub struct Rules {
+    told: Told,
     join: Option<Join>,
 }
 
@@ -664,14 +691,17 @@ impl Rules {
 impl Judge for Rules {
     /// Opens, or asks the open join; a call on tables needs none.
     fn call(&mut self, call: &Call) -> Answer {
-        match (call, &mut self.join) {
-            (Call::Spans(spans), _) => spans::answer(spans),
-            (Call::Open(o), join) => {
-                *join = Join::open(o);
-                if join.is_some() { Answer::Ok } else { Answer::Refused(1) }
+        match (call, self.told.opens(call), &mut self.join) {
+            (Call::Spans(spans), ..) => spans::answer(spans),
+            (_, Some(Ok(open)), join) => {
+                let opened = Join::open(open);
+                let answer = opened.as_ref().map_or_else(|number| Answer::Refused(*number), |_| Answer::Ok);
+                *join = opened.ok();
+                answer
             },
-            (_, None) => Answer::NoJoin,
-            (call, Some(join)) => join.call(call),
+            (_, Some(Err(answer)), _) => answer,
+            (_, _, None) => Answer::NoJoin,
+            (call, _, Some(join)) => join.call(call),
         }
     }
 }

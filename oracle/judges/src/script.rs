@@ -1,18 +1,72 @@
 //! Call scripts: the calls, their answers, and the text form of both.
 use std::fmt;
 
-/// What a join is opened with, as the line gives it: nothing is checked yet.
+/// A join's options, as the line gives them: nothing is checked yet.
 #[derive(Clone, Debug, PartialEq)]
-pub struct Open {
+pub struct Options {
     pub b: usize,
     pub strategy: i64,
     pub eq: bool,
     pub tolerance: i64,
     pub check: bool,
+    /// p, the columns that are carried.
+    pub carried: u64,
     pub descending: Vec<bool>,
     pub nulls_last: Vec<bool>,
+}
+
+/// What a join is opened with: its options, and the lengths of its areas in words.
+#[derive(Clone, Debug, PartialEq)]
+pub struct Open {
+    pub options: Options,
     pub left_words: usize,
     pub right_words: usize,
+}
+
+impl Open {
+    /// The lines that open a join so: one, which says that nothing is carried, or the options and then the areas.
+    pub fn calls(self, one_line: bool) -> Vec<Call> {
+        if one_line {
+            assert_eq!(self.options.carried, 0);
+            return vec![Call::Open(self)];
+        }
+        vec![Call::Options(self.options), Call::Opens(self.left_words, self.right_words)]
+    }
+}
+
+/// What a script's first lines open, and how many lines these are.
+pub fn opening(calls: &[Call]) -> Option<(Open, usize)> {
+    match calls {
+        [Call::Open(open), ..] => Some((open.clone(), 1)),
+        [Call::Options(options), Call::Opens(left_words, right_words), ..] => {
+            let (options, left_words, right_words) = (options.clone(), *left_words, *right_words);
+            Some((Open { options, left_words, right_words }, 2))
+        },
+        _ => None,
+    }
+}
+
+/// The options that the last `options` line told.
+#[derive(Default, Clone)]
+pub struct Told(Option<Options>);
+
+impl Told {
+    /// What a call opens a join with, or its answer where it tells options, or opens though none were told; none for all
+    /// other calls.
+    pub fn opens(&mut self, call: &Call) -> Option<Result<Open, Answer>> {
+        match call {
+            Call::Open(open) => Some(Ok(open.clone())),
+            Call::Options(options) => {
+                self.0 = Some(options.clone());
+                Some(Err(Answer::Ok))
+            },
+            Call::Opens(left_words, right_words) => {
+                let open = |options| Open { options, left_words: *left_words, right_words: *right_words };
+                Some(self.0.clone().map(open).ok_or(Answer::NoOptions))
+            },
+            _ => None,
+        }
+    }
 }
 
 /// SCOPE 19, points in intervals: whether the lower and the upper bound are inclusive, the length of the output in words, and
@@ -29,7 +83,12 @@ pub struct Spans {
 /// One line of a script.
 #[derive(Clone, Debug, PartialEq)]
 pub enum Call {
+    /// Opens a join that carries nothing.
     Open(Open),
+    /// The options of all later lines that open.
+    Options(Options),
+    /// Opens a join with these options and areas of so many words, left and right.
+    Opens(usize, usize),
     Left(Vec<i64>),
     Right(Vec<i64>),
     End,
@@ -58,9 +117,9 @@ pub enum Place {
     Right,
 }
 
-/// The words of a join as the C interface lays them out (include/rowkeeper.h): the layout's, 13 of options, 9 of counters
+/// The words of a join as the C interface lays them out (include/rowkeeper.h): the layout's, 14 of options, 9 of counters
 /// and flags, and 11 for each remembered row.
-pub type JoinWords = [i64; 45];
+pub type JoinWords = [i64; 46];
 
 /// What `state` tells of a join.
 #[derive(Clone, Debug, PartialEq)]
@@ -107,6 +166,8 @@ pub enum Answer {
     Wants,
     Idle,
     NoJoin,
+    /// A join was to be opened, and no line before told its options.
+    NoOptions,
     State(Box<Look>),
     /// The words of the left area, then those of the right one.
     Areas(Vec<i64>, Vec<i64>),
@@ -124,6 +185,29 @@ pub enum Answer {
 fn row_text(row: &Option<Vec<Option<i64>>>) -> String {
     let cell = |c: &Option<i64>| c.map_or("null".to_string(), |x| x.to_string());
     row.as_ref().map_or("-".to_string(), |r| r.iter().map(cell).collect::<Vec<_>>().join(","))
+}
+
+/// The words of each turn's answer among those of a run: n, its columns c, n × c values, n × c marks. What is cut off comes
+/// as it is.
+pub fn answers(mut words: &[i64]) -> impl Iterator<Item = &[i64]> {
+    std::iter::from_fn(move || {
+        let [n, c, ..] = words else { return Some(std::mem::take(&mut words)).filter(|w| !w.is_empty()) };
+        let length = usize::try_from(n.saturating_mul(*c).saturating_mul(2).saturating_add(2)).unwrap_or(usize::MAX);
+        let (answer, rest) = words.split_at(length.min(words.len()));
+        words = rest;
+        Some(answer)
+    })
+}
+
+/// What an answer's words have in them: matched rows, and their carried cells with a value and without.
+pub fn written(words: &[i64]) -> [u64; 3] {
+    let (n, c) = (words[0] as usize, words[1] as usize);
+    let marks = &words[2 + n * c..];
+    let matched = marks.chunks(c.max(1)).filter(|row| row[0] == 1);
+    matched.fold([0; 3], |[rows, values, nulls], row| {
+        let present = row[1..].iter().filter(|m| **m == 1).count();
+        [rows + 1, values + present as u64, nulls + (c - 1 - present) as u64]
+    })
 }
 
 /// Writes words, each after a space.
@@ -173,6 +257,7 @@ impl fmt::Display for Answer {
             Answer::Wants => write!(f, "wants"),
             Answer::Idle => write!(f, "idle"),
             Answer::NoJoin => write!(f, "no join"),
+            Answer::NoOptions => write!(f, "no options"),
             Answer::State(look) => write!(f, "{look}"),
             Answer::Areas(left, right) => write!(f, "areas")
                 .and_then(|_| words(f, left))
@@ -183,6 +268,21 @@ impl fmt::Display for Answer {
             Answer::Altered => write!(f, "altered"),
             Answer::Nothing => write!(f, "-"),
         }
+    }
+}
+
+impl Options {
+    /// Writes both flags of each by-column.
+    fn flags(&self, f: &mut fmt::Formatter<'_>) -> fmt::Result {
+        let mut flags = self.descending.iter().zip(&self.nulls_last);
+        flags.try_for_each(|(d, n)| write!(f, " {} {}", *d as u8, *n as u8))
+    }
+}
+
+impl fmt::Display for Options {
+    /// The first five words of the lines `open` and `options`.
+    fn fmt(&self, f: &mut fmt::Formatter<'_>) -> fmt::Result {
+        write!(f, "{} {} {} {} {}", self.b, self.strategy, self.eq as u8, self.tolerance, self.check as u8)
     }
 }
 
@@ -198,12 +298,14 @@ impl fmt::Display for Call {
     /// The call's line.
     fn fmt(&self, f: &mut fmt::Formatter<'_>) -> fmt::Result {
         match self {
-            Call::Open(o) => {
-                write!(f, "open {} {} {} {} {}", o.b, o.strategy, o.eq as u8, o.tolerance, o.check as u8)?;
-                let flags = o.descending.iter().zip(&o.nulls_last);
-                flags.into_iter().try_for_each(|(d, n)| write!(f, " {} {}", *d as u8, *n as u8))?;
-                write!(f, " {} {}", o.left_words, o.right_words)
+            Call::Open(Open { options, left_words, right_words }) => {
+                write!(f, "open {options}")?;
+                options.flags(f)?;
+                write!(f, " {left_words} {right_words}")
             },
+            // Neither a distance nor a list of ranks.
+            Call::Options(o) => write!(f, "options {o} {} 0 0 0 0", o.carried as i64).and_then(|_| o.flags(f)),
+            Call::Opens(left_words, right_words) => write!(f, "opens {left_words} {right_words}"),
             Call::Left(w) => write!(f, "left").and_then(|_| words(f, w)),
             Call::Right(w) => write!(f, "right").and_then(|_| words(f, w)),
             Call::End => write!(f, "end"),
@@ -236,24 +338,48 @@ fn count(word: i64) -> Result<usize, String> {
     usize::try_from(word).map_err(|_| format!("{word} is no count"))
 }
 
+/// The first five words of a line with options, p, and both flags of each by-column.
+fn parse_options(a: &[i64], carried: u64, flags: &[i64]) -> Result<Options, String> {
+    let every = |from: usize| flags.iter().skip(from).step_by(2).map(|w| flag(*w)).collect::<Result<Vec<_>, _>>();
+    Ok(Options {
+        b: count(a[0])?,
+        strategy: a[1],
+        eq: flag(a[2])?,
+        tolerance: a[3],
+        check: flag(a[4])?,
+        carried,
+        descending: every(0)?,
+        nulls_last: every(1)?,
+    })
+}
+
 /// The words of an `open` line. Their number depends on the first one.
 fn parse_open(a: &[i64]) -> Result<Open, String> {
     let b = count(*a.first().ok_or("open brings no words")?)?;
     if a.len() != b.saturating_mul(2).saturating_add(7) {
         return Err(format!("open with {b} by-columns needs 7 + 2 × {b} words, not {}", a.len()));
     }
-    let flags = |from: usize| a[from..5 + 2 * b].iter().step_by(2).map(|w| flag(*w)).collect::<Result<Vec<_>, _>>();
-    Ok(Open {
-        b,
-        strategy: a[1],
-        eq: flag(a[2])?,
-        tolerance: a[3],
-        check: flag(a[4])?,
-        descending: flags(5)?,
-        nulls_last: if b == 0 { vec![] } else { flags(6)? },
-        left_words: count(a[5 + 2 * b])?,
-        right_words: count(a[6 + 2 * b])?,
-    })
+    let (options, areas) = a.split_at(5 + 2 * b);
+    let options = parse_options(options, 0, &options[5..])?;
+    Ok(Open { options, left_words: count(areas[0])?, right_words: count(areas[1])? })
+}
+
+/// The words of an `options` line: ten, the codes of the list of ranks, the flags of the by-columns. The distance, the list
+/// and the strict order check have their places and are not there yet. A p above 2^63 − 1 is written as the negative word of
+/// the same bits.
+fn parse_options_line(a: &[i64]) -> Result<Options, String> {
+    let [b, _, _, _, check, carried, distance, ranked, column, codes, rest @ ..] = a else {
+        return Err(format!("options needs 10 words or more, not {}", a.len()));
+    };
+    let (b, codes) = (count(*b)?, count(*codes)?);
+    if rest.len() != b.saturating_mul(2).saturating_add(codes) {
+        return Err(format!("options with {b} by-columns and {codes} codes does not take {} words", a.len()));
+    } else if *check == 2 || flag(*distance)? || flag(*ranked)? {
+        return Err("options: the strict check, the distance and the list of ranks are not supported yet".to_string());
+    } else if (*column, codes) != (0, 0) {
+        return Err("options: without a list of ranks COLUMN and K are 0".to_string());
+    }
+    parse_options(a, *carried as u64, rest)
 }
 
 /// The words of a `ports` line.
@@ -303,6 +429,8 @@ pub fn parse_line(line: &str) -> Result<Option<Call>, String> {
     let a = numbers(words)?;
     let call = match (*name, a.as_slice()) {
         ("open", a) => Call::Open(parse_open(a)?),
+        ("options", a) => Call::Options(parse_options_line(a)?),
+        ("opens", [l, r]) => Call::Opens(count(*l)?, count(*r)?),
         ("left", _) => Call::Left(a),
         ("right", _) => Call::Right(a),
         ("ports", a) => Call::Ports(parse_ports(a)?),
@@ -316,7 +444,7 @@ pub fn parse_line(line: &str) -> Result<Option<Call>, String> {
         ("put", a) => parse_put(Place::Join, a)?,
         ("put-left", a) => parse_put(Place::Left, a)?,
         ("put-right", a) => parse_put(Place::Right, a)?,
-        ("turn" | "run" | "move" | "end" | "state" | "areas" | "words", a) => {
+        ("opens" | "turn" | "run" | "move" | "end" | "state" | "areas" | "words", a) => {
             return Err(format!("{name} does not take {} words", a.len()));
         },
         _ => return Err(format!("{name} is no call")),

@@ -6,9 +6,9 @@
 //! be a row that qualifies. Order faults and refusals 1 and 3 to 6 are judged everywhere. It takes from nowhere how many rows
 //! are held or when more are needed: a want is due wherever a frame waits and right is open, and a right frame may be refused
 //! by 6 where all rows accepted so far would not fit.
-use crate::script::{Answer, Call, Open, Ran, Stop};
+use crate::script::{Answer, Call, Open, Options, Ran, Stop, opening};
 
-/// A row as handed in: b by-values, then the key; none is null.
+/// A row as handed in: b by-values, then the key, then, of a right row, what it carries; none is null.
 pub type Row = Vec<Option<i64>>;
 
 /// What judged scripts had in them.
@@ -21,6 +21,8 @@ pub struct Counts {
     /// Rows that were written before any row out of order was accepted: their matches are the whole table's.
     pub whole: u64,
     pub matched: u64,
+    /// Cells, null or not, that came with the matches.
+    pub carried: u64,
     pub wants: u64,
     /// Order faults, each of them due.
     pub faults: u64,
@@ -36,6 +38,7 @@ impl Counts {
         self.rows += other.rows;
         self.whole += other.whole;
         self.matched += other.matched;
+        self.carried += other.carried;
         self.wants += other.wants;
         self.faults += other.faults;
         self.waiting += other.waiting;
@@ -51,33 +54,39 @@ fn place(cell: Option<i64>, descending: bool, nulls_last: bool) -> i128 {
 }
 
 /// A row's places: "by-columns in order, then key", the key "ascending, nulls first".
-fn places<'a>(o: &'a Open, row: &'a Row) -> impl Iterator<Item = i128> + 'a {
+fn places<'a>(o: &'a Options, row: &'a Row) -> impl Iterator<Item = i128> + 'a {
     let by = (0..o.b).map(|j| place(row[j], o.descending[j], o.nulls_last[j]));
     by.chain([place(row[o.b], false, false)])
 }
 
 /// Sorts rows as the options declare.
-pub fn sort(o: &Open, rows: &mut [Row]) {
+pub fn sort(o: &Options, rows: &mut [Row]) {
     rows.sort_by_cached_key(|row| places(o, row).collect::<Vec<_>>());
 }
 
 /// "Sorted: no row is greater than the next.": whether the second row may follow the first.
-fn may_follow(o: &Open, row: &Row, next: &Row) -> bool {
+fn may_follow(o: &Options, row: &Row, next: &Row) -> bool {
     places(o, row).le(places(o, next))
 }
 
 /// "Sorted", of all these rows.
-pub fn is_sorted(o: &Open, rows: &[Row]) -> bool {
+pub fn is_sorted(o: &Options, rows: &[Row]) -> bool {
     (1..rows.len()).all(|i| may_follow(o, &rows[i - 1], &rows[i]))
+}
+
+/// "right frames then have b + 1 + p columns, the carried ones after the key, left frames b + 1": cells of a left row, and of
+/// a right one.
+fn widths(o: &Options) -> [usize; 2] {
+    [o.b + 1, o.b + 1 + o.carried as usize]
 }
 
 /// The frame rule: "rows n (0 to 4,096), columns c, then two parallel arrays of n × c"; "Mark 1 is present, 0 is null with
 /// value 0; no other mark."
-fn keeps_rule(o: &Open, words: &[i64]) -> bool {
+fn keeps_rule(width: usize, words: &[i64]) -> bool {
     let [n @ 0..=4096, c, cells @ ..] = words else { return false };
-    let pairs = *n as usize * (o.b + 1);
+    let pairs = *n as usize * width;
     let cell = |at: usize| matches!((cells[at], cells[pairs + at]), (_, 1) | (0, 0));
-    *c == o.b as i64 + 1 && cells.len() == 2 * pairs && (0..pairs).all(cell)
+    *c == width as i64 && cells.len() == 2 * pairs && (0..pairs).all(cell)
 }
 
 /// The rows of a frame's words: "two parallel arrays of n × c, values and marks, row by row".
@@ -89,9 +98,11 @@ fn rows(words: &[i64]) -> Vec<Row> {
 }
 
 /// "a right row qualifies if no key or by-value of either row is null, its group is equal, its key lies on the
-/// strategy's side (any, for Nearest) and its distance is within the tolerance": how far it is, if it qualifies.
-fn qualifies(o: &Open, left: &Row, right: &Row) -> Option<i128> {
-    if left.contains(&None) || right.contains(&None) || left[..o.b] != right[..o.b] {
+/// strategy's side (any, for Nearest) and its distance is within the tolerance": how far it is, if it qualifies. What it
+/// carries is not asked.
+fn qualifies(o: &Options, left: &Row, right: &Row) -> Option<i128> {
+    let has_null = |row: &Row| row[..=o.b].contains(&None);
+    if has_null(left) || has_null(right) || left[..o.b] != right[..o.b] {
         return None;
     }
     let (v, key) = (left[o.b]? as i128, right[o.b]? as i128);
@@ -107,7 +118,7 @@ fn qualifies(o: &Open, left: &Row, right: &Row) -> Option<i128> {
 
 /// "Backward: last row by position … Forward: first … Nearest: least distance, then greater key, then last position."
 /// The number of the chosen one among the right rows that qualify.
-fn whole_table_match(o: &Open, left: &Row, right: &[Row]) -> Option<usize> {
+fn whole_table_match(o: &Options, left: &Row, right: &[Row]) -> Option<usize> {
     let mut found = right.iter().enumerate().filter_map(|(i, r)| qualifies(o, left, r).map(|far| (i, far)));
     match o.strategy {
         0 => found.next_back(),
@@ -117,17 +128,28 @@ fn whole_table_match(o: &Open, left: &Row, right: &[Row]) -> Option<usize> {
     .map(|(i, _)| i)
 }
 
-/// The words that a turn writes for these matches: "n, 1, n right numbers, n marks (none: 0 and 0)".
-fn written(matches: &[Option<usize>]) -> Vec<i64> {
-    let mut words = vec![matches.len() as i64, 1];
-    words.extend(matches.iter().map(|m| m.unwrap_or(0) as i64));
-    words.extend(matches.iter().map(|m| m.is_some() as i64));
-    words
+/// The words that a turn writes for these matches: for each left row "the right number, then the matched row's carried values,
+/// all null for none", values row by row, then marks row by row.
+fn written(o: &Options, matches: &[Option<usize>], right: &[Row]) -> Vec<i64> {
+    let [first, width] = widths(o);
+    let mut values = vec![matches.len() as i64, (width - o.b) as i64];
+    let mut marks = vec![];
+    for found in matches {
+        let carried = (first..width).map(|j| found.and_then(|number| right[number][j]));
+        for cell in [found.map(|number| number as i64)].into_iter().chain(carried) {
+            values.push(cell.unwrap_or(0));
+            marks.push(cell.is_some() as i64);
+        }
+    }
+    [values, marks].concat()
 }
 
-/// 1: options that are refused at opening.
-fn no_options(o: &Open) -> bool {
-    o.b > 4 || ![0, 1, 2].contains(&o.strategy) || o.tolerance < -1 || (!o.eq && o.strategy == 2)
+/// 1, then 10: what options are refused by at opening, or 0.
+fn no_options(o: &Options) -> u8 {
+    if o.b > 4 || ![0, 1, 2].contains(&o.strategy) || o.tolerance < -1 || (!o.eq && o.strategy == 2) {
+        return 1;
+    }
+    if o.carried > 8 { 10 } else { 0 }
 }
 
 /// A side's accepted rows, and how many of them, from the first on, are sorted.
@@ -139,7 +161,7 @@ struct Side {
 
 impl Side {
     /// Adds a frame's rows.
-    fn add(&mut self, o: &Open, words: &[i64]) {
+    fn add(&mut self, o: &Options, words: &[i64]) {
         for row in rows(words) {
             let follows = self.rows.last().is_none_or(|last| may_follow(o, last, &row));
             self.sorted += (self.is_sorted() && follows) as usize;
@@ -154,7 +176,7 @@ impl Side {
 }
 
 /// The part of a script in which both sides are sorted: how many calls it has, and the right rows accepted in it.
-fn sorted_part(o: &Open, calls: &[Call], answers: &[Answer]) -> (usize, Vec<Row>) {
+fn sorted_part(o: &Options, calls: &[Call], answers: &[Answer]) -> (usize, Vec<Row>) {
     let (mut left, mut right) = (Side::default(), Side::default());
     for (i, pair) in calls.iter().zip(answers).enumerate() {
         let before = right.rows.len();
@@ -173,7 +195,7 @@ fn sorted_part(o: &Open, calls: &[Call], answers: &[Answer]) -> (usize, Vec<Row>
 
 /// How far the answers to a script are judged.
 struct Judged<'a> {
-    o: &'a Open,
+    o: &'a Options,
     /// The lengths of the areas: those of the opening, or of the last move.
     left_words: usize,
     right_words: usize,
@@ -207,7 +229,7 @@ impl<'a> Judged<'a> {
         let refusal = match () {
             _ if self.failed => 3,
             _ if self.left_done || self.done => 4,
-            _ if !keeps_rule(self.o, words) => 5,
+            _ if !keeps_rule(widths(self.o)[0], words) => 5,
             _ if self.waiting_words + words.len() > self.left_words => 6,
             _ => 0,
         };
@@ -224,13 +246,13 @@ impl<'a> Judged<'a> {
         let refusal = match () {
             _ if self.failed => 3,
             _ if self.ended || self.done => 4,
-            _ if !keeps_rule(self.o, words) => 5,
+            _ if !keeps_rule(widths(self.o)[1], words) => 5,
             _ => 0,
         };
         if refusal > 0 {
             return due(*answer == Answer::Refused(refusal), &format!("{refusal} is due"));
         }
-        let (n, room) = (words[0] as usize, self.right_words / (2 * self.o.b + 2));
+        let (n, room) = (words[0] as usize, self.right_words / (2 * widths(self.o)[1]));
         if *answer == Answer::Refused(6) {
             return due(self.right.rows.len() + n > room, "all rows would fit");
         }
@@ -240,7 +262,7 @@ impl<'a> Judged<'a> {
 
     /// A move to areas of these lengths: 6 or taken, whatever came before. How many rows are held is not known.
     fn moved(&mut self, left_words: usize, right_words: usize, answer: &Answer) -> Verdict {
-        let (short, room) = (self.waiting_words > left_words, right_words / (2 * self.o.b + 2));
+        let (short, room) = (self.waiting_words > left_words, right_words / (2 * widths(self.o)[1]));
         if *answer == Answer::Refused(6) {
             return due(short || self.right.rows.len() > room, "everything would fit");
         }
@@ -292,17 +314,25 @@ impl<'a> Judged<'a> {
         }
     }
 
-    /// Whether every match that these words tell is an accepted right row that qualifies.
-    fn all_qualify(&self, front: &[Row], words: &[i64]) -> bool {
-        let (n, rows) = (front.len(), &self.right.rows);
+    /// The words of the answer to a frame of so many rows: "6 wants 2 + 2n(1 + p) words of output".
+    fn answer_words(&self, n: usize) -> usize {
+        2 + 2 * n * (1 + self.o.carried as usize)
+    }
+
+    /// How many matches these words tell, if each is an accepted right row that qualifies, and the words are what is written
+    /// for them, with the cells that these rows carry.
+    fn all_qualify(&self, front: &[Row], words: &[i64]) -> Option<u64> {
+        let (n, c, rows) = (front.len(), 1 + self.o.carried as usize, &self.right.rows);
+        if words.len() != self.answer_words(n) {
+            return None;
+        }
+        let (values, marks) = words[2..].split_at(n * c);
+        let told = |i: usize| (marks[i * c] == 1).then(|| values[i * c] as usize);
         let fits =
-            |i: usize, number: usize| number < rows.len() && qualifies(self.o, &front[i], &rows[number]).is_some();
-        words.len() == 2 + 2 * n
-            && words[..2] == [n as i64, 1]
-            && (0..n).all(|i| match (words[2 + i], words[2 + n + i]) {
-                (number, 1) => fits(i, number as usize),
-                none => none == (0, 0),
-            })
+            |i: usize, number: usize| rows.get(number).is_some_and(|r| qualifies(self.o, &front[i], r).is_some());
+        let matches: Vec<_> = (0..n).map(told).collect();
+        let all = matches.iter().enumerate().all(|(i, found)| found.is_none_or(|number| fits(i, number)));
+        (all && *words == written(self.o, &matches, rows)).then(|| matches.iter().flatten().count() as u64)
     }
 
     /// A turn that wrote these words for the front frame.
@@ -311,12 +341,15 @@ impl<'a> Judged<'a> {
         due(!self.o.check || self.right.is_sorted(), "9 is due")?;
         if let Some(table) = &self.table {
             let want: Vec<_> = front.iter().map(|x| whole_table_match(self.o, x, table)).collect();
-            due(*words == written(&want), &format!("the whole table gives {:?}", written(&want)))?;
+            let want = written(self.o, &want, table);
+            due(*words == want, &format!("the whole table gives {want:?}"))?;
             self.counts.whole += front.len() as u64;
         }
-        due(self.all_qualify(front, words), "a match does not qualify")?;
+        let matched =
+            self.all_qualify(front, words).ok_or("a match does not qualify, or its row carries other cells")?;
         self.counts.rows += front.len() as u64;
-        self.counts.matched += words[2 + front.len()..].iter().sum::<i64>() as u64;
+        self.counts.matched += matched;
+        self.counts.carried += matched * self.o.carried;
         self.last = front.iter().rfind(|r| r[self.o.b].is_some()).cloned().or(self.last.take());
         self.waiting_words -= self.waiting.pop_front().map_or(0, <[i64]>::len);
         self.turned += 1;
@@ -331,7 +364,7 @@ impl<'a> Judged<'a> {
         }
         let Some(frame) = self.waiting.front() else { return due(*answer == Answer::Idle, "no frame waits") };
         let front = rows(frame);
-        let short = output < 2 + 2 * front.len();
+        let short = output < self.answer_words(front.len());
         match answer {
             Answer::Wants => {
                 self.counts.wants += 1;
@@ -350,7 +383,8 @@ impl<'a> Judged<'a> {
     fn run(&mut self, k: usize, output: usize, ran: &Ran) -> Verdict {
         let (mut rest, before) = (&ran.words[..], self.turned);
         while let [n, ..] = rest {
-            let (words, further) = rest.split_at_checked(2 + 2 * *n as usize).ok_or("a turn's words are cut off")?;
+            let length = self.answer_words(*n as usize);
+            let (words, further) = rest.split_at_checked(length).ok_or("a turn's words are cut off")?;
             let wrote = Answer::Wrote(2 * self.turned, words.to_vec());
             self.turn(output.saturating_sub(ran.words.len() - rest.len()), &wrote)?;
             rest = further;
@@ -386,18 +420,24 @@ impl<'a> Judged<'a> {
 /// Judges the answers to a script that opens once: of as many calls as were answered. A script in which the host alters words
 /// itself is not judged.
 pub fn judge(calls: &[Call], answers: &[Answer]) -> Result<Counts, String> {
-    let [Call::Open(o), rest @ ..] = calls else { panic!("a script opens first") };
+    let Some((Open { options: o, left_words, right_words }, lines)) = opening(calls) else {
+        panic!("a script opens first")
+    };
     if calls.iter().any(|call| matches!(call, Call::Put(..))) {
         return Ok(Counts::default());
-    } else if no_options(o) || answers[0] != Answer::Ok {
-        let same = no_options(o) && answers[0] == Answer::Refused(1);
-        return due(same, "open: 1 is due, or an open join").map(|_| Counts::default());
     }
-    let (until, table) = sorted_part(o, rest, &answers[1..]);
+    let (o, refusal, opened) = (&o, no_options(&o), &answers[lines - 1]);
+    if refusal > 0 {
+        let why = format!("open: {refusal} is due");
+        return due(*opened == Answer::Refused(refusal), &why).map(|_| Counts::default());
+    }
+    due(*opened == Answer::Ok, "open: nothing is to be refused")?;
+    let (rest, answers) = (&calls[lines..], &answers[lines..]);
+    let (until, table) = sorted_part(o, rest, answers);
     let mut judged = Judged {
         o,
-        left_words: o.left_words,
-        right_words: o.right_words,
+        left_words,
+        right_words,
         table: Some(table),
         right: Side::default(),
         waiting: Default::default(),
@@ -410,7 +450,7 @@ pub fn judge(calls: &[Call], answers: &[Answer]) -> Result<Counts, String> {
         failed: false,
         counts: Counts { scripts: 1, sorted: (until == rest.len()) as u64, ..Counts::default() },
     };
-    for (i, (call, answer)) in rest.iter().zip(&answers[1..]).enumerate() {
+    for (i, (call, answer)) in rest.iter().zip(answers).enumerate() {
         judged.table = judged.table.filter(|_| i < until);
         judged.judge(call, answer).map_err(|why| format!("{call}: {answer}: {why}"))?;
     }

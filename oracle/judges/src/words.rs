@@ -1,16 +1,25 @@
 //! A join as words, in the order of include/rowkeeper.h: layout, options, counters and flags, the two remembered rows.
 use crate::rules::Row;
-use crate::script::{JoinWords, Look, Open};
+use crate::script::{JoinWords, Look, Options};
 
 /// A remembered row's words: whether there is one, five values, five marks.
 pub type RowWords = [i64; 11];
 
 /// The first word of every join: the bytes "rowkeep", then the layout's version.
-const LAYOUT: i64 = 0x726f_776b_6565_7001;
+const LAYOUT: i64 = 0x726f_776b_6565_7002;
 
-/// The place of the first counter, of the left remembered row and of the right one.
-const COUNTERS: usize = 14;
-const ROWS: [usize; 2] = [23, 34];
+/// The place of the flag for the order check, and of p.
+pub const CHECK: usize = 5;
+pub const CARRIED: usize = 14;
+/// The place of the first counter, and those of counters and flags that have a name elsewhere.
+pub const COUNTERS: usize = 15;
+pub const PRUNED: usize = 17;
+pub const QUEUE_START: usize = 18;
+pub const STATE: usize = 20;
+pub const ENDED: usize = 21;
+pub const SEQUENCE: usize = 23;
+/// The place of the left remembered row and of the right one.
+pub const ROWS: [usize; 2] = [24, 35];
 
 /// A row that is remembered: "value and mark 1, or 0 and 0, zeros up to five words".
 pub fn row_words(row: &Row) -> RowWords {
@@ -43,24 +52,25 @@ fn flags(words: &[i64]) -> Option<Vec<bool>> {
 }
 
 /// The options' words.
-pub fn options(o: &Open) -> [i64; 13] {
-    let mut out = [0; 13];
+pub fn options(o: &Options) -> [i64; 14] {
+    let mut out = [0; 14];
     out[..5].copy_from_slice(&[o.b as i64, o.strategy, o.eq as i64, o.tolerance, o.check as i64]);
     for j in 0..o.descending.len().min(4) {
         (out[5 + j], out[9 + j]) = (o.descending[j] as i64, o.nulls_last[j] as i64);
     }
+    out[13] = o.carried as i64;
     out
 }
 
 /// A join's words.
-pub fn encode(o: &Open, l: &Look, rows: &[RowWords; 2]) -> JoinWords {
-    let mut out = [0; 45];
+pub fn encode(o: &Options, l: &Look, rows: &[RowWords; 2]) -> JoinWords {
+    let mut out = [0; 46];
     out[0] = LAYOUT;
     out[1..COUNTERS].copy_from_slice(&options(o));
     let counters = [l.base as i64, l.held as i64, l.pruned as i64, l.queue_start as i64, l.queue_words as i64];
     let flags = [l.state as i64, l.ended as i64, l.failed as i64, l.sequence as i64];
-    out[COUNTERS..COUNTERS + 5].copy_from_slice(&counters);
-    out[COUNTERS + 5..ROWS[0]].copy_from_slice(&flags);
+    out[COUNTERS..STATE].copy_from_slice(&counters);
+    out[STATE..ROWS[0]].copy_from_slice(&flags);
     for (row, at) in rows.iter().zip(ROWS) {
         out[at..at + 11].copy_from_slice(row);
     }
@@ -69,33 +79,32 @@ pub fn encode(o: &Open, l: &Look, rows: &[RowWords; 2]) -> JoinWords {
 
 /// The join of these words, or none where no join has them: another layout, a node state or a flag that there is not, or a
 /// strategy that is no byte.
-pub fn decode(w: &JoinWords) -> Option<(Open, Look, [RowWords; 2])> {
+pub fn decode(w: &JoinWords) -> Option<(Options, Look, [RowWords; 2])> {
     if w[0] != LAYOUT {
         return None;
     }
-    let o = Open {
+    let o = Options {
         b: w[1] as usize,
         strategy: u8::try_from(w[2]).ok()?.into(),
         eq: flag(w[3])?,
         tolerance: w[4],
-        check: flag(w[5])?,
+        check: flag(w[CHECK])?,
+        carried: w[CARRIED] as u64,
         descending: flags(&w[6..10])?,
         nulls_last: flags(&w[10..14])?,
-        left_words: 0,
-        right_words: 0,
     };
     let rows = ROWS.map(|at| w[at..at + 11].try_into().unwrap());
     let c = o.b.saturating_add(1);
     let look = Look {
-        base: w[14] as usize,
-        held: w[15] as usize,
-        pruned: w[16] as u64,
-        queue_start: w[17] as usize,
-        queue_words: w[18] as usize,
-        state: u8::try_from(w[19]).ok().filter(|s| *s <= 2)?,
-        ended: flag(w[20])?,
-        failed: flag(w[21])?,
-        sequence: w[22] as u64,
+        base: w[COUNTERS] as usize,
+        held: w[COUNTERS + 1] as usize,
+        pruned: w[PRUNED] as u64,
+        queue_start: w[QUEUE_START] as usize,
+        queue_words: w[QUEUE_START + 1] as usize,
+        state: u8::try_from(w[STATE]).ok().filter(|s| *s <= 2)?,
+        ended: flag(w[ENDED])?,
+        failed: flag(w[ENDED + 1])?,
+        sequence: w[SEQUENCE] as u64,
         left: row_cells(c, &rows[0])?,
         right: row_cells(c, &rows[1])?,
     };

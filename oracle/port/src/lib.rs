@@ -1,5 +1,5 @@
 //! The port itself: calls over the archive, with areas, frames and outputs between guard words.
-use judges::script::{Answer, Call, JoinWords, Judge, Open, Place, Ran, Stop};
+use judges::script::{Answer, Call, JoinWords, Judge, Open, Place, Ran, Stop, Told};
 use judges::words;
 use rowkeeper::raw::{self, safe};
 
@@ -67,7 +67,7 @@ fn refused(number: u64) -> Answer {
 impl Host {
     /// A fresh join, or the refusal's number. The areas' words are those that scripts begin with.
     fn open(o: &Open) -> Result<Host, u64> {
-        let w = words::options(o);
+        let w = words::options(&o.options);
         let flags = |at: usize| std::array::from_fn(|j| w[at + j] as u64);
         let options = raw::Options {
             by: w[0] as u64,
@@ -77,6 +77,7 @@ impl Host {
             check: w[4] as u64,
             descending: flags(5),
             nulls_last: flags(9),
+            carried: w[13] as u64,
         };
         let took = raw::rowkeeper_open(options);
         let (left, right) = (new_left(o.left_words), new_right(o.right_words));
@@ -146,8 +147,8 @@ impl Host {
         self.note(!out.intact(), "a guard word of the output was altered");
         self.note(said.answer != 0 && said.sequence != 0, "a turn that wrote nothing told a sequence");
         self.note((said.answer == 3) != (said.refusal != 0), "a refusal's number without a refusal, or none with one");
-        let written = match said.answer {
-            0 => 2 + 2 * out.get().first().map_or(0, |n| *n as usize % (1 << 20)),
+        let written = match (said.answer, out.get()) {
+            (0, [n, c, ..]) => 2 + 2 * (*n as usize % (1 << 20)) * (*c as usize % (1 << 20)),
             _ => 0,
         };
         let rest = out.get().iter().enumerate().skip(written).all(|(i, w)| *w == blank(i));
@@ -231,6 +232,7 @@ impl Host {
 /// The judge that answers by the port.
 #[derive(Default)]
 pub struct Port {
+    told: Told,
     host: Option<Host>,
     wrong: Option<&'static str>,
 }
@@ -250,13 +252,13 @@ impl Port {
 impl Judge for Port {
     /// Opens, or asks the open join; a call on tables needs none.
     fn call(&mut self, call: &Call) -> Answer {
-        match (call, &mut self.host) {
-            (Call::Spans(spans), _) => {
+        match (call, self.told.opens(call), &mut self.host) {
+            (Call::Spans(spans), ..) => {
                 let (answer, wrong) = spans::answer(spans);
                 self.wrong = self.wrong.or(wrong);
                 answer
             },
-            (Call::Open(o), host) => match Host::open(o) {
+            (_, Some(Ok(open)), host) => match Host::open(&open) {
                 Ok(opened) => {
                     *host = Some(opened);
                     Answer::Ok
@@ -266,8 +268,9 @@ impl Judge for Port {
                     refused(number)
                 },
             },
-            (_, None) => Answer::NoJoin,
-            (call, Some(host)) => host.call(call),
+            (_, Some(Err(answer)), _) => answer,
+            (_, _, None) => Answer::NoJoin,
+            (call, _, Some(host)) => host.call(call),
         }
     }
 }

@@ -6,7 +6,7 @@ use std::time::{Duration, Instant};
 
 use judges::generate::Kind;
 use judges::rules::Rules;
-use judges::script::{Answer, Call, Judge};
+use judges::script::{Answer, Call, Judge, opening};
 use judges::whole_table;
 use oracle::compare::{Tally, agrees, no_counterpart, panic_text, parted};
 use oracle::rust::Rust;
@@ -21,7 +21,7 @@ const SPENT: Duration = Duration::from_secs(20);
 #[derive(Default, Clone)]
 pub struct Counts {
     pub tally: Tally,
-    pub refused: [u64; 10],
+    pub refused: [u64; 11],
     /// Moves that were made, refused by 2 and refused by 6.
     pub moves: [u64; 3],
     /// Calls that the host made on words that it altered itself.
@@ -34,7 +34,7 @@ impl Counts {
         self.tally.add(&other.tally);
         self.altered += other.altered;
         (0..3).for_each(|n| self.moves[n] += other.moves[n]);
-        (0..10).for_each(|n| self.refused[n] += other.refused[n]);
+        (0..11).for_each(|n| self.refused[n] += other.refused[n]);
     }
 
     /// Counts a call's answer, given in this node state.
@@ -48,7 +48,7 @@ impl Counts {
         self.tally.calls += 1;
         self.tally.count(answer, state);
         if let Answer::Refused(n) = answer {
-            self.refused[(*n as usize).min(9)] += 1;
+            self.refused[(*n as usize).min(10)] += 1;
         }
     }
 }
@@ -56,7 +56,7 @@ impl Counts {
 impl fmt::Display for Counts {
     /// The counts on one line.
     fn fmt(&self, f: &mut fmt::Formatter<'_>) -> fmt::Result {
-        write!(f, "{}; refused by 1 to 9: {:?}; ", self.tally, &self.refused[1..])?;
+        write!(f, "{}; refused by 1 to 10: {:?}; ", self.tally, &self.refused[1..])?;
         let [made, bad, short] = self.moves;
         write!(f, "{made} moves, {bad} refused by 2, {short} by 6; {} words altered", self.altered)
     }
@@ -151,7 +151,7 @@ fn without_rows(words: &[i64], from: usize, count: usize) -> Vec<i64> {
 /// How many rows a call's frame has, if it is one that a row can be taken from.
 fn rows(call: &Call) -> usize {
     let (Call::Left(w) | Call::Right(w)) = call else { return 0 };
-    let [n @ 1..=4096, c @ 1..=5, cells @ ..] = w.as_slice() else { return 0 };
+    let [n @ 1..=4096, c @ 1..=13, cells @ ..] = w.as_slice() else { return 0 };
     if cells.len() == 2 * *n as usize * *c as usize { *n as usize } else { 0 }
 }
 
@@ -164,12 +164,13 @@ fn less_rows(calls: &[Call], i: usize, from: usize, count: usize) -> Vec<Call> {
     script
 }
 
-/// All scripts that are this one less a call, or less rows of a frame: long parts of it first, then single rows. The call
-/// that opens stays.
+/// All scripts that are this one less a call, or less rows of a frame: long parts of it first, then single rows. What opens
+/// stays.
 fn smaller(calls: &[Call]) -> impl Iterator<Item = Vec<Call>> {
+    let lines = opening(calls).expect("a script opens first").1;
     let less = |i: usize| [&calls[..i], &calls[i + 1..]].concat();
-    let frames = (1..calls.len()).flat_map(|i| parts(rows(&calls[i])).map(move |(from, n)| (i, from, n)));
-    (1..calls.len()).map(less).chain(frames.map(|(i, from, n)| less_rows(calls, i, from, n)))
+    let frames = (lines..calls.len()).flat_map(|i| parts(rows(&calls[i])).map(move |(from, n)| (i, from, n)));
+    (lines..calls.len()).map(less).chain(frames.map(|(i, from, n)| less_rows(calls, i, from, n)))
 }
 
 /// A script that still differs and that no call and no row can be taken from, with how it differs; or the smallest that is

@@ -65,14 +65,20 @@ fn scripts(count: u64) -> impl Iterator<Item = (usize, u64)> {
 /// What a run never met, though it is made to.
 fn missing(all: &Counts) -> Option<String> {
     let tally = &all.tally;
-    let met =
-        [("matches", tally.matched), ("wants", tally.wants), ("idle turns", tally.idle), ("Flush", tally.in_flush)];
+    let met = [
+        ("matches", tally.matched),
+        ("carried values", tally.carried[0]),
+        ("carried nulls", tally.carried[1]),
+        ("wants", tally.wants),
+        ("idle turns", tally.idle),
+        ("Flush", tally.in_flush),
+    ];
     let none = met.iter().find(|(_, n)| *n == 0).map(|(what, _)| what.to_string());
     let runs = &tally.runs;
     let stopped = STOPS.iter().find(|(_, at)| runs.stops[*at] == 0).map(|(what, _)| format!("runs stopped by {what}"));
     let after = STOPS.iter().find(|(_, at)| LATER.contains(at) && runs.after[*at] == 0);
     let moves = ["moves", "moves refused by 2", "moves refused by 6"].iter().zip(all.moves).find(|(_, n)| *n == 0);
-    none.or_else(|| (1..10).find(|n| all.refused[*n] == 0).map(|n| format!("refusals by {n}")))
+    none.or_else(|| (1..11).find(|n| all.refused[*n] == 0).map(|n| format!("refusals by {n}")))
         .or(stopped)
         .or(after.map(|(what, _)| format!("runs stopped by {what} after a turn")))
         .or(moves.map(|(what, _)| what.to_string()))

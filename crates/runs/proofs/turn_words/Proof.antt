@@ -1,4 +1,5 @@
-use Prim.Native.Nat.{_≤_}
+use Prim.Native.Nat.{_*_, _≤_}
+use native.Mathlib.Nat.{mul-le-mul-right}
 use native.Mathlib.Omega.{arith}
 use lib.IntN.{pos}
 use lib.ListN.{getD}
@@ -11,18 +12,25 @@ use Rattle.runs.proofs.turn_words.Tie as tie
 row-count-requires : tie.Need-row-count-requires
 row-count-requires c κs = search needs
 
--- At most 4,096 rows.
-few : (c : tie.After-row-count) → c .row-count .result ≤ 4096
-few c = omega (arith, c .row-count .ensures, few-count (getD (now (c .before .args .out)) 0 (pos 0)) (c .before .pre .few) .1)
+-- At most 4,096 rows of at most nine cells.
+few : (c : tie.After-row-count) → c .row-count .result * c .before .args .c ≤ 36864
+few c =
+    let a = c .before .args in
+    let n : c .row-count .result ≤ 4096 = omega (arith, c .row-count .ensures, few-count (getD (now (a .out)) 0 (pos 0)) (c .before .pre .0 .few) .1) in
+    let m : c .row-count .result * a .c ≤ 4096 * a .c = mul-le-mul-right {m = c .row-count .result} {n = 4096} (a .c) n in
+    omega (arith, c .before .pre .1)
 
 mul-result : tie.Need-mul-result
 mul-result c = omega (arith, few c)
+
+mul-result-2 : tie.Need-mul-result-2
+mul-result-2 c = omega (arith, few c)
 
 add-result : tie.Need-add-result
 add-result c = omega (arith, few c)
 
 returns : tie.Need-returns
-returns c = search needs
+returns c = rw (c .row-count .ensures)
 
 pub turn-words-spec : {M : Type 1} → statement M
-turn-words-spec = tie.close (tie.spec row-count-requires mul-result add-result returns)
+turn-words-spec = tie.close (tie.spec row-count-requires mul-result mul-result-2 add-result returns)

@@ -19,7 +19,7 @@ left-columns-requires : tie.Need-left-columns-requires
 left-columns-requires c κs = c .pre .few
 
 right-columns-requires : tie.Need-right-columns-requires
-right-columns-requires c κs = c .before .pre .few
+right-columns-requires c κs = (c .before .pre .few, c .before .pre .carried)
 
 row-count-requires : tie.Need-row-count-requires
 row-count-requires c κs = has-count _ _ (c .before .before .pre .frame)

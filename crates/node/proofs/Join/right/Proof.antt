@@ -14,7 +14,7 @@ bad-join-requires c κs = search needs
 
 -- A join that is not bad holds together.
 feed-right-requires : tie.Need-feed-right-requires
-feed-right-requires c κs = λ e. let g = good _ _ _ (sym (c .before .before .bad-join .ensures) ∙ e) in record { few = g .few; room = g .right-room; rows = g .rows }
+feed-right-requires c κs = λ e. let g = good _ _ _ (sym (c .before .before .bad-join .ensures) ∙ e) in record { few = g .few; carried = g .carried; room = g .right-room; rows = g .rows }
 
 same-length : tie.Need-same-length
 same-length c = search needs

@@ -15,7 +15,7 @@ part-of-requires c κs = search needs
 turn-queue-requires : tie.Need-turn-queue-requires
 turn-queue-requires c κs = λ e.
     let g = good _ _ _ (sym (c .before .before .bad-join .ensures) ∙ e) in
-    rw (c .before .part-of .ensures) (record { few = g .few; right-room = g .right-room; left-room = g .left-room; rows = g .rows; even = g .even })
+    rw (c .before .part-of .ensures) (record { few = g .few; carried = g .carried; right-room = g .right-room; left-room = g .left-room; rows = g .rows; even = g .even })
 
 turned-requires : tie.Need-turned-requires
 turned-requires c κs = search needs
