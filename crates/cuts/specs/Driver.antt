@@ -11,6 +11,8 @@ use Rattle.order.specs.Order.{cmpGroup, isLess, nullGroup, sorted}
 use Rattle.options.specs.declared.Options.{Options}
 use Rattle.area.specs.Area.{capacity}
 use Rattle.matching.specs.Answer.{answerRows, answered}
+use Rattle.refusals.specs.Refusals.{number}
+use Rattle.refusals.specs.declared.Refusal.the-variants.{BadOptions, TooManyCarried, BadFrame, NoRoom, Unsorted, BadBoundaries}
 use Rattle.plan.specs.Plan.{plan}
 use Rattle.plan.specs.Table.{isTable, fullHeights}
 use Rattle.cuts.specs.Cut.{Pair, cutBy, joined}
@@ -65,12 +67,12 @@ module _ (o : Options) (left right boundaries l r out : Words) where
   -- (11 and 12 come with rank lists: behind 10, and behind 5.)
   unfoldable pub cutAnswer : ℕ
   cutAnswer =
-      cond (badOptions o) 1
-      (cond (manyCarried o) 10
-      (cond (not (isTable (columns o) left && isTable (rightColumns o) right && isFrame (o .by) boundaries)) 5
-      (cond (not (sorted o (tables .left) && sorted o (tables .right))) 14
-      (cond (badBoundaries o groups) 18
-      (cond (anyShort o l r (cutBy o groups tables) || ltb (length out) (frameWords (length (tables .left)) (answerColumns o))) 6
+      cond (badOptions o) (number BadOptions)
+      (cond (manyCarried o) (number TooManyCarried)
+      (cond (not (isTable (columns o) left && isTable (rightColumns o) right && isFrame (o .by) boundaries)) (number BadFrame)
+      (cond (not (sorted o (tables .left) && sorted o (tables .right))) (number Unsorted)
+      (cond (badBoundaries o groups) (number BadBoundaries)
+      (cond (anyShort o l r (cutBy o groups tables) || ltb (length out) (frameWords (length (tables .left)) (answerColumns o))) (number NoRoom)
       0)))))
 
   -- Refused, the output stays; else it is the answer of the uncut tables. The words of both areas are free.

@@ -9,6 +9,8 @@ use Rattle.options.specs.declared.Options.{Options}
 use Rattle.node.specs.Calls.{turnAnswer}
 use Rattle.outcomes.specs.declared.Answer.the-variants.{Wrote, WantsRight, Idle, Refused}
 use Rattle.lists.specs.Lists.{Call, left, right, end, turn, Event, onLeft, onRight, onEnd, onPorts, onTurn, World, start, step, final, rightFrames, tookRefusal, turnsIn}
+use Rattle.refusals.specs.Refusals.{number}
+use Rattle.refusals.specs.declared.Refusal.the-variants.{NoRoom}
 
 -- Right ends as soon as no right frame is left.
 abbrev pub endIf : List Words → List Call
@@ -57,7 +59,7 @@ rightsTaken es = length (rightFrames es)
 -- Refusal 6 on the right.
 abbrev pub noRoomRight : Event → Bool
 noRoomRight (onLeft f a) = false
-noRoomRight (onRight f a) = eqb (tookRefusal a) 6
+noRoomRight (onRight f a) = eqb (tookRefusal a) (number NoRoom)
 noRoomRight (onEnd a) = false
 noRoomRight (onPorts l r s a) = false
 noRoomRight (onTurn a out) = false

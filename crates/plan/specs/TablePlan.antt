@@ -10,6 +10,8 @@ use Rattle.options.specs.Options.{columns, badOptions, manyCarried, rightColumn
 use Rattle.order.specs.Order.{sorted}
 use Rattle.options.specs.declared.Options.{Options}
 use Rattle.area.specs.Area.{capacity}
+use Rattle.refusals.specs.Refusals.{number}
+use Rattle.refusals.specs.declared.Refusal.the-variants.{BadOptions, TooManyCarried, BadFrame, Unsorted, BadHeights}
 use Rattle.outcomes.specs.Answers.{mostRows}
 use Rattle.lists.specs.Lists.{start, events, outputs, matchesIn, backToBack}
 use Rattle.lists.specs.WholeTables.{dueOver, Each}
@@ -21,11 +23,11 @@ use Rattle.plan.specs.Table.{isTable, framesBy, heightsOf, badHeights}
 -- (11 and 12 come with rank lists: behind 10, and behind 5.)
 unfoldable pub planAnswer : Options → Words → Words → Words → Words → ℕ
 planAnswer o left right hl hr =
-    cond (badOptions o) 1
-    (cond (manyCarried o) 10
-    (cond (not (isTable (columns o) left && isTable (rightColumns o) right)) 5
-    (cond (not (sorted o (frameRows (columns o) left) && sorted o (frameRows (rightColumns o) right))) 14
-    (cond (badHeights (rowCount left) hl || badHeights (rowCount right) hr) 17
+    cond (badOptions o) (number BadOptions)
+    (cond (manyCarried o) (number TooManyCarried)
+    (cond (not (isTable (columns o) left && isTable (rightColumns o) right)) (number BadFrame)
+    (cond (not (sorted o (frameRows (columns o) left) && sorted o (frameRows (rightColumns o) right))) (number Unsorted)
+    (cond (badHeights (rowCount left) hl || badHeights (rowCount right) hr) (number BadHeights)
     0))))
 
 -- The frames of these heights of a table of c columns.

@@ -9,6 +9,8 @@ use lib.ListN.{length}
 use Rattle.frames.specs.Cells.{Rows, Words}
 use Rattle.frames.specs.Frame.{isFrame, rowCount, frameRows}
 use Rattle.options.specs.declared.Check.the-variants.{Off}
+use Rattle.refusals.specs.Refusals.{number}
+use Rattle.refusals.specs.declared.Refusal.the-variants.{BadOptions, BadFrame, NoRoom, Unsorted}
 use Rattle.options.specs.declared.Options.{Options}
 use Rattle.matching.specs.Match.{matchIn}
 use Rattle.matching.specs.Stretches.{lay}
@@ -30,11 +32,15 @@ keyOptions s = record {
 
 -- The refusals of what is handed in: 1 for a strategy that there is not, 5 where the words are no frames of one column, 6 for too short an output; 0 for none.
 abbrev pub judged : ℕ → Words → Words → ℕ → ℕ
-judged s left right room = cond (ltb 2 s) 1 (cond (not (isFrame 1 left)) 5 (cond (not (isFrame 1 right)) 5 (cond (ltb room (2 + 2 * rowCount left)) 6 0)))
+judged s left right room =
+    cond (ltb 2 s) (number BadOptions)
+    (cond (not (isFrame 1 left)) (number BadFrame)
+    (cond (not (isFrame 1 right)) (number BadFrame)
+    (cond (ltb room (2 + 2 * rowCount left)) (number NoRoom) 0)))
 
 -- The refusal of a walk over runs of which one is not sorted: 14. A scan takes any runs.
 abbrev pub unsorted : Bool → ℕ → Rows → Rows → ℕ
-unsorted walked s ls rs = cond (not walked || (keysSorted (keyOptions s) ls && keysSorted (keyOptions s) rs)) 0 14
+unsorted walked s ls rs = cond (not walked || (keysSorted (keyOptions s) ls && keysSorted (keyOptions s) rs)) 0 (number Unsorted)
 
 -- The first refusal of a call, 0 for none.
 abbrev pub refusalOf : Bool → ℕ → Words → Words → ℕ → ℕ
