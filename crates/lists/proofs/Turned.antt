@@ -2,7 +2,7 @@
 use mathlib.Core.Path.{_≡_, refl, sym, ap, _∙_}
 use mathlib.Core.Bool.{true, false, not}
 use mathlib.Core.List.{List, [], _∷_, _++_, append-nil, append-assoc}
-use Prim.Native.Nat.{suc, _≤_}
+use Prim.Native.Nat.{ℕ, suc, _≤_}
 use native.Mathlib.Omega.{arith}
 use borrow.Author.Tests.{not-false}
 use lib.ListN.{length, take, drop, take-append-drop, length-append}
@@ -13,7 +13,7 @@ use Rattle.options.specs.Options.{columns, isOn, isStrict}
 use Rattle.options.specs.declared.Options.{Options}
 use Rattle.options.specs.declared.Check.the-variants.{Strict}
 use Rattle.order.specs.Order.{sorted}
-use Rattle.order.specs.Keyed.{lastLeft, lastRow, rowAt, recall, rememberAt, noRow}
+use Rattle.order.specs.Keyed.{lastLeft, recall, rememberAt, noRow}
 use Rattle.order.specs.declared.Row.{Row}
 use Rattle.order.proofs.SortedLaws.{All, all-by, sorted-cut}
 use Rattle.order.proofs.SeamLaws.{unsorted, Recalls, recalled-none, recalled, seam}
