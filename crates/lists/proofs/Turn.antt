@@ -38,6 +38,8 @@ use Rattle.outcomes.specs.Answers.{isRunning, isDone, lastSequence}
 use Rattle.node.specs.Calls.{After, after, turnAnswer, turnCall, turned, dropped, dequeued, spoiled}
 use Rattle.turnrows.specs.Prunes.{badLeft, badRight, firstPrune, remembered, rememberedLeft, keptRows, lastPrune}
 use Rattle.turnrows.proofs.PruneLaws.{drops-within}
+use Rattle.refusals.specs.Tests.{test, firstOf}
+use Rattle.turnparts.specs.Part.{roomTests, orderTests}
 use Rattle.lists.specs.Lists.{turn, Event, onTurn, World, step, leftIn, rightIn, leftFrames, rightFrames, rowsIn, outputIn, outputs, backToBack, framesWaiting, doneBy, refusedWith, turnRefusal}
 use Rattle.lists.proofs.ListLaws.{left-append, right-append, outputs-append}
 use Rattle.lists.proofs.Turned.{frame-cells, turnedOf, turned-after, Together, together-more}
@@ -47,14 +49,13 @@ use Rattle.lists.proofs.Invariant.{Inv, Adds, SameFlags, adds-same, fla
 -- ---- the turn's answer and what it leaves, told by the frame's rows and the held rows
 unfoldable pub judged : Options → Join → Rows → Rows → Words → Answer
 judged o j rows held out =
-    cond (j .failed) (TurnRefused Failed)
-    (cond (isDone (j .state)) (TurnRefused Closed)
-    (cond (not (j .«right_ended») && needMore o rows held) WantsRight
-    (cond (ltb (length out) (frameWords (length rows) (answerColumns o))) (TurnRefused NoRoom)
-    (cond (eqb (j .sequence) lastSequence) (TurnRefused UsedUp)
-    (cond (badLeft o (j .«last_left») rows) (TurnRefused LeftOrder)
-    (cond (badRight o (j .«last_right») rows held) (TurnRefused RightOrder)
-    (Wrote (j .sequence))))))))
+    firstOf (
+    test (j .failed) (TurnRefused Failed)
+    ∷ test (isDone (j .state)) (TurnRefused Closed)
+    ∷ roomTests o (j .«right_ended») (j .sequence) rows held (length out)
+    ++ orderTests (badLeft o (j .«last_left») rows) (badRight o (j .«last_right») rows held)
+    )
+    (Wrote (j .sequence))
 
 -- The join that a turn that writes leaves, and what it writes.
 unfoldable pub leftBy : Options → Join → Rows → Rows → ℕ → Join
