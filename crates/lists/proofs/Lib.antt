@@ -17,6 +17,7 @@ pub mod Sound
 pub mod Steps
 pub mod WholeTableTheorem
 pub mod Strict
+pub mod StrictWitness
 pub mod OldForm
 pub mod Example
 pub mod Carried

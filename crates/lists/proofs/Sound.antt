@@ -1,27 +1,24 @@
 -- Sorted rows: what is written are the matches of the whole table, what was dropped matters to no later row, and no order fault is told. Assumes nothing.
 use mathlib.Core.Path.{_≡_, refl, sym, ap, _∙_}
-use mathlib.Core.Bool.{Bool, true, false, cond, not, _&&_, _||_, and-false}
+use mathlib.Core.Bool.{Bool, true, false, cond, _||_, and-false}
 use mathlib.Core.List.{List, [], _∷_, _++_, append-nil, append-assoc, map}
-use mathlib.Core.Option.{Option, none, some}
-use Prim.Native.Nat.{ℕ, zero, suc, _+_, _-_, _*_, _≤_, _<_}
+use Prim.Native.Nat.{ℕ, zero, suc, _+_, _-_, _≤_, _<_}
 use native.Mathlib.Omega.{arith}
 use borrow.Author.Tests.{eqb-false, eqb-true}
 use lib.Dec.{eqb}
-use lib.IntN.{ℤ}
-use lib.ListN.{length, getD, take, drop, take-append-drop, length-drop, List·getD-append}
+use lib.ListN.{length, getD, take, drop, take-append-drop}
 use lib.Seq.{take-append-le, drop-append-le, drop-drop, take-add}
 use Rattle.frames.specs.Cells.{Cell, Rows, Words}
-use Rattle.frames.specs.Frame.{rowCount, isFrame, frameRows}
+use Rattle.frames.specs.Frame.{isFrame, frameRows}
 use Rattle.options.specs.Options.{columns, rightColumns, answerColumns, isOn}
 use Rattle.order.specs.Order.{cmpRow, sorted}
-use Rattle.order.specs.Keyed.{recall, rememberLast, rememberAt, firstLeft, lastLeft, rowAt, outOfOrder}
+use Rattle.order.specs.Keyed.{recall, rememberLast, rememberAt, firstLeft, lastLeft}
 use Rattle.options.specs.declared.Options.{Options}
-use Rattle.order.specs.declared.Row.{Row}
 use Rattle.order.proofs.OrderLaws.{AtMost}
 use Rattle.order.proofs.SortedLaws.{All, all-at, all-by, all-map, all-cut, all-join, sorted-cut, sorted-at, sorted-drop}
 use Rattle.frames.proofs.WordLaws.{map-append}
 use Rattle.order.proofs.KeyedLaws.{Below, first-left-found, last-left-found, below-fine, remember-below, remember-last-below, wide-enough}
-use Rattle.searching.specs.Reach.{needMore, rowNeedsMore, pruneBy, noPrune, splitAt, badSplit}
+use Rattle.searching.specs.Reach.{needMore, rowNeedsMore, pruneBy, noPrune, splitAt}
 use Rattle.searching.proofs.SplitLaw.{split}
 use Rattle.searching.proofs.EnoughLaw.{enough}
 use Rattle.searching.proofs.CheckLaw.{split-fine}
@@ -43,7 +40,7 @@ use Rattle.lists.proofs.ListLaws.{rows-in-append, matches-append}
 use Rattle.lists.proofs.Turned.{frame-cells, turnedOf, turned-after, turned-more}
 use Rattle.lists.proofs.Stock.{Frames}
 use Rattle.lists.proofs.EntryLaws.{written-back}
-use Rattle.turnrows.proofs.PruneLaws.{first-within, prune-within}
+use Rattle.turnrows.proofs.PruneLaws.{first-within}
 use Rattle.lists.proofs.Turn.{leftBy, matchedBy, matched-wide}
 
 -- ---- small laws of lists

@@ -1,26 +1,24 @@
 -- From a fresh join, over any list of calls, sorted or not: a fault at the split comes only together with unsorted held rows. Assumes nothing.
 use mathlib.Core.Path.{_≡_, refl, sym, ap, _∙_}
-use mathlib.Core.Bool.{Bool, true, false, cond, not, _&&_, _||_, or-false, and-false}
+use mathlib.Core.Bool.{Bool, true, false, not, _&&_, _||_, or-false}
 use mathlib.Core.List.{List, [], _∷_, _++_, append-nil, append-assoc}
-use Prim.Native.Nat.{ℕ, zero, suc, _+_, _-_, _≤_, _<_}
+use Prim.Native.Nat.{ℕ, _+_, _-_, _≤_}
 use native.Mathlib.Omega.{arith}
-use lib.Dec.{ltb, eqb}
-use lib.ListN.{length, getD, take, drop, take-append-drop}
+use lib.ListN.{length, take, drop, take-append-drop}
 use lib.Seq.{drop-append-le, drop-drop}
-use Rattle.frames.specs.Cells.{Cell, Rows, Words}
-use Rattle.frames.specs.Frame.{frameWords, frameRows}
-use Rattle.options.specs.Options.{rightColumns, answerColumns, refusedOptions, isOn}
+use Rattle.frames.specs.Cells.{Rows, Words}
+use Rattle.frames.specs.Frame.{frameRows}
+use Rattle.options.specs.Options.{rightColumns, refusedOptions, isOn}
 use Rattle.order.specs.Order.{sorted}
 use Rattle.order.specs.Keyed.{recall, rememberLast}
 use Rattle.options.specs.declared.Options.{Options}
 use Rattle.order.specs.declared.Row.{Row}
 use Rattle.order.proofs.SortedLaws.{All, all-cut}
-use Rattle.searching.specs.Reach.{needMore, pruneBy, badSplit}
+use Rattle.searching.specs.Reach.{pruneBy, badSplit}
 use Rattle.node.specs.declared.Join.{Join}
 use Rattle.outcomes.specs.declared.PortState.{PortState}
 use Rattle.refusals.proofs.RefusalLaws.{marked-ind}
 use Rattle.refusals.specs.declared.Refusal.{Refusal}
-use Rattle.refusals.specs.declared.Refusal.the-variants.{Failed, Closed, NoRoom, UsedUp, LeftOrder, RightOrder}
 use Rattle.outcomes.specs.declared.Answer.{Answer}
 use Rattle.outcomes.specs.declared.Answer.the-variants.{Wrote, WantsRight, Idle, Refused as TurnRefused}
 use Rattle.outcomes.specs.declared.Took.{Took}
@@ -28,9 +26,9 @@ use Rattle.outcomes.specs.declared.Took.the-variants.{Accepted, Refused}
 use Rattle.outcomes.specs.declared.Ported.{Ported}
 use Rattle.outcomes.specs.declared.Ported.the-variants.{Ports, Refused as PortsRefused}
 use Rattle.node.specs.State.{endedRight, stateAt, markedFailed, heldOf}
-use Rattle.outcomes.specs.Answers.{isDone, lastSequence}
+use Rattle.outcomes.specs.Answers.{isDone}
 use Rattle.node.specs.Calls.{leftAnswer, leftCall, queued, rightAnswer, rightCall, pushedRight, endAnswer, endCall, portsAnswer, portsCall, portsState, turnAnswer, turnCall, turned, dropped, dequeued, spoiled}
-use Rattle.turnrows.specs.Prunes.{badLeft, badRight, firstPrune, remembered, keptRows, lastPrune}
+use Rattle.turnrows.specs.Prunes.{badRight, firstPrune, remembered, keptRows, lastPrune}
 use Rattle.matching.specs.Answer.{answered}
 use Rattle.lists.specs.Lists.{Call, left, right, end, ports, turn, Event, onLeft, onRight, onEnd, onPorts, onTurn, World, start, step, events, final, rightIn, rightFrames, rowsIn, leftFrames, outputs, rightEnded}
 use Rattle.lists.specs.SplitAlone.{heldAfter, rememberedAfter, SplitsAlone}

@@ -1,21 +1,18 @@
 -- Each call, from a join and areas that meet the invariant and are sound: what it leaves is sound. Then all lists of calls, by induction. Assumes nothing.
-use mathlib.Core.Path.{_≡_, refl, sym, ap, _∙_}
-use mathlib.Core.Bool.{Bool, true, false, cond, not, _&&_, _||_, or-false, or-true}
-use mathlib.Core.List.{List, [], _∷_, _++_, append-nil, append-assoc, map}
-use Prim.Native.Nat.{ℕ, zero, suc, _+_, _-_, _*_, _≤_, _<_}
+use mathlib.Core.Path.{_≡_, refl, sym, _∙_}
+use mathlib.Core.Bool.{Bool, true, false, cond, _||_, or-false}
+use mathlib.Core.List.{List, [], _∷_, _++_, append-nil, append-assoc}
+use Prim.Native.Nat.{ℕ, _+_, _-_, _*_, _≤_}
 use native.Mathlib.Omega.{arith}
-use borrow.Author.Tests.{ltb-false, eqb-false}
-use lib.Dec.{ltb, eqb}
-use lib.IntN.{ℤ}
-use lib.ListN.{length, take, drop}
-use Rattle.frames.specs.Cells.{Cell, Rows, Words}
+use lib.Dec.{eqb}
+use lib.ListN.{length, drop}
+use Rattle.frames.specs.Cells.{Rows, Words}
 use Rattle.frames.specs.Frame.{frameRows, isFrame}
 use Rattle.options.specs.Options.{columns, rightColumns, refusedOptions}
 use Rattle.order.specs.Order.{sorted}
 use Rattle.order.specs.Keyed.{recall}
 use Rattle.options.specs.declared.Options.{Options}
 use Rattle.order.proofs.SortedLaws.{sorted-cut}
-use Rattle.searching.specs.Reach.{needMore}
 use Rattle.matching.specs.Answer.{answered}
 use Rattle.node.specs.declared.Join.{Join}
 use Rattle.outcomes.specs.declared.PortState.{PortState}
@@ -29,14 +26,14 @@ use Rattle.outcomes.specs.declared.Took.{Took}
 use Rattle.outcomes.specs.declared.Took.the-variants.{Accepted, Refused}
 use Rattle.outcomes.specs.declared.Ported.{Ported}
 use Rattle.outcomes.specs.declared.Ported.the-variants.{Ports, Refused as PortsRefused}
-use Rattle.node.specs.State.{fresh, waiting, heldValues, heldMarks, endedRight, stateAt, markedFailed}
-use Rattle.outcomes.specs.Answers.{isDone, lastSequence}
+use Rattle.node.specs.State.{waiting, heldValues, heldMarks, endedRight, stateAt, markedFailed}
+use Rattle.outcomes.specs.Answers.{isDone}
 use Rattle.node.specs.Calls.{leftAnswer, leftCall, queued, rightAnswer, rightCall, pushedRight, endAnswer, endCall, portsAnswer, portsCall, portsState, turnAnswer, turnCall, turned, spoiled}
 use Rattle.turnrows.specs.Prunes.{badLeft, badRight}
-use Rattle.lists.specs.Lists.{Call, left, right, end, ports, turn, Event, onLeft, onRight, onEnd, onPorts, onTurn, World, start, step, events, final, leftIn, rightIn, leftFrames, rightFrames, rowsIn, outputIn, outputs, endsRight, rightEnded, turnRefusal, matchesIn, backToBack, leftEnded, doneAfter, refusedWith, turnsIn}
+use Rattle.lists.specs.Lists.{Call, left, right, end, ports, turn, Event, onLeft, onRight, onEnd, onPorts, onTurn, World, start, step, events, final, leftIn, rightIn, leftFrames, rightFrames, rowsIn, outputIn, outputs, rightEnded, turnRefusal, matchesIn, backToBack, leftEnded, doneAfter, refusedWith, turnsIn}
 use Rattle.lists.proofs.ListLaws.{left-append, right-append, outputs-append, ended-append, rows-in-append}
-use Rattle.lists.proofs.Stock.{Stock, next-frame}
-use Rattle.lists.proofs.Invariant.{Inv, left-passed, right-passed, inv-left, inv-right, inv-end, inv-ports}
+use Rattle.lists.proofs.Stock.{next-frame}
+use Rattle.lists.proofs.Invariant.{Inv, right-passed, inv-left, inv-right, inv-end, inv-ports}
 use Rattle.lists.proofs.Turn.{judged, judged-all, Passed, passed, leftBy, matchedBy, held, rows, answer-is, turned-is, idle-is, no-write, inv-turn}
 use Rattle.lists.proofs.Turned.{turnedOf, next-sorted, turned-after, turned-more, together-start}
 use Rattle.lists.proofs.Sound.{Sound, contra, left-fine, right-fine, sound-turn, sound-same, sound-left, sound-right}

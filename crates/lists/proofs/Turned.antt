@@ -13,7 +13,7 @@ use Rattle.options.specs.Options.{columns, isOn, isStrict}
 use Rattle.options.specs.declared.Options.{Options}
 use Rattle.options.specs.declared.Check.the-variants.{Strict}
 use Rattle.order.specs.Order.{sorted}
-use Rattle.order.specs.Keyed.{lastLeft, lastRow, rowAt, recall, rememberAt, noRow}
+use Rattle.order.specs.Keyed.{lastLeft, recall, rememberAt, noRow}
 use Rattle.order.specs.declared.Row.{Row}
 use Rattle.order.proofs.SortedLaws.{All, all-by, sorted-cut}
 use Rattle.order.proofs.SeamLaws.{unsorted, Recalls, recalled-none, recalled, seam}
