@@ -1,8 +1,7 @@
 //! The wrapper over the archive: the worked cases, every refusal, any cut, what is carried, runs, keeping a join, areas that
 //! grow, threads.
 use rowkeeper::{
-    Check,
-    ByColumn, Frame, Join, Match, NodeState, Options, Port, Ports, Refusal, Run, Stop, Strategy, Turn, raw,
+    ByColumn, Check, Frame, Join, Match, NodeState, Options, Port, Ports, Refusal, Run, Stop, Strategy, Turn, raw,
 };
 
 type Row = [Option<i64>; 2];
