@@ -24,7 +24,7 @@ use Rattle.node.specs.State.{markedFailed, leftWidth, rightWidth, badJoi
 use Rattle.outcomes.specs.Answers.{isDone, lastSequence, wrote}
 use Rattle.node.specs.Calls.{after, turnAnswer, dropped, dequeued, turned, spoiled, turnCall}
 use Rattle.turnrows.specs.Prunes.{firstPrune, badLeft, badRight, keptRows, lastPrune}
-use Rattle.node.specs.Inner.{readyAnswer, partOf, joinWith}
+use Rattle.node.specs.TurnPart.{readyAnswer, partOf, joinWith}
 use Rattle.node.specs.Contracts.{TurnContract}
 use Rattle.node.proofs.Good.{Good, good}
 use Rattle.outcomes.proofs.Tests.{past}
