@@ -28,6 +28,11 @@ NEAREST = 2
 # Their names, in the order of their numbers.
 STRATEGIES = ('backward', 'forward', 'nearest')
 
+# options.check
+CHECK_OFF = 0
+CHECK_ON = 1
+CHECK_STRICT = 2
+
 # join.state
 RUNNING = 0
 FLUSH = 1

@@ -1,7 +1,7 @@
 """The library: its shared object loaded, and what its calls take. interface.py has their numbers, structs and types."""
 import ctypes
 
-from .interface import CALLS, NO_TOLERANCE, STRATEGIES, VERSION, VERSION_NUMBER, Options
+from .interface import CALLS, CHECK_OFF, CHECK_STRICT, NO_TOLERANCE, STRATEGIES, VERSION, VERSION_NUMBER, Options
 from .problem import NO_LIBRARY, Problem
 
 
@@ -29,6 +29,7 @@ def options(order, strategy='backward', exact=True, tolerance=None, check=True):
     """The options of a join over tables of this order."""
     by, types = len(order.columns) - 1, dict(Options._fields_)
     return Options(by=by, strategy=STRATEGIES.index(strategy), allow_eq=exact,
-                   tolerance=NO_TOLERANCE if tolerance is None else tolerance, check=check,
+                   tolerance=NO_TOLERANCE if tolerance is None else tolerance,
+                   check=CHECK_STRICT if check else CHECK_OFF,
                    descending=types['descending'](*order.descending),
                    nulls_last=types['nulls_last'](*order.nulls_last))

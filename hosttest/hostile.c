@@ -122,7 +122,7 @@ static rowkeeper_options any_options(void) {
     o.strategy = below(3);
     o.allow_eq = o.strategy == 2 ? 1 : below(2);
     o.tolerance = percent(60) ? -1 : (int64_t)below(20);
-    o.check = below(2);
+    o.check = below(3);
     o.carried = any_carried();
     for (j = 0; j < 4; j++) {
         o.descending[j] = percent(15);

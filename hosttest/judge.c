@@ -11,7 +11,7 @@ static int above(uint64_t a, uint64_t b, uint64_t limit) {
 
 /* Whether a flag of the options is neither 0 nor 1. */
 static int strange_flags(const rowkeeper_options *o) {
-    int j, strange = o->allow_eq > 1 || o->check > 1;
+    int j, strange = o->allow_eq > 1 || o->check > 2;
     for (j = 0; j < 4; j++) strange |= o->descending[j] > 1 || o->nulls_last[j] > 1;
     return strange;
 }
@@ -116,7 +116,7 @@ static int turn_may(const attempt *a, int answer) {
     case ROWKEEPER_NO_ROOM: return !room;
     case ROWKEEPER_USED_UP: return room && last;
     case ROWKEEPER_LEFT_ORDER:
-    case ROWKEEPER_RIGHT_ORDER: return room && !last && a->join.options.check == 1;
+    case ROWKEEPER_RIGHT_ORDER: return room && !last && a->join.options.check > 0;
     default: return answer == 0 && room && !last;
     }
 }

@@ -79,7 +79,7 @@ typedef struct field {
 /* All fields. A word that no line is about fails the test. */
 static const field FIELDS[] = {
     FIELD(layout, ROWKEEPER_LAYOUT + 1), FIELD(options.by, 5), FIELD(options.strategy, 3), FIELD(options.allow_eq, 2), FIELD(options.tolerance, (uint64_t)-2),
-    FIELD(options.check, 2), FIELD(options.descending, 2), FIELD(options.nulls_last, 2), FIELD(options.carried, 9),
+    FIELD(options.check, 3), FIELD(options.descending, 2), FIELD(options.nulls_last, 2), FIELD(options.carried, 9),
     FIELD(base, 7), FIELD(held, 7), FIELD(pruned, (uint64_t)1 << 63), FIELD(queue_start, LEFT + 1), FIELD(queue_words, LEFT + 1),
     FIELD(state, 3), FIELD(right_ended, 2), FIELD(failed, 2), FIELD(sequence, 1),
     FIELD(last_left.some, 2), FIELD(last_left.values, 0), FIELD(last_left.marks, 0),

@@ -63,8 +63,11 @@
  *
  * Both tables, each taken whole over all its frames, must be sorted by the by-columns in order, then by the key. Numbers
  * ascend, or descend in a by-column with the flag `descending`. Nulls come first, or last in a by-column with the flag
- * `nulls_last`. The key ascends, nulls first. Carried columns are never compared. If a table is not sorted, nothing is promised about the matches. With `check`
- * on, a turn that finds rows out of order is refused by 8 or 9 (between frames it overlooks rows with a null key).
+ * `nulls_last`. The key ascends, nulls first. Carried columns are never compared. If a table is not sorted, nothing is
+ * promised about the matches. With `check` on, a turn that finds rows out of order is refused by 8 or 9; between left frames
+ * it overlooks rows with a null key. With `check` strict it overlooks none: a turn is refused by 8 exactly if its frame is
+ * not sorted behind all left rows turned before. So, if the right table is sorted, every match that was written is right,
+ * whatever the left rows are (proved: StrictTheorem in crates/lists).
  *
  * MATCHES
  *
@@ -199,6 +202,9 @@ typedef char rowkeeper_lengths_have_64_bits[sizeof(size_t) == 8 ? 1 : -1];
 /* options.strategy */
 enum { ROWKEEPER_BACKWARD = 0, ROWKEEPER_FORWARD = 1, ROWKEEPER_NEAREST = 2 };
 
+/* options.check */
+enum { ROWKEEPER_CHECK_OFF = 0, ROWKEEPER_CHECK_ON = 1, ROWKEEPER_CHECK_STRICT = 2 };
+
 /* join.state */
 enum { ROWKEEPER_RUNNING = 0, ROWKEEPER_FLUSH = 1, ROWKEEPER_DONE = 2 };
 
@@ -217,9 +223,9 @@ enum { ROWKEEPER_TURNS_USED = 0 };
 enum {
     /* Not refused. */
     ROWKEEPER_ACCEPTED = 0,
-    /* Opening: by above 4, strategy above 2, tolerance below -1, Nearest without equality, or a flag that is neither 0 nor 1.
-       There is no join then: every call refuses by 2 what is returned beside the refusal, except that a run of no turns tries
-       nothing and so refuses nothing. Spans: a flag that is neither 0 nor 1. */
+    /* Opening: by above 4, strategy above 2, tolerance below -1, Nearest without equality, check above 2, or a flag that is
+       neither 0 nor 1. There is no join then: every call refuses by 2 what is returned beside the refusal, except that a run of
+       no turns tries nothing and so refuses nothing. Spans: a flag that is neither 0 nor 1. */
     ROWKEEPER_BAD_OPTIONS = 1,
     /* The join is inconsistent or does not fit its areas: another layout word, options as in 1 or 10, base + held above R,
        queue_start + queue_words above the left area, pruned + held above 2^63 - 1, an odd sequence, or a state, flag or port code that does
@@ -237,9 +243,9 @@ enum {
     ROWKEEPER_NO_ROOM = 6,
     /* The numbers are used up: right rows past 2^63 - 1, or a turn at sequence 2^64 - 2. */
     ROWKEEPER_USED_UP = 7,
-    /* Check on: left rows are out of order, in the frame or against an earlier one. The join is marked failed. */
+    /* Check on or strict: left rows are out of order, in the frame or against an earlier one. The join is marked failed. */
     ROWKEEPER_LEFT_ORDER = 8,
-    /* Check on: right rows are out of order. The join is marked failed. */
+    /* Check on or strict: right rows are out of order. The join is marked failed. */
     ROWKEEPER_RIGHT_ORDER = 9,
     /* Opening: carried above 8. There is no join then, as with 1. */
     ROWKEEPER_TOO_MANY_CARRIED = 10,
@@ -277,7 +283,7 @@ typedef struct rowkeeper_options {
     uint64_t strategy;      /* ROWKEEPER_BACKWARD, ROWKEEPER_FORWARD or ROWKEEPER_NEAREST */
     uint64_t allow_eq;      /* whether an equal key matches; Nearest needs it */
     int64_t tolerance;      /* the greatest distance of two keys, or ROWKEEPER_NO_TOLERANCE */
-    uint64_t check;         /* whether turns check that rows are in order */
+    uint64_t check;         /* ROWKEEPER_CHECK_OFF, ROWKEEPER_CHECK_ON or ROWKEEPER_CHECK_STRICT: whether turns check the order of rows */
     uint64_t descending[4]; /* for each by-column: whether its numbers descend */
     uint64_t nulls_last[4]; /* for each by-column: whether its nulls come last */
     uint64_t carried;       /* columns that right rows have behind the key, 0 to 8: they come with the match */

@@ -137,7 +137,7 @@ mod spans;
 pub use asof::{AsOf, Carrying, asof};
 pub use frame::{Column, Frame, FrameError, Frames};
 pub use join::{Join, Match, Matches, Run, Stop, Turn, Written};
-pub use numbers::{NodeState, Port, Refusal, Strategy};
+pub use numbers::{Check, NodeState, Port, Refusal, Strategy};
 pub use spans::{Bounds, Pairs, spans, spans_words};
 
 /// How a by-column is sorted.
@@ -159,7 +159,7 @@ pub struct Options {
     /// The greatest distance of two keys, up to 2^63 − 1; none: any.
     pub tolerance: Option<u64>,
     /// Whether turns check that rows are in order.
-    pub check: bool,
+    pub check: Check,
     /// The by-columns, at most four. Behind them a row has its key.
     pub by: Vec<ByColumn>,
     /// How many columns right rows carry behind their key, at most eight. They come with the match.
@@ -173,7 +173,7 @@ impl Default for Options {
             strategy: Strategy::Backward,
             allow_eq: true,
             tolerance: None,
-            check: true,
+            check: Check::On,
             by: Vec::new(),
             carried: 0,
         }

@@ -23,6 +23,29 @@ impl Strategy {
     }
 }
 
+/// Whether turns check that rows are in order.
+#[derive(Clone, Copy, Debug, PartialEq, Eq)]
+pub enum Check {
+    /// Nothing is checked.
+    Off = 0,
+    /// Left frames and held rows are checked, and left frames against earlier ones by rows that have a key.
+    On = 1,
+    /// As on; left frames are checked against earlier ones by all their rows.
+    Strict = 2,
+}
+
+impl Check {
+    /// The one of a number, or none if no one has it.
+    pub const fn of(number: u64) -> Option<Check> {
+        match number {
+            0 => Some(Check::Off),
+            1 => Some(Check::On),
+            2 => Some(Check::Strict),
+            _ => None,
+        }
+    }
+}
+
 /// The state of the node.
 #[derive(Clone, Copy, Debug, PartialEq, Eq)]
 pub enum NodeState {

@@ -21,6 +21,12 @@ pub const BACKWARD: u64 = 0;
 pub const FORWARD: u64 = 1;
 /// The row whose key is nearest; of two equally near keys the greater.
 pub const NEAREST: u64 = 2;
+/// Nothing is checked.
+pub const CHECK_OFF: u64 = 0;
+/// Left frames and held rows are checked, and left frames against earlier ones by rows that have a key.
+pub const CHECK_ON: u64 = 1;
+/// As on; left frames are checked against earlier ones by all their rows.
+pub const CHECK_STRICT: u64 = 2;
 /// It takes left frames.
 pub const RUNNING: u64 = 0;
 /// Left is done; frames still wait.
@@ -56,7 +62,7 @@ pub struct Options {
     pub allow_eq: u64,
     /// The greatest distance of two keys, or NO_TOLERANCE.
     pub tolerance: i64,
-    /// Whether turns check that rows are in order.
+    /// CHECK_OFF, CHECK_ON or CHECK_STRICT: whether turns check the order of rows.
     pub check: u64,
     /// For each by-column: whether its numbers descend.
     pub descending: [u64; 4],

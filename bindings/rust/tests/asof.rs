@@ -2,7 +2,7 @@
 //! refusals.
 use std::cell::Cell;
 
-use rowkeeper::{ByColumn, Column, Frame, Frames, Match, Options, Refusal, Strategy, asof};
+use rowkeeper::{ByColumn, Check, Column, Frame, Frames, Match, Options, Refusal, Strategy, asof};
 
 type Row = [Option<i64>; 2];
 type Matches = Vec<Option<u64>>;
@@ -44,7 +44,8 @@ impl Random {
         let strategy = [Strategy::Backward, Strategy::Forward, Strategy::Nearest][self.below(3) as usize];
         let allow_eq = strategy == Strategy::Nearest || self.below(2) == 0;
         let tolerance = (self.below(2) == 0).then(|| self.below(5));
-        let (check, by) = (self.below(2) == 0, vec![ByColumn::default()]);
+        let check = [Check::Off, Check::On, Check::Strict][self.below(3) as usize];
+        let by = vec![ByColumn::default()];
         Options { strategy, allow_eq, tolerance, check, by, ..Options::default() }
     }
 }

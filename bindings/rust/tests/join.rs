@@ -1,7 +1,7 @@
 //! The wrapper over the archive: the worked cases, every refusal, any cut, what is carried, runs, keeping a join, areas that
 //! grow, threads.
 use rowkeeper::{
-    ByColumn, Frame, Join, Match, NodeState, Options, Port, Ports, Refusal, Run, Stop, Strategy, Turn, raw,
+    ByColumn, Check, Frame, Join, Match, NodeState, Options, Port, Ports, Refusal, Run, Stop, Strategy, Turn, raw,
 };
 
 type Row = [Option<i64>; 2];
@@ -26,7 +26,7 @@ fn keys(keys: &[i64]) -> Frame {
 
 /// Options with the check off, as the counter's are.
 fn options(strategy: Strategy, allow_eq: bool, tolerance: Option<u64>) -> Options {
-    Options { strategy, allow_eq, tolerance, check: false, ..Options::default() }
+    Options { strategy, allow_eq, tolerance, check: Check::Off, ..Options::default() }
 }
 
 /// A join that is open, with room enough.

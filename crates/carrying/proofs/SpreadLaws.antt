@@ -21,7 +21,7 @@ use Rattle.matching.specs.Answer.{cellsFrom, answerRow, answerRows}
 use Rattle.matching.specs.declared.Choice.{Choice}
 use Rattle.matching.specs.declared.Choice.the-variants.{Row, Nothing}
 use Rattle.matching.proofs.FromLaws.{From}
-use Rattle.carrying.specs.Inner.{cellsAt, rowWith, RightIn, RowSpread}
+use Rattle.carrying.specs.Loops.{cellsAt, rowWith, RightIn, RowSpread}
 use Rattle.carrying.specs.Spread.{choiceAt, choicesFrom, spread, Spreads, Numbered, SpreadIn}
 
 -- ---- cells one by one: j of p are laid, from cell k on

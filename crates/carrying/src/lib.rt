@@ -11,7 +11,7 @@ ghost use Rattle.frames.specs.Cells.{null, valueWord, markWord, rowsOf};
 ghost use Rattle.options.specs.Options.{answerColumns};
 ghost use Rattle.order.specs.Requires.{cellAt, CellIn};
 ghost use Rattle.tables.specs.Lay.{layCells, CellRoom};
-ghost use Rattle.carrying.specs.Inner.{cellsAt, rowWith, CellsIn, CellsRoom, ChoiceIn, RowSpread};
+ghost use Rattle.carrying.specs.Loops.{cellsAt, rowWith, CellsIn, CellsRoom, ChoiceIn, RowSpread};
 ghost use Rattle.carrying.specs.Spread.{choiceAt, Spreads, SpreadIn};
 
 // The cell at place q of right words goes to cell k of an answer of m cells: any mark but 0 as 1, a null as 0 and 0.

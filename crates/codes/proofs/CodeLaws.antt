@@ -7,7 +7,7 @@ use native.Mathlib.Omega.{arith}
 use borrow.Author.Tests.{ltb-true}
 use lib.ListN.{length, getD}
 use Rattle.options.specs.declared.Check.{Check}
-use Rattle.options.specs.declared.Check.the-variants.{Off, On}
+use Rattle.options.specs.declared.Check.the-variants.{Off, On, Strict}
 use Rattle.outcomes.specs.Answers.{stateCode, portCode}
 use Rattle.outcomes.specs.declared.NodeState.{NodeState}
 use Rattle.outcomes.specs.declared.NodeState.the-variants.{Running, Flush, Done}
@@ -51,18 +51,21 @@ flags-there [] e = refl
 flags-there (x ∷ xs) e = let p = and-both (isFlag x) (areFlags xs) e in rw (flag-there x (p .0), flags-there xs (p .1))
 
 -- ---- the check's setting
-pub check-is : (c : Check) → isFlag (checkCode c) ≡ true
+pub check-is : (c : Check) → isCode (checkCode c) ≡ true
 check-is Off = refl
 check-is On = refl
+check-is Strict = refl
 
 pub check-back : (c : Check) → checkOf (checkCode c) ≡ c
 check-back Off = refl
 check-back On = refl
+check-back Strict = refl
 
-pub check-there : (x : ℕ) → isFlag x ≡ true → checkCode (checkOf x) ≡ x
+pub check-there : (x : ℕ) → isCode x ≡ true → checkCode (checkOf x) ≡ x
 check-there zero e = refl
 check-there (suc zero) e = refl
-check-there (suc (suc x)) e = absurd (omega (arith, ltb-true (suc (suc x)) 2 e))
+check-there (suc (suc zero)) e = refl
+check-there (suc (suc (suc x))) e = absurd (omega (arith, ltb-true (suc (suc (suc x))) 3 e))
 
 -- ---- the node's state
 pub state-is : (s : NodeState) → isCode (stateCode s) ≡ true

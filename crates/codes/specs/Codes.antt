@@ -4,7 +4,7 @@ use mathlib.Core.List.{List, [], _∷_}
 use Prim.Native.Nat.{ℕ}
 use lib.Dec.{ltb, eqb}
 use Rattle.options.specs.declared.Check.{Check}
-use Rattle.options.specs.declared.Check.the-variants.{Off, On}
+use Rattle.options.specs.declared.Check.the-variants.{Off, On, Strict}
 use Rattle.refusals.specs.Refusals.{number}
 use Rattle.outcomes.specs.declared.NodeState.{NodeState}
 use Rattle.outcomes.specs.declared.NodeState.the-variants.{Running, Flush, Done}
@@ -42,16 +42,17 @@ unfoldable pub flagCodes : List Bool → List ℕ
 flagCodes [] = []
 flagCodes (b ∷ bs) = flagCode b ∷ flagCodes bs
 
--- Order check: 0 off, 1 on.
+-- Order check: 0 off, 1 on, 2 strict.
 abbrev pub checkOf : ℕ → Check
-checkOf x = cond (flagOf x) On Off
+checkOf x = cond (eqb x 0) Off (cond (eqb x 1) On Strict)
 
--- Its flag.
+-- Its number.
 abbrev pub checkCode : Check → ℕ
 checkCode Off = 0
 checkCode On = 1
+checkCode Strict = 2
 
--- A node's state and a port's state are numbers up to 2.
+-- An order check's setting, a node's state and a port's state are numbers up to 2.
 abbrev pub isCode : ℕ → Bool
 isCode x = ltb x 3
 

@@ -66,27 +66,31 @@ pub fn flag_codes(a: [bool; 4]) -> [u64; 4]
     ]
 }
 
-// The order check's setting: 1 is on.
+// The order check's setting: 0 off, 1 on, 2 strict.
 pub fn check_of(x: u64) -> Check
     ensures { λ r. ⌜ r ≡ checkOf x ⌝ }
 {
+    if x == 0 {
+        return Check::Off;
+    }
     if x == 1 {
         return Check::On;
     }
-    Check::Off
+    Check::Strict
 }
 
-// Its flag.
+// Its number.
 pub fn check_code(c: Check) -> u64
     ensures { λ r. ⌜ r ≡ checkCode c ⌝ }
 {
     match c {
         Check::Off => 0,
         Check::On => 1,
+        Check::Strict => 2,
     }
 }
 
-// Whether a number tells a state of the node or of a port.
+// Whether a number tells a setting of the order check, a state of the node or of a port.
 pub fn is_code(x: u64) -> bool
     ensures { λ r. ⌜ r ≡ isCode x ⌝ }
 {

@@ -17,20 +17,20 @@ use Rattle.convert.specs.declared.HostJoin.{HostJoin}
 use Rattle.codes.proofs.CodeLaws.{and-both, flag-is, flag-back, flag-there, flags-are, flags-back, flags-there, check-is, check-back, check-there, state-is, state-back, state-there}
 
 -- ---- options
--- What numbers that tell options have: a strategy that a byte holds, and flags.
+-- What numbers that tell options have: a strategy that a byte holds, a setting of the order check, and flags.
 pub record OptionsParts (h : HostOptions) : Type 0 where
   pub byte : h .strategy < 256
   pub eq : isFlag (h .«allow_eq») ≡ true
-  pub check : isFlag (h .check) ≡ true
+  pub check : isCode (h .check) ≡ true
   pub descending : areFlags (h .descending) ≡ true
   pub nulls : areFlags (h .«nulls_last») ≡ true
 
 pub options-parts : (h : HostOptions) → isOptions h ≡ true → OptionsParts h
 unfolding isOptions
 options-parts h e =
-    let p = and-both (ltb (h .strategy) 256 && (isFlag (h .«allow_eq») && isFlag (h .check))) (areFlags (h .descending) && areFlags (h .«nulls_last»)) e in
-    let q = and-both (ltb (h .strategy) 256) (isFlag (h .«allow_eq») && isFlag (h .check)) (p .0) in
-    let r = and-both (isFlag (h .«allow_eq»)) (isFlag (h .check)) (q .1) in
+    let p = and-both (ltb (h .strategy) 256 && (isFlag (h .«allow_eq») && isCode (h .check))) (areFlags (h .descending) && areFlags (h .«nulls_last»)) e in
+    let q = and-both (ltb (h .strategy) 256) (isFlag (h .«allow_eq») && isCode (h .check)) (p .0) in
+    let r = and-both (isFlag (h .«allow_eq»)) (isCode (h .check)) (q .1) in
     let s = and-both (areFlags (h .descending)) (areFlags (h .«nulls_last»)) (p .1) in
     record { byte = ltb-true (h .strategy) 256 (q .0); eq = r .0; check = r .1; descending = s .0; nulls = s .1 }
 

@@ -14,9 +14,9 @@ use Rattle.convert.specs.declared.HostRow.{HostRow}
 use Rattle.convert.specs.declared.HostJoin.{HostJoin}
 
 -- ---- options
--- Options that the library could have written: a strategy is any number that a byte holds, and the rest are flags.
+-- Options that the library could have written: a strategy is any number that a byte holds, the order check one up to 2, and the rest are flags.
 unfoldable pub isOptions : HostOptions → Bool
-isOptions h = (ltb (h .strategy) 256 && (isFlag (h .«allow_eq») && isFlag (h .check))) && (areFlags (h .descending) && areFlags (h .«nulls_last»))
+isOptions h = (ltb (h .strategy) 256 && (isFlag (h .«allow_eq») && isCode (h .check))) && (areFlags (h .descending) && areFlags (h .«nulls_last»))
 
 -- The options that such numbers tell.
 abbrev pub optionsOf : HostOptions → Options

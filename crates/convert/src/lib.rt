@@ -21,7 +21,7 @@ ghost use Rattle.convert.specs.Convert.{isOptions, optionsOf, encodeOpti
 // The layout of a join in numbers: its first word. The bytes "rowkeep", then the layout's version.
 pub const LAYOUT: u64 = 0x726f_776b_6565_7002;
 
-// The options in numbers. A flag is 0 or 1; check is 0 off, 1 on.
+// The options in numbers. A flag is 0 or 1; check is 0 off, 1 on, 2 strict.
 #[repr(C)]
 pub struct HostOptions {
     pub by: usize,
@@ -67,7 +67,7 @@ pub fn is_options(h: HostOptions) -> bool
     let d = h.descending;
     let n = h.nulls_last;
     let strategy = h.strategy < 256;
-    let flags = both(is_flag(h.allow_eq), is_flag(h.check));
+    let flags = both(is_flag(h.allow_eq), is_code(h.check));
     both(both(strategy, flags), both(are_flags(d), are_flags(n)))
 }
 

@@ -15,7 +15,7 @@ ghost use Rattle.options.specs.Options.{keyRule};
 ghost use Rattle.order.specs.Order.{cmpCell};
 ghost use Rattle.order.specs.Requires.{cellAt, CellIn};
 ghost use Rattle.matching.specs.Match.{onSide, nearer};
-ghost use Rattle.matching.specs.Inner.{TakesOver};
+ghost use Rattle.matching.specs.Loops.{TakesOver};
 
 // Whether a right key lies on the strategy's side of a left one, by its order to it.
 fn on_side(s: Strategy, eq: bool, c: Order) -> bool

@@ -1,7 +1,7 @@
 // Runs of equal groups, and the one right cursor that serves a frame.
 use compare::cmp_group;
 use keyed::null_group;
-use matching::Right;
+use matching::RunCursor;
 use neighbours::same_values;
 use options::Options;
 use order::Order;
@@ -12,7 +12,7 @@ ghost use Rattle.order.specs.Order.{cmpGroup};
 ghost use Rattle.order.specs.Requires.{RowAt};
 ghost use Rattle.matching.specs.Groups.{sameRun};
 ghost use Rattle.matching.specs.Stretches.{between, runLength, standing};
-ghost use Rattle.matching.specs.Inner.{Within, PassRoom, Stands, Passed, Serves};
+ghost use Rattle.matching.specs.Loops.{Within, PassRoom, Stands, Passed, Serves};
 
 // Whether the rows at p and q, which stand one behind the other, are of one run.
 fn same_run(values: &[i64], marks: &[i64], p: usize, q: usize, o: Options) -> bool
@@ -84,7 +84,7 @@ fn pass_runs(
     lm: &[i64],
     p: usize,
     o: Options,
-) -> Right
+) -> RunCursor
     requires { ⌜ PassRoom o p (now lv) (now lm) w n (now rv) (now rm) from to ⌝ }
     ensures { λ r. ⌜ Stands o w n (now (rv .entry)) (now (rm .entry)) r × ((wl : ℕ) → o .by < wl → Passed o w n (now (rv .entry)) (now (rm .entry)) from (rowFrom wl p (now (lv .entry)) (now (lm .entry))) r) ⌝ }
 {
@@ -93,12 +93,12 @@ fn pass_runs(
     while at < n {
         match stands_to(rv, rm, at * w, lv, lm, p, o) {
             Order::Less => {}
-            Order::Equal => return Right {
+            Order::Equal => return RunCursor {
                 at: at,
                 end: end,
                 used: end,
             },
-            Order::Greater => return Right {
+            Order::Greater => return RunCursor {
                 at: at,
                 end: end,
                 used: at,
@@ -107,7 +107,7 @@ fn pass_runs(
         at = end;
         end = run_end(rv, rm, n, w, at, o);
     }
-    Right {
+    RunCursor {
         at: at,
         end: end,
         used: at,
@@ -126,12 +126,12 @@ pub fn serve(
     lm: &[i64],
     p: usize,
     o: Options,
-) -> Right
+) -> RunCursor
     requires { ⌜ PassRoom o p (now lv) (now lm) w n (now rv) (now rm) from to ⌝ }
     ensures { λ r. ⌜ Stands o w n (now (rv .entry)) (now (rm .entry)) r × ((wl : ℕ) → o .by < wl → Serves o w n (now (rv .entry)) (now (rm .entry)) from (rowFrom wl p (now (lv .entry)) (now (lm .entry))) r) ⌝ }
 {
     if null_group(lm, p, o) {
-        return Right {
+        return RunCursor {
             at: from,
             end: to,
             used: from,

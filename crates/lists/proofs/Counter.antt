@@ -8,8 +8,9 @@ use lib.IntN.{pos, negsuc}
 use lib.ListN.{length, replicate}
 use Rattle.frames.specs.Cells.{null, value, Words}
 use Rattle.options.specs.Options.{badOptions}
-use Rattle.order.proofs.Samples.{options, plain, carrying, row, keys, frameOf}
+use Rattle.order.proofs.Samples.{options, plain, carrying, checking, row, keys, frameOf}
 use Rattle.options.specs.declared.Options.{Options}
+use Rattle.options.specs.declared.Check.the-variants.{Strict}
 use Rattle.callrules.specs.Judged.{openAnswer}
 use Rattle.lists.specs.Lists.{Call, left, right, end, turn, start, final}
 use Rattle.lists.proofs.Script.{Said, ok, refused, wrote, wants, leftArea, rightArea, space, sayTook, says}
@@ -64,6 +65,16 @@ usual = right (frame1 (10 ∷ 20 ∷ 20 ∷ 30 ∷ []))
 abbrev priced : Call
 priced = right (frameOf 2 (row (10 ∷ 1800 ∷ []) ∷ row (20 ∷ 2200 ∷ []) ∷ (value (pos 20) ∷ null ∷ []) ∷ row (30 ∷ 2500 ∷ []) ∷ []))
 
+-- One by-column, right (2, 1), (2, 7), (3, 1), (4, 1), for the order check between left frames; a frame of a row without a key.
+abbrev grouped : Call
+grouped = right (frame2 ((2 ∷ 1 ∷ []) ∷ (2 ∷ 7 ∷ []) ∷ (3 ∷ 1 ∷ []) ∷ (4 ∷ 1 ∷ []) ∷ []))
+
+abbrev keyless : ℕ → Words
+keyless n = frameOf 2 ((value (pos n) ∷ null ∷ []) ∷ [])
+
+abbrev strict : Options
+strict = checking Strict (options 1 0 true (negsuc 0) false [] [])
+
 abbrev long : ℕ → Words
 long n = pos n ∷ pos 1 ∷ replicate n (pos 7) ++ replicate n (pos 1)
 
@@ -97,9 +108,15 @@ cases =
     (ok ∷ ok ∷ ok ∷ matched 0 (some 0 ∷ none ∷ none ∷ []) ∷ []) 3 0
     -- SCOPE 21.8
     ∷ case (options 1 0 true (negsuc 0) true [] []) 40
-    (right (frame2 ((2 ∷ 1 ∷ []) ∷ (2 ∷ 7 ∷ []) ∷ (3 ∷ 1 ∷ []) ∷ (4 ∷ 1 ∷ []) ∷ [])) ∷ left (frame2 ((2 ∷ 5 ∷ []) ∷ [])) ∷ go
-    ∷ left (frameOf 2 ((value (pos 3) ∷ null ∷ []) ∷ [])) ∷ go ∷ left (frame2 ((2 ∷ 8 ∷ []) ∷ [])) ∷ go ∷ [])
+    (grouped ∷ left (frame2 ((2 ∷ 5 ∷ []) ∷ [])) ∷ go ∷ left (keyless 3) ∷ go ∷ left (frame2 ((2 ∷ 8 ∷ []) ∷ [])) ∷ go ∷ [])
     (ok ∷ ok ∷ matched 0 (some 0 ∷ []) ∷ ok ∷ matched 1 (none ∷ []) ∷ ok ∷ matched 2 (none ∷ []) ∷ []) 2 2
+    -- SCOPE 21.12
+    ∷ case strict 40
+    (grouped ∷ left (frame2 ((2 ∷ 5 ∷ []) ∷ [])) ∷ go ∷ left (keyless 3) ∷ go ∷ left (frame2 ((2 ∷ 8 ∷ []) ∷ [])) ∷ go ∷ [])
+    (ok ∷ ok ∷ matched 0 (some 0 ∷ []) ∷ ok ∷ matched 1 (none ∷ []) ∷ ok ∷ refused 8 ∷ []) 2 2
+    -- SCOPE 8.9: a frame without rows between them neither compares nor forgets
+    ∷ case strict 40 (grouped ∷ left (keyless 3) ∷ go ∷ left (frame2 []) ∷ go ∷ left (frame2 ((2 ∷ 8 ∷ []) ∷ [])) ∷ go ∷ left (frame2 []) ∷ [])
+    (ok ∷ ok ∷ matched 0 (none ∷ []) ∷ ok ∷ matched 1 [] ∷ ok ∷ refused 8 ∷ refused 3 ∷ []) 2 2
     -- SCOPE 21.9
     ∷ case (plain 0 true) 8192 (right (long 4096) ∷ []) (ok ∷ []) 0 4096
     ∷ case (plain 0 true) 8194 (right (long 4097) ∷ []) (refused 5 ∷ []) 0 0

@@ -15,6 +15,7 @@ use Rattle.frames.specs.Cells.{Rows, Words}
 use Rattle.frames.specs.Frame.{rowCount, isFrame, frameRows, front}
 use Rattle.options.specs.Options.{columns, rightColumns, refusedOptions}
 use Rattle.options.specs.declared.Options.{Options}
+use Rattle.options.specs.declared.Check.the-variants.{Strict}
 use Rattle.frames.proofs.FrameLaws.{frame-length}
 use Rattle.area.specs.Area.{capacity}
 use Rattle.node.proofs.Good.{left-taken, right-taken}
@@ -38,6 +39,7 @@ use Rattle.node.specs.Calls.{After, leftAnswer, leftCall, queued, rightAnswer, 
 use Rattle.ports.specs.Ports.{portsIn, toFlush, toDone, portDone, portsJudged}
 use Rattle.lists.specs.Lists.{Call, left, right, end, ports, turn, Event, onLeft, onRight, onEnd, onPorts, onTurn, World, start, step, leftIn, rightIn, leftFrames, rightFrames, rowsIn, outputIn, outputs, endsRight, rightEnded, leftDone, leftEnded, framesWaiting, backToBack, doneBy, nodeDone, refusalIn, tookRefusal, portsRefusal, refusedWith, turnIn, turnsIn}
 use Rattle.lists.proofs.ListLaws.{left-append, right-append, outputs-append, turns-append, ended-append, left-ended-append, refused-append, done-snoc}
+use Rattle.lists.proofs.Turned.{turnedOf, turned-more, Together}
 use Rattle.lists.proofs.Stock.{Frames, frames-drop, Stock, stock-same, stock-left, stock-right, waiting-length}
 
 -- ---- the flags, told by the events
@@ -104,6 +106,7 @@ flags-add es j e k f a = record {
 pub record Inv (o : Options) (l r : Words) (es : List Event) (w : World) : Type 0 where
   pub stock : Stock o l r (leftFrames es) (rightFrames es) (outputs es) (w .join) (w .left) (w .right)
   pub flags : Flags es (w .join)
+  pub strict : o .check ≡ Strict → Together o (turnedOf o (leftFrames es) (outputs es)) (w .join .«last_left»)
 
 -- ---- tests on the way
 -- A refusal that neither breaks the join nor tells of an order.
@@ -208,14 +211,15 @@ module _ (o : Options) (l r : Words) (allowed : refusedOptions o ≡ false) (es 
       rw (e1, e2, e3, e4, e5)
 
   -- An event that adds nothing to the frames and the outputs, where the join keeps its stock.
-  pub keep : (e : Event) (k : Join) → leftIn e ≡ [] → rightIn e ≡ [] → outputIn e ≡ []
+  pub keep : (e : Event) (k : Join) → leftIn e ≡ [] → rightIn e ≡ [] → outputIn e ≡ [] → k .«last_left» ≡ j .«last_left»
       → Stock o l r (leftFrames es) (rightFrames es) (outputs es) k (w .left) (w .right) → Adds es j e k
       → Inv o l r (es ++ (e ∷ [])) (record { join = k; left = w .left; right = w .right })
   unfolding leftFrames rightFrames outputs
-  keep e k el er eo t a = record {
+  keep e k el er eo ll t a = record {
     stock =
         rw (left-append es (e ∷ []), right-append es (e ∷ []), outputs-append es (e ∷ []), el, er, eo, append-nil (leftFrames es), append-nil (rightFrames es), append-nil (outputs es)) t;
     flags = flags-add es j e k (i .flags) a;
+    strict = rw (left-append es (e ∷ []), outputs-append es (e ∷ []), el, eo, append-nil (leftFrames es), append-nil (outputs es), ll) (i .strict);
   }
 
   -- A refused left, right or end call.
@@ -261,6 +265,7 @@ module _ (o : Options) (l r : Words) (allowed : refusedOptions o ≡ false) (es 
         rw (left-append es (onLeft f Accepted ∷ []), right-append es (onLeft f Accepted ∷ []), outputs-append es (onLeft f Accepted ∷ []), append-nil (rightFrames es), append-nil (outputs es))
         (stock-left o l r (leftFrames es) (rightFrames es) (outputs es) j (w .left) (w .right) s f (p .frame) (p .room));
     flags = flags-add es j (onLeft f Accepted) (queued j (w .left) (w .right) f .join) (i .flags) (adds-same es j (onLeft f Accepted) (queued j (w .left) (w .right) f .join) (quiet-left f Accepted plain0) (record { ended = refl; state = refl; failed = refl }));
+    strict = rw (left-append es (onLeft f Accepted ∷ []), outputs-append es (onLeft f Accepted ∷ []), append-nil (outputs es), turned-more o (leftFrames es) (outputs es) f (s .gone)) (i .strict);
   }
 
   pub inv-left : (f : Words) → Inv o l r (es ++ (step w (left f) .event ∷ [])) (step w (left f) .world)
@@ -268,7 +273,7 @@ module _ (o : Options) (l r : Words) (allowed : refusedOptions o ≡ false) (es 
   inv-left f = go (leftAnswer j (w .left) (w .right) f) refl
     where
       go : (a : Took) → leftAnswer j (w .left) (w .right) f ≡ a → Inv o l r (es ++ (step w (left f) .event ∷ [])) (step w (left f) .world)
-      go (Refused n) e = rw (e, leftCall) (keep (onLeft f (Refused n)) j refl refl refl s (quiet-left f (Refused n) (rw e at (left-plain f))))
+      go (Refused n) e = rw (e, leftCall) (keep (onLeft f (Refused n)) j refl refl refl refl s (quiet-left f (Refused n) (rw e at (left-plain f))))
       go Accepted e = rw (e, leftCall) (inv-queued f (left-passed f e))
 
   -- ---- a right frame
@@ -303,6 +308,7 @@ module _ (o : Options) (l r : Words) (allowed : refusedOptions o ≡ false) (es 
         rw (left-append es (onRight f Accepted ∷ []), right-append es (onRight f Accepted ∷ []), outputs-append es (onRight f Accepted ∷ []), append-nil (leftFrames es), append-nil (outputs es))
         (stock-right o l r (leftFrames es) (rightFrames es) (outputs es) j (w .left) (w .right) s f (p .frame) (p .room) (p .few));
     flags = flags-add es j (onRight f Accepted) (pushedRight j (w .left) (w .right) f .join) (i .flags) (adds-same es j (onRight f Accepted) (pushedRight j (w .left) (w .right) f .join) (quiet-right f Accepted plain0) (record { ended = refl; state = refl; failed = refl }));
+    strict = rw (left-append es (onRight f Accepted ∷ []), outputs-append es (onRight f Accepted ∷ []), append-nil (leftFrames es), append-nil (outputs es)) (i .strict);
   }
 
   pub inv-right : (f : Words) → Inv o l r (es ++ (step w (right f) .event ∷ [])) (step w (right f) .world)
@@ -310,7 +316,7 @@ module _ (o : Options) (l r : Words) (allowed : refusedOptions o ≡ false) (es 
   inv-right f = go (rightAnswer j (w .left) (w .right) f) refl
     where
       go : (a : Took) → rightAnswer j (w .left) (w .right) f ≡ a → Inv o l r (es ++ (step w (right f) .event ∷ [])) (step w (right f) .world)
-      go (Refused n) e = rw (e, rightCall) (keep (onRight f (Refused n)) j refl refl refl s (quiet-right f (Refused n) (rw e at (right-plain f))))
+      go (Refused n) e = rw (e, rightCall) (keep (onRight f (Refused n)) j refl refl refl refl s (quiet-right f (Refused n) (rw e at (right-plain f))))
       go Accepted e = rw (e, rightCall) (inv-pushed f (right-passed f e))
 
   -- ---- the end of right
@@ -334,10 +340,10 @@ module _ (o : Options) (l r : Words) (allowed : refusedOptions o ≡ false) (es 
   inv-end = go (endAnswer j (w .left) (w .right)) refl
     where
       go : (a : Took) → endAnswer j (w .left) (w .right) ≡ a → Inv o l r (es ++ (step w end .event ∷ [])) (step w end .world)
-      go (Refused n) e = rw (e, endCall) (keep (onEnd (Refused n)) j refl refl refl s (quiet-end n (rw e at end-plain)))
+      go (Refused n) e = rw (e, endCall) (keep (onEnd (Refused n)) j refl refl refl refl s (quiet-end n (rw e at end-plain)))
       go Accepted e =
           rw (e, endCall)
-          (keep (onEnd Accepted) (endedRight j) refl refl refl (stock-same o l r (leftFrames es) (rightFrames es) (outputs es) j (w .left) (w .right) s (endedRight j) refl refl refl refl refl refl refl) adds-end)
+          (keep (onEnd Accepted) (endedRight j) refl refl refl refl (stock-same o l r (leftFrames es) (rightFrames es) (outputs es) j (w .left) (w .right) s (endedRight j) refl refl refl refl refl refl refl) adds-end)
 
   -- ---- ports
   -- No word waits exactly where no frame waits.
@@ -401,8 +407,8 @@ module _ (o : Options) (l r : Words) (allowed : refusedOptions o ≡ false) (es 
   inv-ports l′ r′ s′ = go (portsAnswer j (w .left) (w .right) l′ r′ s′) refl
     where
       go : (a : Ported) → portsAnswer j (w .left) (w .right) l′ r′ s′ ≡ a → Inv o l r (es ++ (step w (ports l′ r′ s′) .event ∷ [])) (step w (ports l′ r′ s′) .world)
-      go (PortsRefused n) e = rw (e, portsCall) (keep (onPorts l′ r′ s′ (PortsRefused n)) j refl refl refl s (quiet-ports l′ r′ s′ n (rw e at (ports-plain l′ r′ s′))))
+      go (PortsRefused n) e = rw (e, portsCall) (keep (onPorts l′ r′ s′ (PortsRefused n)) j refl refl refl refl s (quiet-ports l′ r′ s′ n (rw e at (ports-plain l′ r′ s′))))
       go (Ports a b d) e =
           rw (e, portsCall)
-          (keep (onPorts l′ r′ s′ (Ports a b d)) (stateAt j (portsState j l′ s′)) refl refl refl
+          (keep (onPorts l′ r′ s′ (Ports a b d)) (stateAt j (portsState j l′ s′)) refl refl refl refl
           (stock-same o l r (leftFrames es) (rightFrames es) (outputs es) j (w .left) (w .right) s (stateAt j (portsState j l′ s′)) refl refl refl refl refl refl refl) (adds-ports a b d l′ r′ s′))

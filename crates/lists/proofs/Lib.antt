@@ -16,6 +16,8 @@ pub mod SplitAlone
 pub mod Sound
 pub mod Steps
 pub mod WholeTableTheorem
+pub mod Strict
+pub mod StrictWitness
 pub mod OldForm
 pub mod Example
 pub mod Carried

@@ -24,7 +24,7 @@ use Rattle.outcomes.specs.Answers.{stateCode, portCode}
 use Rattle.refusals.specs.Refusals.{number}
 use Rattle.node.specs.Calls.{leftAnswer, queued, leftCall, rightAnswer, pushedRight, rightCall, endAnswer, endCall, portsAnswer, portsCall, turnAnswer, dropped, dequeued, turned, turnCall}
 use Rattle.callrules.specs.Judged.{openAnswer, leftJudged, endJudged, rightJudged}
-use Rattle.turnrows.specs.Prunes.{badLeft, badRight, firstPrune, remembered}
+use Rattle.turnrows.specs.Prunes.{badLeft, badRight, firstPrune, remembered, rememberedLeft}
 use Rattle.lists.specs.Lists.{Call, Event, onLeft, onRight, onEnd, onPorts, onTurn, World, start, step}
 use Rattle.node.specs.declared.Join.{Join}
 use Rattle.outcomes.specs.declared.Answer.{Answer}
@@ -116,7 +116,7 @@ speak none dump = record { said = noJoin; next = none }
 speak (some w) dump = record { said = areas (w .left) (w .right); next = some w }
 
 unfoldable pub speakAll : Option World → List Line → List Said
-unfolding speak look openAnswer step leftCall leftJudged queued rightCall rightJudged pushedRight endCall endJudged portsCall portsJudged turnCall turnAnswer turned badLeft badRight firstPrune remembered dropped dequeued badJoin heldOf waiting front answered laid tableOf wordsOf answerRows answerRow cellsFrom matchFrame byRuns used pass passes runs joinRun matchIn tolerate choose takesOver fits needMore rowNeedsMore keyNeedsMore narrow narrowBy splitAt pruneBy rowBefore badSplit find search searchFor heldRows movedRows pushed rememberLast remember recall lastBelow firstFrom sorted cmpRow cmpFirst nullIn refusedOptions badOptions isFrame isTable pairsFine frameRows rowsOf cellsOf
+unfolding speak look openAnswer step leftCall leftJudged queued rightCall rightJudged pushedRight endCall endJudged portsCall portsJudged turnCall turnAnswer turned badLeft badRight firstPrune remembered rememberedLeft dropped dequeued badJoin heldOf waiting front answered laid tableOf wordsOf answerRows answerRow cellsFrom matchFrame byRuns used pass passes runs joinRun matchIn tolerate choose takesOver fits needMore rowNeedsMore keyNeedsMore narrow narrowBy splitAt pruneBy rowBefore badSplit find search searchFor heldRows movedRows pushed rememberLast remember recall lastBelow firstFrom sorted cmpRow cmpFirst nullIn refusedOptions badOptions isFrame isTable pairsFine frameRows rowsOf cellsOf
 speakAll w [] = []
 speakAll w (l ∷ ls) = let s = speak w l in s .said ∷ speakAll (s .next) ls
 

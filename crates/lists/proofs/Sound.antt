@@ -1,28 +1,24 @@
 -- Sorted rows: what is written are the matches of the whole table, what was dropped matters to no later row, and no order fault is told. Assumes nothing.
 use mathlib.Core.Path.{_≡_, refl, sym, ap, _∙_}
-use mathlib.Core.Bool.{Bool, true, false, cond, not, _&&_, _||_, and-false}
+use mathlib.Core.Bool.{Bool, true, false, cond, _||_, and-false}
 use mathlib.Core.List.{List, [], _∷_, _++_, append-nil, append-assoc, map}
-use mathlib.Core.Option.{Option, none, some}
-use Prim.Native.Nat.{ℕ, zero, suc, _+_, _-_, _*_, _≤_, _<_}
+use Prim.Native.Nat.{ℕ, zero, suc, _+_, _-_, _≤_, _<_}
 use native.Mathlib.Omega.{arith}
 use borrow.Author.Tests.{eqb-false, eqb-true}
 use lib.Dec.{eqb}
-use lib.IntN.{ℤ}
-use lib.ListN.{length, getD, take, drop, take-append-drop, length-drop, List·getD-append}
+use lib.ListN.{length, getD, take, drop, take-append-drop}
 use lib.Seq.{take-append-le, drop-append-le, drop-drop, take-add}
 use Rattle.frames.specs.Cells.{Cell, Rows, Words}
-use Rattle.frames.specs.Frame.{rowCount, isFrame, frameRows}
+use Rattle.frames.specs.Frame.{isFrame, frameRows}
 use Rattle.options.specs.Options.{columns, rightColumns, answerColumns, isOn}
 use Rattle.order.specs.Order.{cmpRow, sorted}
-use Rattle.order.specs.Keyed.{recall, rememberLast, firstKeyed, rowAt, outOfOrder}
+use Rattle.order.specs.Keyed.{recall, rememberLast, rememberAt, firstLeft, lastLeft}
 use Rattle.options.specs.declared.Options.{Options}
-use Rattle.order.specs.declared.Row.{Row}
 use Rattle.order.proofs.OrderLaws.{AtMost}
 use Rattle.order.proofs.SortedLaws.{All, all-at, all-by, all-map, all-cut, all-join, sorted-cut, sorted-at, sorted-drop}
 use Rattle.frames.proofs.WordLaws.{map-append}
-use Rattle.frames.proofs.FrameLaws.{frame-rows, frame-wide}
-use Rattle.order.proofs.KeyedLaws.{Below, below-fine, remember-last-below, wide-enough}
-use Rattle.searching.specs.Reach.{needMore, rowNeedsMore, pruneBy, noPrune, splitAt, badSplit}
+use Rattle.order.proofs.KeyedLaws.{Below, first-left-found, last-left-found, below-fine, remember-below, remember-last-below, wide-enough}
+use Rattle.searching.specs.Reach.{needMore, rowNeedsMore, pruneBy, noPrune, splitAt}
 use Rattle.searching.proofs.SplitLaw.{split}
 use Rattle.searching.proofs.EnoughLaw.{enough}
 use Rattle.searching.proofs.CheckLaw.{split-fine}
@@ -37,14 +33,14 @@ use Rattle.matching.proofs.FromLaws.{table-from, row-from}
 use Rattle.matching.proofs.AnswerRows.{answer-map}
 use Rattle.node.specs.declared.Join.{Join}
 use Rattle.node.specs.Calls.{dropped, dequeued}
-use Rattle.turnrows.specs.Prunes.{badLeft, badRight, firstPrune, remembered, keptRows, lastPrune}
+use Rattle.turnrows.specs.Prunes.{badLeft, badRight, firstPrune, remembered, rememberedLeft, keptRows, lastPrune}
 use Rattle.lists.specs.Lists.{rowsIn, Entry, writtenIn, matchesIn}
 use Rattle.lists.specs.WholeTables.{asWritten, dueOver}
 use Rattle.lists.proofs.ListLaws.{rows-in-append, matches-append}
-use Rattle.lists.proofs.Turned.{turnedOf, turned-after, turned-more}
+use Rattle.lists.proofs.Turned.{frame-cells, turnedOf, turned-after, turned-more}
 use Rattle.lists.proofs.Stock.{Frames}
 use Rattle.lists.proofs.EntryLaws.{written-back}
-use Rattle.turnrows.proofs.PruneLaws.{first-within, prune-within}
+use Rattle.turnrows.proofs.PruneLaws.{first-within}
 use Rattle.lists.proofs.Turn.{leftBy, matchedBy, matched-wide}
 
 -- ---- small laws of lists
@@ -62,7 +58,7 @@ unfolding rowsIn
 rows-in-wide c [] p = tt
 rows-in-wide c (f ∷ fs) p =
     all-join (λ r. length r ≡ c) (frameRows c f) (rowsIn c fs)
-    (all-by (λ r. length r ≡ c) (frameRows c f) (λ i h. frame-wide c f (p .0) i (omega (arith, frame-rows c f (p .0))))) (rows-in-wide c fs (p .1))
+    (frame-cells c f (p .0)) (rows-in-wide c fs (p .1))
 
 -- What holds where the left rows turned and the right rows are sorted: L, R the accepted frames, Os the outputs written, `ended` whether right has ended.
 -- F is any rows that may come behind the right ones.
@@ -202,7 +198,7 @@ module _ (o : Options) (L R Os : List Words) (ended : Bool) (j : Join) (S : Soun
   pub left-fine : badLeft o (j .«last_left») rows ≡ false
   unfolding badLeft
   left-fine =
-      rw (below-fine o (recall (columns o) (j .«last_left»)) rows (λ i h. S .left-below (getD rows i []) (before-row o T rows sorted-turned i h)), sorted-rows) (and-false (isOn (o .check)))
+      rw (below-fine o (recall (columns o) (j .«last_left»)) rows (λ i h. S .left-below (getD rows i []) (before-row o T rows sorted-turned i h)) (firstLeft o rows) (first-left-found o rows), sorted-rows) (and-false (isOn (o .check)))
 
   pub right-fine : badRight o (j .«last_right») rows held ≡ false
   unfolding badRight
@@ -285,19 +281,16 @@ module _ (o : Options) (L R Os : List Words) (ended : Bool) (j : Join) (S : Soun
           sorted-kept-f : sorted o (keptRows o rows held ++ F) ≡ true
           sorted-kept-f = kept-sorted-more o rows held F sorted-hf
 
-    -- The last row with a key of the frame, or what was remembered, is below every later left row.
-    left-below-after : (x : List Cell) → All (λ y. AtMost (cmpRow o) y x) (T ++ rows) → Below o (recall (columns o) (remembered o (j .«last_left») rows)) x
-    unfolding remembered
+    -- The frame's last row, or its last with a key, or what was remembered, is below every later left row.
+    left-below-after : (x : List Cell) → All (λ y. AtMost (cmpRow o) y x) (T ++ rows) → Below o (recall (columns o) (rememberedLeft o (j .«last_left») rows)) x
+    unfolding rememberedLeft
     left-below-after x h = go (isOn (o .check))
       where
         c : All (λ y. AtMost (cmpRow o) y x) T × All (λ y. AtMost (cmpRow o) y x) rows
         c = all-cut (λ y. AtMost (cmpRow o) y x) T rows h
 
-        wide : All (λ r. length r ≡ columns o) rows
-        wide = all-by (λ r. length r ≡ columns o) rows (λ i l. frame-wide (columns o) f frame i (omega (arith, frame-rows (columns o) f frame)))
-
-        go : (b : Bool) → Below o (recall (columns o) (cond b (rememberLast o (j .«last_left») rows) (j .«last_left»))) x
-        go true = remember-last-below o (j .«last_left») rows (wide-enough o (columns o) (omega arith) rows wide) x (c .1) (S .left-below x (c .0))
+        go : (b : Bool) → Below o (recall (columns o) (cond b (rememberAt o (j .«last_left») rows (lastLeft o rows)) (j .«last_left»))) x
+        go true = remember-below o (j .«last_left») rows (wide-enough o (columns o) (omega arith) rows (frame-cells (columns o) f frame)) x (c .1) (lastLeft o rows) (last-left-found o rows) (S .left-below x (c .0))
         go false = S .left-below x (c .0)
 
     -- The last row with a key of those dropped, or what was remembered, is below every row that is held or comes.

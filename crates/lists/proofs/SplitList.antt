@@ -1,26 +1,24 @@
 -- From a fresh join, over any list of calls, sorted or not: a fault at the split comes only together with unsorted held rows. Assumes nothing.
 use mathlib.Core.Path.{_≡_, refl, sym, ap, _∙_}
-use mathlib.Core.Bool.{Bool, true, false, cond, not, _&&_, _||_, or-false, and-false}
+use mathlib.Core.Bool.{Bool, true, false, not, _&&_, _||_, or-false}
 use mathlib.Core.List.{List, [], _∷_, _++_, append-nil, append-assoc}
-use Prim.Native.Nat.{ℕ, zero, suc, _+_, _-_, _≤_, _<_}
+use Prim.Native.Nat.{ℕ, _+_, _-_, _≤_}
 use native.Mathlib.Omega.{arith}
-use lib.Dec.{ltb, eqb}
-use lib.ListN.{length, getD, take, drop, take-append-drop}
+use lib.ListN.{length, take, drop, take-append-drop}
 use lib.Seq.{drop-append-le, drop-drop}
-use Rattle.frames.specs.Cells.{Cell, Rows, Words}
-use Rattle.frames.specs.Frame.{frameWords, frameRows}
-use Rattle.options.specs.Options.{rightColumns, answerColumns, refusedOptions, isOn}
+use Rattle.frames.specs.Cells.{Rows, Words}
+use Rattle.frames.specs.Frame.{frameRows}
+use Rattle.options.specs.Options.{rightColumns, refusedOptions, isOn}
 use Rattle.order.specs.Order.{sorted}
 use Rattle.order.specs.Keyed.{recall, rememberLast}
 use Rattle.options.specs.declared.Options.{Options}
 use Rattle.order.specs.declared.Row.{Row}
 use Rattle.order.proofs.SortedLaws.{All, all-cut}
-use Rattle.searching.specs.Reach.{needMore, pruneBy, badSplit}
+use Rattle.searching.specs.Reach.{pruneBy, badSplit}
 use Rattle.node.specs.declared.Join.{Join}
 use Rattle.outcomes.specs.declared.PortState.{PortState}
 use Rattle.refusals.proofs.RefusalLaws.{marked-ind}
 use Rattle.refusals.specs.declared.Refusal.{Refusal}
-use Rattle.refusals.specs.declared.Refusal.the-variants.{Failed, Closed, NoRoom, UsedUp, LeftOrder, RightOrder}
 use Rattle.outcomes.specs.declared.Answer.{Answer}
 use Rattle.outcomes.specs.declared.Answer.the-variants.{Wrote, WantsRight, Idle, Refused as TurnRefused}
 use Rattle.outcomes.specs.declared.Took.{Took}
@@ -28,16 +26,15 @@ use Rattle.outcomes.specs.declared.Took.the-variants.{Accepted, Refused}
 use Rattle.outcomes.specs.declared.Ported.{Ported}
 use Rattle.outcomes.specs.declared.Ported.the-variants.{Ports, Refused as PortsRefused}
 use Rattle.node.specs.State.{endedRight, stateAt, markedFailed, heldOf}
-use Rattle.outcomes.specs.Answers.{isDone, lastSequence}
+use Rattle.outcomes.specs.Answers.{isDone}
 use Rattle.node.specs.Calls.{leftAnswer, leftCall, queued, rightAnswer, rightCall, pushedRight, endAnswer, endCall, portsAnswer, portsCall, portsState, turnAnswer, turnCall, turned, dropped, dequeued, spoiled}
-use Rattle.turnrows.specs.Prunes.{badLeft, badRight, firstPrune, remembered, keptRows, lastPrune}
-use Rattle.outcomes.proofs.Tests.{past}
+use Rattle.turnrows.specs.Prunes.{badRight, firstPrune, remembered, keptRows, lastPrune}
 use Rattle.matching.specs.Answer.{answered}
 use Rattle.lists.specs.Lists.{Call, left, right, end, ports, turn, Event, onLeft, onRight, onEnd, onPorts, onTurn, World, start, step, events, final, rightIn, rightFrames, rowsIn, leftFrames, outputs, rightEnded}
 use Rattle.lists.specs.SplitAlone.{heldAfter, rememberedAfter, SplitsAlone}
 use Rattle.lists.proofs.ListLaws.{right-append, ended-append, rows-in-append}
 use Rattle.lists.proofs.Invariant.{Inv, right-passed}
-use Rattle.lists.proofs.Turn.{judged, leftBy, matchedBy, held, held-is, rows, answer-is, turned-is, no-write}
+use Rattle.lists.proofs.Turn.{passed, leftBy, matchedBy, held, held-is, rows, answer-is, turned-is, no-write}
 use Rattle.lists.proofs.Sound.{rows-in-wide}
 use Rattle.lists.proofs.Steps.{inv-step, inv-start, inv-list}
 use Rattle.lists.proofs.SplitAlone.{Low, split-only, low-push, low-turn}
@@ -53,36 +50,10 @@ low-more o false now m held L q = record { empty = λ z n. L .empty z refl; firs
 wide-drop : (c n : ℕ) (rs : Rows) → All (λ r. length r ≡ c) rs → All (λ r. length r ≡ c) (drop n rs)
 wide-drop c n rs h = all-cut (λ r. length r ≡ c) (take n rs) (drop n rs) (rw (take-append-drop n rs) h) .1
 
--- ---- what a turn that writes has passed
-not-and : (a b : Bool) → (not a && b) ≡ false → a ≡ false → b ≡ false
-not-and true b e f = let z : _≡_ {A = ℕ} 0 1 = cc in absurd (omega arith)
-not-and false b e f = e
-
+-- ---- a turn that writes
 not-or : (a b : Bool) → (not a || b) ≡ false → a ≡ true
 not-or true b e = refl
 not-or false b e = let z : _≡_ {A = ℕ} 0 1 = cc in absurd (omega arith)
-
-refused-apart : (n : Refusal) (q : ℕ) → _≡_ {A = Answer} (TurnRefused n) (Wrote q) → ⊥
-refused-apart n q e = let z : _≡_ {A = ℕ} 0 1 = cc in omega arith
-
-wants-apart : (q : ℕ) → _≡_ {A = Answer} WantsRight (Wrote q) → ⊥
-wants-apart q e = let z : _≡_ {A = ℕ} 0 1 = cc in omega arith
-
-record Passed (o : Options) (j : Join) (rows held : Rows) : Type 0 where
-  need : j .«right_ended» ≡ false → needMore o rows held ≡ false
-  fine : badRight o (j .«last_right») rows held ≡ false
-
-passed : (o : Options) (j : Join) (rows held : Rows) (out : Words) (q : ℕ) → judged o j rows held out ≡ Wrote q → Passed o j rows held
-unfolding judged
-passed o j rows held out q e =
-    let p3 = past (j .failed) (TurnRefused Failed) _ (Wrote q) (refused-apart Failed q) e in
-    let p4 = past (isDone (j .state)) (TurnRefused Closed) _ (Wrote q) (refused-apart Closed q) (p3 .1) in
-    let p = past (not (j .«right_ended») && needMore o rows held) WantsRight _ (Wrote q) (wants-apart q) (p4 .1) in
-    let p6 = past (ltb (length out) (frameWords (length rows) (answerColumns o))) (TurnRefused NoRoom) _ (Wrote q) (refused-apart NoRoom q) (p .1) in
-    let p7 = past (eqb (j .sequence) lastSequence) (TurnRefused UsedUp) _ (Wrote q) (refused-apart UsedUp q) (p6 .1) in
-    let p8 = past (badLeft o (j .«last_left») rows) (TurnRefused LeftOrder) _ (Wrote q) (refused-apart LeftOrder q) (p7 .1) in
-    let p9 = past (badRight o (j .«last_right») rows held) (TurnRefused RightOrder) _ (Wrote q) (refused-apart RightOrder q) (p8 .1) in
-    record { need = not-and (j .«right_ended») (needMore o rows held) (p .0); fine = p9 .0 }
 
 sorted-by : (o : Options) (m : Row) (rows held : Rows) → isOn (o .check) ≡ true → badRight o m rows held ≡ false → sorted o held ≡ true
 unfolding badRight
@@ -169,7 +140,7 @@ module _ (o : Options) (l r : Words) (allowed : refusedOptions o ≡ false) (es 
       rw (right-append es (ev ∷ []), append-nil (rightFrames es), ended-append es (ev ∷ []), or-false (rightEnded es))
       (λ on.
       after-turn o j R A (length f) (rightEnded es) on
-      (low-turn o (rightEnded es) (j .«last_right») R (drop (j .pruned) A) (S on) (sorted-by o (j .«last_right») R (drop (j .pruned) A) on (p .fine))
+      (low-turn o (rightEnded es) (j .«last_right») R (drop (j .pruned) A) (S on) (sorted-by o (j .«last_right») R (drop (j .pruned) A) on (p .right-order))
       (wide-drop (rightColumns o) (j .pruned) A (rows-in-wide (rightColumns o) (rightFrames es) (i .stock .right-frames)))
       (λ t. p .need (i .flags .ended ∙ t))))
 

@@ -1,21 +1,18 @@
 -- Each call, from a join and areas that meet the invariant and are sound: what it leaves is sound. Then all lists of calls, by induction. Assumes nothing.
-use mathlib.Core.Path.{_≡_, refl, sym, ap, _∙_}
-use mathlib.Core.Bool.{Bool, true, false, cond, not, _&&_, _||_, or-false, or-true}
-use mathlib.Core.List.{List, [], _∷_, _++_, append-nil, append-assoc, map}
-use Prim.Native.Nat.{ℕ, zero, suc, _+_, _-_, _*_, _≤_, _<_}
+use mathlib.Core.Path.{_≡_, refl, sym, _∙_}
+use mathlib.Core.Bool.{Bool, true, false, cond, _||_, or-false}
+use mathlib.Core.List.{List, [], _∷_, _++_, append-nil, append-assoc}
+use Prim.Native.Nat.{ℕ, _+_, _-_, _*_, _≤_}
 use native.Mathlib.Omega.{arith}
-use borrow.Author.Tests.{ltb-false, eqb-false}
-use lib.Dec.{ltb, eqb}
-use lib.IntN.{ℤ}
-use lib.ListN.{length, take, drop}
-use Rattle.frames.specs.Cells.{Cell, Rows, Words}
+use lib.Dec.{eqb}
+use lib.ListN.{length, drop}
+use Rattle.frames.specs.Cells.{Rows, Words}
 use Rattle.frames.specs.Frame.{frameRows, isFrame}
 use Rattle.options.specs.Options.{columns, rightColumns, refusedOptions}
 use Rattle.order.specs.Order.{sorted}
 use Rattle.order.specs.Keyed.{recall}
 use Rattle.options.specs.declared.Options.{Options}
 use Rattle.order.proofs.SortedLaws.{sorted-cut}
-use Rattle.searching.specs.Reach.{needMore}
 use Rattle.matching.specs.Answer.{answered}
 use Rattle.node.specs.declared.Join.{Join}
 use Rattle.outcomes.specs.declared.PortState.{PortState}
@@ -29,17 +26,16 @@ use Rattle.outcomes.specs.declared.Took.{Took}
 use Rattle.outcomes.specs.declared.Took.the-variants.{Accepted, Refused}
 use Rattle.outcomes.specs.declared.Ported.{Ported}
 use Rattle.outcomes.specs.declared.Ported.the-variants.{Ports, Refused as PortsRefused}
-use Rattle.node.specs.State.{fresh, waiting, heldValues, heldMarks, endedRight, stateAt, markedFailed}
-use Rattle.outcomes.specs.Answers.{isDone, lastSequence}
+use Rattle.node.specs.State.{waiting, heldValues, heldMarks, endedRight, stateAt, markedFailed}
+use Rattle.outcomes.specs.Answers.{isDone}
 use Rattle.node.specs.Calls.{leftAnswer, leftCall, queued, rightAnswer, rightCall, pushedRight, endAnswer, endCall, portsAnswer, portsCall, portsState, turnAnswer, turnCall, turned, spoiled}
 use Rattle.turnrows.specs.Prunes.{badLeft, badRight}
-use Rattle.lists.specs.Lists.{Call, left, right, end, ports, turn, Event, onLeft, onRight, onEnd, onPorts, onTurn, World, start, step, events, final, leftIn, rightIn, leftFrames, rightFrames, rowsIn, outputIn, outputs, endsRight, rightEnded, turnRefusal, matchesIn, backToBack, leftEnded, doneAfter, refusedWith, turnsIn}
-use Rattle.outcomes.proofs.Tests.{past}
+use Rattle.lists.specs.Lists.{Call, left, right, end, ports, turn, Event, onLeft, onRight, onEnd, onPorts, onTurn, World, start, step, events, final, leftIn, rightIn, leftFrames, rightFrames, rowsIn, outputIn, outputs, rightEnded, turnRefusal, matchesIn, backToBack, leftEnded, doneAfter, refusedWith, turnsIn}
 use Rattle.lists.proofs.ListLaws.{left-append, right-append, outputs-append, ended-append, rows-in-append}
-use Rattle.lists.proofs.Stock.{Stock, next-frame}
-use Rattle.lists.proofs.Invariant.{Inv, left-passed, right-passed, inv-left, inv-right, inv-end, inv-ports}
-use Rattle.lists.proofs.Turn.{judged, judged-all, leftBy, matchedBy, held, rows, answer-is, turned-is, idle-is, no-write, inv-turn}
-use Rattle.lists.proofs.Turned.{turnedOf, next-sorted, turned-after, turned-more}
+use Rattle.lists.proofs.Stock.{next-frame}
+use Rattle.lists.proofs.Invariant.{Inv, right-passed, inv-left, inv-right, inv-end, inv-ports}
+use Rattle.lists.proofs.Turn.{judged, judged-all, Passed, passed, leftBy, matchedBy, held, rows, answer-is, turned-is, idle-is, no-write, inv-turn}
+use Rattle.lists.proofs.Turned.{turnedOf, next-sorted, turned-after, turned-more, together-start}
 use Rattle.lists.proofs.Sound.{Sound, contra, left-fine, right-fine, sound-turn, sound-same, sound-left, sound-right}
 
 -- Sound, where the left rows turned and the right rows are sorted.
@@ -48,28 +44,7 @@ SoundAt o es w =
     sorted o (turnedOf o (leftFrames es) (outputs es)) ≡ true → sorted o (rowsIn (rightColumns o) (rightFrames es)) ≡ true
     → Sound o (leftFrames es) (rightFrames es) (outputs es) (rightEnded es) (w .join)
 
--- ---- what a turn that writes has passed; and that sorted rows are never refused for their order
-pub record Passed (o : Options) (j : Join) (rows held : Rows) : Type 0 where
-  pub need : j .«right_ended» ≡ false → needMore o rows held ≡ false
-
-not-and : (a b : Bool) → (not a && b) ≡ false → a ≡ false → b ≡ false
-not-and true b e f = let z : _≡_ {A = ℕ} 0 1 = cc in absurd (omega arith)
-not-and false b e f = e
-
-refused-apart : (n : Refusal) (q : ℕ) → _≡_ {A = Answer} (TurnRefused n) (Wrote q) → ⊥
-refused-apart n q e = let z : _≡_ {A = ℕ} 0 1 = cc in omega arith
-
-wants-apart : (q : ℕ) → _≡_ {A = Answer} WantsRight (Wrote q) → ⊥
-wants-apart q e = let z : _≡_ {A = ℕ} 0 1 = cc in omega arith
-
-passed : (o : Options) (j : Join) (rows held : Rows) (out : Words) (q : ℕ) → judged o j rows held out ≡ Wrote q → Passed o j rows held
-unfolding judged
-passed o j rows held out q e =
-    let p3 = past (j .failed) (TurnRefused Failed) _ (Wrote q) (refused-apart Failed q) e in
-    let p4 = past (isDone (j .state)) (TurnRefused Closed) _ (Wrote q) (refused-apart Closed q) (p3 .1) in
-    let p = past (not (j .«right_ended») && needMore o rows held) WantsRight _ (Wrote q) (wants-apart q) (p4 .1) in
-    record { need = not-and (j .«right_ended») (needMore o rows held) (p .0) }
-
+-- ---- sorted rows are never refused for their order
 -- Neither refusal 8 nor refusal 9.
 pub record Ordered (a : Answer) : Type 0 where
   pub not8 : eqb (turnRefusal a) 8 ≡ false
@@ -277,7 +252,7 @@ module _ (o : Options) (l r : Words) (allowed : refusedOptions o ≡ false) wher
 
   -- A fresh join.
   pub inv-start : Inv o l r [] (start o l r)
-  unfolding leftFrames rightFrames outputs rowsIn matchesIn backToBack waiting heldValues heldMarks rightEnded leftEnded doneAfter refusedWith turnsIn
+  unfolding leftFrames rightFrames outputs rowsIn matchesIn turnedOf backToBack waiting heldValues heldMarks rightEnded leftEnded doneAfter refusedWith turnsIn
   inv-start = record {
     stock = record {
       options = refl;
@@ -297,6 +272,7 @@ module _ (o : Options) (l r : Words) (allowed : refusedOptions o ≡ false) wher
       wrote = refl;
     };
     flags = record { ended = refl; done = refl; running = refl; failed = refl; unbroken = refl; fronts = refl };
+    strict = λ c. together-start o;
   }
 
   pub sound-start : SoundAt o [] (start o l r)

@@ -14,7 +14,9 @@ use Rattle.frames.specs.Cells.{Cell, Rows, Words}
 use Rattle.frames.specs.Frame.{rowCount, frameWords, isFrame, frameRows, front}
 use Rattle.options.specs.Options.{columns, rightColumns, answerColumns, refusedOptions, isOn}
 use Rattle.options.specs.declared.Options.{Options}
+use Rattle.options.specs.declared.Check.the-variants.{Strict}
 use Rattle.frames.proofs.FrameLaws.{frame-length, frame-rows}
+use Rattle.order.proofs.KeyedLaws.{wide-enough}
 use Rattle.searching.specs.Reach.{needMore, pruneBy, noPrune, splitAt}
 use Rattle.searching.proofs.SplitLaw.{split-within}
 use Rattle.matching.specs.Groups.{matchFrame}
@@ -26,6 +28,7 @@ use Rattle.tables.proofs.TableLaws.{Wide}
 use Rattle.node.specs.declared.Join.{Join}
 use Rattle.refusals.specs.Refusals.{marksFailed}
 use Rattle.refusals.proofs.RefusalLaws.{marked-ind}
+use Rattle.outcomes.proofs.Tests.{past}
 use Rattle.refusals.specs.declared.Refusal.{Refusal}
 use Rattle.refusals.specs.declared.Refusal.the-variants.{Failed, Closed, NoRoom, UsedUp, LeftOrder, RightOrder}
 use Rattle.outcomes.specs.declared.Answer.{Answer}
@@ -33,29 +36,31 @@ use Rattle.outcomes.specs.declared.Answer.the-variants.{Wrote, WantsRight, Idle
 use Rattle.node.specs.State.{nextTurn, markedFailed, badJoin, heldOf, waiting}
 use Rattle.outcomes.specs.Answers.{isRunning, isDone, lastSequence}
 use Rattle.node.specs.Calls.{After, after, turnAnswer, turnCall, turned, dropped, dequeued, spoiled}
-use Rattle.turnrows.specs.Prunes.{badLeft, badRight, firstPrune, remembered, keptRows, lastPrune}
+use Rattle.turnrows.specs.Prunes.{badLeft, badRight, firstPrune, remembered, rememberedLeft, keptRows, lastPrune}
 use Rattle.turnrows.proofs.PruneLaws.{drops-within}
+use Rattle.refusals.specs.Tests.{test, firstOf}
+use Rattle.turnparts.specs.Part.{roomTests, orderTests}
 use Rattle.lists.specs.Lists.{turn, Event, onTurn, World, step, leftIn, rightIn, leftFrames, rightFrames, rowsIn, outputIn, outputs, backToBack, framesWaiting, doneBy, refusedWith, turnRefusal}
 use Rattle.lists.proofs.ListLaws.{left-append, right-append, outputs-append}
+use Rattle.lists.proofs.Turned.{frame-cells, turnedOf, turned-after, Together, together-more}
 use Rattle.lists.proofs.Stock.{Stock, stock-same, stock-turn, waiting-length, next-frame, front-next, waits-front, front-room, held-rows}
 use Rattle.lists.proofs.Invariant.{Inv, Adds, SameFlags, adds-same, flags-add, good, keep, nothing-waits}
 
 -- ---- the turn's answer and what it leaves, told by the frame's rows and the held rows
 unfoldable pub judged : Options → Join → Rows → Rows → Words → Answer
 judged o j rows held out =
-    cond (j .failed) (TurnRefused Failed)
-    (cond (isDone (j .state)) (TurnRefused Closed)
-    (cond (not (j .«right_ended») && needMore o rows held) WantsRight
-    (cond (ltb (length out) (frameWords (length rows) (answerColumns o))) (TurnRefused NoRoom)
-    (cond (eqb (j .sequence) lastSequence) (TurnRefused UsedUp)
-    (cond (badLeft o (j .«last_left») rows) (TurnRefused LeftOrder)
-    (cond (badRight o (j .«last_right») rows held) (TurnRefused RightOrder)
-    (Wrote (j .sequence))))))))
+    firstOf (
+    test (j .failed) (TurnRefused Failed)
+    ∷ test (isDone (j .state)) (TurnRefused Closed)
+    ∷ roomTests o (j .«right_ended») (j .sequence) rows held (length out)
+    ++ orderTests (badLeft o (j .«last_left») rows) (badRight o (j .«last_right») rows held)
+    )
+    (Wrote (j .sequence))
 
 -- The join that a turn that writes leaves, and what it writes.
 unfoldable pub leftBy : Options → Join → Rows → Rows → ℕ → Join
 leftBy o j rows held n =
-    nextTurn (dequeued (dropped j (firstPrune o rows held + lastPrune o rows held)) n) (remembered o (j .«last_left») rows) (remembered o (j .«last_right») (take (lastPrune o rows held) (keptRows o rows held)))
+    nextTurn (dequeued (dropped j (firstPrune o rows held + lastPrune o rows held)) n) (rememberedLeft o (j .«last_left») rows) (remembered o (j .«last_right») (take (lastPrune o rows held) (keptRows o rows held)))
 
 unfoldable pub matchedBy : Options → Join → Rows → Rows → Rows
 matchedBy o j rows held = frameAnswer o (j .pruned + firstPrune o rows held) (keptRows o rows held) rows
@@ -120,6 +125,34 @@ fine-judged : (o : Options) (j : Join) (rows held : Rows) (out : Words) → Fine
 fine-judged o j rows held out =
     judged-all Fine o j rows held out (record { not2 = refl; not5 = refl }) (record { not2 = refl; not5 = refl }) (record { not2 = refl; not5 = refl }) (record { not2 = refl; not5 = refl })
     (record { not2 = refl; not5 = refl }) (λ t. record { not2 = refl; not5 = refl }) (λ t. record { not2 = refl; not5 = refl }) (record { not2 = refl; not5 = refl })
+
+-- ---- what a turn that writes has passed
+pub record Passed (o : Options) (j : Join) (rows held : Rows) : Type 0 where
+  pub need : j .«right_ended» ≡ false → needMore o rows held ≡ false
+  pub left-order : badLeft o (j .«last_left») rows ≡ false
+  pub right-order : badRight o (j .«last_right») rows held ≡ false
+
+not-and : (a b : Bool) → (not a && b) ≡ false → a ≡ false → b ≡ false
+not-and true b e f = let z : _≡_ {A = ℕ} 0 1 = cc in absurd (omega arith)
+not-and false b e f = e
+
+refused-apart : (n : Refusal) (q : ℕ) → _≡_ {A = Answer} (TurnRefused n) (Wrote q) → ⊥
+refused-apart n q e = let z : _≡_ {A = ℕ} 0 1 = cc in omega arith
+
+wants-apart : (q : ℕ) → _≡_ {A = Answer} WantsRight (Wrote q) → ⊥
+wants-apart q e = let z : _≡_ {A = ℕ} 0 1 = cc in omega arith
+
+pub passed : (o : Options) (j : Join) (rows held : Rows) (out : Words) (q : ℕ) → judged o j rows held out ≡ Wrote q → Passed o j rows held
+unfolding judged
+passed o j rows held out q e =
+    let p3 = past (j .failed) (TurnRefused Failed) _ (Wrote q) (refused-apart Failed q) e in
+    let p4 = past (isDone (j .state)) (TurnRefused Closed) _ (Wrote q) (refused-apart Closed q) (p3 .1) in
+    let p = past (not (j .«right_ended») && needMore o rows held) WantsRight _ (Wrote q) (wants-apart q) (p4 .1) in
+    let p6 = past (ltb (length out) (frameWords (length rows) (answerColumns o))) (TurnRefused NoRoom) _ (Wrote q) (refused-apart NoRoom q) (p .1) in
+    let p7 = past (eqb (j .sequence) lastSequence) (TurnRefused UsedUp) _ (Wrote q) (refused-apart UsedUp q) (p6 .1) in
+    let p8 = past (badLeft o (j .«last_left») rows) (TurnRefused LeftOrder) _ (Wrote q) (refused-apart LeftOrder q) (p7 .1) in
+    let p9 = past (badRight o (j .«last_right») rows held) (TurnRefused RightOrder) _ (Wrote q) (refused-apart RightOrder q) (p8 .1) in
+    record { need = not-and (j .«right_ended») (needMore o rows held) (p .0); left-order = p8 .0; right-order = p9 .0 }
 
 -- The flags that a turn that writes leaves as they were.
 by-fields : (o : Options) (j : Join) (rows held : Rows) (n : ℕ) → SameFlags j (leftBy o j rows held n)
@@ -194,21 +227,30 @@ module _ (o : Options) (l r : Words) (allowed : refusedOptions o ≡ false) (es 
     unfolding leftBy
     turned-stock out =
         stock-turn o l r (leftFrames es) (rightFrames es) (outputs es) j (w .left) (w .right) s f rest e (firstPrune o rows held + lastPrune o rows held) gone (matchedBy o j rows held)
-        (matched-wide o j rows held) (matched-length ∙ rows-count) out (remembered o (j .«last_left») rows) (remembered o (j .«last_right») (take (lastPrune o rows held) (keptRows o rows held)))
+        (matched-wide o j rows held) (matched-length ∙ rows-count) out (rememberedLeft o (j .«last_left») rows) (remembered o (j .«last_right») (take (lastPrune o rows held) (keptRows o rows held)))
       where
         matched-length : length (matchedBy o j rows held) ≡ length rows
         matched-length = count-matched o j rows held
 
+    -- A strict join: the rows turned stay sorted, and the last of them is remembered.
+    strict-wrote : Passed o j rows held → (out′ : Words) → o .check ≡ Strict → Together o (turnedOf o (leftFrames es) (outputs es ++ (out′ ∷ []))) (rememberedLeft o (j .«last_left») rows)
+    unfolding rows
+    strict-wrote p out′ c =
+        rw (turned-after o (leftFrames es) (outputs es) f rest e out′)
+        (together-more o c (turnedOf o (leftFrames es) (outputs es)) rows (j .«last_left») (wide-enough o (columns o) (omega arith) rows (frame-cells (columns o) f frame)) (i .strict c) (p .left-order))
+
     -- A turn that writes keeps the invariant.
-    pub inv-wrote : (out : Words)
+    pub inv-wrote : (out : Words) → Passed o j rows held
         → Inv o l r (es ++ (onTurn (Wrote (j .sequence)) (answered o (matchedBy o j rows held) out) ∷ [])) (record { join = leftBy o j rows held (length f); left = w .left; right = w .right })
-    unfolding leftFrames rightFrames outputs
-    inv-wrote out =
-        let ev = onTurn (Wrote (j .sequence)) (answered o (matchedBy o j rows held) out) in
+    unfolding leftFrames rightFrames outputs leftBy dequeued dropped
+    inv-wrote out p =
+        let out′ = answered o (matchedBy o j rows held) out in
+        let ev = onTurn (Wrote (j .sequence)) out′ in
         record {
           stock =
               rw (left-append es (ev ∷ []), right-append es (ev ∷ []), outputs-append es (ev ∷ []), append-nil (leftFrames es), append-nil (rightFrames es)) (turned-stock out);
           flags = flags-add es j ev (leftBy o j rows held (length f)) (i .flags) (adds-wrote out);
+          strict = rw (left-append es (ev ∷ []), outputs-append es (ev ∷ []), append-nil (leftFrames es)) (strict-wrote p out′);
         }
       where
         adds-wrote : (out : Words) → Adds es j (onTurn (Wrote (j .sequence)) (answered o (matchedBy o j rows held) out)) (leftBy o j rows held (length f))
@@ -246,12 +288,12 @@ module _ (o : Options) (l r : Words) (allowed : refusedOptions o ≡ false) (es 
 
   stays : (a : Answer) (out : Words) → Fine a → eqb (turnRefusal a) 8 ≡ false → eqb (turnRefusal a) 9 ≡ false → outputIn (onTurn a out) ≡ []
       → Inv o l r (es ++ (onTurn a out ∷ [])) (record { join = j; left = w .left; right = w .right })
-  stays a out p n8 n9 eo = keep o l r allowed es w i (onTurn a out) j refl refl eo s (quiet-turn a out p n8 n9)
+  stays a out p n8 n9 eo = keep o l r allowed es w i (onTurn a out) j refl refl eo refl s (quiet-turn a out p n8 n9)
 
   marks : (n : Refusal) (out : Words) → Fine (TurnRefused n) → marksFailed n ≡ true
       → Inv o l r (es ++ (onTurn (TurnRefused n) out ∷ [])) (record { join = markedFailed j; left = w .left; right = w .right })
   marks n out p t =
-      keep o l r allowed es w i (onTurn (TurnRefused n) out) (markedFailed j) refl refl refl
+      keep o l r allowed es w i (onTurn (TurnRefused n) out) (markedFailed j) refl refl refl refl
       (stock-same o l r (leftFrames es) (rightFrames es) (outputs es) j (w .left) (w .right) s (markedFailed j) refl refl refl refl refl refl refl) (spoils n out p t)
 
   inv-refused : (n : Refusal) (out : Words) → Fine (TurnRefused n) → Inv o l r (es ++ (onTurn (TurnRefused n) out ∷ [])) (record { join = spoiled n j; left = w .left; right = w .right })
@@ -267,7 +309,7 @@ module _ (o : Options) (l r : Words) (allowed : refusedOptions o ≡ false) (es 
           → Inv o l r (es ++ (onTurn (turned j (w .left) (w .right) out .answer) (turned j (w .left) (w .right) out .out) ∷ []))
           (record { join = turned j (w .left) (w .right) out .join; left = turned j (w .left) (w .right) out .left; right = turned j (w .left) (w .right) out .right })
       wrote q e [] d = absurd (no-write out q d e)
-      wrote q e (f ∷ rest) d = rw (turned-is f rest d out) (inv-wrote f rest d out)
+      wrote q e (f ∷ rest) d = rw (turned-is f rest d out) (inv-wrote f rest d out (passed o j (rows f rest d) held out q (sym (answer-is f rest d out) ∙ e)))
 
       go : (a : Answer) → turnAnswer j (w .left) (w .right) out ≡ a → Inv o l r (es ++ (step w (turn out) .event ∷ [])) (step w (turn out) .world)
       go (Wrote q) e = rw (e, turnCall) (wrote q e (drop (length (outputs es)) (leftFrames es)) refl)

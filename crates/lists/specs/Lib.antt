@@ -5,3 +5,4 @@ pub mod Elsewhere
 pub mod Unread
 pub mod SplitAlone
 pub mod OldForm
+pub mod Strict

@@ -20,7 +20,7 @@ use Rattle.options.specs.declared.Options.{Options}
 use Rattle.options.specs.declared.Strategy.{Strategy}
 use Rattle.matching.specs.Match.{Hit, nobody, hit, onSide, fits, takesOver, meet, choose, tooFar, tolerate, matchIn}
 use Rattle.matching.specs.Stretches.{between, hitAt}
-use Rattle.matching.specs.Inner.{Small, BestIn, TakesOver, Meets, Met}
+use Rattle.matching.specs.Loops.{Small, BestIn, TakesOver, Meets, Met}
 use Rattle.matching.specs.declared.Choice.the-variants.{Row, Nothing}
 use Rattle.matching.proofs.ChoiceLaws.{cond-ind, choose-dead}
 use Rattle.matching.proofs.WalkLaws.{between-more, between-none}

@@ -13,8 +13,8 @@ use Rattle.matching.specs.Match.{matchIn}
 use Rattle.matching.specs.Groups.{runs, byRuns, matchFrame}
 use Rattle.matching.specs.Answer.{numberWord, choiceMark}
 use Rattle.matching.specs.Stretches.{between, runLength, lay}
-use Rattle.matching.specs.Inner.{Serves}
-use Rattle.matching.specs.declared.Right.{Right}
+use Rattle.matching.specs.Loops.{Serves}
+use Rattle.matching.specs.declared.RunCursor.{RunCursor}
 use Rattle.matching.specs.declared.Choice.{Choice}
 use Rattle.matching.proofs.WalkLaws.{between-all, between-more, between-none, between-length, run-up, run-first, run-head, runs-past}
 
@@ -52,7 +52,7 @@ module _ (o : Options) (number m wl nl : ℕ) (lv lm : Words) (wr nr : ℕ) (rv 
       rw (z, between-all wr rv rm nr, between-all wl lv lm nl)
 
   -- The run i..e is laid, over what the cursor serves.
-  pub groups-more : (at i e : ℕ) (r : Right) (out : Words) → i < nl → e ≡ i + runLength o (between wl i nl lv lm) → Serves o wr nr rv rm at (rowFrom wl (i * wl) lv lm) r
+  pub groups-more : (at i e : ℕ) (r : RunCursor) (out : Words) → i < nl → e ≡ i + runLength o (between wl i nl lv lm) → Serves o wr nr rv rm at (rowFrom wl (i * wl) lv lm) r
       → lay m i (groupsFrom at i) out
       ≡ lay m e (groupsFrom (r .at) e) (lay m i (map (matchIn o (number + r .at) (between wr (r .at) (r .used) rv rm)) (between wl i e lv lm)) out)
   groups-more at i e r out h q s =

@@ -15,8 +15,8 @@ use Rattle.order.specs.declared.Order.the-variants.{Less, Equal, Greater}
 use Rattle.matching.specs.Match.{matchIn}
 use Rattle.matching.specs.Groups.{Cursor, sameRun, joinRun, runs, headOf, passes, pass, used, byRuns}
 use Rattle.matching.specs.Stretches.{between, runOn, runLength, standing}
-use Rattle.matching.specs.Inner.{Passed, Serves}
-use Rattle.matching.specs.declared.Right.{Right}
+use Rattle.matching.specs.Loops.{Passed, Serves}
+use Rattle.matching.specs.declared.RunCursor.{RunCursor}
 use Rattle.matching.specs.declared.Choice.{Choice}
 use Rattle.matching.proofs.ChoiceLaws.{pick-ind}
 
@@ -236,7 +236,7 @@ module _ (o : Options) (w n : ℕ) (vs ms : Words) (i : ℕ) (x : List Cell) whe
   pub serve-null : (e : ℕ) → nullGroup o x ≡ true → Serves o w n vs ms i x (record { at = i; end = e; used = i })
   serve-null e h = record { step = λ first l ls q. rw (between-none w vs ms i) (by-null o (first + i) (runs o (between w i n vs ms)) l ls (ap (nullGroup o) q ∙ h)) }
 
-  pub serve-pass : (r : Right) → nullGroup o x ≡ false → Passed o w n vs ms i x r → Serves o w n vs ms i x r
+  pub serve-pass : (r : RunCursor) → nullGroup o x ≡ false → Passed o w n vs ms i x r → Serves o w n vs ms i x r
   serve-pass r h p =
       record {
         step = λ first l ls q.

@@ -4,5 +4,5 @@ pub mod Groups
 pub mod Answer
 pub mod Requires
 pub mod Stretches
-pub mod Inner
+pub mod Loops
 pub mod Moves

@@ -15,7 +15,7 @@ use Rattle.options.specs.declared.Strategy.{Strategy}
 use Rattle.options.specs.declared.Strategy.the-variants.{Backward, Forward, Nearest}
 use Rattle.matching.specs.Match.{onSide, nearer, matchIn}
 use Rattle.matching.specs.Stretches.{between}
-use Rattle.matching.specs.Inner.{RunRoom}
+use Rattle.matching.specs.Loops.{RunRoom}
 use Rattle.matching.specs.declared.Step.{Step}
 
 -- A run is sorted: no key is greater than the next.

@@ -13,7 +13,7 @@ ghost use lib.ListN.{set};
 ghost use Rattle.matching.specs.Match.{matchIn};
 ghost use Rattle.matching.specs.Answer.{numberWord, choiceMark};
 ghost use Rattle.matching.specs.Stretches.{between, lay};
-ghost use Rattle.matching.specs.Inner.{Small, PutRoom, RunRoom};
+ghost use Rattle.matching.specs.Loops.{Small, PutRoom, RunRoom};
 ghost use Rattle.matching.specs.Moves.{WalkRoom, Counted};
 
 // The right number of a choice; 0 for none.

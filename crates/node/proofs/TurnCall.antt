@@ -1,6 +1,7 @@
 -- A turn from its first test to its last word: what is known of the front of the queue, and what the call leaves. Assumes nothing.
 use mathlib.Core.Path.{_≡_, refl, sym, ap, _∙_}
-use mathlib.Core.Bool.{Bool, true, false, cond, not, _&&_}
+use mathlib.Core.Bool.{Bool, true, false, cond, not}
+use mathlib.Core.List.{List, [], _∷_, _++_}
 use Prim.Native.Nat.{ℕ, _+_, _-_, _^_, _≤_, _<_}
 use native.Mathlib.Omega.{arith}
 use lib.Dec.{ltb, eqb}
@@ -23,7 +24,7 @@ use Rattle.node.specs.State.{markedFailed, leftWidth, rightWidth, badJoi
 use Rattle.outcomes.specs.Answers.{isDone, lastSequence, wrote}
 use Rattle.node.specs.Calls.{after, turnAnswer, dropped, dequeued, turned, spoiled, turnCall}
 use Rattle.turnrows.specs.Prunes.{firstPrune, badLeft, badRight, keptRows, lastPrune}
-use Rattle.node.specs.Inner.{readyAnswer, partOf, joinWith}
+use Rattle.node.specs.TurnPart.{readyAnswer, partOf, joinWith}
 use Rattle.node.specs.Contracts.{TurnContract}
 use Rattle.node.proofs.Good.{Good, good}
 use Rattle.outcomes.proofs.Tests.{past}
@@ -34,47 +35,61 @@ use Rattle.refusals.specs.declared.Refusal.{Refusal}
 use Rattle.refusals.specs.declared.Refusal.the-variants.{BadJoin, Failed, Closed, BadFrame, NoRoom, UsedUp, LeftOrder, RightOrder}
 use Rattle.outcomes.specs.declared.Answer.{Answer}
 use Rattle.outcomes.specs.declared.Answer.the-variants.{Wrote, WantsRight, Idle, Refused}
-use Rattle.callrules.specs.Judged.{readyJudged}
-use Rattle.turnparts.specs.Part.{roomAnswer, orderAnswer, leftPart, failedPart}
+use Rattle.refusals.specs.Tests.{Test, test, firstOf}
+use Rattle.outcomes.specs.declared.NodeState.{NodeState}
+use Rattle.refusals.proofs.TestLaws.{first-append}
+use Rattle.callrules.specs.Judged.{readyTests, readyJudged}
+use Rattle.turnparts.specs.Part.{roomTests, orderTests, roomAnswer, orderAnswer, leftPart, failedPart}
 use Rattle.turnparts.specs.declared.Part.{Part}
 use Rattle.turnfront.specs.Turns.{left as unmoved, rowsAnswer, rowsTurn, spoiledPart, RowsTurned}
 use Rattle.turncall.specs.Queue.{waitingIn, frontTurn, queueTurn, QueueTurned}
 use Rattle.turncall.proofs.QueueLaws.{front-here, front-frame}
 use Rattle.turnfront.specs.declared.TurnedPart.{TurnedPart}
 
--- The answers by rows are one chain.
-through : (a b c : Bool) (s : ℕ) (x : Answer) →
-    elim (cond a WantsRight (cond b (Refused NoRoom) (cond c (Refused UsedUp) (Wrote s)))) [ Wrote q ↦ x | WantsRight ↦ WantsRight | Idle ↦ Idle | Refused n ↦ Refused n ]
-    ≡ cond a WantsRight (cond b (Refused NoRoom) (cond c (Refused UsedUp) x))
-through true b c s x = refl
-through false true c s x = refl
-through false false true s x = refl
-through false false false s x = refl
+-- If the answer behind the tests goes on and theirs does not, one of them answered: so it does whatever stands behind them.
+first-stays : {A : Type 0} (goes : A → Bool) (ts : List (Test A)) (a x : A) → goes a ≡ true → goes (firstOf ts a) ≡ false → firstOf ts x ≡ firstOf ts a
+first-stays goes [] a x h g = let z : _≡_ {A = ℕ} 0 1 = cc in absurd (omega (arith, z))
+first-stays goes (t ∷ ts) a x h g = by (first-stays goes ts a x h) (t .says) g
+  where
+    by : (goes (firstOf ts a) ≡ false → firstOf ts x ≡ firstOf ts a) → (b : Bool) → goes (cond b (t .answer) (firstOf ts a)) ≡ false → cond b (t .answer) (firstOf ts x) ≡ cond b (t .answer) (firstOf ts a)
+    by rest true g = refl
+    by rest false g = rest g
 
-chain : (j : Part) (rows held : Rows) (room : ℕ) → rowsAnswer j rows held room ≡
-    cond (not (j .«right_ended») && needMore (j .options) rows held) WantsRight
-    (cond (ltb room (frameWords (length rows) (answerColumns (j .options)))) (Refused NoRoom)
-    (cond (eqb (j .sequence) lastSequence) (Refused UsedUp)
-    (cond (badLeft (j .options) (j .«last_left») rows) (Refused LeftOrder)
-    (cond (badRight (j .options) (j .«last_right») rows held) (Refused RightOrder)
-    (Wrote (j .sequence))))))
+-- Tests of which none answers Wrote.
+abbrev Stop : List (Test Answer) → Type 0
+Stop [] = Unit {0}
+Stop (t ∷ ts) = (wrote (t .answer) ≡ false) × Stop ts
+
+-- A turn that goes on answers x, one that does not answers as it did.
+abbrev goesTo : Answer → Answer → Answer
+goesTo x a = elim a [ Wrote q ↦ x | WantsRight ↦ WantsRight | Idle ↦ Idle | Refused n ↦ Refused n ]
+
+-- What a turn answers by rows: its tests of room, and behind them those of the order.
+then-order : (ts : List (Test Answer)) (s : ℕ) (x : Answer) → Stop ts → goesTo x (firstOf ts (Wrote s)) ≡ firstOf ts x
+then-order [] s x h = refl
+then-order (t ∷ ts) s x h = by (then-order ts s x (h .1)) (t .says) (t .answer) (h .0)
+  where
+    by : goesTo x (firstOf ts (Wrote s)) ≡ firstOf ts x → (b : Bool) (a : Answer) → wrote a ≡ false → goesTo x (cond b a (firstOf ts (Wrote s))) ≡ cond b a (firstOf ts x)
+    by rest true (Wrote q) g = let z : _≡_ {A = ℕ} 0 1 = cc in absurd (omega (arith, z))
+    by rest true WantsRight g = refl
+    by rest true Idle g = refl
+    by rest true (Refused n) g = refl
+    by rest false a g = rest
+
+by-rows : (j : Part) (rows held : Rows) (room : ℕ) → rowsAnswer j rows held room
+    ≡ firstOf (roomTests (j .options) (j .«right_ended») (j .sequence) rows held room ++ orderTests (badLeft (j .options) (j .«last_left») rows) (badRight (j .options) (j .«last_right») rows held)) (Wrote (j .sequence))
 unfolding rowsAnswer roomAnswer orderAnswer
-chain j rows held room =
-    rw (← split-known (j .options) (j .«last_right») rows held)
-    (through (not (j .«right_ended») && needMore (j .options) rows held) (ltb room (frameWords (length rows) (answerColumns (j .options)))) (eqb (j .sequence) lastSequence) (j .sequence) (orderAnswer j rows held (lastPrune (j .options) rows held)))
+by-rows j rows held room =
+    let ts = roomTests (j .options) (j .«right_ended») (j .sequence) rows held room in
+    rw (first-append ts (orderTests (badLeft (j .options) (j .«last_left») rows) (badRight (j .options) (j .«last_right») rows held)) (Wrote (j .sequence)), ← split-known (j .options) (j .«last_right») rows held)
+    (then-order ts (j .sequence) (orderAnswer j rows held (lastPrune (j .options) rows held)) (refl, (refl, (refl, tt))))
 
--- A chain that passes its first tests comes to the rest; one that does not goes on as before.
-comes-to : (a b c d e : Bool) (x : Answer) → a ≡ false → b ≡ false → c ≡ false → d ≡ false → e ≡ true →
-    cond a (Refused BadJoin) (cond b (Refused Failed) (cond c (Refused Closed) (cond d Idle (cond (not e) (Refused BadFrame) x)))) ≡ x
-comes-to a b c d e x pa pb pc pd pe = rw (pa, pb, pc, pd, pe)
+-- The tests before and at the front, passed.
+ready-past : (bad failed : Bool) (state : NodeState) (words : ℕ) (x : Answer) → bad ≡ false → failed ≡ false → isDone state ≡ false → eqb words 0 ≡ false → firstOf (readyTests bad failed state words) x ≡ x
+ready-past bad failed state words x b f d w = rw (b, f, d, w)
 
-stays-at : (a b c d : Bool) (s : ℕ) (x : Answer) → wrote (cond a (Refused BadJoin) (cond b (Refused Failed) (cond c (Refused Closed) (cond d Idle (Wrote s))))) ≡ false →
-    cond a (Refused BadJoin) (cond b (Refused Failed) (cond c (Refused Closed) (cond d Idle x))) ≡ cond a (Refused BadJoin) (cond b (Refused Failed) (cond c (Refused Closed) (cond d Idle (Wrote s))))
-stays-at true b c d s x g = refl
-stays-at false true c d s x g = refl
-stays-at false false true d s x g = refl
-stays-at false false false true s x g = refl
-stays-at false false false false s x g = let z : _≡_ {A = ℕ} 0 1 = cc in absurd (omega arith)
+frame-past : (b : Bool) (x : Answer) → b ≡ true → cond (not b) (Refused BadFrame) x ≡ x
+frame-past b x e = rw e
 
 -- No frame at the front.
 none-of : (b : Bool) (m : ℕ) → cond b (Long m) Nothing ≡ Nothing → b ≡ false
@@ -101,6 +116,13 @@ part-spoiled j n = go (marksFailed n)
     go false = refl
 
 module _ (j : Join) (left right out : Words) where
+  -- A turn's tests from the front on, for the front f.
+  abbrev behind : Words → List (Test Answer)
+  behind f =
+      test (not (isFrame (leftWidth j) f)) (Refused BadFrame)
+      ∷ roomTests (j .options) (j .«right_ended») (j .sequence) (frameRows (leftWidth j) f) (heldOf j right) (length out)
+      ++ orderTests (badLeft (j .options) (j .«last_left») (frameRows (leftWidth j) f)) (badRight (j .options) (j .«last_right») (frameRows (leftWidth j) f) (heldOf j right))
+
   -- ---- ready
   -- What a turn that goes on knows of its join.
   record Ready : Type 0 where
@@ -146,7 +168,9 @@ module _ (j : Join) (left right out : Words) where
 
   unready : wrote (readyAnswer j left right) ≡ false → turnAnswer j left right out ≡ readyAnswer j left right
   unfolding turnAnswer readyJudged
-  unready g = stays-at (badJoin j left right) (j .failed) (isDone (j .state)) (eqb (j .«queue_words») 0) (j .sequence) _ g
+  unready g =
+      let f = front (leftWidth j) (waiting j left) in
+      first-append (readyTests (badJoin j left right) (j .failed) (j .state) (j .«queue_words»)) (behind f) (Wrote (j .sequence)) ∙ first-stays wrote (readyTests (badJoin j left right) (j .failed) (j .state) (j .«queue_words»)) (Wrote (j .sequence)) _ refl g
 
   ready-stops : (t : Answer) → t ≡ readyAnswer j left right → wrote t ≡ false → TurnContract j left right out (record { answer = t; join = j }) out
   ready-stops t e g =
@@ -167,8 +191,10 @@ module _ (j : Join) (left right out : Words) where
       unfolding turnAnswer
       answer-rows e =
           rw fronted
-          (comes-to (badJoin j left right) (j .failed) (isDone (j .state)) (eqb (j .«queue_words») 0) (isFrame (leftWidth j) f) _ (r .unbroken) (r .unfailed) (r .undone) (r .some) e
-          ∙ sym (chain (partOf j) (frameRows (leftWidth j) f) (heldOf j right) (length out)))
+          (first-append (readyTests (badJoin j left right) (j .failed) (j .state) (j .«queue_words»)) (behind f) (Wrote (j .sequence))
+          ∙ ready-past (badJoin j left right) (j .failed) (j .state) (j .«queue_words») (firstOf (behind f) (Wrote (j .sequence))) (r .unbroken) (r .unfailed) (r .undone) (r .some)
+          ∙ frame-past (isFrame (leftWidth j) f) _ e
+          ∙ sym (by-rows (partOf j) (frameRows (leftWidth j) f) (heldOf j right) (length out)))
 
       turned-rows : turned j left right out ≡ after (Wrote (j .sequence))
           (joinWith j (leftPart (partOf j) (frameRows (leftWidth j) f) (keptRows (j .options) (frameRows (leftWidth j) f) (heldOf j right)) (firstPrune (j .options) (frameRows (leftWidth j) f) (heldOf j right)) (lastPrune (j .options) (frameRows (leftWidth j) f) (heldOf j right)) (length f)))

@@ -9,7 +9,7 @@ use Rattle.area.specs.Area.{capacity, newBase, pushed, moved, written}
 use Rattle.searching.specs.Reach.{pruneBy}
 use Rattle.matching.specs.Answer.{frameAnswer, answered}
 use Rattle.ports.specs.Ports.{toFlush, toDone, portsJudged}
-use Rattle.turnrows.specs.Prunes.{badLeft, badRight, firstPrune, remembered}
+use Rattle.turnrows.specs.Prunes.{badLeft, badRight, firstPrune, remembered, rememberedLeft}
 use Rattle.node.specs.State.{queueAt, heldAt, stateAt, endedRight, markedFailed, nextTurn, leftWidth, rightWidth, badJoin, heldOf, waiting}
 use Rattle.node.specs.declared.Join.{Join}
 use Rattle.outcomes.specs.declared.NodeState.{NodeState}
@@ -141,7 +141,7 @@ turned j left right out =
     let kept = drop first held in
     let last = pruneBy (j .options) (length rows - 1) rows kept in
     after (Wrote (j .sequence))
-    (nextTurn (dequeued (dropped j (first + last)) (length f)) (remembered (j .options) (j .«last_left») rows) (remembered (j .options) (j .«last_right») (take last kept)))
+    (nextTurn (dequeued (dropped j (first + last)) (length f)) (rememberedLeft (j .options) (j .«last_left») rows) (remembered (j .options) (j .«last_right») (take last kept)))
     left right (answered (j .options) (frameAnswer (j .options) (j .pruned + first) kept rows) out)
 
 -- SCOPE 16.2: what a refusal changes in the join.

@@ -1,4 +1,4 @@
 pub mod State
 pub mod Calls
 pub mod Contracts
-pub mod Inner
+pub mod TurnPart

@@ -6,7 +6,7 @@ use turnfront::TurnedPart;
 use turnparts::Part;
 ghost use mathlib.Core.Path.{_≡_};
 ghost use Rattle.node.specs.State.{stateAt};
-ghost use Rattle.node.specs.Inner.{partOf, joinWith};
+ghost use Rattle.node.specs.TurnPart.{partOf, joinWith};
 
 // The join in another state.
 pub(crate) fn at_state(j: Join, state: NodeState) -> Join

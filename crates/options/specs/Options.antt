@@ -9,16 +9,23 @@ use Rattle.options.specs.declared.Options.{Options}
 use Rattle.options.specs.declared.Strategy.{Strategy}
 use Rattle.options.specs.declared.Strategy.the-variants.{Backward, Forward, Nearest}
 use Rattle.options.specs.declared.Check.{Check}
-use Rattle.options.specs.declared.Check.the-variants.{Off, On}
+use Rattle.options.specs.declared.Check.the-variants.{Off, On, Strict}
 
 -- SCOPE 3.1: the strategy by its number.
 abbrev pub strategyOf : Options → Strategy
 strategyOf o = cond (eqb (o .strategy) 0) Backward (cond (eqb (o .strategy) 1) Forward Nearest)
 
--- SCOPE 3.4: whether the order check is on.
+-- SCOPE 3.4: whether the order check is on; strict does all that on does.
 abbrev pub isOn : Check → Bool
 isOn Off = false
 isOn On = true
+isOn Strict = true
+
+-- SCOPE 8.9: whether rows without a key count between left frames.
+abbrev pub isStrict : Check → Bool
+isStrict Off = false
+isStrict On = false
+isStrict Strict = true
 
 -- SCOPE 2.5: the columns of a left frame, by-columns and key.
 abbrev pub columns : Options → ℕ

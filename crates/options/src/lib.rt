@@ -1,7 +1,7 @@
 // The options that a join is opened with: their definitions, and tests of them.
 ghost use mathlib.Core.Path.{_≡_};
 ghost use Prim.Native.Nat.{_≤_};
-ghost use Rattle.options.specs.Options.{badOptions, manyCarried, refusedOptions, strategyOf, isOn, columns, rightColumns, answerColumns};
+ghost use Rattle.options.specs.Options.{badOptions, manyCarried, refusedOptions, strategyOf, isOn, isStrict, columns, rightColumns, answerColumns};
 
 // The strategies of a match. In the options a strategy is its number, since a host may hand in any.
 pub enum Strategy {
@@ -10,10 +10,11 @@ pub enum Strategy {
     Nearest,
 }
 
-// Whether the order of the rows is checked.
+// Whether the order of the rows is checked; strict compares rows without a key between left frames too.
 pub enum Check {
     Off,
     On,
+    Strict,
 }
 
 // What a join is opened with.
@@ -84,6 +85,18 @@ pub fn is_on(check: Check) -> bool
     match check {
         Check::Off => false,
         Check::On => true,
+        Check::Strict => true,
+    }
+}
+
+// Whether the order check is strict.
+pub fn is_strict(check: Check) -> bool
+    ensures { λ r. ⌜ r ≡ isStrict check ⌝ }
+{
+    match check {
+        Check::Off => false,
+        Check::On => false,
+        Check::Strict => true,
     }
 }
 

@@ -1,7 +1,7 @@
 -- Rows with a key: the place found is in the stretch; what is remembered stands below what comes in order. Assumes nothing.
-use mathlib.Core.Path.{_≡_, refl, sym, ap, _∙_}
-use mathlib.Core.Bool.{Bool, true, false, not}
-use mathlib.Core.List.{List, [], _∷_, _++_, map}
+use mathlib.Core.Path.{_≡_, refl, sym, subst, _∙_}
+use mathlib.Core.Bool.{Bool, true, false}
+use mathlib.Core.List.{List, [], _∷_, map}
 use mathlib.Core.Option.{Option, none, some}
 use Prim.Native.Nat.{ℕ, zero, suc, _+_, _-_, _≤_, _<_}
 use native.Mathlib.Omega.{arith}
@@ -9,9 +9,9 @@ use lib.IntN.{pos}
 use lib.ListN.{length, take, getD, replicate, length-map}
 use lib.Seq.{getD-take, length-take-le, take-at}
 use Rattle.frames.specs.Cells.{Cell, null, Rows, valueWord, markWord}
-use Rattle.options.specs.Options.{columns}
+use Rattle.options.specs.Options.{columns, isStrict}
 use Rattle.order.specs.Order.{cmpFirst, cmpRow, nullKey}
-use Rattle.order.specs.Keyed.{firstFrom, firstKeyed, lastBelow, lastKeyed, rowAt, recall, remember, rememberLast, rememberAt, compared, outOfOrder}
+use Rattle.order.specs.Keyed.{firstFrom, firstKeyed, lastBelow, lastKeyed, firstRow, lastRow, firstLeft, lastLeft, rowAt, recall, remember, rememberLast, rememberAt, compared, outOfOrder}
 use Rattle.options.specs.declared.Options.{Options}
 use Rattle.order.specs.declared.Row.{Row}
 use Rattle.order.specs.declared.Keyed.{Keyed}
@@ -68,14 +68,52 @@ module _ (o : Options) where
   Below none x = Unit {0}
   Below (some m) x = AtMost (cmpRow o) m x
 
-  -- What is below every row of a stretch is not out of order before its first row with a key.
-  pub below-fine : (m : Option (List Cell)) (rs : Rows) → ((i : ℕ) → i < length rs → Below m (getD rs i [])) → outOfOrder o m (rowAt rs (firstKeyed o rs)) ≡ false
-  below-fine none rs h = refl
-  below-fine (some m) rs h = go (firstKeyed o rs) (first-found 0 rs)
+  pub keyed-found : (rs : Rows) → Found 0 (length rs) (firstKeyed o rs)
+  keyed-found rs = found-to 0 (0 + length rs) (length rs) (omega arith) (firstKeyed o rs) (first-found 0 rs)
+
+  -- ---- between left frames
+  -- Strict: the first and the last row, key or not.
+  pub first-strict : (rs : Rows) → isStrict (o .check) ≡ true → firstLeft o rs ≡ firstRow rs
+  first-strict rs e = rw e
+
+  pub last-strict : (rs : Rows) → isStrict (o .check) ≡ true → lastLeft o rs ≡ lastRow rs
+  last-strict rs e = rw e
+
+  -- Not strict: those with a key.
+  pub first-loose : (rs : Rows) → isStrict (o .check) ≡ false → firstLeft o rs ≡ firstKeyed o rs
+  first-loose rs e = rw e
+
+  pub last-loose : (rs : Rows) → isStrict (o .check) ≡ false → lastLeft o rs ≡ lastKeyed o rs
+  last-loose rs e = rw e
+
+  -- Either way they are rows of the stretch.
+  first-row-found : (rs : Rows) → Found 0 (length rs) (firstRow rs)
+  first-row-found [] = tt
+  first-row-found (r ∷ rs) = (omega arith, omega arith)
+
+  last-row-found : (rs : Rows) → Found 0 (length rs) (lastRow rs)
+  last-row-found [] = tt
+  last-row-found (r ∷ rs) = (omega arith, omega arith)
+
+  pub first-left-found : (rs : Rows) → Found 0 (length rs) (firstLeft o rs)
+  first-left-found rs = go (isStrict (o .check)) refl
     where
-      go : (k : Keyed) → Found 0 (0 + length rs) k → outOfOrder o (some m) (rowAt rs k) ≡ false
-      go (At i) f = greater-not (cmpRow o m (getD rs i [])) (h i (omega arith))
-      go Nothing f = refl
+      go : (b : Bool) → isStrict (o .check) ≡ b → Found 0 (length rs) (firstLeft o rs)
+      go true e = subst (Found 0 (length rs)) (sym (first-strict rs e)) (first-row-found rs)
+      go false e = subst (Found 0 (length rs)) (sym (first-loose rs e)) (keyed-found rs)
+
+  pub last-left-found : (rs : Rows) → Found 0 (length rs) (lastLeft o rs)
+  last-left-found rs = go (isStrict (o .check)) refl
+    where
+      go : (b : Bool) → isStrict (o .check) ≡ b → Found 0 (length rs) (lastLeft o rs)
+      go true e = subst (Found 0 (length rs)) (sym (last-strict rs e)) (last-row-found rs)
+      go false e = subst (Found 0 (length rs)) (sym (last-loose rs e)) (last-found rs (length rs))
+
+  -- What is below every row of a stretch is not out of order before any of them.
+  pub below-fine : (m : Option (List Cell)) (rs : Rows) → ((i : ℕ) → i < length rs → Below m (getD rs i [])) → (k : Keyed) → Found 0 (length rs) k → outOfOrder o m (rowAt rs k) ≡ false
+  below-fine none rs h k f = refl
+  below-fine (some m) rs h (At i) f = greater-not (cmpRow o m (getD rs i [])) (h i (omega arith))
+  below-fine (some m) rs h Nothing f = refl
 
   -- Order ignores what stands behind the key: a row's first b + 1 cells compare as the row does.
   first-take : (n : ℕ) (r s : List Cell) (j : ℕ) → j ≤ n → cmpFirst o j (take n r) s ≡ cmpFirst o j r s
@@ -87,6 +125,10 @@ module _ (o : Options) where
   unfolding cmpRow
   compared-alike r s = rw (first-take (columns o) r s (o .by) (omega arith), getD-take (columns o) r (o .by) null (omega arith))
 
+  -- Where no row is found, what was remembered stays.
+  pub remember-none : (m : Row) (rs : Rows) → rememberAt o m rs Nothing ≡ m
+  remember-none m rs = refl
+
   -- A row of a stretch is remembered: it, or what was remembered, is below x.
   pub remember-below : (m : Row) (rs : Rows) → All (λ r. columns o ≤ length r) rs → (x : List Cell) → All (λ r. AtMost (cmpRow o) r x) rs
       → (k : Keyed) → Found 0 (length rs) k → Below (recall (columns o) m) x → Below (recall (columns o) (rememberAt o m rs k)) x
@@ -94,7 +136,7 @@ module _ (o : Options) where
       let w : columns o ≤ length (getD rs i []) = all-at (λ r. columns o ≤ length r) rs wide i (omega arith) in
       rw (recall-remember (compared o (getD rs i [])) (columns o) (length-take-le (columns o) (getD rs i []) w), compared-alike (getD rs i []) x)
       (all-at (λ r. AtMost (cmpRow o) r x) rs h i (omega arith))
-  remember-below m rs wide x h Nothing f b = b
+  remember-below m rs wide x h Nothing f b = rw (remember-none m rs) b
 
   -- So the last row with a key, if there is one.
   pub remember-last-below : (m : Row) (rs : Rows) → All (λ r. columns o ≤ length r) rs → (x : List Cell) → All (λ r. AtMost (cmpRow o) r x) rs

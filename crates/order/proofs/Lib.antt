@@ -3,5 +3,6 @@ pub mod OrderLaws
 pub mod SortedLaws
 pub mod KeyLaws
 pub mod KeyedLaws
+pub mod SeamLaws
 pub mod Apart
 pub mod RowLaws

@@ -5,11 +5,15 @@ use mathlib.Core.List.{List, [], _∷_, _++_, map}
 use Prim.Native.Nat.{ℕ, _-_, _^_}
 use lib.IntN.{ℤ, pos, negsuc}
 use lib.ListN.{length, replicate}
-use Rattle.frames.specs.Cells.{Cell, null, value, valueWord, markWord, Rows, Words}
+use Rattle.frames.specs.Cells.{Cell, null, value, valueWord, markWord, Rows, Words, cellsOf}
+use Rattle.options.specs.Options.{columns}
 use Rattle.order.specs.Order.{distance, cmpRow, nullGroup, nullIn, cmpFirst}
+use Rattle.order.specs.Keyed.{firstLeft, lastLeft, firstFrom, lastBelow, rowAt, recall, remember, rememberAt, noRow, outOfOrder}
 use Rattle.options.specs.declared.Options.{Options}
-use Rattle.options.specs.declared.Check.the-variants.{Off, On}
+use Rattle.options.specs.declared.Check.{Check}
+use Rattle.options.specs.declared.Check.the-variants.{Off, On, Strict}
 use Rattle.order.specs.declared.Order.the-variants.{Less}
+use Rattle.order.specs.declared.Row.{Row}
 
 -- Four flags: those given, and false behind them.
 abbrev pub four : List Bool → List Bool
@@ -39,6 +43,19 @@ carrying p o = record {
   descending = o .descending;
   «nulls_last» = o .«nulls_last»;
   carried = p;
+}
+
+-- The same with another setting of the order check.
+abbrev pub checking : Check → Options → Options
+checking c o = record {
+  by = o .by;
+  strategy = o .strategy;
+  «allow_eq» = o .«allow_eq»;
+  tolerance = o .tolerance;
+  check = c;
+  descending = o .descending;
+  «nulls_last» = o .«nulls_last»;
+  carried = o .carried;
 }
 
 -- No by-columns, no tolerance, check off.
@@ -77,3 +94,28 @@ orders = refl
 pub nullGroups : nullGroup down (null ∷ value (pos 1) ∷ []) ∷ nullGroup down (value (pos 1) ∷ null ∷ []) ∷ [] ≡ true ∷ false ∷ []
 unfolding nullIn
 nullGroups = refl
+
+-- Which of some left frames are before the row that is remembered of those before them.
+abbrev faults : Options → Row → List Rows → List Bool
+faults o m [] = []
+faults o m (rows ∷ frames) = outOfOrder o (recall (columns o) m) (rowAt rows (firstLeft o rows)) ∷ faults o (rememberAt o m rows (lastLeft o rows)) frames
+
+-- One by-column, ascending, with a setting of the order check.
+abbrev up : Check → Options
+up c = checking c (options 1 0 true (negsuc 0) false [] [])
+
+-- Rows of one by-value and no key.
+abbrev keyless : List ℕ → Rows
+keyless ns = map (λ n. value (pos n) ∷ null ∷ []) ns
+
+-- Strict compares and remembers rows without a key, on does not; a frame without rows neither compares nor forgets.
+abbrev frames : List Rows
+frames = (row (2 ∷ 5 ∷ []) ∷ []) ∷ [] ∷ keyless (1 ∷ 3 ∷ []) ∷ (row (2 ∷ 8 ∷ []) ∷ []) ∷ [] ∷ (row (2 ∷ 7 ∷ []) ∷ []) ∷ []
+
+pub strict-faults : faults (up Strict) noRow frames ≡ false ∷ false ∷ true ∷ true ∷ false ∷ true ∷ []
+unfolding cellsOf recall remember cmpRow cmpFirst
+strict-faults = refl
+
+pub on-faults : faults (up On) noRow frames ≡ false ∷ false ∷ false ∷ false ∷ false ∷ true ∷ []
+unfolding cellsOf recall remember cmpRow cmpFirst firstFrom lastBelow
+on-faults = refl

@@ -6,7 +6,7 @@ use Prim.Native.Nat.{ℕ, zero, suc, _-_}
 use lib.IntN.{pos}
 use lib.ListN.{length, take, getD, replicate}
 use Rattle.frames.specs.Cells.{Cell, cellsOf, valueWord, markWord, Rows, Words}
-use Rattle.options.specs.Options.{columns}
+use Rattle.options.specs.Options.{columns, isStrict}
 use Rattle.order.specs.Order.{nullKey, cmpRow, isGreater}
 use Rattle.options.specs.declared.Options.{Options}
 use Rattle.order.specs.declared.Row.{Row}
@@ -30,6 +30,24 @@ lastBelow o rs (suc n) = elim (nullKey o (getD rs n [])) [ true ↦ lastBelow o 
 -- The last of all rows that has a key.
 abbrev pub lastKeyed : Options → Rows → Keyed
 lastKeyed o rs = lastBelow o rs (length rs)
+
+-- The first of all rows, key or not.
+abbrev pub firstRow : Rows → Keyed
+firstRow [] = Nothing
+firstRow (r ∷ rs) = At 0
+
+-- The last of all rows, key or not.
+abbrev pub lastRow : Rows → Keyed
+lastRow [] = Nothing
+lastRow (r ∷ rs) = At (length rs)
+
+-- SCOPE 8.2, 8.9: the row of a left frame that is compared with the remembered one.
+abbrev pub firstLeft : Options → Rows → Keyed
+firstLeft o rs = cond (isStrict (o .check)) (firstRow rs) (firstKeyed o rs)
+
+-- SCOPE 8.6, 8.9: the row of a left frame that is remembered.
+abbrev pub lastLeft : Options → Rows → Keyed
+lastLeft o rs = cond (isStrict (o .check)) (lastRow rs) (lastKeyed o rs)
 
 -- The row at such a place, or none.
 abbrev pub rowAt : Rows → Keyed → Option (List Cell)

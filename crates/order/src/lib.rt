@@ -14,7 +14,7 @@ pub struct Row {
     pub marks: [i64; 5],
 }
 
-// The first or the last row with a key, or none.
+// The place of a row that is looked for, mostly the first or the last with a key, or none.
 pub enum Keyed {
     At(usize),
     Nothing,

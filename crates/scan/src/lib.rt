@@ -16,7 +16,7 @@ ghost use Rattle.order.specs.Order.{keyOf};
 ghost use Rattle.order.specs.Requires.{RowsIn};
 ghost use Rattle.matching.specs.Match.{nobody, fits, choose, matchIn};
 ghost use Rattle.matching.specs.Stretches.{between, hitAt};
-ghost use Rattle.matching.specs.Inner.{BestIn, Meets, Met};
+ghost use Rattle.matching.specs.Loops.{BestIn, Meets, Met};
 ghost use Rattle.matching.specs.Requires.{RowRoom};
 
 // The best of what was the best and row j, which stands behind it; `to` stands for none.

@@ -15,7 +15,7 @@ use Rattle.frames.proofs.FrontLaws.{frame-few}
 use Rattle.frames.proofs.WordLaws.{rows-length}
 use Rattle.matching.specs.Match.{matchIn}
 use Rattle.matching.specs.Stretches.{between, lay}
-use Rattle.matching.specs.Inner.{RunRoom}
+use Rattle.matching.specs.Loops.{RunRoom}
 use Rattle.matching.specs.Moves.{keysSorted, Counted}
 use Rattle.matching.proofs.WalkLaws.{between-all}
 use Rattle.scanwalk.specs.Drive.{keyOptions, judged, unsorted, refusalOf, Drives, PartsIn}

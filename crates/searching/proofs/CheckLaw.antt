@@ -16,7 +16,7 @@ use Rattle.order.specs.declared.Keyed.{Keyed}
 use Rattle.order.specs.declared.Keyed.the-variants.{At, Nothing}
 use Rattle.order.proofs.OrderLaws.{AtMost}
 use Rattle.order.proofs.SortedLaws.{All, all-at, all-cut, sorted-cut}
-use Rattle.order.proofs.KeyedLaws.{Found, last-found, Below, below-fine}
+use Rattle.order.proofs.KeyedLaws.{Found, last-found, keyed-found, Below, below-fine}
 use Rattle.searching.specs.Reach.{noPrune, pruneBy, rowOr, rowBefore, badSplit}
 
 module _ (o : Options) (m : Row) (held : Rows) (s : sorted o held ≡ true) (below : All (Below o (recall (columns o) m)) held) where
@@ -43,4 +43,4 @@ module _ (o : Options) (m : Row) (held : Rows) (s : sorted o held ≡ true) (bel
 
       go : (b : Bool) → cond b false (outOfOrder o (rowBefore o m (take n held)) (rowAt (drop n held) (firstKeyed o (drop n held)))) ≡ false
       go true = refl
-      go false = below-fine o (rowBefore o m (take n held)) (drop n held) (before-below n)
+      go false = below-fine o (rowBefore o m (take n held)) (drop n held) (before-below n) (firstKeyed o (drop n held)) (keyed-found o (drop n held))

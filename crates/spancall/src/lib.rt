@@ -8,7 +8,7 @@ use refusals::Refusal;
 use spans::Bounds;
 use tables::Written;
 use tables::put_head;
-ghost use Rattle.spans.specs.Inner.{CoverContract};
+ghost use Rattle.spans.specs.PairRows.{CoverContract};
 ghost use Rattle.spans.specs.Calls.{SpanContract};
 ghost use Rattle.spans.specs.Requires.{PointsIn, IntervalsIn};
 

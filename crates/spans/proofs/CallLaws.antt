@@ -19,7 +19,7 @@ use Rattle.tables.specs.declared.Written.the-variants.{Rows as Wrote, Refused}
 use Rattle.tables.proofs.LayLaws.{lay-table}
 use Rattle.spans.specs.Span.{pairs, ascendingPoints}
 use Rattle.spans.specs.Calls.{pairsIn, spanAnswer, spanCall, SpanContract}
-use Rattle.spans.specs.Inner.{coverAnswer, CoverContract}
+use Rattle.spans.specs.PairRows.{coverAnswer, CoverContract}
 use Rattle.spans.specs.Requires.{PointsIn, IntervalsIn, ported}
 use Rattle.spans.specs.declared.Bounds.{Bounds}
 use Rattle.spans.proofs.SpanLaw.{ported-is-all}

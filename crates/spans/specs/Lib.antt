@@ -3,4 +3,4 @@ pub mod Port
 pub mod Calls
 pub mod Promises
 pub mod Requires
-pub mod Inner
+pub mod PairRows

@@ -10,7 +10,7 @@ use lib.Seq.{take-take, length-take-le}
 use Rattle.frames.specs.Cells.{Cell, cellsOf, rowsOf, rowFrom, Rows, Words}
 use Rattle.options.specs.Options.{columns}
 use Rattle.order.specs.Order.{cmpRow, isGreater}
-use Rattle.order.specs.Keyed.{firstKeyed, lastKeyed, rowAt, recall, remember, rememberLast, compared, outOfOrder}
+use Rattle.order.specs.Keyed.{firstKeyed, lastKeyed, rowAt, recall, remember, rememberAt, compared, outOfOrder}
 use Rattle.order.specs.Requires.{RowAt, RowsIn, KeysIn}
 use Rattle.options.specs.declared.Options.{Options}
 use Rattle.order.specs.declared.Row.{Row}
@@ -22,7 +22,7 @@ use Rattle.frames.proofs.WordLaws.{rows-length, rows-at, rows-drop, cells-take}
 use Rattle.order.proofs.KeyedLaws.{first-found, last-found}
 use Rattle.searching.specs.Reach.{noPrune, pruneBy, rowBefore, badSplit}
 use Rattle.splitcheck.specs.Split.{wordsBefore, hasBefore, outOfOrderAt}
-use Rattle.splitcheck.specs.Requires.{BeforeIn, SplitIn}
+use Rattle.splitcheck.specs.Requires.{BeforeIn, SplitIn, FoundIn, FoundAmong}
 use Rattle.area.proofs.AreaLaws.{to-end}
 
 -- ---- rows
@@ -39,13 +39,29 @@ last-in o w n i vs ms e = omega (arith, rw e at (last-found o (rowsOf w n vs ms)
 pub first-in : (o : Options) (w n i : ℕ) (vs ms : Words) → firstKeyed o (rowsOf w n vs ms) ≡ At i → i < n
 first-in o w n i vs ms e = omega (arith, rw e at (first-found o 0 (rowsOf w n vs ms)) .1, rows-length w n vs ms)
 
--- ---- the first row with a key, and a row before it
-module _ (o : Options) (x : List Cell) (rows : Rows) where
-  pub first-nothing : firstKeyed o rows ≡ Nothing → false ≡ outOfOrder o (some x) (rowAt rows (firstKeyed o rows))
-  first-nothing e = rw e
+-- ---- the row found, and a row before it
+module _ (o : Options) (x : List Cell) (rows : Rows) (found : Keyed) where
+  pub found-nothing : found ≡ Nothing → false ≡ outOfOrder o (some x) (rowAt rows found)
+  found-nothing e = rw e
 
-  pub first-at : (i : ℕ) (y : List Cell) (z : Order) (b : Bool) → firstKeyed o rows ≡ At i → getD rows i [] ≡ y → z ≡ cmpRow o x y → b ≡ isGreater z → b ≡ outOfOrder o (some x) (rowAt rows (firstKeyed o rows))
-  first-at i y z b e g f h = rw (e, g, ← f) h
+  pub found-at : (i : ℕ) (y : List Cell) (z : Order) (b : Bool) → found ≡ At i → getD rows i [] ≡ y → z ≡ cmpRow o x y → b ≡ isGreater z → b ≡ outOfOrder o (some x) (rowAt rows found)
+  found-at i y z b e g f h = rw (e, g, ← f) h
+
+-- A row that is found is there, if it is one of n rows that are.
+pub found-in : (o : Options) (w n : ℕ) (found : Keyed) (vs ms : Words) → RowsIn o w n vs ms → FoundAmong found n → FoundIn o w found vs ms
+found-in o w n found vs ms p h = record {
+  few = p .few;
+  wide = p .wide;
+  values = λ i e. omega (arith, row-room i n w (h i e), p .values);
+  marks = λ i e. omega (arith, row-room i n w (h i e), p .marks);
+}
+
+-- So are the first and the last row with a key.
+pub first-among : (o : Options) (w n : ℕ) (found : Keyed) (vs ms : Words) → found ≡ firstKeyed o (rowsOf w n vs ms) → FoundAmong found n
+first-among o w n found vs ms e i h = first-in o w n i vs ms (sym e ∙ h)
+
+pub last-among : (o : Options) (w n : ℕ) (found : Keyed) (vs ms : Words) → found ≡ lastKeyed o (rowsOf w n vs ms) → FoundAmong found n
+last-among o w n found vs ms e i h = last-in o w n i vs ms (sym e ∙ h)
 
 pub recall-none : (w : ℕ) (m : Row) → m .some ≡ false → recall w m ≡ none
 unfolding recall
@@ -56,13 +72,11 @@ unfolding recall rowFrom
 recall-some w m e = rw e
 
 -- ---- what is remembered
-module _ (o : Options) (m : Row) (rows : Rows) where
-  pub remember-nothing : lastKeyed o rows ≡ Nothing → m ≡ rememberLast o m rows
-  unfolding rememberLast
+module _ (o : Options) (m : Row) (rows : Rows) (found : Keyed) where
+  pub remember-nothing : found ≡ Nothing → m ≡ rememberAt o m rows found
   remember-nothing e = rw e
 
-  pub remember-at : (i : ℕ) (x : List Cell) → lastKeyed o rows ≡ At i → compared o (getD rows i []) ≡ x → remember x ≡ rememberLast o m rows
-  unfolding rememberLast
+  pub remember-at : (i : ℕ) (x : List Cell) → found ≡ At i → compared o (getD rows i []) ≡ x → remember x ≡ rememberAt o m rows found
   remember-at i x e g = rw (e, g)
 
 -- What is compared of a row, by its words.

@@ -13,6 +13,17 @@ pub record BeforeIn (c w : ℕ) (found : Keyed) (held remembered : Words) : Type
   pub inside : (i : ℕ) → found ≡ At i → i * w + w ≤ length held
   pub other : c ≤ length remembered
 
+-- The row found is there, w words wide with the key among them; there are at most 4 by-columns.
+pub record FoundIn (o : Options) (w : ℕ) (found : Keyed) (vs ms : Words) : Type 0 where
+  pub few : o .by ≤ 4
+  pub wide : o .by < w
+  pub values : (i : ℕ) → found ≡ At i → i * w + w ≤ length vs
+  pub marks : (i : ℕ) → found ≡ At i → i * w + w ≤ length ms
+
+-- The row found is one of n.
+abbrev pub FoundAmong : Keyed → ℕ → Type 0
+FoundAmong found n = (i : ℕ) → found ≡ At i → i < n
+
 -- n rows are there, and s is a place among them or their end.
 pub record SplitIn (o : Options) (s w n : ℕ) (vs ms : Words) : Type 0 where
   pub rows : RowsIn o w n vs ms

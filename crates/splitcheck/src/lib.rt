@@ -3,4 +3,4 @@ mod split;
 
 pub use split::bad_split;
 pub use split::out_of_order;
-pub use split::remember_last;
+pub use split::remember_found;

@@ -14,10 +14,10 @@ ghost use Prim.Native.Nat.{ℕ, _<_};
 ghost use Rattle.frames.specs.Cells.{rowFrom, rowsOf};
 ghost use Rattle.options.specs.Options.{columns};
 ghost use Rattle.order.specs.Order.{isGreater};
-ghost use Rattle.order.specs.Keyed.{firstKeyed, rowAt, recall, rememberLast, outOfOrder};
+ghost use Rattle.order.specs.Keyed.{firstKeyed, rowAt, recall, rememberAt, outOfOrder};
 ghost use Rattle.order.specs.Requires.{RowAt, RowsIn};
 ghost use Rattle.splitcheck.specs.Split.{wordsBefore, hasBefore, outOfOrderAt};
-ghost use Rattle.splitcheck.specs.Requires.{BeforeIn, SplitIn};
+ghost use Rattle.splitcheck.specs.Requires.{BeforeIn, SplitIn, FoundIn, FoundAmong};
 
 // The row that the first kept one is compared with (SCOPE 11.4), its values or its marks.
 pub(crate) fn before_split<'a>(
@@ -59,6 +59,25 @@ fn is_greater(order: Order) -> bool
     }
 }
 
+// Whether the row at the front of pv and pm is greater than the row found, of rows that are each w wide.
+fn above_found(
+    pv: &[i64],
+    pm: &[i64],
+    found: Keyed,
+    values: &[i64],
+    marks: &[i64],
+    w: usize,
+    o: Options,
+) -> bool
+    requires { ⌜ RowAt o 0 (now pv) (now pm) × FoundIn o w found (now values) (now marks) ⌝ }
+    ensures { λ r. ⌜ ((wp n : ℕ) → o .by < wp → FoundAmong found n → r ≡ outOfOrder o (some (rowFrom wp 0 (now (pv .entry)) (now (pm .entry)))) (rowAt (rowsOf w n (now (values .entry)) (now (marks .entry))) found)) ⌝ }
+{
+    let Keyed::At(i) = found else {
+        return false;
+    };
+    is_greater(cmp_row(pv, pm, 0, values, marks, i * w, o))
+}
+
 // Whether the row at the front of pv and pm is greater than the first row with a key, of n rows that are each w wide.
 fn above_first(
     pv: &[i64],
@@ -72,23 +91,28 @@ fn above_first(
     requires { ⌜ RowAt o 0 (now pv) (now pm) × RowsIn o w n (now values) (now marks) ⌝ }
     ensures { λ r. ⌜ ((wp : ℕ) → o .by < wp → r ≡ outOfOrder o (some (rowFrom wp 0 (now (pv .entry)) (now (pm .entry)))) (rowAt (rowsOf w n (now (values .entry)) (now (marks .entry))) (firstKeyed o (rowsOf w n (now (values .entry)) (now (marks .entry)))))) ⌝ }
 {
-    let Keyed::At(i) = first_keyed(marks, n, w, o) else {
-        return false;
-    };
-    is_greater(cmp_row(pv, pm, 0, values, marks, i * w, o))
+    let first = first_keyed(marks, n, w, o);
+    above_found(pv, pm, first, values, marks, w, o)
 }
 
-// Whether the remembered row is greater than the first row with a key, of n rows that are each w wide.
-pub fn out_of_order(m: Row, values: &[i64], marks: &[i64], n: usize, w: usize, o: Options) -> bool
-    requires { ⌜ RowsIn o w n (now values) (now marks) ⌝ }
-    ensures { λ r. ⌜ r ≡ outOfOrder o (recall (columns o) m) (rowAt (rowsOf w n (now (values .entry)) (now (marks .entry))) (firstKeyed o (rowsOf w n (now (values .entry)) (now (marks .entry))))) ⌝ }
+// Whether the remembered row is greater than the row found, of rows that are each w wide.
+pub fn out_of_order(
+    m: Row,
+    found: Keyed,
+    values: &[i64],
+    marks: &[i64],
+    w: usize,
+    o: Options,
+) -> bool
+    requires { ⌜ FoundIn o w found (now values) (now marks) ⌝ }
+    ensures { λ r. ⌜ ((n : ℕ) → FoundAmong found n → r ≡ outOfOrder o (recall (columns o) m) (rowAt (rowsOf w n (now (values .entry)) (now (marks .entry))) found)) ⌝ }
 {
     if !m.some {
         return false;
     }
     let lv = m.values;
     let lm = m.marks;
-    above_first(&lv, &lm, values, marks, n, w, o)
+    above_found(&lv, &lm, found, values, marks, w, o)
 }
 
 // Whether the row before the split s of n held rows is greater than the first row with a key after it.
@@ -109,12 +133,19 @@ pub fn bad_split(m: Row, s: usize, rv: &[i64], rm: &[i64], n: usize, w: usize, o
     above_first(values, marks, &rv[p..], &rm[p..], n - s, w, o)
 }
 
-// What is remembered after n rows, each w wide: the last of them with a key, or the row m where they have none.
-pub fn remember_last(m: Row, values: &[i64], marks: &[i64], n: usize, w: usize, o: Options) -> Row
-    requires { ⌜ RowsIn o w n (now values) (now marks) ⌝ }
-    ensures { λ r. ⌜ r ≡ rememberLast o m (rowsOf w n (now (values .entry)) (now (marks .entry))) ⌝ }
+// What is remembered by the row found, of rows that are each w wide: that row, or the row m if none was found.
+pub fn remember_found(
+    m: Row,
+    found: Keyed,
+    values: &[i64],
+    marks: &[i64],
+    w: usize,
+    o: Options,
+) -> Row
+    requires { ⌜ FoundIn o w found (now values) (now marks) ⌝ }
+    ensures { λ r. ⌜ ((n : ℕ) → FoundAmong found n → r ≡ rememberAt o m (rowsOf w n (now (values .entry)) (now (marks .entry))) found) ⌝ }
 {
-    let Keyed::At(i) = last_keyed(marks, n, w, o) else {
+    let Keyed::At(i) = found else {
         return m;
     };
     let c = left_columns(o);

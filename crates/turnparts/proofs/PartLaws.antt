@@ -10,7 +10,7 @@ use Rattle.options.specs.Options.{answerColumns}
 use Rattle.order.specs.declared.Row.{Row}
 use Rattle.order.specs.Requires.{RowsIn}
 use Rattle.splitcheck.proofs.BeforeLaws.{rows-take}
-use Rattle.turnrows.specs.Prunes.{remembered}
+use Rattle.turnrows.specs.Prunes.{remembered, rememberedLeft}
 use Rattle.turnparts.specs.Part.{leftAt, leftPart, TurnIn, WriteIn}
 use Rattle.turnparts.specs.declared.Part.{Part}
 
@@ -28,7 +28,7 @@ module _ {j : Part} {c w n : ℕ} {lv lm : Words} {first last : ℕ} {kv km out 
       let m = mul-le-mul-right {m = last} {n = j .held - first} w (omega (arith, t .within)) in
       record { few = t .kept .few; wide = t .kept .wide; values = omega (arith, t .kept .values); marks = omega (arith, t .kept .marks) }
 
-  pub left-as : (l r : Row) (x : Part) → l ≡ remembered (j .options) (j .«last_left») (rowsOf c n lv lm) → r ≡ remembered (j .options) (j .«last_right») (rowsOf w last kv km)
+  pub left-as : (l r : Row) (x : Part) → l ≡ rememberedLeft (j .options) (j .«last_left») (rowsOf c n lv lm) → r ≡ remembered (j .options) (j .«last_right») (rowsOf w last kv km)
       → x ≡ leftAt j (first + last) (frameWords n c) l r → x ≡ leftPart j (rowsOf c n lv lm) (rowsOf w (j .held - first) kv km) first last (frameWords n c)
   unfolding leftPart
   left-as l r x el er e = rw (rows-take w (j .held - first) last kv km (omega (arith, t .within)), ← el, ← er) e

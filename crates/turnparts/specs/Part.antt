@@ -18,7 +18,7 @@ use Rattle.refusals.specs.Tests.{Test, test, firstOf}
 use Rattle.refusals.specs.declared.Refusal.the-variants.{NoRoom, UsedUp, LeftOrder, RightOrder}
 use Rattle.outcomes.specs.declared.Answer.{Answer}
 use Rattle.outcomes.specs.declared.Answer.the-variants.{Wrote, WantsRight, Refused}
-use Rattle.turnrows.specs.Prunes.{badLeft, badRightAt, remembered}
+use Rattle.turnrows.specs.Prunes.{badLeft, badRightAt, remembered, rememberedLeft}
 use Rattle.turnparts.specs.declared.Part.{Part}
 
 -- ---- answers; Wrote is that of a turn that goes on
@@ -77,7 +77,7 @@ failedPart j = record {
 -- The join after a turn that writes: `first` and then `last` held rows are dropped, and a frame of k words leaves.
 unfoldable pub leftPart : Part → Rows → Rows → ℕ → ℕ → ℕ → Part
 leftPart j rows kept first last k =
-    leftAt j (first + last) k (remembered (j .options) (j .«last_left») rows) (remembered (j .options) (j .«last_right») (take last kept))
+    leftAt j (first + last) k (rememberedLeft (j .options) (j .«last_left») rows) (remembered (j .options) (j .«last_right») (take last kept))
 
 -- A turn that writes: its part of the join, and the output.
 pub record Written (j : Part) (rows kept : Rows) (first last k : ℕ) (out : Words) (r : Part) (out′ : Words) : Type 0 where

@@ -9,6 +9,7 @@ use refusals::Refusal;
 use turnrows::bad_left;
 use turnrows::bad_right;
 use turnrows::remembered;
+use turnrows::remembered_left;
 ghost use mathlib.Core.Path.{_≡_};
 ghost use mathlib.Core.Bool.{not, _&&_};
 ghost use Prim.Native.Nat.{_+_, _-_, _^_, _≤_, _<_};
@@ -152,7 +153,7 @@ pub fn write_turn(
     let kept = j.held - first;
     let number = j.pruned + first;
     match_frame(lv, lm, n, c, kv, km, kept, w, number, o, out);
-    let l = remembered(j.last_left, lv, lm, n, c, o);
+    let l = remembered_left(j.last_left, lv, lm, n, c, o);
     let r = remembered(j.last_right, kv, km, last, w, o);
     leave(j, first + last, 2 + 2 * (n * c), l, r)
 }

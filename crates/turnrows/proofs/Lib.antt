@@ -1,1 +1,2 @@
 pub mod PruneLaws
+pub mod LeftLaws

@@ -6,15 +6,15 @@ use lib.ListN.{length, drop}
 use Rattle.frames.specs.Cells.{Rows}
 use Rattle.options.specs.Options.{isOn, columns}
 use Rattle.order.specs.Order.{sorted}
-use Rattle.order.specs.Keyed.{firstKeyed, rowAt, recall, rememberLast, outOfOrder}
+use Rattle.order.specs.Keyed.{firstLeft, lastLeft, rowAt, recall, rememberAt, rememberLast, outOfOrder}
 use Rattle.options.specs.declared.Options.{Options}
 use Rattle.order.specs.declared.Row.{Row}
 use Rattle.searching.specs.Reach.{pruneBy, badSplit}
 use Rattle.splitcheck.specs.Split.{outOfOrderAt}
 
--- SCOPE 8.2, 8.3: left rows are out of order, with the check on.
+-- SCOPE 8.2, 8.3, 8.9: left rows are out of order, with the check on.
 unfoldable pub badLeft : Options → Row → Rows → Bool
-badLeft o m rows = isOn (o .check) && (outOfOrder o (recall (columns o) m) (rowAt rows (firstKeyed o rows)) || not (sorted o rows))
+badLeft o m rows = isOn (o .check) && (outOfOrder o (recall (columns o) m) (rowAt rows (firstLeft o rows)) || not (sorted o rows))
 
 -- SCOPE 8.4, 8.5: right rows are out of order, with the check on; the split is that of the prune by the last row.
 unfoldable pub badRight : Options → Row → Rows → Rows → Bool
@@ -24,9 +24,13 @@ badRight o m rows held = isOn (o .check) && (not (sorted o held) || badSplit o m
 unfoldable pub firstPrune : Options → Rows → Rows → ℕ
 firstPrune o rows held = cond (isOn (o .check)) 0 (pruneBy o 0 rows held)
 
--- SCOPE 8.6, 11.5: what is remembered once these rows went by.
+-- SCOPE 11.5: what is remembered once these right rows went by.
 unfoldable pub remembered : Options → Row → Rows → Row
 remembered o m rows = cond (isOn (o .check)) (rememberLast o m rows) m
+
+-- SCOPE 8.6, 8.9: what is remembered once these left rows went by.
+unfoldable pub rememberedLeft : Options → Row → Rows → Row
+rememberedLeft o m rows = cond (isOn (o .check)) (rememberAt o m rows (lastLeft o rows)) m
 
 -- The held rows that the first prune leaves.
 unfoldable pub keptRows : Options → Rows → Rows → Rows

@@ -1,21 +1,26 @@
 // What a turn asks of rows: whether they are in order, how many its prunes drop, which row is remembered. No join is seen here.
+use keyed::first_keyed;
+use keyed::last_keyed;
 use neighbours::is_sorted;
 use options::Options;
 use options::is_on;
+use options::is_strict;
+use order::Keyed;
 use order::Row;
 use pruning::prune_by;
 use splitcheck::bad_split;
 use splitcheck::out_of_order;
-use splitcheck::remember_last;
+use splitcheck::remember_found;
 ghost use mathlib.Core.Path.{_≡_};
 ghost use Prim.Native.Nat.{_-_, _*_, _≤_};
 ghost use lib.ListN.{length, drop};
-ghost use Rattle.frames.specs.Cells.{rowsOf};
+ghost use Rattle.frames.specs.Cells.{rowsOf, Words};
 ghost use Rattle.options.specs.Options.{isOn};
-ghost use Rattle.order.specs.Requires.{RowsIn};
+ghost use Rattle.order.specs.Keyed.{firstLeft, lastLeft};
+ghost use Rattle.order.specs.Requires.{KeysIn, RowsIn};
 ghost use Rattle.searching.specs.Reach.{pruneBy};
 ghost use Rattle.splitcheck.specs.Requires.{SplitIn};
-ghost use Rattle.turnrows.specs.Prunes.{badLeft, badRightAt, firstPrune, remembered};
+ghost use Rattle.turnrows.specs.Prunes.{badLeft, badRightAt, firstPrune, remembered, rememberedLeft};
 
 // Whether the order of the rows is checked.
 fn checks(o: Options) -> bool
@@ -23,6 +28,36 @@ fn checks(o: Options) -> bool
 {
     let check = o.check;
     is_on(check)
+}
+
+// The row of n left rows that is compared with the remembered one: the first with a key, or, strict, the first.
+fn first_left(marks: &[i64], n: usize, c: usize, o: Options) -> Keyed
+    requires { ⌜ KeysIn o c n (now marks) ⌝ }
+    ensures { λ r. ⌜ ((vs : Words) → n * c ≤ length vs → r ≡ firstLeft o (rowsOf c n vs (now (marks .entry)))) ⌝ }
+{
+    let check = o.check;
+    if !is_strict(check) {
+        return first_keyed(marks, n, c, o);
+    }
+    if n == 0 {
+        return Keyed::Nothing;
+    }
+    Keyed::At(0)
+}
+
+// The row of n left rows that is remembered: the last with a key, or, strict, the last.
+fn last_left(marks: &[i64], n: usize, c: usize, o: Options) -> Keyed
+    requires { ⌜ KeysIn o c n (now marks) ⌝ }
+    ensures { λ r. ⌜ ((vs : Words) → n * c ≤ length vs → r ≡ lastLeft o (rowsOf c n vs (now (marks .entry)))) ⌝ }
+{
+    let check = o.check;
+    if !is_strict(check) {
+        return last_keyed(marks, n, c, o);
+    }
+    if n == 0 {
+        return Keyed::Nothing;
+    }
+    Keyed::At(n - 1)
 }
 
 // Whether the left rows are out of order, with the check on: behind the remembered row, or among themselves.
@@ -33,7 +68,8 @@ pub fn bad_left(m: Row, lv: &[i64], lm: &[i64], n: usize, c: usize, o: Options) 
     if !checks(o) {
         return false;
     }
-    if out_of_order(m, lv, lm, n, c, o) {
+    let first = first_left(lm, n, c, o);
+    if out_of_order(m, first, lv, lm, c, o) {
         return true;
     }
     !is_sorted(lv, lm, n, c, o)
@@ -110,7 +146,19 @@ pub fn last_prune(
     prune_by(n - 1, lv, lm, n, c, rv, rm, held, w, o)
 }
 
-// The row that a side remembers after n rows went by, which it does only with the check on.
+// The row that left remembers after n rows went by, which it does only with the check on.
+pub fn remembered_left(m: Row, lv: &[i64], lm: &[i64], n: usize, c: usize, o: Options) -> Row
+    requires { ⌜ RowsIn o c n (now lv) (now lm) ⌝ }
+    ensures { λ r. ⌜ r ≡ rememberedLeft o m (rowsOf c n (now (lv .entry)) (now (lm .entry))) ⌝ }
+{
+    if !checks(o) {
+        return m;
+    }
+    let last = last_left(lm, n, c, o);
+    remember_found(m, last, lv, lm, c, o)
+}
+
+// The row that right remembers after n rows went by, which it does only with the check on.
 pub fn remembered(m: Row, values: &[i64], marks: &[i64], n: usize, w: usize, o: Options) -> Row
     requires { ⌜ RowsIn o w n (now values) (now marks) ⌝ }
     ensures { λ r. ⌜ r ≡ remembered o m (rowsOf w n (now (values .entry)) (now (marks .entry))) ⌝ }
@@ -118,7 +166,8 @@ pub fn remembered(m: Row, values: &[i64], marks: &[i64], n: usize, w: usize, o: 
     if !checks(o) {
         return m;
     }
-    remember_last(m, values, marks, n, w, o)
+    let last = last_keyed(marks, n, w, o);
+    remember_found(m, last, values, marks, w, o)
 }
 
 // The words from row i on, of rows that are each w wide.

@@ -186,9 +186,9 @@ async fn sink(mut recv: polars_stream::pipe::PortReceiver, sent: &RefCell<Sent>)
 }
 
 impl Join {
-    /// A fresh join, or none where SCOPE refuses its options.
+    /// A fresh join, or none where SCOPE refuses its options, or they are strict, which the Rust does not know.
     pub fn open(o: &Options, ways: Ways) -> Option<Self> {
-        (!refused(o)).then(|| Self::open_any(o, ways))
+        (!refused(o) && !o.strict).then(|| Self::open_any(o, ways))
     }
 
     /// A fresh join of any options that the Rust takes.

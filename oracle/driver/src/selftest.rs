@@ -40,7 +40,10 @@ fn cases(text: &str) -> Step {
     let (mut rust, mut rules, mut parted, mut asked) = (Rust::default(), Rules::default(), false, 0);
     for (call, want) in calls.iter().zip(&expected) {
         let (said, ruled) = (rust.call(call), rules.call(call));
-        parted &= !matches!(call, Call::Open(_) | Call::Opens(..));
+        let opens = matches!(call, Call::Open(_) | Call::Opens(..));
+        parted &= !opens;
+        // The Rust has no strict check: it opens no such join.
+        parted |= opens && ruled == Answer::Ok && said == Answer::Nothing;
         let known = !parted && !compare::no_counterpart(&ruled);
         if ruled.to_string() != *want || (known && !compare::agrees(&said, &ruled)) {
             return Err(format!("{call}: wanted {want}, the Rust says {said}, the rules say {ruled}"));

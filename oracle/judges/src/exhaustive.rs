@@ -55,6 +55,7 @@ fn all_options(b: usize, tolerances: &[i64], carried: u64) -> Vec<Options> {
                     eq,
                     tolerance: *tolerance,
                     check: on(0),
+                    strict: false,
                     carried,
                     descending: descending.collect(),
                     nulls_last: nulls_last.collect(),

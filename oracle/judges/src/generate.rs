@@ -28,6 +28,8 @@ pub enum Kind {
     /// Thousands of rows a side, frames of up to 4,096: long groups and long runs of equal keys, both ends of the 64-bit
     /// range. A script of this kind takes as long as a thousand others.
     Large,
+    /// The order check strict, many null keys, rows out of order here and there: what the Rust does not have.
+    Strict,
 }
 
 /// The kinds that the recorded sample is made of: it stays as it is when a kind is added.
@@ -42,7 +44,7 @@ pub const COMPARED: [Kind; 7] = {
 impl Kind {
     /// The kind of a name, as the command line gives it.
     pub fn named(name: &str) -> Option<Kind> {
-        let all = COMPARED.into_iter().chain([Kind::Refusals, Kind::Handed, Kind::Large]);
+        let all = COMPARED.into_iter().chain([Kind::Refusals, Kind::Handed, Kind::Large, Kind::Strict]);
         all.into_iter().find(|k| format!("{k:?}").eq_ignore_ascii_case(name))
     }
 }
@@ -61,8 +63,8 @@ impl Random {
         Self::of_family(seed, kind as u64 + 65, number)
     }
 
-    /// The source of a number among a seed's scripts of a family: kinds of scripts over joins have 1 to 10, what they carry
-    /// 65 to 74.
+    /// The source of a number among a seed's scripts of a family: kinds of scripts over joins have 1 to 11, what they carry
+    /// 65 to 75.
     pub(crate) fn of_family(seed: u64, family: u64, number: u64) -> Self {
         let mut out = Random(seed ^ (family << 56));
         out.0 = out.next() ^ number.wrapping_mul(0x9E37_79B9_7F4A_7C15);
@@ -159,6 +161,7 @@ fn options(r: &mut Random, b: usize, keys: Pool) -> Options {
         eq: strategy == 2 || r.percent(60),
         tolerance: tolerance(r, keys),
         check: r.percent(50),
+        strict: false,
         carried: 0,
         descending: (0..b).map(|_| r.percent(50)).collect(),
         nulls_last: (0..b).map(|_| r.percent(50)).collect(),
@@ -189,6 +192,7 @@ fn shape(r: &mut Random, kind: Kind) -> Shape {
             (options.nulls_last[0], options.check, null_groups) = (true, r.percent(15), 30);
         },
         Kind::Order => (options.check, null_keys) = (true, r.pick(&[0, 20, 40])),
+        Kind::Strict => (options.check, options.strict, null_keys) = (true, true, r.pick(&[0, 20, 40, 60])),
         _ => {},
     }
     let rows = match kind {
@@ -675,7 +679,7 @@ fn arrangements(r: &mut Random, kind: Kind) -> [Arrangement; 2] {
             let unsorted = r.pick(&[[Unsorted, Sorted], [Sorted, Unsorted], [Unsorted, Unsorted]]);
             r.pick(&[[Sorted, Sorted], [Sorted, Sorted], [Nearly, Nearly], [Sorted, Nearly], unsorted])
         },
-        Kind::Order => r.pick(&[[Nearly, Sorted], [Sorted, Nearly], [Nearly, Nearly], [Sorted, Sorted]]),
+        Kind::Order | Kind::Strict => r.pick(&[[Nearly, Sorted], [Sorted, Nearly], [Nearly, Nearly], [Sorted, Sorted]]),
         _ => [r.pick(&[Sorted, Sorted, Nearly, Unsorted]), r.pick(&[Sorted, Sorted, Nearly, Unsorted])],
     }
 }
@@ -840,7 +844,7 @@ fn calls(r: &mut Random, kind: Kind, carried: &mut Carried) -> Vec<Call> {
         Kind::Whole => whole(r, d),
         Kind::Mixed | Kind::Ends => mixed(r, d),
         Kind::Flush => flush(r, d),
-        Kind::NullsLast | Kind::Order | Kind::Equal => plain(r, d, 90),
+        Kind::NullsLast | Kind::Order | Kind::Equal | Kind::Strict => plain(r, d, 90),
         // What the rules refuse stays, so that a frame that they should take is missed.
         Kind::Large => plain(r, Draft { keep_refused: true, ..d }, 100),
         Kind::Refusals => refusals(r, d, carried),

@@ -517,10 +517,12 @@ impl Join {
     }
 
     /// "Left: the remembered row must not be greater than the frame's first row with a key; … Then frame and held rows
-    /// must each be sorted."
+    /// must each be sorted." "Strict … remembers the last left row of any frame that has one, key or not, and compares it
+    /// with the next frame's first row."
     fn order_check(&self, left: &[Row], held: &[Row]) -> Result<(), Fault> {
         let o = &self.o;
-        if out_of_order(o, self.look.left.as_ref(), first_keyed(o, left)) {
+        let first = if o.strict { left.first() } else { first_keyed(o, left) };
+        if out_of_order(o, self.look.left.as_ref(), first) {
             return Err(Fault::LeftContinuity);
         } else if !sorted(o, left) {
             return Err(Fault::LeftFrame);
@@ -562,8 +564,8 @@ impl Join {
             }
             dropped += at;
         }
-        let keyed = last_keyed(o, left).filter(|_| o.check).cloned();
-        Ok(Written { answer, dropped, left: keyed, right })
+        let last = if o.strict { left.last() } else { last_keyed(o, left) };
+        Ok(Written { answer, dropped, left: last.filter(|_| o.check).cloned(), right })
     }
 
     /// "Turn": refusals 4 to 9 in order, Idle, Wants right, or what it writes.

@@ -9,6 +9,8 @@ pub struct Options {
     pub eq: bool,
     pub tolerance: i64,
     pub check: bool,
+    /// Whether the check is strict; it is on then.
+    pub strict: bool,
     /// p, the columns that are carried.
     pub carried: u64,
     pub descending: Vec<bool>,
@@ -282,7 +284,7 @@ impl Options {
 impl fmt::Display for Options {
     /// The first five words of the lines `open` and `options`.
     fn fmt(&self, f: &mut fmt::Formatter<'_>) -> fmt::Result {
-        write!(f, "{} {} {} {} {}", self.b, self.strategy, self.eq as u8, self.tolerance, self.check as u8)
+        write!(f, "{} {} {} {} {}", self.b, self.strategy, self.eq as u8, self.tolerance, self.check as u8 + self.strict as u8)
     }
 }
 
@@ -338,6 +340,11 @@ fn count(word: i64) -> Result<usize, String> {
     usize::try_from(word).map_err(|_| format!("{word} is no count"))
 }
 
+/// A word for the order check: 0 off, 1 on, 2 strict.
+fn setting(word: i64) -> Result<i64, String> {
+    (0..=2).contains(&word).then_some(word).ok_or(format!("{word} is no setting of the order check"))
+}
+
 /// The first five words of a line with options, p, and both flags of each by-column.
 fn parse_options(a: &[i64], carried: u64, flags: &[i64]) -> Result<Options, String> {
     let every = |from: usize| flags.iter().skip(from).step_by(2).map(|w| flag(*w)).collect::<Result<Vec<_>, _>>();
@@ -346,7 +353,8 @@ fn parse_options(a: &[i64], carried: u64, flags: &[i64]) -> Result<Options, Stri
         strategy: a[1],
         eq: flag(a[2])?,
         tolerance: a[3],
-        check: flag(a[4])?,
+        check: setting(a[4])? > 0,
+        strict: setting(a[4])? == 2,
         carried,
         descending: every(0)?,
         nulls_last: every(1)?,
@@ -364,18 +372,18 @@ fn parse_open(a: &[i64]) -> Result<Open, String> {
     Ok(Open { options, left_words: count(areas[0])?, right_words: count(areas[1])? })
 }
 
-/// The words of an `options` line: ten, the codes of the list of ranks, the flags of the by-columns. The distance, the list
-/// and the strict order check have their places and are not there yet. A p above 2^63 − 1 is written as the negative word of
+/// The words of an `options` line: ten, the codes of the list of ranks, the flags of the by-columns. The distance and
+/// the list have their places and are not there yet. A p above 2^63 − 1 is written as the negative word of
 /// the same bits.
 fn parse_options_line(a: &[i64]) -> Result<Options, String> {
-    let [b, _, _, _, check, carried, distance, ranked, column, codes, rest @ ..] = a else {
+    let [b, _, _, _, _, carried, distance, ranked, column, codes, rest @ ..] = a else {
         return Err(format!("options needs 10 words or more, not {}", a.len()));
     };
     let (b, codes) = (count(*b)?, count(*codes)?);
     if rest.len() != b.saturating_mul(2).saturating_add(codes) {
         return Err(format!("options with {b} by-columns and {codes} codes does not take {} words", a.len()));
-    } else if *check == 2 || flag(*distance)? || flag(*ranked)? {
-        return Err("options: the strict check, the distance and the list of ranks are not supported yet".to_string());
+    } else if flag(*distance)? || flag(*ranked)? {
+        return Err("options: the distance and the list of ranks are not supported yet".to_string());
     } else if (*column, codes) != (0, 0) {
         return Err("options: without a list of ranks COLUMN and K are 0".to_string());
     }

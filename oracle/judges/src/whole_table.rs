@@ -206,7 +206,7 @@ struct Judged<'a> {
     waiting: std::collections::VecDeque<&'a [i64]>,
     waiting_words: usize,
     turned: u64,
-    /// The last row with a key of the frames that were turned.
+    /// The last row with a key of the frames that were turned; under strict the last row, key or not.
     last: Option<Row>,
     ended: bool,
     left_done: bool,
@@ -296,10 +296,15 @@ impl<'a> Judged<'a> {
         due(matches!(answer, Answer::Ports(_, told) if *told == state), &format!("node state {state} is due"))
     }
 
-    /// Whether the front frame is out of order: in itself, or its rows with a key behind those of earlier frames.
+    /// Whether a row counts between frames: those with a key, under strict all.
+    fn counts_between(&self, row: &Row) -> bool {
+        self.o.strict || row[self.o.b].is_some()
+    }
+
+    /// Whether the front frame is out of order: in itself, or behind the rows of earlier frames that count.
     fn left_fault(&self, front: &[Row]) -> bool {
-        let keyed = |r: &&Row| r[self.o.b].is_some();
-        let seam = self.last.iter().zip(front.iter().find(keyed)).all(|(last, first)| may_follow(self.o, last, first));
+        let first = front.iter().find(|r| self.counts_between(r));
+        let seam = self.last.iter().zip(first).all(|(last, first)| may_follow(self.o, last, first));
         self.o.check && !(seam && is_sorted(self.o, front))
     }
 
@@ -350,7 +355,7 @@ impl<'a> Judged<'a> {
         self.counts.rows += front.len() as u64;
         self.counts.matched += matched;
         self.counts.carried += matched * self.o.carried;
-        self.last = front.iter().rfind(|r| r[self.o.b].is_some()).cloned().or(self.last.take());
+        self.last = front.iter().rfind(|r| self.counts_between(r)).cloned().or(self.last.take());
         self.waiting_words -= self.waiting.pop_front().map_or(0, <[i64]>::len);
         self.turned += 1;
         Ok(())

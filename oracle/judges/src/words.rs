@@ -8,7 +8,7 @@ pub type RowWords = [i64; 11];
 /// The first word of every join: the bytes "rowkeep", then the layout's version.
 const LAYOUT: i64 = 0x726f_776b_6565_7002;
 
-/// The place of the flag for the order check, and of p.
+/// The place of the order check's setting, and of p.
 pub const CHECK: usize = 5;
 pub const CARRIED: usize = 14;
 /// The place of the first counter, and those of counters and flags that have a name elsewhere.
@@ -46,6 +46,11 @@ fn flag(word: i64) -> Option<bool> {
     }
 }
 
+/// The word of the order check, or none where there is no such setting.
+fn setting(word: i64) -> Option<i64> {
+    (0..=2).contains(&word).then_some(word)
+}
+
 /// Four flags' words.
 fn flags(words: &[i64]) -> Option<Vec<bool>> {
     words.iter().map(|w| flag(*w)).collect()
@@ -54,7 +59,7 @@ fn flags(words: &[i64]) -> Option<Vec<bool>> {
 /// The options' words.
 pub fn options(o: &Options) -> [i64; 14] {
     let mut out = [0; 14];
-    out[..5].copy_from_slice(&[o.b as i64, o.strategy, o.eq as i64, o.tolerance, o.check as i64]);
+    out[..5].copy_from_slice(&[o.b as i64, o.strategy, o.eq as i64, o.tolerance, o.check as i64 + o.strict as i64]);
     for j in 0..o.descending.len().min(4) {
         (out[5 + j], out[9 + j]) = (o.descending[j] as i64, o.nulls_last[j] as i64);
     }
@@ -88,7 +93,8 @@ pub fn decode(w: &JoinWords) -> Option<(Options, Look, [RowWords; 2])> {
         strategy: u8::try_from(w[2]).ok()?.into(),
         eq: flag(w[3])?,
         tolerance: w[4],
-        check: flag(w[CHECK])?,
+        check: setting(w[CHECK])? > 0,
+        strict: setting(w[CHECK])? == 2,
         carried: w[CARRIED] as u64,
         descending: flags(&w[6..10])?,
         nulls_last: flags(&w[10..14])?,

@@ -64,7 +64,7 @@ impl fmt::Display for Counts {
 
 /// Whether the Rust is asked too: it has no counterpart of what these kinds are made of.
 fn asks_rust(kind: Kind) -> bool {
-    !matches!(kind, Kind::Refusals | Kind::Handed)
+    !matches!(kind, Kind::Refusals | Kind::Handed | Kind::Strict)
 }
 
 /// The Rust beside the port, as far as both go the same way.

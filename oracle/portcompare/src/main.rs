@@ -14,13 +14,13 @@ use judges::script::Call;
 const TOLD: usize = 10;
 
 /// All kinds of scripts, large tables last.
-const KINDS: [Kind; 10] = {
+const KINDS: [Kind; 11] = {
     let [a, b, c, d, e, f, g] = COMPARED;
-    [a, b, c, d, e, f, g, Kind::Refusals, Kind::Handed, Kind::Large]
+    [a, b, c, d, e, f, g, Kind::Refusals, Kind::Handed, Kind::Strict, Kind::Large]
 };
 
 /// The place of the kind that comes once in so many scripts.
-const LARGE: (usize, u64) = (9, 1000);
+const LARGE: (usize, u64) = (10, 1000);
 
 /// The script of this number among a seed's scripts of a kind: every second one with runs.
 fn made(kind: Kind, seed: u64, number: u64) -> Vec<Call> {

@@ -4,7 +4,7 @@ use native.Mathlib.Omega.{arith}
 use denote.Ref.{now}
 use lib.ListN.{length}
 use Rattle.tables.specs.Lay.{layCells}
-use Rattle.carrying.specs.Inner.{cellsAt}
+use Rattle.carrying.specs.Loops.{cellsAt}
 use Rattle.carrying.proofs.SpreadLaws.{carry-more, carry-done, carry-first}
 use Rattle.carrying.proofs.carry_cells.Statement.{statement}
 use Rattle.carrying.proofs.carry_cells.Tie as tie

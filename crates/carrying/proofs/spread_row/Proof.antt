@@ -5,7 +5,7 @@ use denote.Ref.{now}
 use mir.Syntax.{w64}
 use mir.ValLaws.{toZ-pos}
 use Rattle.options.specs.Options.{answerColumns}
-use Rattle.carrying.specs.Inner.{RightIn}
+use Rattle.carrying.specs.Loops.{RightIn}
 use Rattle.carrying.specs.Spread.{choiceAt}
 use Rattle.matching.specs.declared.Choice.the-variants.{Row}
 use Rattle.carrying.proofs.SpreadLaws.{row-chosen, row-none}

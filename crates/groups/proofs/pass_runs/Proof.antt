@@ -9,7 +9,7 @@ use Rattle.order.specs.declared.Order.the-variants.{Less, Equal, Greater}
 use Rattle.order.proofs.RowLaws.{row-room}
 use Rattle.matching.specs.Groups.{runs, pass}
 use Rattle.matching.specs.Stretches.{between, standing}
-use Rattle.matching.specs.Inner.{RunAt}
+use Rattle.matching.specs.Loops.{RunAt}
 use Rattle.matching.proofs.WalkLaws.{run-up, run-within, pass-on, pass-stop, pass-end, used-run, used-none, used-end}
 use Rattle.groups.proofs.pass_runs.Statement.{statement}
 use Rattle.groups.proofs.pass_runs.Tie as tie

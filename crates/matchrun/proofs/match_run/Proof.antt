@@ -4,7 +4,7 @@ use mathlib.Core.Bool.{true}
 use native.Mathlib.Omega.{arith}
 use borrow.Author.Tests.{not-false}
 use denote.Ref.{now}
-use Rattle.matching.specs.Inner.{RunRoom}
+use Rattle.matching.specs.Loops.{RunRoom}
 use Rattle.matching.specs.Moves.{keysSorted}
 use Rattle.matching.specs.Stretches.{between}
 use Rattle.matching.proofs.RestLaws.{rows-less}

@@ -1,7 +1,7 @@
 use mathlib.Core.Path.{subst}
 use mir.Syntax.{w64}
 use mir.ValLaws.{toZ-pos}
-use Rattle.matching.specs.Inner.{Small}
+use Rattle.matching.specs.Loops.{Small}
 use borrow.Author.Needs.{needs}
 use Rattle.matchrun.proofs.number_word.Statement.{statement}
 use Rattle.matchrun.proofs.number_word.Tie as tie

@@ -11,7 +11,7 @@ use Rattle.frames.specs.Cells.{Cell, value}
 use Rattle.order.specs.Order.{keyOf}
 use Rattle.matching.specs.Match.{Hit, nobody, fits, choose}
 use Rattle.matching.specs.Stretches.{between, hitAt}
-use Rattle.matching.specs.Inner.{BestIn}
+use Rattle.matching.specs.Loops.{BestIn}
 use Rattle.matching.proofs.BestLaws.{hit-none, scan-more, scan-end}
 use Rattle.scan.proofs.best_row.Statement.{statement}
 use Rattle.scan.proofs.best_row.Tie as tie

@@ -14,7 +14,7 @@ use Rattle.order.specs.Requires.{cellAt}
 use Rattle.frames.proofs.Signed.{back}
 use Rattle.order.proofs.RowLaws.{row-room}
 use Rattle.matching.specs.Match.{onSide}
-use Rattle.matching.specs.Inner.{TakesOver}
+use Rattle.matching.specs.Loops.{TakesOver}
 use Rattle.matching.proofs.BestLaws.{stays, comes, wins, loses}
 use borrow.Author.Needs.{needs}
 use Rattle.scan.proofs.meet_row.Statement.{statement}

@@ -7,6 +7,7 @@ use Rattle.turnparts.proofs.write_turn.Lts as lts
 use Rattle.matchframe.proofs.match_frame.Reads as match-frame-reads
 use Rattle.turnparts.proofs.leave.Reads as leave-reads
 use Rattle.turnrows.proofs.remembered.Reads as remembered-reads
+use Rattle.turnrows.proofs.remembered_left.Reads as remembered-left-reads
 
 sub-kept : tie.Need-sub-kept
 sub-kept c = search needs
@@ -17,11 +18,11 @@ add-number c = search needs
 match-frame-requires : tie.Need-match-frame-requires
 match-frame-requires c κs = search needs
 
-remembered-requires : tie.Need-remembered-requires
-remembered-requires c κs = search needs
+remembered-left-requires : tie.Need-remembered-left-requires
+remembered-left-requires c κs = search needs
 
-remembered-requires-2 : tie.Need-remembered-requires-2
-remembered-requires-2 c κs = kept-last (c .before .before .before .before .before .before .before .pre)
+remembered-requires : tie.Need-remembered-requires
+remembered-requires c κs = kept-last (c .before .before .before .before .before .before .before .pre)
 
 add-leave : tie.Need-add-leave
 add-leave c = search needs
@@ -42,7 +43,7 @@ same-length : tie.Need-same-length
 same-length c = search needs
 
 returns : tie.Need-returns
-returns c = let s = c .before .before .before .before .before .before .before .before .before in record { part = left-as (s .pre) _ _ _ (c .before .before .remembered .ensures) (c .before .remembered2 .ensures) (c .leave .ensures); words = c .before .before .before .before .match-frame .ensures }
+returns c = let s = c .before .before .before .before .before .before .before .before .before in record { part = left-as (s .pre) _ _ _ (c .before .before .remembered-left .ensures) (c .before .remembered .ensures) (c .leave .ensures); words = c .before .before .before .before .match-frame .ensures }
 
 pub write-turn-spec : {M : Type 1} → statement M
 write-turn-spec =
@@ -51,8 +52,8 @@ write-turn-spec =
     sub-kept
     add-number
     match-frame-requires
+    remembered-left-requires
     remembered-requires
-    remembered-requires-2
     add-leave
     mul-leave
     mul-leave-2

@@ -1,13 +1,16 @@
+use mathlib.Core.Path.{_≡_, sym, _∙_}
 use borrow.Author.Tests.{not-true, not-false}
+use denote.Ref.{now}
+use Rattle.frames.specs.Cells.{rowsOf}
+use Rattle.options.specs.Options.{columns}
+use Rattle.order.specs.Keyed.{firstLeft, rowAt, recall, outOfOrder}
+use Rattle.splitcheck.specs.Requires.{FoundAmong}
+use Rattle.splitcheck.proofs.BeforeLaws.{found-in}
 use Rattle.turnrows.specs.Prunes.{badLeft}
+use Rattle.turnrows.proofs.LeftLaws.{first-left-among}
 use borrow.Author.Needs.{needs}
 use Rattle.turnrows.proofs.bad_left.Statement.{statement}
 use Rattle.turnrows.proofs.bad_left.Tie as tie
-use Rattle.turnrows.proofs.bad_left.Reads as reads
-use Rattle.turnrows.proofs.bad_left.Lts as lts
-use Rattle.splitcheck.proofs.out_of_order.Reads as out-of-order-reads
-use Rattle.neighbours.proofs.is_sorted.Reads as is-sorted-reads
-use Rattle.turnrows.proofs.checks.Reads as checks-reads
 
 checks-requires : tie.Need-checks-requires
 checks-requires c κs = search needs
@@ -16,21 +19,52 @@ returns : tie.Need-returns
 unfolding badLeft
 returns c = simp (← c .before .checks .ensures, not-true (c .before .checks .result) (c .if1 .taken))
 
+first-left-requires : tie.Need-first-left-requires
+first-left-requires c κs = search needs
+
+-- the row that is compared is one of the frame's
+first : (c : tie.After-first-left) → let a = c .before .before .before .args in c .first-left .result ≡ firstLeft (a .o) (rowsOf (a .c) (a .n) (now (a .lv)) (now (a .lm)))
+first c = let s = c .before .before .before in c .first-left .ensures (now (s .args .lv)) (s .pre .values)
+
+among : (c : tie.After-first-left) → FoundAmong (c .first-left .result) (c .before .before .before .args .n)
+among c = let a = c .before .before .before .args in first-left-among (a .o) (a .c) (a .n) (now (a .lv)) (now (a .lm)) (c .first-left .result) (first c)
+
 out-of-order-requires : tie.Need-out-of-order-requires
-out-of-order-requires c κs = search needs
+out-of-order-requires c κs =
+    let s = c .before .before .before in
+    let a = s .args in
+    found-in (a .o) (a .c) (a .n) (c .first-left .result) (now (a .lv)) (now (a .lm)) (s .pre) (among c)
+
+-- whether it comes before the remembered row
+fault : (c : tie.After-out-of-order) → let a = c .before .before .before .before .args in
+    let rows = rowsOf (a .c) (a .n) (now (a .lv)) (now (a .lm)) in
+    c .out-of-order .result ≡ outOfOrder (a .o) (recall (columns (a .o)) (a .m)) (rowAt rows (firstLeft (a .o) rows))
+fault c = let k = c .before in rw (← (first k)) (c .out-of-order .ensures (k .before .before .before .args .n) (among k))
 
 returns-2 : tie.Need-returns-2
 unfolding badLeft
-returns-2 c = let e = c .before .before in simp (← e .before .checks .ensures, not-false (e .before .checks .result) (e .if1 .left), ← c .before .out-of-order .ensures, c .if2 .taken)
+returns-2 c =
+    let k = c .before .before .before in
+    simp (← k .before .checks .ensures, not-false (k .before .checks .result) (k .if1 .left), ← fault (c .before), c .if2 .taken)
 
 is-sorted-requires : tie.Need-is-sorted-requires
 is-sorted-requires c κs = search needs
 
 returns-3 : tie.Need-returns-3
 unfolding badLeft
-returns-3 c = let d = c .before in let e = d .before .before in simp (← e .before .checks .ensures, not-false (e .before .checks .result) (e .if1 .left), ← d .before .out-of-order .ensures, d .if2 .left, ← c .is-sorted .ensures)
+returns-3 c =
+    let d = c .before in
+    let k = d .before .before .before in
+    simp (← k .before .checks .ensures, not-false (k .before .checks .result) (k .if1 .left), ← fault (d .before), d .if2 .left, ← c .is-sorted .ensures)
 
 pub bad-left-spec : {M : Type 1} → statement M
 bad-left-spec =
     tie.close
-    (tie.spec checks-requires returns out-of-order-requires returns-2 is-sorted-requires returns-3)
+    (tie.spec
+    checks-requires
+    returns
+    first-left-requires
+    out-of-order-requires
+    returns-2
+    is-sorted-requires
+    returns-3)

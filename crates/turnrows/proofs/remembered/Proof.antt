@@ -1,26 +1,51 @@
+use mathlib.Core.Path.{_≡_}
 use borrow.Author.Tests.{not-true, not-false}
+use denote.Ref.{now}
+use Rattle.frames.specs.Cells.{rowsOf}
+use Rattle.order.specs.Keyed.{lastKeyed, rememberAt, rememberLast}
+use Rattle.splitcheck.specs.Requires.{FoundAmong}
+use Rattle.splitcheck.proofs.BeforeLaws.{found-in, last-among}
 use Rattle.turnrows.specs.Prunes.{remembered}
 use borrow.Author.Needs.{needs}
 use Rattle.turnrows.proofs.remembered.Statement.{statement}
 use Rattle.turnrows.proofs.remembered.Tie as tie
-use Rattle.turnrows.proofs.remembered.Reads as reads
-use Rattle.turnrows.proofs.remembered.Lts as lts
-use Rattle.splitcheck.proofs.remember_last.Reads as remember-last-reads
-use Rattle.turnrows.proofs.checks.Reads as checks-reads
 
 checks-requires : tie.Need-checks-requires
 checks-requires c κs = search needs
 
 returns : tie.Need-returns
-unfolding remembered
+unfolding remembered rememberLast
 returns c = simp (← c .before .checks .ensures, not-true (c .before .checks .result) (c .if1 .taken))
 
-remember-last-requires : tie.Need-remember-last-requires
-remember-last-requires c κs = search needs
+last-keyed-requires : tie.Need-last-keyed-requires
+last-keyed-requires c κs = search needs
+
+-- the row that is remembered is one of them
+last : (c : tie.After-last-keyed) → let a = c .before .before .before .args in c .last-keyed .result ≡ lastKeyed (a .o) (rowsOf (a .w) (a .n) (now (a .values)) (now (a .marks)))
+last c = let s = c .before .before .before in c .last-keyed .ensures (now (s .args .values)) (s .pre .values)
+
+among : (c : tie.After-last-keyed) → FoundAmong (c .last-keyed .result) (c .before .before .before .args .n)
+among c = let a = c .before .before .before .args in last-among (a .o) (a .w) (a .n) (c .last-keyed .result) (now (a .values)) (now (a .marks)) (last c)
+
+remember-found-requires : tie.Need-remember-found-requires
+remember-found-requires c κs =
+    let s = c .before .before .before in
+    let a = s .args in
+    found-in (a .o) (a .w) (a .n) (c .last-keyed .result) (now (a .values)) (now (a .marks)) (s .pre) (among c)
+
+-- what is remembered by it
+by-it : (c : tie.After-remember-found) → let a = c .before .before .before .before .args in
+    let rows = rowsOf (a .w) (a .n) (now (a .values)) (now (a .marks)) in
+    c .remember-found .result ≡ rememberAt (a .o) (a .m) rows (lastKeyed (a .o) rows)
+by-it c = let k = c .before in rw (← (last k)) (c .remember-found .ensures (k .before .before .before .args .n) (among k))
 
 returns-2 : tie.Need-returns-2
-unfolding remembered
-returns-2 c = let e = c .before in simp (← e .before .checks .ensures, not-false (e .before .checks .result) (e .if1 .left), ← c .remember-last .ensures)
+unfolding remembered rememberLast
+returns-2 c =
+    let k = c .before .before in
+    simp (← k .before .checks .ensures, not-false (k .before .checks .result) (k .if1 .left), ← by-it c)
 
 pub remembered-spec : {M : Type 1} → statement M
-remembered-spec = tie.close (tie.spec checks-requires returns remember-last-requires returns-2)
+remembered-spec =
+    tie.close
+    (tie.spec checks-requires returns last-keyed-requires remember-found-requires returns-2)

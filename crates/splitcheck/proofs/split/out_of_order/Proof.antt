@@ -9,36 +9,36 @@ use Rattle.splitcheck.proofs.split.out_of_order.Statement.{statement}
 use Rattle.splitcheck.proofs.split.out_of_order.Tie as tie
 
 returns : tie.Need-returns
-returns c = let a = c .before .before .args in rw (recall-none (columns (a .o)) (a .m) (not-true _ (c .if1 .taken)))
+returns c = λ n k. let a = c .before .before .args in rw (recall-none (columns (a .o)) (a .m) (not-true _ (c .if1 .taken)))
 
-slice-aggregate-above-first : tie.Need-slice-aggregate-above-first
-slice-aggregate-above-first c = search needs
+slice-aggregate-above-found : tie.Need-slice-aggregate-above-found
+slice-aggregate-above-found c = search needs
 
-slice-aggregate-above-first-2 : tie.Need-slice-aggregate-above-first-2
-slice-aggregate-above-first-2 c = search needs
+slice-aggregate-above-found-2 : tie.Need-slice-aggregate-above-found-2
+slice-aggregate-above-found-2 c = search needs
 
 -- five words are remembered
 long : (c : tie.Start) → (length (c .args .m .values) ≡ 5) × (length (c .args .m .marks) ≡ 5)
 long c = (search needs, search needs)
 
-above-first-requires : tie.Need-above-first-requires
-above-first-requires c κs =
+above-found-requires : tie.Need-above-found-requires
+above-found-requires c κs =
     let s = c .before .before .before .before .before .before in
     let l = long s in
     (record { few = s .pre .few; values = omega (arith, s .pre .few); marks = omega (arith, s .pre .few) }, s .pre)
 
 returns-2 : tie.Need-returns-2
-returns-2 c =
+returns-2 c = λ n k.
     let s = c .before .before .before .before .before .before .before in
     let a = s .args in
-    rw (recall-some (columns (a .o)) (a .m) (not-false _ (c .before .before .before .before .before .if1 .left))) (c .above-first .ensures (columns (a .o)) (omega arith))
+    rw (recall-some (columns (a .o)) (a .m) (not-false _ (c .before .before .before .before .before .if1 .left))) (c .above-found .ensures (columns (a .o)) n (omega arith) k)
 
 pub out-of-order-spec : {M : Type 1} → statement M
 out-of-order-spec =
     tie.close
     (tie.spec
     returns
-    slice-aggregate-above-first
-    slice-aggregate-above-first-2
-    above-first-requires
+    slice-aggregate-above-found
+    slice-aggregate-above-found-2
+    above-found-requires
     returns-2)

@@ -16,7 +16,7 @@ use Rattle.matching.specs.Groups.{runs, pass, used, headOf, byRuns}
 use Rattle.matching.specs.Stretches.{between, runLength, hitAt}
 use Rattle.matching.specs.declared.Choice.{Choice}
 use Rattle.matching.specs.declared.Choice.the-variants.{Row, Nothing}
-use Rattle.matching.specs.declared.Right.{Right}
+use Rattle.matching.specs.declared.RunCursor.{RunCursor}
 
 -- A number that an answer has room for: at most 2^63 − 1.
 abbrev pub Small : Choice → Type 0
@@ -62,7 +62,7 @@ pub record PutRoom (m i : ℕ) (out : Words) : Type 0 where
   pub room : 2 + 2 * m ≤ length out
 
 -- The right cursor has passed what is before x: it stands at the run r.at..r.end, of which x uses r.at..r.used.
-pub record Passed (o : Options) (w n : ℕ) (vs ms : Words) (i : ℕ) (x : List Cell) (r : Right) : Type 0 where
+pub record Passed (o : Options) (w n : ℕ) (vs ms : Words) (i : ℕ) (x : List Cell) (r : RunCursor) : Type 0 where
   pub cursor : (first : ℕ) → pass o x (first + i) (runs o (between w i n vs ms)) ≡ record { at = first + r .at; rest = runs o (between w (r .at) n vs ms) }
   pub uses : used o x (runs o (between w (r .at) n vs ms)) ≡ between w (r .at) (r .used) vs ms
 
@@ -72,13 +72,13 @@ pub record PassRoom (o : Options) (p : ℕ) (lv lm : Words) (w n : ℕ) (rv rm :
   pub right : RunAt o w n rv rm at end
 
 -- Where the cursor stands then: at a run, of which the part that is used has its bounds.
-pub record Stands (o : Options) (w n : ℕ) (vs ms : Words) (r : Right) : Type 0 where
+pub record Stands (o : Options) (w n : ℕ) (vs ms : Words) (r : RunCursor) : Type 0 where
   pub run : RunAt o w n vs ms (r .at) (r .end)
   pub upward : r .at ≤ r .used
   pub within : r .used ≤ n
 
 -- A left run with the first row x is matched over rows r.at..r.used, and the cursor goes on from there.
-pub record Serves (o : Options) (w n : ℕ) (vs ms : Words) (i : ℕ) (x : List Cell) (r : Right) : Type 0 where
+pub record Serves (o : Options) (w n : ℕ) (vs ms : Words) (i : ℕ) (x : List Cell) (r : RunCursor) : Type 0 where
   pub step : (first : ℕ) (l : Rows) (ls : List Rows) → headOf l ≡ x
       → byRuns o (first + i) (runs o (between w i n vs ms)) (l ∷ ls)
       ≡ map (matchIn o (first + r .at) (between w (r .at) (r .used) vs ms)) l ++ byRuns o (first + r .at) (runs o (between w (r .at) n vs ms)) ls
