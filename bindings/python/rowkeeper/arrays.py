@@ -32,7 +32,7 @@ def numbers(column, name):
     values, marks = parted(column)
     array, valid = array_of(values, name)
     if marks is not None:
-        marks = numpy.asarray(marks).astype(bool)
+        marks = numpy.asarray(memoryview(marks) if isinstance(marks, (bytes, bytearray)) else marks).astype(bool)
         same_length(marks.size, array.size, f'the validity of {name}')
         valid = marks if valid is None else valid & marks
     return array, None if valid is None or valid.all() else valid

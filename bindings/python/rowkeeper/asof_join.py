@@ -6,7 +6,7 @@ from .columns import listed, same_length
 from .join import Join, Refused
 
 
-@functools().lru_cache(maxsize=None)
+@functools.lru_cache(maxsize=None)
 def tools():
     """The functions over columns: those with numpy if it is there. It is looked for when the first columns come, not before."""
     try:

@@ -163,14 +163,18 @@ def suffixed(left, right, suffixes):
     return renamed(left, suffixes[0]), renamed(right, suffixes[1])
 
 
-def taken(right, positions, index, pandas):
-    """The right rows at these places; nulls at -1, for which a column's dtype is widened as pandas does it."""
-    columns = {}
-    for place in range(right.shape[1]):
-        series = right.iloc[:, place]
-        values = series.array if pandas.api.types.is_extension_array_dtype(series.dtype) else series.to_numpy()
-        columns[place] = pandas.api.extensions.take(values, positions, allow_fill=True)
-    return pandas.DataFrame(columns, index=index, copy=False)
+def values_of(table, place, pandas):
+    """The values of a column, as the table stores them."""
+    series = table.iloc[:, place]
+    return series.array if pandas.api.types.is_extension_array_dtype(series.dtype) else series.to_numpy()
+
+
+def put_together(left, right, places, positions, index, pandas):
+    """The left columns, and of the right ones those at these places: the right rows at these positions, nulls at -1, for which a
+    column's dtype is widened as pandas does it. Each column is written once."""
+    columns = [values_of(left, place, pandas).copy() for place in range(left.shape[1])]
+    columns += [pandas.api.extensions.take(values_of(right, place, pandas), positions, allow_fill=True) for place in places]
+    return pandas.DataFrame(dict(enumerate(columns)), index=index, copy=False)
 
 
 def merge_asof(left, right, on=None, left_on=None, right_on=None, left_index=False, right_index=False, by=None, left_by=None,
@@ -201,10 +205,10 @@ def merge_asof(left, right, on=None, left_on=None, right_on=None, left_index=Fal
     tolerance = whole_tolerance(tolerance, dtype, numpy, pandas)
     judge_options(direction, allow_exact_matches, tolerance)
     groups = groups_of(left, right, keys, *tools)
-    kept = right.iloc[:, right_columns(right, keys)]
-    names = suffixed(left.columns, kept.columns, suffixes)
+    places = right_columns(right, keys)
+    names = suffixed(left.columns, right.columns[places], suffixes)
     found = positions(Side(numbers[0], groups[0], None), Side(numbers[1], groups[1], None), direction, allow_exact_matches, tolerance)
     index = left.index if left_index or right_index else pandas.RangeIndex(len(left))
-    left, kept = left.copy(), taken(kept, found, index, pandas)
-    left.index, left.columns, kept.columns = index, names[0], names[1]
-    return pandas.concat([left, kept], axis=1, copy=False)
+    result = put_together(left, right, places, found, index, pandas)
+    result.columns = names[0].append(names[1])
+    return result
