@@ -142,11 +142,13 @@ def whole_tolerance(tolerance, dtype, numpy, pandas):
     return int(tolerance)
 
 
-def right_columns(right, keys):
-    """The places of the right columns that come out: all but keys and by-columns with the name that they have on the left."""
+def kept_columns(left, right, keys):
+    """The places of the columns that come out, of each side. Keys and by-columns with the same name on both sides come out once: those
+    of the left, or, as pandas has it, those of the right if left has no row."""
     pairs = zip([keys[0].on, *keys[0].by], [keys[1].on, *keys[1].by])
     same = [name for other, name in pairs if name is not None and other == name]
-    return [place for place, name in enumerate(right.columns) if name not in same]
+    return ([place for place, name in enumerate(left.columns) if len(left) or name not in same],
+            [place for place, name in enumerate(right.columns) if not len(left) or name not in same])
 
 
 def suffixed(left, right, suffixes):
@@ -170,10 +172,10 @@ def values_of(table, place, pandas):
 
 
 def put_together(left, right, places, positions, index, pandas):
-    """The left columns, and of the right ones those at these places: the right rows at these positions, nulls at -1, for which a
+    """The columns at these places of both sides: the left rows, and the right rows at these positions, nulls at -1, for which a
     column's dtype is widened as pandas does it. Each column is written once."""
-    columns = [values_of(left, place, pandas).copy() for place in range(left.shape[1])]
-    columns += [pandas.api.extensions.take(values_of(right, place, pandas), positions, allow_fill=True) for place in places]
+    columns = [values_of(left, place, pandas).copy() for place in places[0]]
+    columns += [pandas.api.extensions.take(values_of(right, place, pandas), positions, allow_fill=True) for place in places[1]]
     return pandas.DataFrame(dict(enumerate(columns)), index=index, copy=False)
 
 
@@ -189,7 +191,7 @@ def merge_asof(left, right, on=None, left_on=None, right_on=None, left_index=Fal
     - nearest, of two rows as near, takes the one ahead, and of equal keys ahead the last; pandas takes the one behind, and of equal
       keys ahead the first.
     - nearest with allow_exact_matches=False is a ValueError.
-    - keys of floating-point numbers are a ValueError.
+    - keys of floating-point numbers are a ValueError, and so is left_index without right_index.
     - distances are exact; pandas' wrap around at 2^63, for nearest and for a tolerance.
     - None and NaN in one by-column of objects are one value; pandas has two.
     - the index of a result without rows is a RangeIndex.
@@ -198,6 +200,8 @@ def merge_asof(left, right, on=None, left_on=None, right_on=None, left_index=Fal
     numpy, pandas, arrays = modules()
     from .asof_join import Side, judge_options, positions
     judge_options(direction, allow_exact_matches, None)
+    if left_index and not right_index:
+        raise ValueError('left_index is taken with right_index alone: name the left key by left_on')
     keys = (keys_of(on, left_on, left_index, by, left_by, 'left'), keys_of(on, right_on, right_index, by, right_by, 'right'))
     left, right = frame_of(left, 'left', pandas), frame_of(right, 'right', pandas)
     tools = (numpy, pandas, arrays)
@@ -205,10 +209,11 @@ def merge_asof(left, right, on=None, left_on=None, right_on=None, left_index=Fal
     tolerance = whole_tolerance(tolerance, dtype, numpy, pandas)
     judge_options(direction, allow_exact_matches, tolerance)
     groups = groups_of(left, right, keys, *tools)
-    places = right_columns(right, keys)
-    names = suffixed(left.columns, right.columns[places], suffixes)
+    places = kept_columns(left, right, keys)
+    names = suffixed(left.columns[places[0]], right.columns[places[1]], suffixes)
     found = positions(Side(numbers[0], groups[0], None), Side(numbers[1], groups[1], None), direction, allow_exact_matches, tolerance)
-    index = left.index if left_index or right_index else pandas.RangeIndex(len(left))
+    index = left.index if len(left) or not right_index else right.index[:0]
+    index = index if left_index or right_index else pandas.RangeIndex(len(left))
     result = put_together(left, right, places, found, index, pandas)
     result.columns = names[0].append(names[1])
     return result

@@ -84,15 +84,15 @@ class Tables:
         """How the keys are named: alike on both sides, or not, or by the index of one side."""
         by = [f'g{place}' for place in range(len(self.by))]
         named = {'by': by if len(by) != 1 or r.random() < 0.5 else by[0]} if by else {}
-        way = r.choice(('on', 'on', 'both', 'other', 'left', 'right'))
+        way = r.choice(('on', 'on', 'both', 'other', 'indexes', 'right'))
         if way == 'on':
             return {'on': 'k', **named, **r.choice(({}, {'suffixes': ('', '_r')}, {'suffixes': (None, '_right')}))}
         if way == 'both':
             return {'left_on': 'k', 'right_on': 'k', **named}
-        if way == 'left' and not by:
-            self.left = self.left.set_index('k')
-            return {'left_index': True, 'right_on': 'k'}
-        if way == 'right' and not by:
+        if way == 'indexes' and self.kind != 'int32':
+            self.left, self.right = self.left.set_index('k'), self.right.set_index('k')
+            return {'left_index': True, 'right_index': True, **named}
+        if way == 'right' and not by and self.kind != 'int32':
             self.right = self.right.set_index('k')
             return {'left_on': 'k', 'right_index': True}
         self.right = self.right.rename(columns={name: f'{name}r' for name in ['k', *by]})
@@ -129,7 +129,8 @@ class Pandas(unittest.TestCase):
         met = [tables.allowed(row, *(int(each[row]) for each in places)) for row in differ]
         self.assertNotIn(None, met)
         same = places[0] == places[1]
-        pandas.testing.assert_frame_equal(ours[same], theirs[same], check_index_type='equiv' if len(theirs) else False)
+        how = {} if len(theirs) else {'check_index_type': False, 'check_freq': False}
+        pandas.testing.assert_frame_equal(ours[same], theirs[same], **how)
         self.assertEqual(list(ours.dtypes), list(theirs.dtypes))
         return met, int((places[0] >= 0).sum())
 
@@ -213,7 +214,8 @@ class Pandas(unittest.TestCase):
                 merge_asof(*frames, **how)
             self.assertNotIn('\n', str(caught.exception))
             self.assertRaises((ValueError, KeyError, TypeError), pandas.merge_asof, *frames, **how)
-        for how in ({'on': 'f', 'by': 'g'}, {'on': 'k', 'direction': 'nearest', 'allow_exact_matches': False}):
+        for how in ({'on': 'f', 'by': 'g'}, {'on': 'k', 'direction': 'nearest', 'allow_exact_matches': False},
+                    {'left_index': True, 'right_on': 'k'}):
             self.assertRaises(ValueError, merge_asof, ok, ok, **how)
             pandas.merge_asof(ok, ok, **how)
 
