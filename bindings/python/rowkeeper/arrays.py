@@ -136,20 +136,27 @@ def check_order(keys, groups, order, name):
             raise unsorted(name, *((fault, fault - 1) if order is None else (order[fault], order[fault - 1])))
 
 
-def frames(columns, order, rows):
-    """The frames of these columns, none of which has a null: of 4,096 rows each, save the last. All are in the same words, since a
-    call copies those of a frame."""
-    width = len(columns)
-    words = numpy.ones(2 + 2 * MOST_ROWS * width, dtype='i8')
-    for first in range(0, rows, MOST_ROWS):
-        height = min(MOST_ROWS, rows - first)
-        words[:2] = height, width
-        values = words[2:2 + height * width].reshape(height, width)
-        places = slice(first, first + height) if order is None else order[first:first + height]
-        for place, column in enumerate(columns):
-            values[:, place] = column[places]
-        words[2 + height * width:2 + 2 * height * width] = 1
-        yield words[:2 + 2 * height * width]
+class Frames:
+    """The frames of these columns, none of which has a null: of 4,096 rows each, save the last, one after another in the same words,
+    since a call copies those of a frame."""
+
+    def __init__(self, columns, order, rows):
+        self.columns, self.order, self.rows, self.first = columns, order, rows, 0
+        self.words = numpy.ones(2 + 2 * MOST_ROWS * len(columns), dtype='i8')
+
+    def next(self):
+        """Writes the next frame; how many words it has, 0 if there is none."""
+        width, height = len(self.columns), min(MOST_ROWS, self.rows - self.first)
+        if not height:
+            return 0
+        self.words[:2] = height, width
+        if height < MOST_ROWS:
+            self.words[2 + height * width:2 + 2 * height * width] = 1
+        places = slice(self.first, self.first + height)
+        for place, column in enumerate(self.columns, 2):
+            self.words[place:2 + height * width:width] = column[places if self.order is None else self.order[places]]
+        self.first += height
+        return 2 + 2 * height * width
 
 
 class Found:
@@ -167,6 +174,10 @@ class Found:
         values, marks = self.output[2:2 + height], self.output[2 + height:2 + 2 * height]
         places = slice(self.taken, self.taken + height)
         self.taken += height
+        if self.right_order is None and self.left_order is None:
+            numpy.add(values, marks, out=self.found[places])
+            self.found[places] -= 1
+            return
         matches = values + marks - 1 if self.right_order is None else numpy.where(marks, self.right_order[values], -1)
         self.found[places if self.left_order is None else self.left_order[places]] = matches
 

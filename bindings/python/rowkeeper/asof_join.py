@@ -4,6 +4,7 @@ import functools
 from . import interface as c
 from .columns import listed, same_length
 from .join import Join, Refused
+from .lent import lent
 
 
 @functools.lru_cache(maxsize=None)
@@ -27,7 +28,7 @@ class Side:
     def frames(self):
         """Its frames: the group if there are groups, then the key."""
         columns = [self.keys] if self.groups is None else [self.groups, self.keys]
-        return tools().frames(columns, self.order, self.rows if self.order is None else len(self.order))
+        return tools().Frames(columns, self.order, self.rows if self.order is None else len(self.order))
 
 
 def sides(left_on, right_on, left_by, right_by):
@@ -49,33 +50,34 @@ def sides(left_on, right_on, left_by, right_by):
     return Side(left_keys, groups[0], left_valid), Side(right_keys, groups[1], right_valid)
 
 
-def hand_in_right(join, frame):
+def hand_in_right(join, address, length):
     """Hands in a right frame, in a larger area if there is no room: for twice as many rows as are held then."""
     try:
-        join.right(frame)
+        join.right_at(address, length)
     except Refused as refused:
         if refused.number != c.NO_ROOM:
             raise
-        join.grow(right_rows=2 * (join.held + int(frame[0])))
-        join.right(frame)
+        join.grow(right_rows=2 * (join.held + c.MOST_ROWS))
+        join.right_at(address, length)
 
 
 def matched(join, lefts, rights, found):
-    """Makes all calls of a join over two iterators of frames: a left frame when none waits, a right frame when a turn wants one."""
-    while True:
-        answer = join.turn_into(found.output)
-        if answer == c.WROTE:
-            found.take()
-            continue
-        frame = next(lefts if answer == c.IDLE else rights, None)
-        if answer == c.IDLE:
-            if frame is None:
-                return
-            join.left(frame)
-        elif frame is None:
-            join.end_right()
-        else:
-            hand_in_right(join, frame)
+    """Makes all calls of a join over the frames of two tables: a left frame when none waits, a right frame when a turn wants one. The
+    words that frames come in, and the output, are lent for all calls at once."""
+    with lent(lefts.words, 'frames') as (left, _), lent(rights.words, 'frames') as (right, _), \
+            lent(found.output, 'the output', write=True) as output:
+        while True:
+            answer = join.turn_at(*output)
+            if answer == c.WROTE:
+                found.take()
+            elif answer == c.IDLE:
+                length = lefts.next()
+                if not length:
+                    return
+                join.left_at(left, length)
+            else:
+                length = rights.next()
+                hand_in_right(join, right, length) if length else join.end_right()
 
 
 def positions(left, right, strategy, allow_exact_matches, tolerance):

@@ -124,11 +124,8 @@ class Join:
     def _set(self, words, left, right):
         """Takes the parts of a join for its own."""
         self._words, self._left, self._right = words, left, right
+        self._areas = left.lent() + right.lent()
         self._library, self._lock = library(), threading.Lock()
-
-    def _areas(self):
-        """Both areas, as a call takes them."""
-        return self._left.lent() + self._right.lent()
 
     def _took(self, took):
         """Goes on with the join that a call handed back, refused or not."""
@@ -137,23 +134,33 @@ class Join:
 
     def left(self, frame):
         """Hands in a left frame, which then waits. Its words are copied: the host may alter them afterwards."""
-        with self._lock, lent(frame, 'the left frame') as words:
-            self._took(self._library.rowkeeper_left(self._words, *self._areas(), *words))
+        with lent(frame, 'the left frame') as words:
+            self.left_at(*words)
+
+    def left_at(self, address, length):
+        """Hands in a left frame by its place. Whoever calls it has it lent."""
+        with self._lock:
+            self._took(self._library.rowkeeper_left(self._words, *self._areas, address, length))
 
     def right(self, frame):
         """Hands in a right frame, whose rows are then held. Its words are copied: the host may alter them afterwards."""
-        with self._lock, lent(frame, 'the right frame') as words:
-            self._took(self._library.rowkeeper_right(self._words, *self._areas(), *words))
+        with lent(frame, 'the right frame') as words:
+            self.right_at(*words)
+
+    def right_at(self, address, length):
+        """Hands in a right frame by its place. Whoever calls it has it lent."""
+        with self._lock:
+            self._took(self._library.rowkeeper_right(self._words, *self._areas, address, length))
 
     def end_right(self):
         """Ends right: no right frame comes any more."""
         with self._lock:
-            self._took(self._library.rowkeeper_end_right(self._words, *self._areas()))
+            self._took(self._library.rowkeeper_end_right(self._words, *self._areas))
 
     def ports(self, left, right, send):
         """A port call: what the ports say comes in, what they are told comes back. This is also how left ends."""
         with self._lock:
-            ported = self._library.rowkeeper_ports(self._words, *self._areas(), *map(number_or_bad, (left, right, send)))
+            ported = self._library.rowkeeper_ports(self._words, *self._areas, *map(number_or_bad, (left, right, send)))
             self._took(ported)
         return Ports(ported.left, ported.right, ported.send)
 
@@ -161,12 +168,17 @@ class Join:
         """The words of an output that is enough for any turn."""
         return 2 + 2 * c.MOST_ROWS * (1 + self._words.options.carried)
 
-    def turn_into(self, output):
-        """A turn's answer alone; if it wrote, the matches are in the output."""
-        with self._lock, lent(output, 'the output', write=True) as words:
-            turned = self._library.rowkeeper_turn(self._words, *self._areas(), *words)
+    def turn_at(self, address, length):
+        """A turn's answer alone, over an output by its place. Whoever calls it has it lent."""
+        with self._lock:
+            turned = self._library.rowkeeper_turn(self._words, *self._areas, address, length)
             self._took(turned)
         return turned.answer
+
+    def turn_into(self, output):
+        """A turn's answer alone; if it wrote, the matches are in the output."""
+        with lent(output, 'the output', write=True) as words:
+            return self.turn_at(*words)
 
     def turn(self, output=None):
         """A turn: the matches of the frame that has waited longest, written to the output, or to a new one."""
@@ -183,7 +195,7 @@ class Join:
             output = Area(self._words.queue_words * (1 + self._words.options.carried)).words()
         first, most = self._words.sequence, 2**64 - 1 if turns is None else min(max(turns, 0), 2**64 - 1)
         with self._lock, lent(output, 'the output', write=True) as words:
-            ran = self._library.rowkeeper_run(self._words, most, *self._areas(), *words)
+            ran = self._library.rowkeeper_run(self._words, most, *self._areas, *words)
             self._words = ran.join
         refusal = Refused(ran.refusal) if ran.stop == c.REFUSED else None
         return Run(ran.stop, refusal, self._turns(memoryview(output).cast('B').cast('q'), first, ran.turns))
@@ -206,9 +218,9 @@ class Join:
             return
         left, right = Area(max(left_words, self._left.length)), Area(max(right_rows * width, self._right.length))
         with self._lock:
-            took = self._library.rowkeeper_move(self._words, *self._areas(), *left.lent(), *right.lent())
+            took = self._library.rowkeeper_move(self._words, *self._areas, *left.lent(), *right.lent())
             expect(took.refusal)
-            self._words, self._left, self._right = took.join, left, right
+            self._words, self._left, self._right, self._areas = took.join, left, right, left.lent() + right.lent()
 
     def state(self):
         """All that the join is, as bytes for a file: its words, the first of which says their layout, and its areas."""

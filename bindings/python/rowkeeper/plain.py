@@ -82,16 +82,26 @@ def check_order(keys, groups, order, name):
         raise unsorted(name, *((fault, fault - 1) if order is None else (order[fault], order[fault - 1])))
 
 
-def frames(columns, order, rows):
-    """The frames of these columns, none of which has a null: of 4,096 rows each, save the last."""
-    width = len(columns)
-    columns = [pick(column, order) for column in columns]
-    for first in range(0, rows, MOST_ROWS):
-        height = min(MOST_ROWS, rows - first)
-        words = array('q', [height, width]) + array('q', [1]) * (2 * height * width)
-        for place, column in enumerate(columns, 2):
-            words[place:2 + height * width:width] = column[first:first + height]
-        yield words
+class Frames:
+    """The frames of these columns, none of which has a null: of 4,096 rows each, save the last, one after another in the same words,
+    since a call copies those of a frame."""
+
+    def __init__(self, columns, order, rows):
+        self.columns, self.rows, self.first = [pick(column, order) for column in columns], rows, 0
+        self.words = array('q', [1]) * (2 + 2 * MOST_ROWS * len(columns))
+
+    def next(self):
+        """Writes the next frame; how many words it has, 0 if there is none."""
+        width, height = len(self.columns), min(MOST_ROWS, self.rows - self.first)
+        if not height:
+            return 0
+        self.words[0], self.words[1] = height, width
+        if height < MOST_ROWS:
+            self.words[2 + height * width:2 + 2 * height * width] = array('q', [1]) * (height * width)
+        for place, column in enumerate(self.columns, 2):
+            self.words[place:2 + height * width:width] = column[self.first:self.first + height]
+        self.first += height
+        return 2 + 2 * height * width
 
 
 class Found:
