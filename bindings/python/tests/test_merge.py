@@ -1,11 +1,15 @@
 """merge_asof beside pandas': random frames, and every difference that is allowed by its name."""
 import collections
+import contextlib
+import io
 import os
 import random
+import re
 import unittest
 
 from rowkeeper import merge_asof
 from rowkeeper.interface import STRATEGIES
+from rowkeeper.library import ROOT
 
 try:
     import numpy
@@ -153,6 +157,15 @@ class Pandas(unittest.TestCase):
         self.assertEqual(pandas.merge_asof(left, right, on='k', direction='nearest')['place'].tolist(), [0])
         self.assertTrue(merge_asof(left, right, on='k', tolerance=5)['place'].isna().all())
         self.assertEqual(pandas.merge_asof(left, right, on='k', tolerance=5)['place'].tolist(), [0])
+
+    def test_readme(self):
+        """README's sample prints what is shown there."""
+        with open(os.path.join(ROOT, 'README.md'), encoding='utf-8') as file:
+            shown = re.search(r'(?s)## For a data engineer.*?```python\n(.*?)```\n\n```text\n(.*?)```', file.read())
+        out = io.StringIO()
+        with contextlib.redirect_stdout(out):
+            exec(shown.group(1), {})
+        self.assertEqual(out.getvalue(), shown.group(2))
 
     def test_numbers_without_a_sign(self):
         """Keys above 2^63, which pandas' own numbers hold."""
