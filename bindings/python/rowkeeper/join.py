@@ -102,8 +102,8 @@ class Matches:
 
 
 class Join:
-    """An open join. It owns the areas that it works in, for so many left rows that wait at once, in frames of one row or more, and
-    so many right rows that are held at once; `grow` makes them larger. Every call goes on with what the last one handed back. A call that is refused raises Refused, and changes
+    """An open join. It owns the areas that it works in, for so many left rows that wait in one frame and so many right rows
+    that are held at once; `grow` makes them larger. Every call goes on with what the last one handed back. A call that is refused raises Refused, and changes
     nothing but that 8 and 9 mark the join failed. Frames are anything with the buffer protocol of 64-bit numbers.
 
     >>> from array import array
@@ -119,7 +119,7 @@ class Join:
         given = options(by, strategy, allow_exact_matches, tolerance, check, descending, nulls_last, carried)
         took = library().rowkeeper_open(given)
         expect(took.refusal)
-        self._set(took.join, Area(left_rows * (2 + 2 * (by + 1))), Area(2 * right_rows * (by + 1 + carried)))
+        self._set(took.join, Area(2 + 2 * left_rows * (by + 1)), Area(2 * right_rows * (by + 1 + carried)))
 
     def _set(self, words, left, right):
         """Takes the parts of a join for its own."""
