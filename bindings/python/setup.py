@@ -1,4 +1,5 @@
-"""Makes the shared object from the repository's dist/ when a wheel is built, and puts it into the package. pyproject.toml has the rest."""
+"""Makes the shared object from the repository's dist/ when a wheel is built, and puts it into the package. pyproject.toml
+has the rest."""
 import os
 import shutil
 import sys

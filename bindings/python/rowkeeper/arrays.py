@@ -11,7 +11,8 @@ PASS = 16
 
 
 def array_of(values, name):
-    """A column as an array of one dimension, and which of its rows are there, or None: a masked array says it, and so does NaT."""
+    """A column as an array of one dimension, and which of its rows are there, or None: a masked array says it, and so does
+    NaT."""
     try:
         array = numpy.asanyarray(values)
     except (TypeError, ValueError) as error:
@@ -137,8 +138,8 @@ def check_order(keys, groups, order, name):
 
 
 class Frames:
-    """The frames of these columns, none of which has a null: of 4,096 rows each, save the last, one after another in the same words,
-    since a call copies those of a frame."""
+    """The frames of these columns, none of which has a null: of 4,096 rows each, save the last, one after another in the
+    same words, since a call copies those of a frame."""
 
     def __init__(self, columns, order, rows):
         self.columns, self.order, self.rows, self.first = columns, order, rows, 0

@@ -62,8 +62,8 @@ def hand_in_right(join, address, length):
 
 
 def matched(join, lefts, rights, found):
-    """Makes all calls of a join over the frames of two tables: a left frame when none waits, a right frame when a turn wants one. The
-    words that frames come in, and the output, are lent for all calls at once."""
+    """Makes all calls of a join over the frames of two tables: a left frame when none waits, a right frame when a turn
+    wants one. The words that frames come in, and the output, are lent for all calls at once."""
     with lent(lefts.words, 'frames') as (left, _), lent(rights.words, 'frames') as (right, _), \
             lent(found.output, 'the output', write=True) as output:
         while True:
@@ -102,17 +102,17 @@ def judge_options(strategy, allow_exact_matches, tolerance):
 
 
 def asof(left_on, right_on, left_by=None, right_by=None, strategy='backward', allow_exact_matches=True, tolerance=None):
-    """For each left row the place of the right row that it takes, or -1: 64-bit numbers, in an array of numpy if it is there, else
-    in one of the module array.
+    """For each left row the place of the right row that it takes, or -1: 64-bit numbers, in an array of numpy if it is
+    there, else in one of the module array.
 
-    Keys and by-columns are anything with the buffer protocol of whole numbers, of any width, or arrays of numpy, those of datetime64
-    and timedelta64 too; nulls are told by a masked array, by NaT, or by a Column. `left_by` and `right_by` are a column or a list of
-    columns: rows match within equal groups alone. Keys ascend within each group; groups may stand in any order. A row with a null
-    key or by-value matches nothing, wherever it stands.
+    Keys and by-columns are anything with the buffer protocol of whole numbers, of any width, or arrays of numpy, those of
+    datetime64 and timedelta64 too; nulls are told by a masked array, by NaT, or by a Column. `left_by` and `right_by` are a
+    column or a list of columns: rows match within equal groups alone. Keys ascend within each group; groups may stand in
+    any order. A row with a null key or by-value matches nothing, wherever it stands.
 
-    `backward` takes the last row whose key is not greater, `forward` the first whose key is not smaller, `nearest` the least distance,
-    then the greater key, then the last row. With `allow_exact_matches` off equal keys do not match; nearest needs it on. `tolerance` is
-    the greatest distance of two keys, in their own unit.
+    `backward` takes the last row whose key is not greater, `forward` the first whose key is not smaller, `nearest` the
+    least distance, then the greater key, then the last row. With `allow_exact_matches` off equal keys do not match; nearest
+    needs it on. `tolerance` is the greatest distance of two keys, in their own unit.
 
     ValueError, before anything is joined, says what is wrong with a column or an option.
 

@@ -15,11 +15,11 @@ LENGTHS = struct.Struct('=2q')
 Ports = collections.namedtuple('Ports', 'left right send')
 Ports.__doc__ = 'The states of the three ports: PORT_BLOCKED, PORT_READY or PORT_DONE each.'
 Turn = collections.namedtuple('Turn', 'answer sequence matches')
-Turn.__doc__ = """A turn's answer: WROTE, WANTS_RIGHT or IDLE. If it wrote, the number of its frame (0, 2, 4 and so on) and the matches;
-else None and None."""
+Turn.__doc__ = """A turn's answer: WROTE, WANTS_RIGHT or IDLE. If it wrote, the number of its frame (0, 2, 4 and so on) and the
+matches; else None and None."""
 Run = collections.namedtuple('Run', 'stop refusal turns')
-Run.__doc__ = """What a run made: what stopped it (TURNS_USED, WANTS_RIGHT, IDLE or REFUSED), the Refused of the turn that stopped it or
-None, and a Turn for each turn that wrote. These stand whatever stopped the run."""
+Run.__doc__ = """What a run made: what stopped it (TURNS_USED, WANTS_RIGHT, IDLE or REFUSED), the Refused of the turn that stopped
+it or None, and a Turn for each turn that wrote. These stand whatever stopped the run."""
 
 
 class Refused(Exception):
@@ -46,9 +46,10 @@ def number_or_bad(number):
     return number if 0 <= number < 2**63 else 2**64 - 1
 
 
-def options(by=0, strategy='backward', allow_exact_matches=True, tolerance=None, check=True, descending=(), nulls_last=(), carried=0):
-    """The options of a join in numbers. What no number can say is said by one that is refused; a name that is none, or more flags
-    than columns, is a ValueError."""
+def options(by=0, strategy='backward', allow_exact_matches=True, tolerance=None, check=True, descending=(), nulls_last=(),
+            carried=0):
+    """The options of a join in numbers. What no number can say is said by one that is refused; a name that is none, or more
+    flags than columns, is a ValueError."""
     if strategy not in c.STRATEGIES:
         raise ValueError(f'strategy {strategy!r} is none of {", ".join(c.STRATEGIES)}')
     if max(len(descending), len(nulls_last)) > c.MOST_BY:
@@ -58,7 +59,8 @@ def options(by=0, strategy='backward', allow_exact_matches=True, tolerance=None,
     types = dict(c.Options._fields_)
     return c.Options(by=number_or_bad(by), strategy=c.STRATEGIES.index(strategy), allow_eq=bool(allow_exact_matches),
                      tolerance=c.NO_TOLERANCE if tolerance is None else tolerance, check=bool(check),
-                     descending=types['descending'](*map(bool, descending)), nulls_last=types['nulls_last'](*map(bool, nulls_last)),
+                     descending=types['descending'](*map(bool, descending)),
+                     nulls_last=types['nulls_last'](*map(bool, nulls_last)),
                      carried=number_or_bad(carried))
 
 
@@ -96,15 +98,17 @@ class Matches:
         return [value if mark else None for value, mark in zip(values, marks)]
 
     def rows(self):
-        """For each left row a tuple, the number of its right row and the cells that it carries, or None where there is no match."""
+        """For each left row a tuple, the number of its right row and the cells that it carries, or None where there is no
+        match."""
         columns = [self.cells(column) for column in range(self.carried)]
         return [None if row[0] is None else row for row in zip(self.numbers(), *columns)]
 
 
 class Join:
     """An open join. It owns the areas that it works in, for so many left rows that wait in one frame and so many right rows
-    that are held at once; `grow` makes them larger. Every call goes on with what the last one handed back. A call that is refused raises Refused, and changes
-    nothing but that 8 and 9 mark the join failed. Frames are anything with the buffer protocol of 64-bit numbers.
+    that are held at once; `grow` makes them larger. Every call goes on with what the last one handed back. A call that is
+    refused raises Refused, and changes nothing but that 8 and 9 mark the join failed. Frames are anything with the buffer
+    protocol of 64-bit numbers.
 
     >>> from array import array
     >>> join = Join(carried=1)
@@ -114,8 +118,8 @@ class Join:
     [None, (0, 1800), (1, None)]
     """
 
-    def __init__(self, by=0, strategy='backward', allow_exact_matches=True, tolerance=None, check=True, descending=(), nulls_last=(),
-                 carried=0, left_rows=c.MOST_ROWS, right_rows=2 * c.MOST_ROWS):
+    def __init__(self, by=0, strategy='backward', allow_exact_matches=True, tolerance=None, check=True, descending=(),
+                 nulls_last=(), carried=0, left_rows=c.MOST_ROWS, right_rows=2 * c.MOST_ROWS):
         given = options(by, strategy, allow_exact_matches, tolerance, check, descending, nulls_last, carried)
         took = library().rowkeeper_open(given)
         expect(took.refusal)
@@ -211,8 +215,9 @@ class Join:
         return turns
 
     def grow(self, left_words=0, right_rows=0):
-        """Makes areas larger, the left one to so many words at least, the right one to so many rows; what waits and what is held
-        stays, and no later answer is another one, save that frames find more room. Nothing is done if they are as large."""
+        """Makes areas larger, the left one to so many words at least, the right one to so many rows; what waits and what is
+        held stays, and no later answer is another one, save that frames find more room. Nothing is done if they are as
+        large."""
         width = 2 * (self._words.options.by + 1 + self._words.options.carried)
         if left_words <= self._left.length and right_rows * width <= self._right.length:
             return
@@ -225,12 +230,13 @@ class Join:
     def state(self):
         """All that the join is, as bytes for a file: its words, the first of which says their layout, and its areas."""
         with self._lock:
-            return bytes(self._words) + LENGTHS.pack(self._left.length, self._right.length) + self._left.bytes + self._right.bytes
+            lengths = LENGTHS.pack(self._left.length, self._right.length)
+            return bytes(self._words) + lengths + self._left.bytes + self._right.bytes
 
     @classmethod
     def from_state(cls, saved):
-        """The join that `state` gave. Bytes that are none are a ValueError; a join of another layout is refused by 2. Whatever else
-        they say, every call judges them."""
+        """The join that `state` gave. Bytes that are none are a ValueError; a join of another layout is refused by 2.
+        Whatever else they say, every call judges them."""
         saved = bytes(saved)
         if len(saved) < JOIN_BYTES + LENGTHS.size:
             raise ValueError(f'{len(saved)} bytes are no saved join')

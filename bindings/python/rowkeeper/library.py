@@ -40,8 +40,8 @@ def from_dist():
 
 
 def place():
-    """Where the shared object is: beside this package if it was installed, made from dist/ in the repository, else its bare name,
-    which the system looks for among its libraries."""
+    """Where the shared object is: beside this package if it was installed, made from dist/ in the repository, else its bare
+    name, which the system looks for among its libraries."""
     beside = os.path.join(HERE, SONAME)
     if os.path.exists(beside):
         return beside

@@ -143,8 +143,8 @@ def whole_tolerance(tolerance, dtype, numpy, pandas):
 
 
 def kept_columns(left, right, keys):
-    """The places of the columns that come out, of each side. Keys and by-columns with the same name on both sides come out once: those
-    of the left, or, as pandas has it, those of the right if left has no row."""
+    """The places of the columns that come out, of each side. Keys and by-columns with the same name on both sides come out
+    once: those of the left, or, as pandas has it, those of the right if left has no row."""
     pairs = zip([keys[0].on, *keys[0].by], [keys[1].on, *keys[1].by])
     same = [name for other, name in pairs if name is not None and other == name]
     return ([place for place, name in enumerate(left.columns) if len(left) or name not in same],
@@ -183,13 +183,13 @@ def merge_asof(left, right, on=None, left_on=None, right_on=None, left_index=Fal
                right_by=None, suffixes=('_x', '_y'), tolerance=None, allow_exact_matches=True, direction='backward'):
     """pandas.merge_asof over the proved join: the same parameters, and the same columns, order, dtypes and index come out.
 
-    Keys are whole numbers, datetime64 or timedelta64, of one dtype on both sides, without nulls, and ascend. By-columns are of any
-    dtype, the same on both sides, in any order; a null by-value is a value like any other. ValueError, before anything is joined,
-    says in one line what is wrong, and which row.
+    Keys are whole numbers, datetime64 or timedelta64, of one dtype on both sides, without nulls, and ascend. By-columns are
+    of any dtype, the same on both sides, in any order; a null by-value is a value like any other. ValueError, before
+    anything is joined, says in one line what is wrong, and which row.
 
     What differs from pandas, by rule:
-    - nearest, of two rows as near, takes the one ahead, and of equal keys ahead the last; pandas takes the one behind, and of equal
-      keys ahead the first.
+    - nearest, of two rows as near, takes the one ahead, and of equal keys ahead the last; pandas takes the one behind, and
+      of equal keys ahead the first.
     - nearest with allow_exact_matches=False is a ValueError.
     - keys of floating-point numbers are a ValueError, and so is left_index without right_index.
     - distances are exact; pandas' wrap around at 2^63, for nearest and for a tolerance.

@@ -23,7 +23,7 @@ def numbers(column, name):
     if letter not in tuple(WHOLE) or view.ndim != 1:
         raise ValueError(f'{name} has the format {view.format!r} in {view.ndim} dimensions: {WANTED}')
     if valid is not None:
-        valid = bytes(map(bool, memoryview(valid)))
+        valid = bytes(map(bool, valid))
         same_length(len(valid), len(view), f'the validity of {name}')
     unsigned = letter in tuple(UNSIGNED) and view.itemsize == 8
     return (view if unsigned else array('q', view)), unsigned, valid
@@ -83,8 +83,8 @@ def check_order(keys, groups, order, name):
 
 
 class Frames:
-    """The frames of these columns, none of which has a null: of 4,096 rows each, save the last, one after another in the same words,
-    since a call copies those of a frame."""
+    """The frames of these columns, none of which has a null: of 4,096 rows each, save the last, one after another in the
+    same words, since a call copies those of a frame."""
 
     def __init__(self, columns, order, rows):
         self.columns, self.rows, self.first = [pick(column, order) for column in columns], rows, 0

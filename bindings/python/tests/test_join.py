@@ -173,7 +173,8 @@ class State(unittest.TestCase):
             self.assertEqual((each.right_rows, each.turn().answer), (5, IDLE))
 
     def test_others(self):
-        """Another layout word is refused by 2; too few bytes, too many and none are a ValueError; other words are judged by calls."""
+        """Another layout word is refused by 2; too few bytes, too many and none are a ValueError; other words are judged by
+        calls."""
         saved = self.half_way().state()
         with self.assertRaises(Refused) as caught:
             Join.from_state(struct.pack('=Q', LAYOUT - 1) + saved[8:])
