@@ -7,11 +7,13 @@ import pickle
 import struct
 import unittest
 from array import array
+from unittest import mock
 
 import rowkeeper
-from rowkeeper import Join, Refused, asof_join, join, lent
+from rowkeeper import Join, NoLibrary, Refused, asof_join, join, lent, library
 from rowkeeper.interface import (BAD_FRAME, BAD_JOIN, BAD_OPTIONS, CLOSED, DONE, IDLE, LAYOUT, LEFT_ORDER, MOST_ROWS, NO_ROOM, PORT_DONE,
-                                 PORT_READY, REFUSALS, REFUSED, RUNNING, TOO_MANY_CARRIED, TURNS_USED, WANTS_RIGHT, WROTE)
+                                 PORT_READY, REFUSALS, REFUSED, RUNNING, TOO_MANY_CARRIED, TURNS_USED, VERSION_NUMBER, WANTS_RIGHT,
+                                 WROTE)
 
 
 def frame(rows):
@@ -240,6 +242,22 @@ class Lent(unittest.TestCase):
         with self.assertRaises(Refused) as caught:
             join.turn(output)
         self.assertEqual((caught.exception.number, list(output)), (NO_ROOM, [7] * 5))
+
+
+class Library(unittest.TestCase):
+    """The shared object."""
+
+    def test_another_version(self):
+        """A library of another version is refused when it is loaded, in one line."""
+        with mock.patch.object(library, 'VERSION_NUMBER', VERSION_NUMBER + 1), self.assertRaises(NoLibrary) as caught:
+            library.loaded(library.place())
+        self.assertIn(f'the library has the number {VERSION_NUMBER}', str(caught.exception))
+
+    def test_none(self):
+        """A file that is not there, and one that has not the calls."""
+        for path in ('/no/such/librowkeeper.so', None):
+            with self.assertRaisesRegex(NoLibrary, 'the library cannot be loaded'):
+                library.loaded(path)
 
 
 class Papers(unittest.TestCase):

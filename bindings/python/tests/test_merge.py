@@ -173,6 +173,21 @@ class Pandas(unittest.TestCase):
         right['v'] = ['a', 'b', 'c']
         pandas.testing.assert_frame_equal(merge_asof(left, right, on='k'), pandas.merge_asof(left, right, on='k'))
 
+    def test_categories_in_another_order(self):
+        """Categories are matched by what they are, not by their place."""
+        left = pandas.DataFrame({'k': [1, 2], 'g': pandas.Categorical(['a', 'b'], categories=['a', 'b'])})
+        right = pandas.DataFrame({'k': [0, 1], 'g': pandas.Categorical(['b', 'a'], categories=['b', 'a']), 'v': [7, 8]})
+        ours, theirs = (merge(left, right, on='k', by='g') for merge in (merge_asof, pandas.merge_asof))
+        self.assertEqual(ours['v'].tolist(), [8, 7])
+        pandas.testing.assert_frame_equal(ours, theirs)
+
+    def test_names_that_are_no_text(self):
+        """A suffix makes text of a name, an empty one too; None leaves it as it is."""
+        left = pandas.DataFrame({'k': [1, 2], 5: [3, 4]})
+        for suffixes in (('', '_r'), (None, '_r'), ('_l', None), ('_l', '_r')):
+            ours, theirs = (merge(left, left, on='k', suffixes=suffixes) for merge in (merge_asof, pandas.merge_asof))
+            pandas.testing.assert_frame_equal(ours, theirs)
+
     def test_what_only_we_take(self):
         """Nullable integers as keys, numpy's timedelta as a tolerance, a Series with a name."""
         left = pandas.DataFrame({'k': pandas.array([1, 5], dtype='Int64')})
