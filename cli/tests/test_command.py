@@ -185,6 +185,15 @@ class Tables(Case):
         self.assertEqual(self.priced('m,t\r\n +05 ,"a, ""b""\r\nc"\r\n', '\ufeffm,t\r\n4,  ü ☂ \r\n', '--on', 'm'),
                          'm,t,notice_row,notice_m,notice_t\n +05 ,"a, ""b""\r\nc",0,4,  ü ☂ \n')
 
+    def test_numbers_are_carried_as_text(self):
+        """Cells of a notice that are whole numbers come out as they came in, also those that a number would be written
+        otherwise, and ones that are no number only in a later row: so the command looks them up by the notice's number."""
+        cells = ['7', '007', '+7', '-0', '', ' 7 ', '9' * 30, 'seven', '0']
+        sales = 'm\n' + ''.join(f'{row}\n' for row in range(len(cells)))
+        notices = 'm,price\n' + ''.join(f'{row},{cell}\n' for row, cell in enumerate(cells))
+        self.assertEqual(self.priced(sales, notices, '--on', 'm').splitlines()[1:],
+                         [f'{row},{row},{row},{cell}' for row, cell in enumerate(cells)])
+
     def test_four_by_columns(self):
         """The most by-columns, in another order of columns in each file."""
         self.assertEqual(self.priced('a,b,c,d,m\n1,2,3,4,9\n1,2,3,5,9\n', 'm,d,c,b,a\n8,4,3,2,1\n9,4,3,2,1\n',

@@ -55,7 +55,7 @@ fn copy_right(right: &[i64], base: usize, held: usize, c: usize, to: &mut [i64])
 
 // Whether areas have no room for the words that wait, or for the rows that are held.
 fn no_room(j: Join, left: &[i64], right: &[i64]) -> bool
-    requires { ⌜ j .options .by ≤ 4 ⌝ }
+    requires { ⌜ (j .options .by ≤ 4) × (j .options .carried ≤ 8) ⌝ }
     ensures { λ r. ⌜ r ≡ noRoomIn j (now (left .entry)) (now (right .entry)) ⌝ }
 {
     if left.len() < j.queue_words {

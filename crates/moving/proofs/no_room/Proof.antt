@@ -11,7 +11,7 @@ returns : tie.Need-returns
 returns c = rw (lt-ltb _ _ (c .if1 .taken))
 
 right-columns-requires : tie.Need-right-columns-requires
-right-columns-requires c κs = search needs
+right-columns-requires c κs = c .before .before .pre
 
 mul-result : tie.Need-mul-result
 mul-result c = omega (arith, c .right-columns .ensures, c .before .before .before .pre)
