@@ -171,8 +171,8 @@ class Join:
         return Ports(ported.left, ported.right, ported.send)
 
     def output_words(self):
-        """The words of an output that is enough for any turn."""
-        return 2 + 2 * c.MOST_ROWS * (1 + self._words.options.carried)
+        """The words of an output that is enough for any turn. A join that says it carries more than it may is refused."""
+        return 2 + 2 * c.MOST_ROWS * (1 + min(self._words.options.carried, c.MOST_CARRIED))
 
     def turn_at(self, address, length):
         """A turn's answer alone, over an output by its place. Whoever calls it has it lent."""
