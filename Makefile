@@ -21,6 +21,7 @@ ABI := $(shell sed -n 's/^abi //p' interface/rowkeeper.txt)
 SHARED := librowkeeper.so.$(ABI)
 PARTS := $(LIBDIR)/rowkeeper
 MODULES := $(wildcard cli/*.py)
+BINDING := $(wildcard bindings/python/rowkeeper/*.py)
 # The path from one folder to another.
 from = $(shell $(PYTHON) -c 'import os, sys; print(os.path.relpath(sys.argv[2], sys.argv[1]))' '$(1)' '$(2)')
 
@@ -33,7 +34,7 @@ all:
 
 install: all
 	$(INSTALL) -d '$(DESTDIR)$(BINDIR)' '$(DESTDIR)$(LIBDIR)/pkgconfig' '$(DESTDIR)$(INCLUDEDIR)' '$(DESTDIR)$(MANDIR)/man1' \
-	    '$(DESTDIR)$(DOCDIR)' '$(DESTDIR)$(PARTS)/cli'
+	    '$(DESTDIR)$(DOCDIR)' '$(DESTDIR)$(PARTS)/cli' '$(DESTDIR)$(PARTS)/rowkeeper'
 	$(INSTALL) -m 644 build/librowkeeper.a '$(DESTDIR)$(LIBDIR)/librowkeeper.a'
 	$(INSTALL) -m 755 'build/$(SHARED)' '$(DESTDIR)$(LIBDIR)/$(SHARED)'
 	ln -sf '$(SHARED)' '$(DESTDIR)$(LIBDIR)/librowkeeper.so'
@@ -41,7 +42,8 @@ install: all
 	sed -e 's|@PREFIX@|$(PREFIX)|' -e 's|@LIBDIR@|$(LIBDIR)|' -e 's|@INCLUDEDIR@|$(INCLUDEDIR)|' -e 's|@VERSION@|$(VERSION)|' \
 	    install/rowkeeper.pc.in >'$(DESTDIR)$(LIBDIR)/pkgconfig/rowkeeper.pc'
 	$(INSTALL) -m 644 $(MODULES) '$(DESTDIR)$(PARTS)/cli'
-	echo '$(call from,$(PARTS),$(LIBDIR)/$(SHARED))' >'$(DESTDIR)$(PARTS)/library'
+	$(INSTALL) -m 644 $(BINDING) '$(DESTDIR)$(PARTS)/rowkeeper'
+	ln -sf '$(call from,$(PARTS)/rowkeeper,$(LIBDIR)/$(SHARED))' '$(DESTDIR)$(PARTS)/rowkeeper/$(SHARED)'
 	sed "s|^PARTS = .*|PARTS = '$(call from,$(BINDIR),$(PARTS))'|" rowkeeper >'$(DESTDIR)$(BINDIR)/rowkeeper'
 	chmod 755 '$(DESTDIR)$(BINDIR)/rowkeeper'
 	$(PYTHON) -B -m cli.page >'$(DESTDIR)$(MANDIR)/man1/rowkeeper.1'
@@ -59,6 +61,7 @@ check:
 	hosttest/check
 	examples/c/check
 	install/check
+	bindings/python/check
 	cli/check
 
 clean:

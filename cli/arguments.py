@@ -1,8 +1,9 @@
 """The command line."""
 import argparse
 
+from rowkeeper.interface import MOST_BY, STRATEGIES, VERSION
+
 from .cells import MOST, number
-from .interface import MOST_BY, STRATEGIES, VERSION
 from .page import PAGE, SHORT
 from .problem import BAD_USAGE, Problem
 

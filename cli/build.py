@@ -1,44 +1,25 @@
-"""Where the library's shared object is: of an installed command beside it, in the repository made from dist/ when it is needed."""
-import functools
+"""Where the library's shared object is, or the line and the status that the command ends with: the module rowkeeper finds it."""
 import os
 import sys
+
+from rowkeeper import NoLibrary, library
 
 from .problem import NO_LIBRARY, Problem
 
 ROOT = os.path.dirname(os.path.dirname(os.path.realpath(__file__)))
-# What `make install` writes beside the package: the path from there to the shared object.
-INSTALLED = os.path.join(ROOT, 'library')
 
 
-def say(line):
-    """A line for the user, on standard error."""
-    print(f'rowkeeper: {line}', file=sys.stderr, flush=True)
-
-
-def from_dist():
-    """The shared object of the repository; if crates were edited and dist/ was not made again, a line says so."""
-    from tools.parts import library
-    from tools.parts.sources import Missing
+def told(find):
+    """What a function of the library's finder gives; a Problem if there is no library."""
     try:
-        if not os.environ.get('ROWKEEPER_ARCHIVE') and library.stale():
-            say(library.stale())
-        return library.shared()
-    except Missing as missing:
+        return find()
+    except NoLibrary as missing:
         raise Problem(str(missing), NO_LIBRARY) from None
-
-
-@functools.lru_cache(maxsize=None)
-def shared_object():
-    """The path of the shared object, looked for once a process."""
-    if not os.path.exists(INSTALLED):
-        return from_dist()
-    with open(INSTALLED, encoding='utf-8') as file:
-        return os.path.join(ROOT, file.read().strip())
 
 
 if __name__ == '__main__':
     try:
-        print(shared_object())
+        print(told(library.place))
     except Problem as problem:
-        say(str(problem))
+        print(f'rowkeeper: {problem}', file=sys.stderr)
         sys.exit(problem.status)

@@ -1,5 +1,5 @@
 """What a run did, in a few lines for --explain."""
-from .interface import IDLE, WANTS_RIGHT, WROTE
+from rowkeeper.interface import IDLE, WANTS_RIGHT, WROTE
 
 
 def count(number, what):
@@ -19,12 +19,12 @@ def explanation(args, pricing):
         ('by', by),
         ('order', f'{order}; {"checked" if args.check else "not checked"}'),
         ('sales', f'{count(pricing.sales.rows, "row")} in {count(pricing.left_frames, "frame")}'),
-        ('notices', f'{count(pricing.notices.rows, "row")} read, {join.words.pruned + join.words.held:,} of them handed in, in '
+        ('notices', f'{count(pricing.notices.rows, "row")} read, {join.pruned + join.held:,} of them handed in, in '
                     f'{count(pricing.right_frames, "frame")}'),
         ('matches', f'{count(pricing.matched, "sale")} with a notice, {pricing.sales.rows - pricing.matched:,} without'),
         ('turns', f'{turns[WROTE]:,} wrote, {turns[WANTS_RIGHT]:,} wanted notices, {turns[IDLE]:,} idle'),
-        ('left area', f'{len(join.left_area):,} words, at most {join.most_waiting:,} used'),
-        ('right area', f'{len(join.right_area):,} words, room for {join.right_rows():,} notices, at most '
+        ('left area', f'{join.left_words:,} words, at most {join.most_waiting:,} used'),
+        ('right area', f'{join.right_words:,} words, room for {join.right_rows:,} notices, at most '
                        f'{join.most_held:,} held, enlarged {count(join.grown, "time")}'),
         ('output', f'{len(join.output):,} words'),
     ]

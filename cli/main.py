@@ -4,9 +4,7 @@ import os
 import signal
 import sys
 
-from . import library
 from .arguments import parse
-from .build import shared_object
 from .explain import explanation
 from .joined import Join
 from .order import Order
@@ -28,8 +26,7 @@ def price(args):
         sales, notices = (stack.enter_context(contextlib.closing(Source(path, order, args.check)))
                           for path in (args.sales, args.notices))
         target = sink(args.output, [args.sales, args.notices])
-        options = library.options(order, args.strategy, args.exact, args.tolerance, args.check)
-        join = Join(library.load(shared_object()), options)
+        join = Join(order, args.strategy, args.exact, args.tolerance, args.check)
         stack.callback(progress.clear)
         writer = stack.enter_context(target)
         pricing = Pricing(sales, notices, join, writer, progress)

@@ -1,7 +1,7 @@
 """The help pages: what `--help` prints, and the same text as a man page.
 
 python3 -m cli.page   prints the man page"""
-from .interface import VERSION
+from rowkeeper.interface import VERSION
 
 SHORT = '''usage: rowkeeper join SALES.csv NOTICES.csv --on KEY [--by COLUMN] [options]
        rowkeeper --help | --version

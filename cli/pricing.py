@@ -1,7 +1,7 @@
 """The main job: sales and notices go through the join in frames, and each sale is written with its notice."""
-from .cells import frame_words
-from .interface import IDLE, MOST_ROWS, WANTS_RIGHT
+from rowkeeper.interface import IDLE, MOST_ROWS, WANTS_RIGHT
 
+from .cells import frame_words
 
 # The rows of a frame: as many as the library takes. A turn costs the frame's sales and the notices held, so a full frame
 # has the fewest notices to pass for each of its sales.
@@ -93,14 +93,14 @@ class Pricing:
         self.writer.writerows([cells + found(number) for cells, number in zip(self.waiting.cells, matches)])
         self.matched += len(matches) - matches.count(None)
         self.heights.learn(self.called)
-        self.kept.drop(self.join.words.pruned)
+        self.kept.drop(self.join.pruned)
 
     def run(self):
         """Prices all sales. With the check on, the rest of the notices is read too: one that is out of order might have
         been a sale's notice."""
         self.writer.writerow(self.header())
         while True:
-            answer = self.join.turn()
+            answer = self.join.answer()
             if answer == IDLE:
                 if not self.next_sales():
                     break

@@ -1,4 +1,4 @@
-"""The declarations of the command: cli/interface.py."""
+"""The declarations of the Python module, which the command uses too: bindings/python/rowkeeper/interface.py."""
 import textwrap
 
 from .reader import camel, sentence
@@ -38,7 +38,9 @@ def module(d):
     """The whole module."""
     lines = ['"""The C interface: numbers, texts, structs and calls. Written by tools/interface from interface/rowkeeper.txt."""',
              'import ctypes', 'from ctypes import c_int64, c_size_t, c_uint64, c_void_p', '',
-             '# The version of the library that these declarations are of.', f"VERSION = '{d.version.text}'", f'VERSION_NUMBER = {d.version.number}']
+             '# The version of the library that these declarations are of.', f"VERSION = '{d.version.text}'", f'VERSION_NUMBER = {d.version.number}',
+             '', '# The name of its shared object, which has another number if a host must be compiled anew.',
+             f"SONAME = 'librowkeeper.so.{d.abi}'"]
     for each in d.constants:
         lines += ['', f'# {" ".join(each.comment)}', f'{each.name} = {each.text}']
     for enum in d.enums:

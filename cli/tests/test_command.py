@@ -7,8 +7,9 @@ import sys
 import time
 import unittest
 
+from rowkeeper.interface import VERSION
+
 from ..build import ROOT
-from ..interface import VERSION
 from ..page import PAGE, man
 from .command import PROGRAM, SEASON, Case, apart, within
 

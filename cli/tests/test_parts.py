@@ -5,12 +5,12 @@ import os
 import unittest
 from unittest import mock
 
-from tools.parts import library
+import rowkeeper.library
+from rowkeeper.interface import VERSION, Join
 
 from .. import build
 from ..arguments import parse, parser
 from ..cells import column_numbers, frame_words, number
-from ..interface import VERSION, Join
 from ..order import Order
 from ..page import PAGE
 from ..pricing import Heights
@@ -19,6 +19,9 @@ from ..progress import Progress
 from ..source import Source
 from .command import Case
 from .judge import row_before
+
+# What makes the library in the repository.
+library = rowkeeper.library.maker()
 
 
 class Cells(unittest.TestCase):
@@ -235,7 +238,7 @@ class Building(Case):
             with mock.patch.dict(os.environ, {name: value}), mock.patch('sys.stderr', io.StringIO()), \
                     mock.patch.object(library, 'BUILD', os.path.join(self.folder, 'build')):
                 with self.assertRaises(Problem) as caught:
-                    build.from_dist()
+                    build.told(rowkeeper.library.from_dist)
             self.assertIn(said, str(caught.exception))
             self.assertEqual(caught.exception.status, 3)
         left = [file for _, _, files in os.walk(os.path.join(self.folder, 'build')) for file in files]

@@ -5,9 +5,8 @@ import os
 import random
 import unittest
 
-from .. import library
-from ..build import shared_object
-from ..interface import STRATEGIES
+from rowkeeper.interface import STRATEGIES
+
 from ..joined import Join
 from ..order import Order
 from ..pricing import Heights, Pricing
@@ -89,14 +88,12 @@ class RandomTables(Case):
 
     def test_cut_in_small_frames(self):
         """Frames of a few rows, an area that must grow: no cutting changes a match."""
-        object_ = library.load(shared_object())
         grown = 0
         for seed in range(TABLES):
             r = random.Random(seed)
             tables = Tables(r)
             order = Order(tables.by, 'm', tables.descending, tables.nulls_last)
-            options = library.options(order, tables.strategy, tables.exact, tables.tolerance, tables.check)
-            join = Join(object_, options, right_rows=r.choice((0, 1, 5)))
+            join = Join(order, tables.strategy, tables.exact, tables.tolerance, tables.check, right_rows=r.choice((0, 1, 5)))
             sales, notices = (Source(path, order, tables.check) for path in self.files(tables, r))
             out = io.StringIO(newline='')
             heights = Heights(r.randrange(1, 6), r.choice((1, 100)), r.randrange(1, 6))
@@ -106,7 +103,7 @@ class RandomTables(Case):
                 tables.judge(self, out.getvalue())
                 self.assertEqual(sales.rows, len(tables.sales))
                 self.assertEqual(pricing.matched, len(tables.matches) - tables.matches.count(None))
-                self.assertEqual(len(pricing.kept.rows), join.words.held)
+                self.assertEqual(len(pricing.kept.rows), join.held)
             grown += join.grown
             sales.close(), notices.close()
         self.assertGreater(grown, TABLES // 4)

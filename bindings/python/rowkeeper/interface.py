@@ -6,6 +6,9 @@ from ctypes import c_int64, c_size_t, c_uint64, c_void_p
 VERSION = '0.2.0'
 VERSION_NUMBER = 2000
 
+# The name of its shared object, which has another number if a host must be compiled anew.
+SONAME = 'librowkeeper.so.1'
+
 # The rows that a frame can have at most.
 MOST_ROWS = 4096
 
@@ -32,6 +35,8 @@ STRATEGIES = ('backward', 'forward', 'nearest')
 CHECK_OFF = 0
 CHECK_ON = 1
 CHECK_STRICT = 2
+# Their names, in the order of their numbers.
+CHECKS = ('off', 'on', 'strict')
 
 # join.state
 RUNNING = 0

@@ -1,0 +1,300 @@
+"""A join with the areas that it works in, and what its calls answer."""
+import collections
+import ctypes
+import struct
+import threading
+
+from . import interface as c
+from .lent import WORD, Area, lent
+from .library import library
+
+# The bytes of a saved join before its areas: its own words, and the lengths of the two.
+JOIN_BYTES = ctypes.sizeof(c.Join)
+LENGTHS = struct.Struct('=2q')
+
+Ports = collections.namedtuple('Ports', 'left right send')
+Ports.__doc__ = 'The states of the three ports: PORT_BLOCKED, PORT_READY or PORT_DONE each.'
+Turn = collections.namedtuple('Turn', 'answer sequence matches')
+Turn.__doc__ = """A turn's answer: WROTE, WANTS_RIGHT or IDLE. If it wrote, the number of its frame (0, 2, 4 and so on) and the
+matches; else None and None."""
+Run = collections.namedtuple('Run', 'stop refusal turns')
+Run.__doc__ = """What a run made: what stopped it (TURNS_USED, WANTS_RIGHT, IDLE or REFUSED), the Refused of the turn that stopped
+it or None, and a Turn for each turn that wrote. These stand whatever stopped the run."""
+
+
+class Refused(Exception):
+    """A call that the library refused: `number` says which condition, `text` says it in words."""
+
+    def __init__(self, number):
+        self.number = number
+        self.text = c.REFUSALS.get(number, 'a refusal that this version does not know')
+        super().__init__(f'refused by {number}: {self.text}')
+
+    def __reduce__(self):
+        """A refusal of the same number, for a host that hands it to another process."""
+        return Refused, (self.number,)
+
+
+def expect(number):
+    """Raises the refusal of a number, if it is one."""
+    if number:
+        raise Refused(number)
+
+
+def number_or_bad(number):
+    """A number that an option can hold, or one that is refused."""
+    return number if 0 <= number < 2**63 else 2**64 - 1
+
+
+def options(by=0, strategy='backward', allow_exact_matches=True, tolerance=None, check='on', descending=(), nulls_last=(),
+            carried=0):
+    """The options of a join in numbers. What no number can say is said by one that is refused; a name that is none, or more
+    flags than columns, is a ValueError."""
+    if strategy not in c.STRATEGIES:
+        raise ValueError(f'strategy {strategy!r} is none of {", ".join(c.STRATEGIES)}')
+    if check not in c.CHECKS:
+        raise ValueError(f'check {check!r} is none of {", ".join(c.CHECKS)}')
+    if max(len(descending), len(nulls_last)) > c.MOST_BY:
+        raise ValueError(f'descending and nulls_last are flags of at most {c.MOST_BY} by-columns')
+    if tolerance is not None:
+        tolerance = tolerance if 0 <= tolerance < 2**63 else -2**63
+    types = dict(c.Options._fields_)
+    return c.Options(by=number_or_bad(by), strategy=c.STRATEGIES.index(strategy), allow_eq=bool(allow_exact_matches),
+                     tolerance=c.NO_TOLERANCE if tolerance is None else tolerance, check=c.CHECKS.index(check),
+                     descending=types['descending'](*map(bool, descending)),
+                     nulls_last=types['nulls_last'](*map(bool, nulls_last)),
+                     carried=number_or_bad(carried))
+
+
+class Matches:
+    """What a turn wrote: for each left row of its frame the right row and what that carries, seen in the output's words."""
+
+    def __init__(self, words):
+        rows, self.columns = words[0], words[1]
+        self.words = words[:2 + 2 * rows * self.columns]
+        self.values, self.marks = self.words[2:2 + rows * self.columns], self.words[2 + rows * self.columns:]
+
+    def __len__(self):
+        """How many left rows."""
+        return len(self.values) // self.columns
+
+    @property
+    def carried(self):
+        """How many columns right rows carry."""
+        return self.columns - 1
+
+    def numbers(self):
+        """For each left row the number of its right row, or None."""
+        step = self.columns
+        return [number if mark else None for number, mark in zip(self.values[::step], self.marks[::step])]
+
+    def __iter__(self):
+        """The numbers one by one."""
+        return iter(self.numbers())
+
+    def cells(self, column):
+        """For each left row what its right row carries in a column, from 0: None for a null and where there is no match."""
+        if not 0 <= column < self.carried:
+            raise IndexError(f'the join carries {self.carried} columns, and {column} is none of them')
+        values, marks = self.values[1 + column::self.columns], self.marks[1 + column::self.columns]
+        return [value if mark else None for value, mark in zip(values, marks)]
+
+    def rows(self):
+        """For each left row a tuple, the number of its right row and the cells that it carries, or None where there is no
+        match."""
+        columns = [self.cells(column) for column in range(self.carried)]
+        return [None if row[0] is None else row for row in zip(self.numbers(), *columns)]
+
+
+class Join:
+    """An open join. It owns the areas that it works in, for so many left rows that wait in one frame and so many right rows
+    that are held at once; `grow` makes them larger. Every call goes on with what the last one handed back. A call that is
+    refused raises Refused, and changes nothing but that 8 and 9 mark the join failed. Frames are anything with the buffer
+    protocol of 64-bit numbers.
+
+    >>> from array import array
+    >>> join = Join(carried=1)
+    >>> join.right(array('q', [3, 2,  10, 1800,  20, 0,  30, 2500,  1, 1,  1, 0,  1, 1]))
+    >>> join.left(array('q', [3, 1,  5, 15, 25,  1, 1, 1]))
+    >>> join.turn().matches.rows()
+    [None, (0, 1800), (1, None)]
+    """
+
+    def __init__(self, by=0, strategy='backward', allow_exact_matches=True, tolerance=None, check='on', descending=(),
+                 nulls_last=(), carried=0, left_rows=c.MOST_ROWS, right_rows=2 * c.MOST_ROWS):
+        given = options(by, strategy, allow_exact_matches, tolerance, check, descending, nulls_last, carried)
+        took = library().rowkeeper_open(given)
+        expect(took.refusal)
+        self._set(took.join, Area(2 + 2 * left_rows * (by + 1)), Area(2 * right_rows * (by + 1 + carried)))
+
+    def _set(self, words, left, right):
+        """Takes the parts of a join for its own."""
+        self._words, self._left, self._right = words, left, right
+        self._areas = left.lent() + right.lent()
+        self._library, self._lock = library(), threading.Lock()
+
+    def _took(self, took):
+        """Goes on with the join that a call handed back, refused or not."""
+        self._words = took.join
+        expect(took.refusal)
+
+    def left(self, frame):
+        """Hands in a left frame, which then waits. Its words are copied: the host may alter them afterwards."""
+        with lent(frame, 'the left frame') as words:
+            self.left_at(*words)
+
+    def left_at(self, address, length):
+        """Hands in a left frame by its place. Whoever calls it has it lent."""
+        with self._lock:
+            self._took(self._library.rowkeeper_left(self._words, *self._areas, address, length))
+
+    def right(self, frame):
+        """Hands in a right frame, whose rows are then held. Its words are copied: the host may alter them afterwards."""
+        with lent(frame, 'the right frame') as words:
+            self.right_at(*words)
+
+    def right_at(self, address, length):
+        """Hands in a right frame by its place. Whoever calls it has it lent."""
+        with self._lock:
+            self._took(self._library.rowkeeper_right(self._words, *self._areas, address, length))
+
+    def end_right(self):
+        """Ends right: no right frame comes any more."""
+        with self._lock:
+            self._took(self._library.rowkeeper_end_right(self._words, *self._areas))
+
+    def ports(self, left, right, send):
+        """A port call: what the ports say comes in, what they are told comes back. This is also how left ends."""
+        with self._lock:
+            ported = self._library.rowkeeper_ports(self._words, *self._areas, *map(number_or_bad, (left, right, send)))
+            self._took(ported)
+        return Ports(ported.left, ported.right, ported.send)
+
+    def output_words(self):
+        """The words of an output that is enough for any turn. A join that says it carries more than it may is refused."""
+        return 2 + 2 * c.MOST_ROWS * (1 + min(self._words.options.carried, c.MOST_CARRIED))
+
+    def turn_at(self, address, length):
+        """A turn's answer alone, over an output by its place. Whoever calls it has it lent."""
+        with self._lock:
+            turned = self._library.rowkeeper_turn(self._words, *self._areas, address, length)
+            self._took(turned)
+        return turned.answer
+
+    def turn_into(self, output):
+        """A turn's answer alone; if it wrote, the matches are in the output."""
+        with lent(output, 'the output', write=True) as words:
+            return self.turn_at(*words)
+
+    def turn(self, output=None):
+        """A turn: the matches of the frame that has waited longest, written to the output, or to a new one."""
+        output, sequence = Area(self.output_words()).words() if output is None else output, self._words.sequence
+        answer = self.turn_into(output)
+        if answer != c.WROTE:
+            return Turn(answer, None, None)
+        return Turn(answer, sequence, Matches(memoryview(output).cast('B').cast('q')))
+
+    def run(self, turns=None, output=None):
+        """A run: so many turns at most, or as many as can be, each writing behind the one before; the first that does not write
+        ends it. A turn that is refused is told and not raised: what the turns before it wrote stands."""
+        if output is None:
+            output = Area(self._words.queue_words * (1 + self._words.options.carried)).words()
+        first, most = self._words.sequence, 2**64 - 1 if turns is None else min(max(turns, 0), 2**64 - 1)
+        with self._lock, lent(output, 'the output', write=True) as words:
+            ran = self._library.rowkeeper_run(self._words, most, *self._areas, *words)
+            self._words = ran.join
+        refusal = Refused(ran.refusal) if ran.stop == c.REFUSED else None
+        return Run(ran.stop, refusal, self._turns(memoryview(output).cast('B').cast('q'), first, ran.turns))
+
+    @staticmethod
+    def _turns(words, first, count):
+        """What the turns of a run wrote, one behind the other."""
+        turns = []
+        for turn in range(count):
+            matches = Matches(words)
+            turns.append(Turn(c.WROTE, first + 2 * turn, matches))
+            words = words[len(matches.words):]
+        return turns
+
+    def grow(self, left_words=0, right_rows=0):
+        """Makes areas larger, the left one to so many words at least, the right one to so many rows; what waits and what is
+        held stays, and no later answer is another one, save that frames find more room. Nothing is done if they are as
+        large."""
+        width = 2 * (self._words.options.by + 1 + self._words.options.carried)
+        if left_words <= self._left.length and right_rows * width <= self._right.length:
+            return
+        left, right = Area(max(left_words, self._left.length)), Area(max(right_rows * width, self._right.length))
+        with self._lock:
+            took = self._library.rowkeeper_move(self._words, *self._areas, *left.lent(), *right.lent())
+            expect(took.refusal)
+            self._words, self._left, self._right, self._areas = took.join, left, right, left.lent() + right.lent()
+
+    def state(self):
+        """All that the join is, as bytes for a file: its words, the first of which says their layout, and its areas."""
+        with self._lock:
+            lengths = LENGTHS.pack(self._left.length, self._right.length)
+            return bytes(self._words) + lengths + self._left.bytes + self._right.bytes
+
+    @classmethod
+    def from_state(cls, saved):
+        """The join that `state` gave. Bytes that are none are a ValueError; a join of another layout is refused by 2.
+        Whatever else they say, every call judges them."""
+        saved = bytes(saved)
+        if len(saved) < JOIN_BYTES + LENGTHS.size:
+            raise ValueError(f'{len(saved)} bytes are no saved join')
+        words = c.Join.from_buffer_copy(saved)
+        if words.layout != c.LAYOUT:
+            raise Refused(c.BAD_JOIN)
+        lengths, rest = LENGTHS.unpack_from(saved, JOIN_BYTES), saved[JOIN_BYTES + LENGTHS.size:]
+        if min(lengths) < 0 or WORD * sum(lengths) != len(rest):
+            raise ValueError('the saved join does not have the words of its areas')
+        areas = [Area(length) for length in lengths]
+        areas[0].bytes[:], areas[1].bytes[:] = rest[:WORD * lengths[0]], rest[WORD * lengths[0]:]
+        join = cls.__new__(cls)
+        join._set(words, *areas)
+        return join
+
+    @property
+    def node_state(self):
+        """The node's state: RUNNING, FLUSH or DONE."""
+        return self._words.state
+
+    @property
+    def held(self):
+        """How many right rows are held."""
+        return self._words.held
+
+    @property
+    def pruned(self):
+        """How many right rows were dropped."""
+        return self._words.pruned
+
+    @property
+    def waiting_words(self):
+        """How many words of left frames wait."""
+        return self._words.queue_words
+
+    @property
+    def right_ended(self):
+        """Whether right has ended."""
+        return self._words.right_ended == 1
+
+    @property
+    def failed(self):
+        """Whether a turn found rows out of order; every call is refused then."""
+        return self._words.failed == 1
+
+    @property
+    def left_words(self):
+        """The words of the left area."""
+        return self._left.length
+
+    @property
+    def right_words(self):
+        """The words of the right area."""
+        return self._right.length
+
+    @property
+    def right_rows(self):
+        """The right rows that the area has room for: R of docs/SCOPE.md, 5.4."""
+        return self._right.length // (2 * (self._words.options.by + 1 + self._words.options.carried))

@@ -1,0 +1,66 @@
+"""Words that a call is lent: where they are and how many, held for as long as the call takes."""
+import contextlib
+import ctypes
+from ctypes import c_char_p, c_int, c_ssize_t, c_void_p
+
+# What is asked of a buffer (object.h): its format, in one piece, and that it may be written.
+FORMAT_IN_ONE_PIECE, WRITABLE = 0x4 | 0x38, 0x1
+# The formats of 64-bit whole numbers with a sign, without the letter for the order of bytes.
+SIGNED = ('q', 'l')
+# The bytes of a word.
+WORD = 8
+
+
+class Buffer(ctypes.Structure):
+    """Py_buffer of Python's C interface."""
+    _fields_ = [('buf', c_void_p), ('obj', c_void_p), ('len', c_ssize_t), ('itemsize', c_ssize_t), ('readonly', c_int),
+                ('ndim', c_int), ('format', c_char_p), ('shape', c_void_p), ('strides', c_void_p), ('suboffsets', c_void_p),
+                ('internal', c_void_p)]
+
+
+get, release = ctypes.pythonapi.PyObject_GetBuffer, ctypes.pythonapi.PyBuffer_Release
+get.argtypes, get.restype = [ctypes.py_object, ctypes.POINTER(Buffer), c_int], c_int
+release.argtypes, release.restype = [ctypes.POINTER(Buffer)], None
+
+
+def judge(buffer, what):
+    """ValueError unless a buffer is of words, at a place where words can be."""
+    letters = (buffer.format or b'B').decode('ascii', 'replace').lstrip('@=<')
+    if buffer.itemsize != WORD or letters not in SIGNED:
+        raise ValueError(f'{what} is of format {letters!r}: 64-bit whole numbers with a sign are wanted')
+    if buffer.len and buffer.buf % WORD:
+        raise ValueError(f'{what} does not begin at a multiple of 8 bytes')
+
+
+@contextlib.contextmanager
+def lent(owner, what, write=False):
+    """The words of anything with the buffer protocol: their address and how many. As long as they are lent, the owner neither
+    frees nor moves them."""
+    buffer = Buffer()
+    try:
+        get(owner, ctypes.byref(buffer), FORMAT_IN_ONE_PIECE | (WRITABLE if write else 0))
+    except (TypeError, BufferError, ValueError) as error:
+        raise ValueError(f'{what} cannot be lent: {error}') from None
+    try:
+        judge(buffer, what)
+        yield buffer.buf, buffer.len // WORD
+    finally:
+        release(ctypes.byref(buffer))
+
+
+class Area:
+    """Words that a join owns. They stay where they are as long as the area is there."""
+
+    def __init__(self, words):
+        self.bytes = bytearray(WORD * words)
+        self.length = words
+        self.held = ctypes.c_char.from_buffer(self.bytes) if words else None
+        self.address = ctypes.addressof(self.held) if words else None
+
+    def lent(self):
+        """Where they are, and how many."""
+        return self.address, self.length
+
+    def words(self):
+        """A view of the words."""
+        return memoryview(self.bytes).cast('q')

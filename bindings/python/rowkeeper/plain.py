@@ -1,0 +1,137 @@
+"""Columns without numpy: arrays of the standard library and views of memory. No loop of Python goes over rows: slices, and the
+loops of the interpreter's own functions."""
+import operator
+from array import array
+from itertools import compress, count, islice, repeat
+
+from .columns import WANTED, parted, same_length, unsorted
+from .interface import MOST_ROWS
+
+# The formats of whole numbers, and that of 64 bits without a sign.
+WHOLE, SIGNED, UNSIGNED = 'bBhHiIlLqQ', 'ql', 'QL'
+LOWEST = -2**63
+
+
+def numbers(column, name):
+    """The numbers of a column, whether they are of 64 bits without a sign, and which of them are there, or None."""
+    values, valid = parted(column)
+    try:
+        view = memoryview(values)
+    except TypeError:
+        raise ValueError(f'{name} is a {type(values).__name__}: an object with the buffer protocol is wanted') from None
+    letter = view.format.lstrip('@=<')
+    if letter not in tuple(WHOLE) or view.ndim != 1:
+        raise ValueError(f'{name} has the format {view.format!r} in {view.ndim} dimensions: {WANTED}')
+    if valid is not None:
+        valid = bytes(map(bool, valid))
+        same_length(len(valid), len(view), f'the validity of {name}')
+    unsigned = letter in tuple(UNSIGNED) and view.itemsize == 8
+    return (view if unsigned else array('q', view)), unsigned, valid
+
+
+def paired(left, right, names):
+    """Two columns, one of each side, in numbers that compare as they do; with which of them are there."""
+    (one, one_high, one_valid), (other, other_high, other_valid) = (numbers(*pair) for pair in zip((left, right), names))
+    if one_high and other_high:
+        one, other = (array('q', map(LOWEST.__add__, each)) for each in (one, other))
+    try:
+        return array('q', one), one_valid, array('q', other), other_valid
+    except OverflowError:
+        raise ValueError(f'{names[0]} and {names[1]}: one has numbers above 64 bits with a sign, and the other has a sign') from None
+
+
+def both(valid, other):
+    """Which rows are there in two columns."""
+    if valid is None or other is None:
+        return other if valid is None else valid
+    return bytes(map(operator.and_, valid, other))
+
+
+def codes(columns):
+    """A number for each row of both sides, the same for rows with the same by-values: the by-columns of both sides come in."""
+    lefts, rights = columns
+    if len(lefts) == 1:
+        return lefts[0], rights[0]
+    seen = {}
+    return tuple(array('q', map(seen.setdefault, zip(*side), count(start))) for side, start in
+                 ((lefts, 0), (rights, len(lefts[0]))))
+
+
+def rows_in_order(groups, valid, rows):
+    """The rows that are handed in, sorted by their groups and else as they stand; None if all are and stand so."""
+    if groups is not None and any(map(operator.lt, islice(groups, 1, None), groups)):
+        order = sorted(range(rows), key=groups.__getitem__)
+        return array('q', order if valid is None else filter(valid.__getitem__, order))
+    return None if valid is None else array('q', compress(range(rows), valid))
+
+
+def pick(values, order):
+    """The values of some rows."""
+    return values if order is None else array('q', map(values.__getitem__, order))
+
+
+def check_order(keys, groups, order, name):
+    """ValueError with the row if, among the rows that are handed in, a key is smaller than the one before it in its group."""
+    keys = pick(keys, order)
+    falls = map(operator.lt, islice(keys, 1, None), keys)
+    if groups is not None:
+        groups = pick(groups, order)
+        falls = map(operator.and_, falls, map(operator.eq, islice(groups, 1, None), groups))
+    fault = next(compress(count(1), falls), None)
+    if fault is not None:
+        raise unsorted(name, *((fault, fault - 1) if order is None else (order[fault], order[fault - 1])))
+
+
+class Frames:
+    """The frames of these columns, none of which has a null: of 4,096 rows each, save the last, one after another in the
+    same words, since a call copies those of a frame."""
+
+    def __init__(self, columns, order, rows):
+        self.columns, self.rows, self.first = [pick(column, order) for column in columns], rows, 0
+        self.words = array('q', [1]) * (2 + 2 * MOST_ROWS * len(columns))
+
+    def next(self):
+        """Writes the next frame; how many words it has, 0 if there is none."""
+        width, height = len(self.columns), min(MOST_ROWS, self.rows - self.first)
+        if not height:
+            return 0
+        self.words[0], self.words[1] = height, width
+        if height < MOST_ROWS:
+            self.words[2 + height * width:2 + 2 * height * width] = array('q', [1]) * (height * width)
+        for place, column in enumerate(self.columns, 2):
+            self.words[place:2 + height * width:width] = column[self.first:self.first + height]
+        self.first += height
+        return 2 + 2 * height * width
+
+
+class Found:
+    """The matches of all left rows, put together from those of frames."""
+
+    def __init__(self, rows, left_order, right_order):
+        self.rows, self.left_order, self.right_order, self.matches = rows, left_order, right_order, array('q')
+        self.output = array('q', bytes(8 * (2 + 2 * MOST_ROWS)))
+
+    def take(self):
+        """Takes what a turn wrote: its numbers, -1 where there is none."""
+        height = self.output[0]
+        values, marks = self.output[2:2 + height], self.output[2 + height:2 + 2 * height]
+        self.matches.extend(map((-1).__add__, map(operator.add, values, marks)))
+
+    def positions(self):
+        """The right rows by their own places, for the left rows in theirs."""
+        found = self.matches
+        if self.right_order is not None:
+            places = dict(enumerate(self.right_order))
+            found = array('q', map(places.get, found, repeat(-1)))
+        if self.left_order is None:
+            return found
+        return array('q', map(dict(zip(self.left_order, found)).get, range(self.rows), repeat(-1)))
+
+
+class Nothing:
+    """No right row: the matches of left rows where there is none to match."""
+
+    @staticmethod
+    def positions(rows):
+        """-1 for each left row."""
+        return array('q', [-1]) * rows

@@ -1,0 +1,1 @@
+"""Tests of the module rowkeeper. They are run from the folder above: python3 -m unittest."""
