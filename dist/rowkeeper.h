@@ -114,8 +114,9 @@
  * wants them are passed by every turn in between, unless the strategy is Forward and the check is off.
  * In instructions, counted by callgrind: a left or a right call about 500, and 4.9 for each word of its frame; a turn that
  * writes, for each row of a full frame, 101 without by-columns and 155 with one, all passes over both sides included, with
- * the check on 127 and 254; a held row ahead of the frame 5 (Backward); a turn that wants right rows 1,100 to 1,400 without
- * by-columns, and 3 for each word of the frame that waits. docs/BENCH.md has these and the times.
+ * the check on 125 and 226, and some 27 for each cell that is carried; a held row ahead of the frame 5 (Backward); a turn
+ * that wants right rows 1,100 to 1,400 without by-columns, and 3 for each word of the frame that waits. docs/BENCH.md has
+ * these and the times.
  *
  * REFUSALS
  *
