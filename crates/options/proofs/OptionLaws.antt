@@ -6,7 +6,7 @@ use native.Mathlib.Omega.{arith}
 use borrow.Author.Tests.{ltb-false}
 use lib.Dec.{ltb}
 use lib.Signed.{ltZ}
-use Rattle.options.specs.Options.{badOptions, manyCarried, refusedOptions}
+use Rattle.options.specs.Options.{badOptions, manyCarried, badRanked, refusedOptions, Few}
 use Rattle.options.specs.declared.Options.{Options}
 
 -- Of an `||` that is false each side is.
@@ -22,24 +22,25 @@ few-columns o e =
     let q = or-both (ltb 4 (o .by) || ltb 2 (o .strategy)) _ (p .0) in
     ltb-false 4 (o .by) (or-both (ltb 4 (o .by)) _ (q .0) .0)
 
--- Options that opening does not refuse: SCOPE 3.6 and 3.8 hold of them, so their columns are few.
+-- Options that opening does not refuse: SCOPE 3.6, 3.8 and 3.10 hold of them, so their columns are few.
 pub record Allowed (o : Options) : Type 0 where
   pub options : badOptions o ≡ false
-  pub few : o .by ≤ 4
+  pub few : Few o
   pub carried : o .carried ≤ 8
 
 pub allowed-parts : (o : Options) → refusedOptions o ≡ false → Allowed o
 unfolding refusedOptions
 allowed-parts o e =
-    let p = or-both (badOptions o) (manyCarried o) e in
-    record { options = p .0; few = few-columns o (p .0); carried = ltb-false 8 (o .carried) (p .1) }
+    let p = or-both (badOptions o || manyCarried o) (badRanked o) e in
+    let q = or-both (badOptions o) (manyCarried o) (p .0) in
+    record { options = q .0; few = record { by = few-columns o (q .0); list = p .1 }; carried = ltb-false 8 (o .carried) (q .1) }
 
 -- Invalid options are refused.
 pub bad-refused : (o : Options) → badOptions o ≡ true → refusedOptions o ≡ true
 unfolding refusedOptions
 bad-refused o e = rw e
 
--- Options that are valid and carry few columns are not refused.
-pub good-allowed : (o : Options) → badOptions o ≡ false → manyCarried o ≡ false → refusedOptions o ≡ false
+-- Options that are valid, carry few columns and have no bad list are not refused.
+pub good-allowed : (o : Options) → badOptions o ≡ false → manyCarried o ≡ false → badRanked o ≡ false → refusedOptions o ≡ false
 unfolding refusedOptions
-good-allowed o e f = rw (e, f)
+good-allowed o e f g = rw (e, f, g)
