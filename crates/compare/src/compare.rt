@@ -1,14 +1,19 @@
 // The order of cells, groups and rows, and the distance of two keys. A row is told by the place of its first word among values and among marks.
 use options::Options;
+use options::is_ranked;
 use order::Order;
+use ranking::place_of;
+use ranks::Ranks;
 ghost use mathlib.Core.Path.{_≡_};
+ghost use mathlib.Core.List.{[]};
 ghost use Prim.Native.Nat.{ℕ, _+_, _<_};
 ghost use lib.IntN.{natAbs, _-ℤ_};
 ghost use mir.Syntax.{w64};
 ghost use mir.Val.{ofZ};
 ghost use Rattle.frames.specs.Cells.{cellOf, rowFrom};
 ghost use Rattle.options.specs.Options.{byRule, keyRule};
-ghost use Rattle.order.specs.Order.{cmpZ, cmpCell, cmpGroup, cmpRow, keyOf};
+ghost use Rattle.ranks.specs.Ranks.{codesOf, Indexed, Kept};
+ghost use Rattle.order.specs.Order.{cmpZ, cmpValue, cmpCell, cmpGroup, cmpRow, keyOf};
 ghost use Rattle.order.specs.Requires.{cellAt, CellIn, RowAt};
 
 // Two values, as numbers.
@@ -24,9 +29,9 @@ fn cmp_value(a: i64, b: i64) -> Order
     Order::Equal
 }
 
-// Two cells, each by its value and its mark.
+// Two cells of a column without a list, each by its value and its mark.
 pub fn cmp_cell(va: i64, ma: i64, vb: i64, mb: i64, descending: bool, nulls_last: bool) -> Order
-    ensures { λ r. ⌜ r ≡ cmpCell (record { descending = descending; nullsLast = «nulls_last» }) (cellOf va ma) (cellOf vb mb) ⌝ }
+    ensures { λ r. ⌜ r ≡ cmpCell (record { descending = descending; nullsLast = «nulls_last»; codes = [] }) (cellOf va ma) (cellOf vb mb) ⌝ }
 {
     if ma == 0 {
         if mb == 0 {
@@ -49,7 +54,83 @@ pub fn cmp_cell(va: i64, ma: i64, vb: i64, mb: i64, descending: bool, nulls_last
     cmp_value(va, vb)
 }
 
-// The cell at place ka of the one side, and that at place kb of the other.
+// Two values by their places in a list; values that it lacks stand behind, by number.
+fn cmp_place(a: i64, b: i64, codes: &[i64], rising: &[u8]) -> Order
+    requires { ⌜ Indexed (now codes) (now rising) ⌝ }
+    ensures { λ r. ⌜ r ≡ cmpValue (now (codes .entry)) a b ⌝ }
+{
+    if a == b {
+        return Order::Equal;
+    }
+    let p = place_of(codes, rising, a);
+    let q = place_of(codes, rising, b);
+    if p < q {
+        return Order::Less;
+    }
+    if q < p {
+        return Order::Greater;
+    }
+    cmp_value(a, b)
+}
+
+// Two cells of a column with a list; an empty list is none.
+pub fn cmp_listed(
+    va: i64,
+    ma: i64,
+    vb: i64,
+    mb: i64,
+    descending: bool,
+    nulls_last: bool,
+    codes: &[i64],
+    rising: &[u8],
+) -> Order
+    requires { ⌜ Indexed (now codes) (now rising) ⌝ }
+    ensures { λ r. ⌜ r ≡ cmpCell (record { descending = descending; nullsLast = «nulls_last»; codes = now (codes .entry) }) (cellOf va ma) (cellOf vb mb) ⌝ }
+{
+    if codes.len() == 0 {
+        return cmp_cell(va, ma, vb, mb, descending, nulls_last);
+    }
+    if ma == 0 {
+        return cmp_cell(va, ma, vb, mb, descending, nulls_last);
+    }
+    if mb == 0 {
+        return cmp_cell(va, ma, vb, mb, descending, nulls_last);
+    }
+    if descending {
+        return cmp_place(vb, va, codes, rising);
+    }
+    cmp_place(va, vb, codes, rising)
+}
+
+// Two cells of the column that has the list.
+fn cmp_ranked(
+    va: i64,
+    ma: i64,
+    vb: i64,
+    mb: i64,
+    descending: bool,
+    nulls_last: bool,
+    k: Ranks,
+) -> Order
+    requires { ⌜ Kept k ⌝ }
+    ensures { λ r. ⌜ r ≡ cmpCell (record { descending = descending; nullsLast = «nulls_last»; codes = codesOf k }) (cellOf va ma) (cellOf vb mb) ⌝ }
+{
+    let count = k.count;
+    let codes = k.codes;
+    let rising = k.rising;
+    cmp_listed(
+        va,
+        ma,
+        vb,
+        mb,
+        descending,
+        nulls_last,
+        &codes[..count],
+        &rising[..count],
+    )
+}
+
+// The cell at place ka of the one side, and that at place kb of the other, of a column without a list.
 pub(crate) fn cmp_at(
     va: &[i64],
     ma: &[i64],
@@ -61,7 +142,7 @@ pub(crate) fn cmp_at(
     nulls_last: bool,
 ) -> Order
     requires { ⌜ CellIn ka (now va) (now ma) × CellIn kb (now vb) (now mb) ⌝ }
-    ensures { λ r. ⌜ r ≡ cmpCell (record { descending = descending; nullsLast = «nulls_last» }) (cellAt ka (now (va .entry)) (now (ma .entry))) (cellAt kb (now (vb .entry)) (now (mb .entry))) ⌝ }
+    ensures { λ r. ⌜ r ≡ cmpCell (record { descending = descending; nullsLast = «nulls_last»; codes = [] }) (cellAt ka (now (va .entry)) (now (ma .entry))) (cellAt kb (now (vb .entry)) (now (mb .entry))) ⌝ }
 {
     cmp_cell(va[ka], ma[ka], vb[kb], mb[kb], descending, nulls_last)
 }
@@ -82,7 +163,13 @@ fn cmp_column(
 {
     let descending = o.descending;
     let last = o.nulls_last;
-    cmp_at(va, ma, pa + j, vb, mb, pb + j, descending[j], last[j])
+    let a = pa + j;
+    let b = pb + j;
+    if is_ranked(o, j) {
+        let k = o.ranks;
+        return cmp_ranked(va[a], ma[a], vb[b], mb[b], descending[j], last[j], k);
+    }
+    cmp_at(va, ma, a, vb, mb, b, descending[j], last[j])
 }
 
 // The groups of the rows at pa and pb, whatever the rows' widths.

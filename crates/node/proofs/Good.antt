@@ -10,7 +10,7 @@ use lib.ListN.{length}
 use Rattle.callrules.specs.Judged.{leftJudged, endJudged, rightJudged}
 use Rattle.frames.specs.Cells.{Words}
 use Rattle.frames.specs.Frame.{rowCount, isFrame}
-use Rattle.options.specs.Options.{refusedOptions}
+use Rattle.options.specs.Options.{refusedOptions, Few}
 use Rattle.frames.specs.Front.{HasCount}
 use Rattle.options.specs.declared.Options.{Options}
 use Rattle.frames.proofs.FrontLaws.{frame-parts}
@@ -34,7 +34,7 @@ passed false n t e = (refl, e)
 -- ---- a join that is not bad
 pub record Good (j : Join) (left right : Words) : Type 0 where
   pub options : refusedOptions (j .options) ≡ false
-  pub few : j .options .by ≤ 4
+  pub few : Few (j .options)
   pub carried : j .options .carried ≤ 8
   pub right-room : j .base + j .held ≤ capacity (rightWidth j) right
   pub left-room : j .«queue_start» + j .«queue_words» ≤ length left

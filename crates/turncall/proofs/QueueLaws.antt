@@ -6,12 +6,13 @@ use native.Mathlib.Omega.{arith}
 use lib.Dec.{eqb}
 use lib.ListN.{length, take, drop, length-take}
 use lib.Seq.{take-take}
-use Rattle.frames.specs.Cells.{Words}
+use Rattle.frames.specs.Cells.{Words, Rows}
 use Rattle.frames.specs.Frame.{isFrame, frameRows, front}
 use Rattle.frames.specs.Front.{frontOf}
 use Rattle.options.specs.Options.{columns, rightColumns}
 use Rattle.frames.specs.declared.Front.the-variants.{Words as Long, Nothing}
 use Rattle.frames.proofs.FrontLaws.{Fronted, front-told}
+use Rattle.order.specs.Listed.{lacksCode}
 use Rattle.area.specs.Area.{capacity, heldRows}
 use Rattle.area.proofs.PushLaws.{capacity-room}
 use Rattle.area.proofs.AreaLaws.{rows-words}
@@ -19,7 +20,7 @@ use Rattle.matching.proofs.ChoiceLaws.{cond-ind}
 use Rattle.outcomes.specs.Answers.{isDone, wrote}
 use Rattle.outcomes.specs.declared.NodeState.{NodeState}
 use Rattle.refusals.specs.declared.Refusal.{Refusal}
-use Rattle.refusals.specs.declared.Refusal.the-variants.{BadJoin, Failed, Closed, BadFrame}
+use Rattle.refusals.specs.declared.Refusal.the-variants.{BadJoin, Failed, Closed, BadFrame, UnknownCode}
 use Rattle.outcomes.specs.declared.Answer.{Answer}
 use Rattle.outcomes.specs.declared.Answer.the-variants.{Wrote, WantsRight, Idle, Refused}
 use Rattle.outcomes.proofs.Tests.{past}
@@ -69,12 +70,21 @@ module _ (bad : Bool) (state : NodeState) (j : Part) (area right out : Words) wh
   unfolding queueTurn frontTurn
   front-stops e n = record { answer = rw (e, queueTurn, n, frontTurn); part = rw (e, queueTurn, n, frontTurn); words = rw (e, queueTurn, n, frontTurn) }
 
-  -- A frame of k words at the front.
-  pub front-turns : starts ≡ Wrote (j .sequence) → (k : ℕ) → frontOf (columns (j .options)) (waitingIn j area) ≡ Long k → (x : TurnedPart) (out′ : Words)
-      → RowsTurned j (frameRows (columns (j .options)) (take k (drop (j .«queue_start») area))) (heldRows (rightColumns (j .options)) (j .base) (j .held) right) (length (take k (drop (j .«queue_start») area))) out x out′
+  abbrev rowsAt : ℕ → Rows
+  rowsAt k = frameRows (columns (j .options)) (take k (drop (j .«queue_start») area))
+
+  -- A frame of k words at the front, with a value that the list lacks.
+  pub codes-stop : starts ≡ Wrote (j .sequence) → (k : ℕ) → frontOf (columns (j .options)) (waitingIn j area) ≡ Long k → lacksCode (j .options) (rowsAt k) ≡ true
+      → QueueTurned bad state j area right out (record { answer = Refused UnknownCode; part = j }) out
+  unfolding queueTurn frontTurn
+  codes-stop e k t u = record { answer = rw (e, queueTurn, t, frontTurn, u); part = rw (e, queueTurn, t, frontTurn, u); words = rw (e, queueTurn, t, frontTurn, u) }
+
+  -- A frame of k words at the front, with listed values alone.
+  pub front-turns : starts ≡ Wrote (j .sequence) → (k : ℕ) → frontOf (columns (j .options)) (waitingIn j area) ≡ Long k → lacksCode (j .options) (rowsAt k) ≡ false → (x : TurnedPart) (out′ : Words)
+      → RowsTurned j (rowsAt k) (heldRows (rightColumns (j .options)) (j .base) (j .held) right) (length (take k (drop (j .«queue_start») area))) out x out′
       → QueueTurned bad state j area right out x out′
   unfolding queueTurn frontTurn
-  front-turns e k t x out′ h = record { answer = rw (e, queueTurn, t, frontTurn) (h .answer); part = rw (e, queueTurn, t, frontTurn) (h .part); words = rw (e, queueTurn, t, frontTurn) (h .words) }
+  front-turns e k t u x out′ h = record { answer = rw (e, queueTurn, t, frontTurn, u) (h .answer); part = rw (e, queueTurn, t, frontTurn, u) (h .part); words = rw (e, queueTurn, t, frontTurn, u) (h .words) }
 
 -- The front of so many words.
 module _ (j : Part) (area right : Words) (k : ℕ) (told : frontOf (columns (j .options)) (waitingIn j area) ≡ Long k) where

@@ -2,6 +2,7 @@
 use framerule::front_words;
 use frames::Front;
 use judges::judge_ready;
+use listed::lacks_code;
 use options::left_columns;
 use outcomes::Answer;
 use outcomes::NodeState;
@@ -48,5 +49,8 @@ pub fn turn_queue(
         return unturned(Answer::Refused(Refusal::BadFrame), j);
     };
     let e = start + k;
+    if lacks_code(&left[start..e], c, j.options) {
+        return unturned(Answer::Refused(Refusal::UnknownCode), j);
+    }
     turn_frame(j, &left[start..e], right, out)
 }
