@@ -33,15 +33,17 @@ use Rattle.node.proofs.Good.{opened-bad}
 use Rattle.runs.proofs.RunLaws.{turn-options}
 use Rattle.moves.specs.Moves.{moveAnswer, atFront, leftMoved, rightMoved, moveCall}
 use Rattle.codes.specs.Codes.{isCode, portOf, tookCode}
-use Rattle.convert.specs.Convert.{layoutNow, isOptions, optionsOf, decodeOptions, isJoin, joinOf, decode}
+use Rattle.convert.specs.Convert.{layoutNow, isJoin, joinOf, decode}
+use Rattle.hostoptions.specs.HostOptions.{isOptions, optionsOf, decodeOptions}
 use Rattle.results.specs.Results.{freshHost, Made, refusedRun}
 use Rattle.hostcalls.specs.Calls.{HostAfter, afterHost, encodeAfter, byJoin, openHost, leftHost, rightHost, endHost, moveHost, portsHost, turnHost, ranAfter, runHost}
 use Rattle.hostcalls.specs.Promises.{stays, staysAt, noTurn, Shut, NoJoin, Same, Follows, Promises}
-use Rattle.convert.specs.declared.HostOptions.{HostOptions}
+use Rattle.hostoptions.specs.declared.HostOptions.{HostOptions}
 use Rattle.convert.specs.declared.HostJoin.{HostJoin}
 use Rattle.results.specs.declared.HostTook.{HostTook}
 use Rattle.codes.proofs.CodeLaws.{port-is, port-back}
-use Rattle.convert.proofs.ConvertLaws.{join-numbers, join-same, options-parts, decoded-options, Is, decoded, there-and-back}
+use Rattle.convert.proofs.ConvertLaws.{join-numbers, join-same, decoded-options, Is, decoded, there-and-back}
+use Rattle.hostoptions.proofs.OptionsLaws.{options-parts}
 use Rattle.hostcalls.proofs.CallLaws.{open-bad, open-through, by-none, by-some}
 
 -- ---- the node's calls that change nothing

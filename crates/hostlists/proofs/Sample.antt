@@ -8,8 +8,9 @@ use lib.IntN.{pos, negsuc}
 use Rattle.frames.specs.Cells.{Words}
 use Rattle.order.proofs.Samples.{row, keys, frameOf}
 use Rattle.codes.specs.Codes.{areFlags, flagsOf, flagCodes}
-use Rattle.convert.specs.Convert.{isOptions, decodeOptions, isJoin, decode}
-use Rattle.convert.specs.declared.HostOptions.{HostOptions}
+use Rattle.convert.specs.Convert.{isJoin, decode}
+use Rattle.hostoptions.specs.HostOptions.{isOptions, decodeOptions}
+use Rattle.hostoptions.specs.declared.HostOptions.{HostOptions}
 use Rattle.runs.specs.Run.{runCall}
 use Rattle.hostcalls.specs.Calls.{byJoin, openHost, leftHost, rightHost, endHost, portsHost, turnHost, runHost}
 use Rattle.lists.specs.Lists.{Entry, entriesOf, writtenIn, matchesIn}

@@ -24,9 +24,9 @@ use Rattle.outcomes.specs.declared.Answer.the-variants.{Wrote, WantsRight, Idle
 use Rattle.outcomes.specs.declared.Took.{Took}
 use Rattle.outcomes.specs.declared.Took.the-variants.{Accepted, Refused}
 use Rattle.codes.specs.Codes.{isCode, portOf, tookCode, stateOf}
-use Rattle.convert.specs.Convert.{isOptions, optionsOf, decodeOptions}
+use Rattle.hostoptions.specs.HostOptions.{isOptions, optionsOf, decodeOptions}
 use Rattle.convert.proofs.ConvertLaws.{decoded}
-use Rattle.convert.specs.declared.HostOptions.{HostOptions}
+use Rattle.hostoptions.specs.declared.HostOptions.{HostOptions}
 use Rattle.convert.specs.declared.HostJoin.{HostJoin}
 use Rattle.results.specs.Results.{turnedHost}
 use Rattle.results.specs.declared.HostTook.{HostTook}

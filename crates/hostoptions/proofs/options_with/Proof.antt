@@ -1,11 +1,11 @@
 use native.Mathlib.Omega.{arith}
 use Rattle.frames.proofs.Signed.{back}
-use Rattle.convert.proofs.ConvertLaws.{options-parts}
+use Rattle.hostoptions.proofs.OptionsLaws.{options-parts}
 use borrow.Author.Needs.{needs}
-use Rattle.convert.proofs.options_of.Statement.{statement}
-use Rattle.convert.proofs.options_of.Tie as tie
-use Rattle.convert.proofs.options_of.Reads as reads
-use Rattle.convert.proofs.options_of.Lts as lts
+use Rattle.hostoptions.proofs.options_with.Statement.{statement}
+use Rattle.hostoptions.proofs.options_with.Tie as tie
+use Rattle.hostoptions.proofs.options_with.Reads as reads
+use Rattle.hostoptions.proofs.options_with.Lts as lts
 use Rattle.codes.proofs.check_of.Reads as check-of-reads
 use Rattle.codes.proofs.flag_of.Reads as flag-of-reads
 use Rattle.codes.proofs.flags_of.Reads as flags-of-reads
@@ -30,8 +30,8 @@ returns c =
     let f = c .before .before .before .before in
     rw (back (f .before .before .before .before .args .h .tolerance) (c .struct-told .given .1 .1 .1 .0 .1), c .before .check-of .ensures, c .before .before .flag-of .ensures, f .flags-of2 .ensures, f .before .flags-of .ensures)
 
-pub options-of-spec : {M : Type 1} → statement M
-options-of-spec =
+pub options-with-spec : {M : Type 1} → statement M
+options-with-spec =
     tie.close
     (tie.spec
     flags-of-requires

@@ -1,9 +1,9 @@
 use Rattle.frames.proofs.Signed.{back}
 use borrow.Author.Needs.{needs}
-use Rattle.convert.proofs.encode_options.Statement.{statement}
-use Rattle.convert.proofs.encode_options.Tie as tie
-use Rattle.convert.proofs.encode_options.Reads as reads
-use Rattle.convert.proofs.encode_options.Lts as lts
+use Rattle.hostoptions.proofs.encode_options.Statement.{statement}
+use Rattle.hostoptions.proofs.encode_options.Tie as tie
+use Rattle.hostoptions.proofs.encode_options.Reads as reads
+use Rattle.hostoptions.proofs.encode_options.Lts as lts
 use Rattle.codes.proofs.check_code.Reads as check-code-reads
 use Rattle.codes.proofs.flag_code.Reads as flag-code-reads
 use Rattle.codes.proofs.flag_codes.Reads as flag-codes-reads

@@ -1,9 +1,9 @@
-use Rattle.convert.specs.Convert.{isOptions}
+use Rattle.hostoptions.specs.HostOptions.{isOptions}
 use borrow.Author.Needs.{needs}
-use Rattle.convert.proofs.is_options.Statement.{statement}
-use Rattle.convert.proofs.is_options.Tie as tie
-use Rattle.convert.proofs.is_options.Reads as reads
-use Rattle.convert.proofs.is_options.Lts as lts
+use Rattle.hostoptions.proofs.is_options.Statement.{statement}
+use Rattle.hostoptions.proofs.is_options.Tie as tie
+use Rattle.hostoptions.proofs.is_options.Reads as reads
+use Rattle.hostoptions.proofs.is_options.Lts as lts
 use Rattle.codes.proofs.are_flags.Reads as are-flags-reads
 use Rattle.codes.proofs.both.Reads as both-reads
 use Rattle.codes.proofs.is_code.Reads as is-code-reads
