@@ -15,6 +15,8 @@ ghost use Rattle.spanhost.specs.Call.{HostSpanContract};
 ghost use Rattle.version.specs.Version.{versionNow};
 pub use convert::HostJoin;
 pub use convert::HostRow;
+pub use hostoptions::HostOptions;
+pub use hostoptions::HostRanks;
 pub use results::HostPorted;
 pub use results::HostRan;
 pub use results::HostTook;
