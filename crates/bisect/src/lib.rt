@@ -1,5 +1,5 @@
 // Binary search over the rows of a stretch, by the cells of one column.
-use compare::cmp_listed;
+use cells::cmp_listed;
 use order::Order;
 use searching::Seek;
 ghost use mathlib.Core.Path.{_≡_};

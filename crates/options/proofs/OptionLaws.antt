@@ -1,12 +1,15 @@
 -- What is known of options that are not refused. Assumes nothing.
 use mathlib.Core.Path.{_≡_, refl}
-use mathlib.Core.Bool.{Bool, true, false, _||_}
+use mathlib.Core.Bool.{Bool, true, false, _&&_, _||_}
+use mathlib.Core.List.{[]}
 use Prim.Native.Nat.{ℕ, _≤_}
 use native.Mathlib.Omega.{arith}
 use borrow.Author.Tests.{ltb-false}
-use lib.Dec.{ltb}
+use lib.Dec.{ltb, eqb}
+use lib.ListN.{getD}
 use lib.Signed.{ltZ}
-use Rattle.options.specs.Options.{badOptions, manyCarried, badRanked, refusedOptions, Few}
+use Rattle.ranks.specs.Ranks.{codesOf}
+use Rattle.options.specs.Options.{badOptions, manyCarried, badRanked, refusedOptions, Few, Rule, isRanked, byRule}
 use Rattle.options.specs.declared.Options.{Options}
 
 -- Of an `||` that is false each side is.
@@ -44,3 +47,21 @@ bad-refused o e = rw e
 pub good-allowed : (o : Options) → badOptions o ≡ false → manyCarried o ≡ false → badRanked o ≡ false → refusedOptions o ≡ false
 unfolding refusedOptions
 good-allowed o e f g = rw (e, f, g)
+
+-- ---- the rules of by-columns
+-- A column that has the list: a list is given.
+pub ranked-given : (o : Options) (j : ℕ) → isRanked o j ≡ true → o .ranks .given ≡ true
+ranked-given o j e = first (o .ranks .given) (eqb j (o .ranks .column)) e
+  where
+    first : (a b : Bool) → (a && b) ≡ true → a ≡ true
+    first true b e = refl
+    first false b e = e
+
+-- Its rule has the list's codes; that of every other by-column has none.
+pub ranked-rule : (o : Options) (j : ℕ) → isRanked o j ≡ true
+    → _≡_ {A = Rule} (record { descending = getD (o .descending) j false; nullsLast = getD (o .«nulls_last») j false; codes = codesOf (o .ranks) }) (byRule o j)
+ranked-rule o j e = rw e
+
+pub plain-rule : (o : Options) (j : ℕ) → isRanked o j ≡ false
+    → _≡_ {A = Rule} (record { descending = getD (o .descending) j false; nullsLast = getD (o .«nulls_last») j false; codes = [] }) (byRule o j)
+plain-rule o j e = rw e

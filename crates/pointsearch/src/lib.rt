@@ -1,6 +1,6 @@
 // The points: whether they are in order, the searches among them, and those inside the bounds of one interval.
 use bisect::find;
-use compare::cmp_cell;
+use cells::cmp_cell;
 use keyed::null_at;
 use order::Order;
 use searching::Seek;

@@ -1,7 +1,7 @@
--- `frames::compare::cmp_value` meets its contract. Assumes nothing.
+-- `cells::cmp_value` meets its contract. Assumes nothing.
 use Rattle.frames.proofs.Signed.{lt-flag}
-use Rattle.compare.proofs.compare.cmp_value.Statement.{statement}
-use Rattle.compare.proofs.compare.cmp_value.Tie as tie
+use Rattle.cells.proofs.cmp_value.Statement.{statement}
+use Rattle.cells.proofs.cmp_value.Tie as tie
 
 returns : tie.Need-returns
 returns c =

@@ -1,11 +1,11 @@
--- `frames::compare::cmp_at` meets its contract. Assumes nothing.
+-- `compare::cmp_at` meets its contract. Assumes nothing.
 use lib.IntN.{pos}
 use lib.ListN.{getD}
 use denote.Ref.{now}
 use Rattle.frames.proofs.Signed.{back}
 use borrow.Author.Needs.{needs}
-use Rattle.compare.proofs.compare.cmp_at.Statement.{statement}
-use Rattle.compare.proofs.compare.cmp_at.Tie as tie
+use Rattle.compare.proofs.cmp_at.Statement.{statement}
+use Rattle.compare.proofs.cmp_at.Tie as tie
 
 mul-cmp-cell : tie.Need-mul-cmp-cell
 mul-cmp-cell c = search needs

@@ -1,4 +1,4 @@
--- `frames::compare::cmp_group` meets its contract. Assumes nothing.
+-- `compare::cmp_group` meets its contract. Assumes nothing.
 use mathlib.Core.Path.{_≡_, refl, sym, _∙_}
 use Prim.Native.Nat.{ℕ, _+_, _-_, _≤_, _<_}
 use native.Mathlib.Omega.{arith}
@@ -9,8 +9,8 @@ use Rattle.order.specs.Order.{cmpFirst}
 use Rattle.order.specs.declared.Order.{Order}
 use Rattle.order.specs.declared.Order.the-variants.{Equal}
 use Rattle.order.proofs.RowLaws.{row-cell, next-stop, first-more, first-stays}
-use Rattle.compare.proofs.compare.cmp_group.Statement.{statement}
-use Rattle.compare.proofs.compare.cmp_group.Tie as tie
+use Rattle.compare.proofs.cmp_group.Statement.{statement}
+use Rattle.compare.proofs.cmp_group.Tie as tie
 
 abbrev Inv-loop : tie.InvT-loop
 Inv-loop va ma pa vb mb pb o by j₀ j =

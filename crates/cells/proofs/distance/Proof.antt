@@ -1,11 +1,11 @@
--- `frames::compare::distance` meets its contract. Assumes nothing.
+-- `cells::distance` meets its contract. Assumes nothing.
 use native.Mathlib.Omega.{arith}
 use mir.Facts.{toZ-ofZ}
 use Rattle.order.proofs.Apart.{dist-above, dist-below}
 use Rattle.frames.proofs.Signed.{lt-flag}
 use borrow.Author.Needs.{needs}
-use Rattle.compare.proofs.compare.distance.Statement.{statement}
-use Rattle.compare.proofs.compare.distance.Tie as tie
+use Rattle.cells.proofs.distance.Statement.{statement}
+use Rattle.cells.proofs.distance.Tie as tie
 
 image-requires : tie.Need-image-requires
 image-requires c κs = search needs

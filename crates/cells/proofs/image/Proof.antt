@@ -1,11 +1,11 @@
--- `frames::compare::image` meets its contract. Assumes nothing.
+-- `cells::image` meets its contract. Assumes nothing.
 use native.Mathlib.Omega.{arith}
 use mir.Syntax.{w64}
 use mir.Facts.{toZ-ofZ}
 use mir.ValLaws.{toZ-pos}
 use Rattle.order.proofs.Apart.{low, in-word, whole, same}
-use Rattle.compare.proofs.compare.image.Statement.{statement}
-use Rattle.compare.proofs.compare.image.Tie as tie
+use Rattle.cells.proofs.image.Statement.{statement}
+use Rattle.cells.proofs.image.Tie as tie
 
 cast-result : tie.Need-cast-result
 cast-result c =

@@ -1,9 +1,9 @@
--- `frames::compare::cmp_key` meets its contract. Assumes nothing.
+-- `compare::cmp_key` meets its contract. Assumes nothing.
 use denote.Ref.{now}
 use Rattle.order.proofs.RowLaws.{row-cell}
 use borrow.Author.Needs.{needs}
-use Rattle.compare.proofs.compare.cmp_key.Statement.{statement}
-use Rattle.compare.proofs.compare.cmp_key.Tie as tie
+use Rattle.compare.proofs.cmp_key.Statement.{statement}
+use Rattle.compare.proofs.cmp_key.Tie as tie
 
 add-cmp-at : tie.Need-add-cmp-at
 add-cmp-at c = search needs

@@ -1,10 +1,10 @@
--- `frames::compare::cmp_row` meets its contract. Assumes nothing.
+-- `compare::cmp_row` meets its contract. Assumes nothing.
 use mathlib.Core.Path.{sym}
 use Rattle.order.specs.Order.{cmpRow}
 use Rattle.order.proofs.RowLaws.{next-stop}
 use borrow.Author.Needs.{needs}
-use Rattle.compare.proofs.compare.cmp_row.Statement.{statement}
-use Rattle.compare.proofs.compare.cmp_row.Tie as tie
+use Rattle.compare.proofs.cmp_row.Statement.{statement}
+use Rattle.compare.proofs.cmp_row.Tie as tie
 
 cmp-group-requires : tie.Need-cmp-group-requires
 cmp-group-requires c κs = search needs

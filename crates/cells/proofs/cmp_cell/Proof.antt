@@ -1,10 +1,10 @@
--- `frames::compare::cmp_cell` meets its contract. Assumes nothing.
+-- `cells::cmp_cell` meets its contract. Assumes nothing.
 use borrow.Author.Needs.{needs}
 use mathlib.Core.Path.{_∙_}
 use mir.Facts.{toZ-ofZ}
 use Rattle.frames.proofs.Signed.{zero-yes, zero-no}
-use Rattle.compare.proofs.compare.cmp_cell.Statement.{statement}
-use Rattle.compare.proofs.compare.cmp_cell.Tie as tie
+use Rattle.cells.proofs.cmp_cell.Statement.{statement}
+use Rattle.cells.proofs.cmp_cell.Tie as tie
 
 returns : tie.Need-returns
 returns c =
