@@ -12,14 +12,18 @@ use lib.Signed.{ltZ}
 use lib.ListN.{length, take, getD, replicate}
 use lib.Seq.{length-take-le, getD-take}
 use Rattle.frames.specs.Cells.{Words}
-use Rattle.ranks.specs.Ranks.{twice, codeAt, rises, below, placed, risingFor, isShort, badRanks, ranksFor}
+use Rattle.ranks.specs.Ranks.{twice, codeAt, rises, below, risingFor, isShort, badRanks}
 use Rattle.ranks.specs.Listing.{badList, Listing}
-use Rattle.ranks.proofs.RankLaws.{clash, tell, not-so, lt-neither, Reached, Differ, onto, none-twice, rising-by, indexed-once}
+use Rattle.ranks.proofs.RankLaws.{clash, tell, not-so, lt-neither, Reached, onto, none-twice, rising-by, indexed-once}
 use Rattle.ranks.proofs.PlacedLaws.{below-less, below-mono, below-strict, placed-length, placed-at}
 
 -- The places that a short list is kept with: 64.
 rising-long : (cs : Words) → length (risingFor cs) ≡ 64
 rising-long cs = placed-length cs 0 cs (replicate 64 0)
+
+-- As many of them as codes.
+kept-many : (cs : Words) → length cs ≤ 64 → length (take (length cs) (risingFor cs)) ≡ length cs
+kept-many cs short = length-take-le (length cs) (risingFor cs) (omega (arith, rising-long cs))
 
 -- ---- a list with no code twice
 module _ (cs : Words) (short : length cs ≤ 64) (once : twice cs ≡ false) where
@@ -50,10 +54,6 @@ module _ (cs : Words) (short : length cs ≤ 64) (once : twice cs ≡ false) whe
       ∙ placed-at cs 0 cs (replicate 64 0) (r .0) rank-apart (r .1) b
       ∙ omega arith
 
-  -- As many entries as codes.
-  kept-many : length (take (length cs) (risingFor cs)) ≡ length cs
-  kept-many = length-take-le (length cs) (risingFor cs) (omega (arith, rising-long cs))
-
   -- A code with the lesser rank is below.
   rank-below : (c d : ℤ) → below cs c < below cs d → ltZ c d ≡ true
   rank-below c d h = by (tell (ltZ c d)) (tell (ltZ d c))
@@ -67,10 +67,10 @@ module _ (cs : Words) (short : length cs ≤ 64) (once : twice cs ≡ false) whe
   kept-rises : rises cs (take (length cs) (risingFor cs)) ≡ true
   kept-rises =
       rising-by cs (take (length cs) (risingFor cs))
-      (λ i l. let h : i < length cs = omega (arith, kept-many) in rw (kept i h) (ranked i h .1))
+      (λ i l. let h : i < length cs = omega (arith, kept-many cs short) in rw (kept i h) (ranked i h .1))
       (λ i l.
-      let h : i < length cs = omega (arith, kept-many) in
-      let k : suc i < length cs = omega (arith, kept-many) in
+      let h : i < length cs = omega (arith, kept-many cs short) in
+      let k : suc i < length cs = omega (arith, kept-many cs short) in
       let a = ranked i h in
       let b = ranked (suc i) k in
       rw (kept i h, kept (suc i) k) (rank-below (codeAt cs (a .0)) (codeAt cs (b .0)) (omega (arith, a .2, b .2))))
@@ -80,11 +80,8 @@ module _ (cs : Words) (short : length cs ≤ 64) (once : twice cs ≡ false) whe
 listing-core : (cs : Words) → length cs ≤ 64 → not (rises cs (take (length cs) (risingFor cs))) ≡ twice cs
 listing-core cs short = by (tell (twice cs))
   where
-    many : length (take (length cs) (risingFor cs)) ≡ length cs
-    many = length-take-le (length cs) (risingFor cs) (omega (arith, rising-long cs))
-
     by : (twice cs ≡ true) ⊎ (twice cs ≡ false) → not (rises cs (take (length cs) (risingFor cs))) ≡ twice cs
-    by (inl e) = rw (e, not-so (rises cs (take (length cs) (risingFor cs))) (λ r. clash (twice cs) e (indexed-once cs (take (length cs) (risingFor cs)) (record { many = many; rising = r }))))
+    by (inl e) = rw (e, not-so (rises cs (take (length cs) (risingFor cs))) (λ r. clash (twice cs) e (indexed-once cs (take (length cs) (risingFor cs)) (record { many = kept-many cs short; rising = r }))))
     by (inr e) = rw (e, kept-rises cs short e)
 
 -- Four tests of which the last counts only where the second fails.
