@@ -2,12 +2,13 @@
 use bisect::find;
 use options::Options;
 use options::is_ranked;
+use ranks::Ranks;
 use searching::Seek;
 use searching::Stretch;
 ghost use mathlib.Core.Path.{_≡_};
 ghost use Prim.Native.Nat.{ℕ, _≤_, _<_};
 ghost use Rattle.frames.specs.Cells.{cellOf, rowFrom, rowsOf};
-ghost use Rattle.ranks.specs.Ranks.{Indexed};
+ghost use Rattle.ranks.specs.Ranks.{codesOf, Indexed, Kept};
 ghost use Rattle.order.specs.Requires.{cellAt, CellIn, RowAt, RowsIn};
 ghost use Rattle.searching.specs.Reach.{narrowBy, narrowed, findKey};
 ghost use Rattle.searching.specs.Requires.{rangeOf, ColumnIn};
@@ -66,6 +67,40 @@ fn narrow_column(
     }
 }
 
+// The same by the column that has the list.
+fn narrow_ranked(
+    descending: bool,
+    nulls_last: bool,
+    k: Ranks,
+    value: i64,
+    mark: i64,
+    rv: &[i64],
+    rm: &[i64],
+    w: usize,
+    j: usize,
+    s: Stretch,
+) -> Stretch
+    requires { ⌜ Kept k × ColumnIn j w (s .end) (now rv) (now rm) ⌝ }
+    ensures { λ r. ⌜ ((n : ℕ) → s .end ≤ n → rangeOf r ≡ narrowTo (record { descending = descending; nullsLast = «nulls_last»; codes = codesOf k }) j (cellOf value mark) (rowsOf w n (now (rv .entry)) (now (rm .entry))) (rangeOf s)) ⌝ }
+{
+    let count = k.count;
+    let codes = k.codes;
+    let rising = k.rising;
+    narrow_column(
+        descending,
+        nulls_last,
+        &codes[..count],
+        &rising[..count],
+        value,
+        mark,
+        rv,
+        rm,
+        w,
+        j,
+        s,
+    )
+}
+
 // The stretch narrowed by the left row's by-value in column j.
 fn narrow_by(
     lv: &[i64],
@@ -83,26 +118,16 @@ fn narrow_by(
 {
     let descending = o.descending;
     let last = o.nulls_last;
+    let down = descending[j];
+    let late = last[j];
     let k = p + j;
+    let value = lv[k];
+    let mark = lm[k];
     if is_ranked(o, j) {
-        let count = o.ranks.count;
-        let codes = o.ranks.codes;
-        let rising = o.ranks.rising;
-        return narrow_column(
-            descending[j],
-            last[j],
-            &codes[..count],
-            &rising[..count],
-            lv[k],
-            lm[k],
-            rv,
-            rm,
-            w,
-            j,
-            s,
-        );
+        let list = o.ranks;
+        return narrow_ranked(down, late, list, value, mark, rv, rm, w, j, s);
     }
-    narrow_column(descending[j], last[j], &[], &[], lv[k], lm[k], rv, rm, w, j, s)
+    narrow_column(down, late, &[], &[], value, mark, rv, rm, w, j, s)
 }
 
 // The held rows whose by-values are those of the left row at p, as a stretch of all n: narrowed by each by-column in order.

@@ -1,11 +1,12 @@
 -- A list that opening takes, as it is kept: what look-ups in it need. Assumes nothing.
-use mathlib.Core.Path.{_≡_, sym, _∙_}
+use mathlib.Core.Path.{_≡_, refl, sym, _∙_}
 use mathlib.Core.Bool.{true, false}
+use mathlib.Core.List.{[]}
 use Prim.Native.Nat.{ℕ}
 use native.Mathlib.Omega.{arith}
 use lib.ListN.{length}
 use lib.Seq.{length-take-le}
-use Rattle.ranks.specs.Ranks.{codesOf, risingOf, badRanks, Indexed, Kept}
+use Rattle.ranks.specs.Ranks.{codesOf, risingOf, rises, badRanks, Indexed, Kept}
 use Rattle.ranks.specs.declared.Ranks.{Ranks}
 use Rattle.ranks.proofs.RankLaws.{good-ranks}
 
@@ -19,3 +20,8 @@ kept-indexed k h a b = record {
   many = length-take-le (k .count) (k .rising) (omega (arith, h .short)) ∙ sym (length-take-le (k .count) (k .codes) (omega (arith, h .short)));
   rising = h .rising;
 }
+
+-- No list: no codes and no places.
+pub none-indexed : Indexed [] []
+unfolding rises
+none-indexed = record { many = refl; rising = refl }
