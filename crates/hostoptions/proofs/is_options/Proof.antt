@@ -1,3 +1,4 @@
+-- `hostoptions::is_options` meets its contract. Assumes nothing.
 use Rattle.hostoptions.specs.HostOptions.{isOptions}
 use borrow.Author.Needs.{needs}
 use Rattle.hostoptions.proofs.is_options.Statement.{statement}
@@ -18,6 +19,9 @@ is-code-requires c κs = search needs
 both-requires : tie.Need-both-requires
 both-requires c κs = search needs
 
+is-flag-requires-2 : tie.Need-is-flag-requires-2
+is-flag-requires-2 c κs = search needs
+
 both-requires-2 : tie.Need-both-requires-2
 both-requires-2 c κs = search needs
 
@@ -33,11 +37,15 @@ both-requires-3 c κs = search needs
 both-requires-4 : tie.Need-both-requires-4
 both-requires-4 c κs = search needs
 
+both-requires-5 : tie.Need-both-requires-5
+both-requires-5 c κs = search needs
+
 returns : tie.Need-returns
 unfolding isOptions
 returns c =
-    let f = c .before .before .before .before in
-    rw (c .both4 .ensures, c .before .both3 .ensures, c .before .before .are-flags2 .ensures, c .before .before .before .are-flags .ensures, f .both2 .ensures, f .before .both .ensures, f .before .before .is-code .ensures, f .before .before .before .is-flag .ensures)
+    let g = c .before .before .before .before .before in
+    let f = g .before in
+    rw (c .both5 .ensures, c .before .both4 .ensures, c .before .before .both3 .ensures, c .before .before .before .are-flags2 .ensures, c .before .before .before .before .are-flags .ensures, g .both2 .ensures, f .is-flag2 .ensures, f .before .both .ensures, f .before .before .is-code .ensures, f .before .before .before .is-flag .ensures)
 
 pub is-options-spec : {M : Type 1} → statement M
 is-options-spec =
@@ -46,9 +54,11 @@ is-options-spec =
     is-flag-requires
     is-code-requires
     both-requires
+    is-flag-requires-2
     both-requires-2
     are-flags-requires
     are-flags-requires-2
     both-requires-3
     both-requires-4
+    both-requires-5
     returns)

@@ -1,3 +1,4 @@
+-- `hostoptions::options_with` meets its contract. Assumes nothing.
 use native.Mathlib.Omega.{arith}
 use Rattle.frames.proofs.Signed.{back}
 use Rattle.hostoptions.proofs.OptionsLaws.{options-parts}
@@ -16,8 +17,8 @@ flags-of-requires c κs = search needs
 flags-of-requires-2 : tie.Need-flags-of-requires-2
 flags-of-requires-2 c κs = search needs
 
-cast-t6 : tie.Need-cast-t6
-cast-t6 c = omega (arith, options-parts _ (c .before .before .before .before .before .pre) .byte)
+cast-t7 : tie.Need-cast-t7
+cast-t7 c = omega (arith, options-parts _ (c .before .before .before .before .before .pre) .byte)
 
 flag-of-requires : tie.Need-flag-of-requires
 flag-of-requires c κs = search needs
@@ -36,7 +37,7 @@ options-with-spec =
     (tie.spec
     flags-of-requires
     flags-of-requires-2
-    cast-t6
+    cast-t7
     flag-of-requires
     check-of-requires
     returns)
