@@ -43,7 +43,7 @@ use Rattle.callrules.specs.Judged.{readyTests, readyJudged}
 use Rattle.turnparts.specs.Part.{roomTests, orderTests, roomAnswer, orderAnswer, leftPart, failedPart}
 use Rattle.turnparts.specs.declared.Part.{Part}
 use Rattle.turnfront.specs.Turns.{left as unmoved, rowsAnswer, rowsTurn, spoiledPart, RowsTurned}
-use Rattle.turncall.specs.Queue.{waitingIn, frontTurn, queueTurn, QueueTurned}
+use Rattle.turncall.specs.Queue.{waitingIn, listedTurn, frontTurn, queueTurn, QueueTurned}
 use Rattle.turncall.proofs.QueueLaws.{front-here, front-frame}
 use Rattle.turnfront.specs.declared.TurnedPart.{TurnedPart}
 
@@ -257,15 +257,15 @@ module _ (j : Join) (left right out : Words) where
     unchanged a e z = record { answer = rw e at (known .answer) ∙ z .answer; join = ap (joinWith j) (rw e at (known .part)) ∙ z .join; words = rw e at (known .words) ∙ z .words }
 
     fronted : Ready → (s : ℕ) → readyAnswer j left right ≡ Wrote s → (f : Front) → frontOf (leftWidth j) (waiting j left) ≡ f → Goal
-    unfolding queueTurn frontTurn waiting
+    unfolding queueTurn frontTurn listedTurn waiting
     fronted r s e Nothing n = unchanged (Refused BadFrame) (rw (e, queueTurn, n, frontTurn)) (front-stops r n)
     fronted r s e (Long k) n = go (lacksCode (j .options) (frameRows (leftWidth j) (take k (drop (j .«queue_start») left)))) refl
       where
         go : (b : Bool) → lacksCode (j .options) (frameRows (leftWidth j) (take k (drop (j .«queue_start») left))) ≡ b → Goal
-        go true u = unchanged (Refused UnknownCode) (rw (e, queueTurn, n, frontTurn, u)) (codes-stop r k n u)
+        go true u = unchanged (Refused UnknownCode) (rw (e, queueTurn, n, frontTurn, listedTurn, u)) (codes-stop r k n u)
         go false u =
             frame-turns r k n u x out′
-            (record { answer = rw (e, queueTurn, n, frontTurn, u) at (known .answer); part = rw (e, queueTurn, n, frontTurn, u) at (known .part); words = rw (e, queueTurn, n, frontTurn, u) at (known .words) })
+            (record { answer = rw (e, queueTurn, n, frontTurn, listedTurn, u) at (known .answer); part = rw (e, queueTurn, n, frontTurn, listedTurn, u) at (known .part); words = rw (e, queueTurn, n, frontTurn, listedTurn, u) at (known .words) })
 
     pub queue-turns : Goal
     unfolding queueTurn

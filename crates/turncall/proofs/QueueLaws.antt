@@ -26,9 +26,9 @@ use Rattle.outcomes.specs.declared.Answer.the-variants.{Wrote, WantsRight, Idle
 use Rattle.outcomes.proofs.Tests.{past}
 use Rattle.callrules.specs.Judged.{readyJudged}
 use Rattle.turnparts.specs.declared.Part.{Part}
-use Rattle.turnfront.specs.Turns.{rowsTurn, RowsTurned, FrameIn}
+use Rattle.turnfront.specs.Turns.{RowsTurned, FrameIn}
 use Rattle.turnfront.specs.declared.TurnedPart.{TurnedPart}
-use Rattle.turncall.specs.Queue.{waitingIn, frontTurn, queueTurn, QueueTurned, QueueIn}
+use Rattle.turncall.specs.Queue.{waitingIn, listedTurn, frontTurn, queueTurn, ListedTurned, QueueTurned, QueueIn}
 
 module _ (bad : Bool) (state : NodeState) (j : Part) (area right out : Words) where
   abbrev starts : Answer
@@ -70,21 +70,27 @@ module _ (bad : Bool) (state : NodeState) (j : Part) (area right out : Words) wh
   unfolding queueTurn frontTurn
   front-stops e n = record { answer = rw (e, queueTurn, n, frontTurn); part = rw (e, queueTurn, n, frontTurn); words = rw (e, queueTurn, n, frontTurn) }
 
-  abbrev rowsAt : ℕ → Rows
-  rowsAt k = frameRows (columns (j .options)) (take k (drop (j .«queue_start») area))
-
-  -- A frame of k words at the front, with a value that the list lacks.
-  pub codes-stop : starts ≡ Wrote (j .sequence) → (k : ℕ) → frontOf (columns (j .options)) (waitingIn j area) ≡ Long k → lacksCode (j .options) (rowsAt k) ≡ true
-      → QueueTurned bad state j area right out (record { answer = Refused UnknownCode; part = j }) out
+  -- A frame of k words at the front.
+  pub front-turns : starts ≡ Wrote (j .sequence) → (k : ℕ) → frontOf (columns (j .options)) (waitingIn j area) ≡ Long k → (x : TurnedPart) (out′ : Words)
+      → ListedTurned j (take k (drop (j .«queue_start») area)) right out x out′ → QueueTurned bad state j area right out x out′
   unfolding queueTurn frontTurn
-  codes-stop e k t u = record { answer = rw (e, queueTurn, t, frontTurn, u); part = rw (e, queueTurn, t, frontTurn, u); words = rw (e, queueTurn, t, frontTurn, u) }
+  front-turns e k t x out′ h = record { answer = rw (e, queueTurn, t, frontTurn) (h .answer); part = rw (e, queueTurn, t, frontTurn) (h .part); words = rw (e, queueTurn, t, frontTurn) (h .words) }
 
-  -- A frame of k words at the front, with listed values alone.
-  pub front-turns : starts ≡ Wrote (j .sequence) → (k : ℕ) → frontOf (columns (j .options)) (waitingIn j area) ≡ Long k → lacksCode (j .options) (rowsAt k) ≡ false → (x : TurnedPart) (out′ : Words)
-      → RowsTurned j (rowsAt k) (heldRows (rightColumns (j .options)) (j .base) (j .held) right) (length (take k (drop (j .«queue_start») area))) out x out′
-      → QueueTurned bad state j area right out x out′
-  unfolding queueTurn frontTurn
-  front-turns e k t u x out′ h = record { answer = rw (e, queueTurn, t, frontTurn, u) (h .answer); part = rw (e, queueTurn, t, frontTurn, u) (h .part); words = rw (e, queueTurn, t, frontTurn, u) (h .words) }
+-- ---- the frame at the front
+module _ (j : Part) (f right out : Words) where
+  abbrev rows : Rows
+  rows = frameRows (columns (j .options)) f
+
+  -- With a value that the list lacks.
+  pub codes-stop : lacksCode (j .options) rows ≡ true → ListedTurned j f right out (record { answer = Refused UnknownCode; part = j }) out
+  unfolding listedTurn
+  codes-stop u = record { answer = rw u; part = rw u; words = rw u }
+
+  -- With listed values alone.
+  pub listed-turns : lacksCode (j .options) rows ≡ false → (x : TurnedPart) (out′ : Words)
+      → RowsTurned j rows (heldRows (rightColumns (j .options)) (j .base) (j .held) right) (length f) out x out′ → ListedTurned j f right out x out′
+  unfolding listedTurn
+  listed-turns u x out′ h = record { answer = rw u (h .answer); part = rw u (h .part); words = rw u (h .words) }
 
 -- The front of so many words.
 module _ (j : Part) (area right : Words) (k : ℕ) (told : frontOf (columns (j .options)) (waitingIn j area) ≡ Long k) where

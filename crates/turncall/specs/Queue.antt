@@ -24,14 +24,17 @@ use Rattle.turnfront.specs.declared.TurnedPart.{TurnedPart}
 abbrev pub waitingIn : Part → Words → Words
 waitingIn j area = take (j .«queue_words») (drop (j .«queue_start») area)
 
--- With the front of so many words, or with none: a front that is no frame is 5, one with a value that the list of ranks lacks 12.
-unfoldable pub frontTurn : Part → Front → Words → Words → Words → Left
-frontTurn j Nothing area right out = left (Refused BadFrame) j out
-frontTurn j (Long k) area right out =
-    let f = take k (drop (j .«queue_start») area) in
+-- Over the frame at the front: a value that the list of ranks lacks is 12.
+unfoldable pub listedTurn : Part → Words → Words → Words → Left
+listedTurn j f right out =
     let rows = frameRows (columns (j .options)) f in
     cond (lacksCode (j .options) rows) (left (Refused UnknownCode) j out)
     (rowsTurn j rows (heldRows (rightColumns (j .options)) (j .base) (j .held) right) (length f) out)
+
+-- With the front of so many words, or with none: a front that is no frame is 5.
+unfoldable pub frontTurn : Part → Front → Words → Words → Words → Left
+frontTurn j Nothing area right out = left (Refused BadFrame) j out
+frontTurn j (Long k) area right out = listedTurn j (take k (drop (j .«queue_start») area)) right out
 
 -- All of it: 2, 3, in Done 4, Idle, or the front's turn.
 unfoldable pub queueTurn : Bool → NodeState → Part → Words → Words → Words → Left
@@ -42,6 +45,11 @@ queueTurn bad state j area right out =
       | Idle ↦ left Idle j out
       | Refused n ↦ left (Refused n) j out
     ]
+
+pub record ListedTurned (j : Part) (f right out : Words) (r : TurnedPart) (out′ : Words) : Type 0 where
+  pub answer : r .answer ≡ listedTurn j f right out .answer
+  pub part : r .part ≡ listedTurn j f right out .part
+  pub words : out′ ≡ listedTurn j f right out .out
 
 pub record QueueTurned (bad : Bool) (state : NodeState) (j : Part) (area right out : Words) (r : TurnedPart) (out′ : Words) : Type 0 where
   pub answer : r .answer ≡ queueTurn bad state j area right out .answer
