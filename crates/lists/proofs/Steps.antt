@@ -271,7 +271,7 @@ module _ (o : Options) (l r : Words) (allowed : refusedOptions o ≡ false) wher
       rows = omega arith;
       wrote = refl;
     };
-    flags = record { ended = refl; done = refl; running = refl; failed = refl; unbroken = refl; fronts = refl };
+    flags = record { ended = refl; done = refl; running = refl; failed = refl; unbroken = refl; fronts = (refl, refl) };
     strict = λ c. together-start o;
   }
 

@@ -5,6 +5,7 @@ use mathlib.Core.List.{List, [], _∷_, map}
 use Prim.Native.Nat.{ℕ}
 use lib.IntN.{pos, negsuc}
 use Rattle.frames.specs.Cells.{Cell, Words}
+use Rattle.ranks.specs.Ranks.{badRanks}
 use Rattle.options.specs.Options.{badOptions}
 use Rattle.order.proofs.Samples.{options, plain, carrying, row, keys, frameOf}
 use Rattle.turnrows.specs.Prunes.{keptRows, lastPrune}
@@ -93,5 +94,5 @@ carried = (refl, refl, refl, refl)
 -- Nine carried columns: 10, behind 1 and before 5.
 pub too-many : planAnswer (carrying 9 (plain 0 true)) [] [] [] [] ∷ planAnswer (carrying 9 (options 5 0 true (negsuc 0) false [] [])) [] [] [] [] ∷ planAnswer (carrying 8 (plain 0 true)) [] [] [] [] ∷ []
     ≡ 10 ∷ 1 ∷ 5 ∷ []
-unfolding planAnswer isTable badOptions
+unfolding planAnswer isTable badOptions badRanks
 too-many = refl
