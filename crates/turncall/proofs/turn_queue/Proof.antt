@@ -1,22 +1,25 @@
--- `turncall::turn_queue` meets its contract. Assumes nothing.
 use mathlib.Core.Path.{_≡_, sym, _∙_}
 use Prim.Native.Nat.{_+_, _-_, _≤_}
 use native.Mathlib.Omega.{arith}
 use borrow.Author.Tests.{not-true, not-false}
 use denote.Ref.{now}
-use lib.ListN.{take, drop}
-use Rattle.frames.specs.Frame.{frameRows}
 use Rattle.frames.specs.Front.{frontOf}
-use Rattle.frames.specs.declared.Front.the-variants.{Words as Long}
 use Rattle.options.specs.Options.{columns}
-use Rattle.order.specs.Listed.{lacksCode}
 use Rattle.outcomes.specs.declared.Answer.the-variants.{Wrote}
 use Rattle.callrules.specs.Judged.{readyJudged}
 use Rattle.turncall.specs.Queue.{waitingIn, QueueIn}
-use Rattle.turncall.proofs.QueueLaws.{goes, unbroken, ready-stops, front-stops, codes-stop, front-turns, front-within, front-frame, frame-in}
+use Rattle.turncall.proofs.QueueLaws.{goes, unbroken, ready-stops, front-stops, front-turns, front-within, frame-in}
 use borrow.Author.Needs.{needs}
 use Rattle.turncall.proofs.turn_queue.Statement.{statement}
 use Rattle.turncall.proofs.turn_queue.Tie as tie
+use Rattle.turncall.proofs.turn_queue.Reads as reads
+use Rattle.turncall.proofs.turn_queue.Lts as lts
+use Rattle.outcomes.proofs.goes_on.Reads as goes-on-reads
+use Rattle.options.proofs.left_columns.Reads as left-columns-reads
+use Rattle.framerule.proofs.front_words.Reads as front-words-reads
+use Rattle.judges.proofs.judge_ready.Reads as judge-ready-reads
+use Rattle.turncall.proofs.unturned.Reads as unturned-reads
+use Rattle.turnfront.proofs.turn_frame.Reads as turn-frame-reads
 
 judge-ready-requires : tie.Need-judge-ready-requires
 judge-ready-requires c κs = search needs
@@ -38,7 +41,7 @@ sound : (c : tie.Else1) → let a = c .before .before .before .args in QueueIn (
 sound c = let a = c .before .before .before .args in c .before .before .before .pre (unbroken (a .bad) (a .state) (a .j) (now (a .left)) (now (a .right)) (now (a .out)) (went c))
 
 left-columns-requires : tie.Need-left-columns-requires
-left-columns-requires c κs = sound c .few .by
+left-columns-requires c κs = sound c .few
 
 add-end : tie.Need-add-end
 add-end c = let i = c .before .before in let x = i .before .before .before in omega (arith, sound i .left-room, x .good .1 .1 .1 .0 .0)
@@ -80,61 +83,17 @@ returns-2 c =
     let i = q .before .before .before .before in
     rw (c .unturned2 .ensures) (let a = i .before .before .before .args in front-stops (a .bad) (a .state) (a .j) (now (a .left)) (now (a .right)) (now (a .out)) (went i) (sym (told q) ∙ c .before .enum-told .given .1))
 
--- The front is so many words long.
-long : (c : tie.After-known-told) → let a = c .before .before .before .before .before .before .before .before .before .before .args in frontOf (columns (a .j .options)) (waitingIn (a .j) (now (a .left))) ≡ Long (c .before .front .given .0 .0)
-long c = sym (told (c .before .before .before)) ∙ c .before .front .given .1
-
 within : (c : tie.After-known-told) → let a = c .before .before .before .before .before .before .before .before .before .before .args in c .before .front .given .0 .0 ≤ a .j .«queue_words»
-within c = let a = c .before .before .before .before .before .before .before .before .before .before .args in front-within (a .j) (now (a .left)) (now (a .right)) _ (long c)
-
--- The part that is lent has so many words.
-span : (c : tie.After-known-told) → let a = c .before .before .before .before .before .before .before .before .before .before .args in
-    a .j .«queue_start» + c .before .front .given .0 .0 - a .j .«queue_start» ≡ c .before .front .given .0 .0
-span c = omega arith
+within c =
+    let q = c .before .before .before in
+    let i = q .before .before .before .before in
+    (let a = i .before .before .before .args in front-within (a .j) (now (a .left)) (now (a .right)) _ (sym (told q) ∙ c .before .front .given .1))
 
 add-e : tie.Need-add-e
 add-e c = let i = c .before .before .before .before .before .before .before in let x = i .before .before .before in omega (arith, within c, sound i .left-room, x .good .1 .1 .1 .0 .0)
 
-mul-lacks-code : tie.Need-mul-lacks-code
-mul-lacks-code c = let i = c .before .before .before .before .before .before .before in let x = i .before .before .before in omega (arith, sound i .left-room, x .good .1 .1 .1 .0 .1)
-
-sub-lacks-code : tie.Need-sub-lacks-code
-sub-lacks-code c = search needs
-
-part-lacks-code-start : tie.Need-part-lacks-code-start
-part-lacks-code-start c = search needs
-
-part-lacks-code-end : tie.Need-part-lacks-code-end
-part-lacks-code-end c = let i = c .before .before .before .before .before .before .before in omega (arith, within c, sound i .left-room)
-
-lacks-code-requires : tie.Need-lacks-code-requires
-lacks-code-requires c κs =
-    let t = c .before in
-    let n = t .before .before .before .before .before .before .left-columns .ensures in
-    let i = t .before .before .before .before .before .before .before in
-    let a = i .before .before .before .args in
-    (sound i .few, omega arith, rw (span t, n) (front-frame (a .j) (now (a .left)) (now (a .right)) _ (long t)))
-
--- What was told of its codes, by the definitions' names.
-codes : (c : tie.After-lacks-code) →
-    let t = c .before .before in
-    let a = t .before .before .before .before .before .before .before .before .before .before .args in
-    c .lacks-code .result ≡ lacksCode (a .j .options) (frameRows (columns (a .j .options)) (take (t .before .front .given .0 .0) (drop (a .j .«queue_start») (now (a .left)))))
-codes c = let t = c .before .before in rw (span t, t .before .before .before .before .before .before .left-columns .ensures) at (c .lacks-code .ensures)
-
-unturned-requires-3 : tie.Need-unturned-requires-3
-unturned-requires-3 c κs = search needs
-
-returns-3 : tie.Need-returns-3
-returns-3 c =
-    let d = c .before in
-    let t = d .before .before .before in
-    let i = t .before .before .before .before .before .before .before in
-    let a = i .before .before .before .args in
-    rw (c .unturned3 .ensures) (codes-stop (a .bad) (a .state) (a .j) (now (a .left)) (now (a .right)) (now (a .out)) (went i) _ (long t) (sym (codes (d .before)) ∙ d .if2 .taken))
-
 mul-turn-frame : tie.Need-mul-turn-frame
-mul-turn-frame c = let i = c .before .before .before .before .before .before .before .before .before .before in let x = i .before .before .before in omega (arith, sound i .left-room, x .good .1 .1 .1 .0 .1)
+mul-turn-frame c = let i = c .before .before .before .before .before .before .before in let x = i .before .before .before in omega (arith, sound i .left-room, x .good .1 .1 .1 .0 .1)
 
 sub-turn-frame : tie.Need-sub-turn-frame
 sub-turn-frame c = search needs
@@ -143,31 +102,31 @@ part-turn-frame-start : tie.Need-part-turn-frame-start
 part-turn-frame-start c = search needs
 
 part-turn-frame-end : tie.Need-part-turn-frame-end
-part-turn-frame-end c =
-    let t = c .before .before .before in
-    let i = t .before .before .before .before .before .before .before in
-    omega (arith, within t, sound i .left-room)
+part-turn-frame-end c = let i = c .before .before .before .before .before .before .before in omega (arith, within c, sound i .left-room)
 
 turn-frame-requires : tie.Need-turn-frame-requires
 turn-frame-requires c κs =
-    let t = c .before .before .before .before .before in
+    let t = c .before .before in
     let q = t .before .before .before in
     let i = q .before .before .before .before in
     let x = i .before .before .before in
+    let z : x .args .j .«queue_start» + t .before .front .given .0 .0 - x .args .j .«queue_start» ≡ t .before .front .given .0 .0 = omega arith in
     let s = q .before .before .struct-known .given .1 .1 .1 .1 .1 .1 .1 .1 .0 in
     let a = x .args in
-    rw (span t) (frame-in (a .j) (now (a .left)) (now (a .right)) _ (long t) (sound i) (omega (arith, s)) (x .good .1 .1 .1 .0 .0) (x .good .1 .1 .1 .1 .0 .0))
+    rw z (frame-in (a .j) (now (a .left)) (now (a .right)) _ (sym (told q) ∙ t .before .front .given .1) (sound i) (omega (arith, s)) (x .good .1 .1 .1 .0 .0) (x .good .1 .1 .1 .1 .0 .0))
 
 same-length : tie.Need-same-length
 same-length c = search needs
 
-returns-4 : tie.Need-returns-4
-returns-4 c =
-    let f = c .before .before .before .before in
-    let t = f .before .before .before in
-    let i = t .before .before .before .before .before .before .before in
-    let a = i .before .before .before .args in
-    front-turns (a .bad) (a .state) (a .j) (now (a .left)) (now (a .right)) (now (a .out)) (went i) _ (long t) (sym (codes (f .before)) ∙ f .if2 .left) _ _ (rw (span t) at (c .before .turn-frame .ensures))
+returns-3 : tie.Need-returns-3
+returns-3 c =
+    let t = c .before .before .before .before in
+    let q = t .before .before .before in
+    let i = q .before .before .before .before in
+    let x = i .before .before .before in
+    let z : x .args .j .«queue_start» + t .before .front .given .0 .0 - x .args .j .«queue_start» ≡ t .before .front .given .0 .0 = omega arith in
+    let a = x .args in
+    front-turns (a .bad) (a .state) (a .j) (now (a .left)) (now (a .right)) (now (a .out)) (went i) _ (sym (told q) ∙ t .before .front .given .1) _ _ (rw z at (c .before .turn-frame .ensures))
 
 pub turn-queue-spec : {M : Type 1} → statement M
 turn-queue-spec =
@@ -189,17 +148,10 @@ turn-queue-spec =
     unturned-requires-2
     returns-2
     add-e
-    mul-lacks-code
-    sub-lacks-code
-    part-lacks-code-start
-    part-lacks-code-end
-    lacks-code-requires
-    unturned-requires-3
-    returns-3
     mul-turn-frame
     sub-turn-frame
     part-turn-frame-start
     part-turn-frame-end
     turn-frame-requires
     same-length
-    returns-4)
+    returns-3)
