@@ -11,12 +11,17 @@ use Rattle.codes.specs.Codes.{areFlags, flagsOf, flagCodes}
 use Rattle.convert.specs.Convert.{isJoin, decode}
 use Rattle.hostoptions.specs.HostOptions.{isOptions, decodeOptions}
 use Rattle.hostoptions.specs.declared.HostOptions.{HostOptions}
+use Rattle.hostoptions.specs.declared.HostRanks.{HostRanks}
 use Rattle.runs.specs.Run.{runCall}
 use Rattle.hostcalls.specs.Calls.{byJoin, openHost, leftHost, rightHost, endHost, portsHost, turnHost, runHost}
 use Rattle.lists.specs.Lists.{Entry, entriesOf, writtenIn, matchesIn}
 use Rattle.lists.proofs.Script.{leftArea, rightArea, space, speakAll}
 use Rattle.hostlists.specs.HostLists.{HostCall, left, right, end, ports, turn, run, HostEvent, onLeft, onRight, onEnd, onPorts, onTurn, onRun, hostStep, hostEvents, hostFinal}
 use Rattle.hostlists.specs.HostTable.{runOutputs, hostLefts, hostRights, hostOutputs, returned, has, hostWaiting, hostMatches}
+
+-- No list of ranks.
+abbrev none-given : HostRanks
+none-given = record { given = 0; column = 0; count = 0; codes = replicate 64 (pos 0) }
 
 -- Backward with equality, no by-column, no tolerance, the check on.
 abbrev h : HostOptions
@@ -29,6 +34,7 @@ h = record {
   descending = 0 ∷ 0 ∷ 0 ∷ 0 ∷ [];
   «nulls_last» = 0 ∷ 0 ∷ 0 ∷ 0 ∷ [];
   carried = 0;
+  ranks = none-given;
 }
 
 -- The numbers of what a call returned, without its join.
@@ -95,6 +101,7 @@ carrying = record {
   descending = 0 ∷ 0 ∷ 0 ∷ 0 ∷ [];
   «nulls_last» = 0 ∷ 0 ∷ 0 ∷ 0 ∷ [];
   carried = 1;
+  ranks = none-given;
 }
 
 unfoldable pub prices : List HostCall
