@@ -5,6 +5,7 @@ use mathlib.Core.Bool.{true}
 use mathlib.Core.List.{List, [], _∷_, map}
 use Prim.Native.Nat.{ℕ}
 use lib.IntN.{pos, negsuc}
+use lib.ListN.{replicate}
 use Rattle.frames.specs.Cells.{Words}
 use Rattle.order.proofs.Samples.{row, keys, frameOf}
 use Rattle.codes.specs.Codes.{areFlags, flagsOf, flagCodes}
