@@ -245,7 +245,7 @@ pub fn runs(seed: u64, count: u64) -> Step {
         let both = rules.and_then(|_| compare::with_whole_table(&calls, Ways::default(), &mut Counts::default()));
         both.map_err(|why| failure("runs by the whole table", &calls, &why))?;
     }
-    let [used, wants, idle, .., short, _, left, right_after] = all.runs.after;
+    let [used, wants, idle, .., short, _, left, right_after, _] = all.runs.after;
     let right = all.runs.stops[11];
     if [all.runs.several, all.runs.matched, used, wants, idle, short, left, right].contains(&0) {
         return Err(format!("nothing was tested: {}", all.runs));
@@ -285,7 +285,7 @@ pub fn ways(seed: u64, count: u64) -> Step {
 
 /// Frames by the left pipe, several compute tasks, tasks in random order.
 fn pushed(seed: u64, count: u64) -> Result<Tally, String> {
-    let many = Ways { pipelines: 3, left_pipe: true, right_pipe: false };
+    let many = Ways { pipelines: 3, left_pipe: true, ..Ways::default() };
     let all = [(0, many), (seed, many), (seed, Ways::default())].into_iter();
     let mut tally = Tally::default();
     for (order, ways, kind) in all.flat_map(|(order, ways)| COMPARED.map(|kind| (order, ways, kind))) {
@@ -297,7 +297,7 @@ fn pushed(seed: u64, count: u64) -> Result<Tally, String> {
 
 /// Right frames as the node asks for them, and all frames in one phase.
 fn pulled(seed: u64, count: u64) -> Result<(Tally, Bursts), String> {
-    let ways = Ways { pipelines: 2, left_pipe: true, right_pipe: true };
+    let ways = Ways { pipelines: 2, left_pipe: true, right_pipe: true, ..Ways::default() };
     let (mut tally, mut bursts) = (Tally::default(), Bursts::default());
     whole(seed, count, ways)?;
     for kind in COMPARED {
