@@ -189,7 +189,8 @@ pub enum Difference {
 
 /// Whether SCOPE refuses the call by 1 to 7 or 10 to 12, a run in its first turn: the Rust has no counterpart.
 pub fn no_counterpart(answer: &Answer) -> bool {
-    matches!(answer, Answer::Refused(1..=7 | 10..=12) | Answer::State(_) | Answer::Areas(..) | Answer::NoJoin)
+    matches!(answer, Answer::Refused(1..=7 | 10..=12) | Answer::NoJoin)
+        || matches!(answer, Answer::State(_) | Answer::Areas(..) | Answer::Words(_))
         || matches!(answer, Answer::Ran(Ran { turns: 0, stop: Stop::Refused(1..=7 | 12), .. }))
 }
 

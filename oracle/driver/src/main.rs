@@ -4,11 +4,11 @@ use std::path::Path;
 use std::process::ExitCode;
 
 use judges::drive::{drive, exit, number};
-use judges::generate::{Kind, script, script_with_runs};
+use judges::generate::{Kind, script, script_with_list, script_with_list_and_runs, script_with_runs};
 use judges::generate_spans;
 use judges::rules::Rules;
-use judges::script::Call;
 use oracle::rust::{Rust, Ways};
+use oracle::selftest::{Make, PLAIN};
 use oracle::{edits, notice, sample, selftest, spans};
 
 /// What the program can be asked for.
@@ -16,12 +16,16 @@ const USAGE: &str = "oracle rust | rules                   answer the script on 
 oracle generate KIND SEED COUNT       print random scripts (whole mixed flush nullslast order ends equal refusals handed
                                       large)
 oracle generate KIND SEED COUNT runs  the same scripts with runs in the place of turns
+oracle generate KIND SEED COUNT list  print random scripts with a list of codes
+oracle generate KIND SEED COUNT list runs
+                                      the same scripts with runs in the place of turns
 oracle generate spans SEED COUNT      print random points and intervals
 oracle selftest SEED COUNT            the test of the oracle itself, COUNT scripts a kind
 oracle whole SEED COUNT               the whole-table rule over COUNT scripts
 oracle judges SEED COUNT              the step rules by the whole-table judge over COUNT scripts a kind
 oracle compare SEED COUNT             the Rust and the step rules over COUNT scripts a kind
 oracle large SEED COUNT               the same over COUNT scripts with thousands of rows a side
+oracle lists SEED COUNT               the steps of the self-test over scripts with lists of codes, COUNT scripts a kind
 oracle spans SEED COUNT               the range join of the Rust and SCOPE 19 over COUNT inputs
 oracle sample write|replay FOLDER     record the sample, or replay it
 oracle edits LIST                     print the edits of the Rust
@@ -29,8 +33,19 @@ oracle edit LIST NAME FROM TO         lay an edited copy of the source down
 oracle notice SEED COUNT FOLDER       which judge sees that the Rust was edited, and whether the sample does
 oracle notice-spans SEED COUNT        at which input SCOPE 19 sees that the Rust's range join was edited";
 
-/// Prints random scripts of a kind, made by one of the two ways to make them.
-fn print_scripts(make: fn(Kind, u64, u64) -> Vec<Call>, kind: &str, seed: u64, count: u64) -> Result<(), String> {
+/// How the words behind a count of scripts want them made.
+fn maker(words: &[&str]) -> Result<Make, String> {
+    match words {
+        [] => Ok(script),
+        ["runs"] => Ok(script_with_runs),
+        ["list"] => Ok(script_with_list),
+        ["list", "runs"] => Ok(script_with_list_and_runs),
+        _ => Err(USAGE.to_string()),
+    }
+}
+
+/// Prints random scripts of a kind.
+fn print_scripts(make: Make, kind: &str, seed: u64, count: u64) -> Result<(), String> {
     let kind = Kind::named(kind).ok_or(format!("{kind} is no kind of script"))?;
     let scripts = (0..count).flat_map(|i| make(kind, seed, i));
     let mut output = BufWriter::new(std::io::stdout());
@@ -55,27 +70,27 @@ fn run(args: &[&str]) -> Result<bool, String> {
         ["rust"] => drive(&mut Rust::default())?,
         ["rules"] => drive(&mut Rules::default())?,
         ["generate", "spans", seed, count] => print_spans(number(seed)?, number(count)?)?,
-        ["generate", kind, seed, count] => print_scripts(script, kind, number(seed)?, number(count)?)?,
-        ["generate", kind, seed, count, "runs"] => {
-            print_scripts(script_with_runs, kind, number(seed)?, number(count)?)?
+        ["generate", kind, seed, count, ref how @ ..] => {
+            print_scripts(maker(how)?, kind, number(seed)?, number(count)?)?
         },
         ["selftest", seed, count] => return Ok(selftest::all(number(seed)?, number(count)?)),
         ["whole", seed, count] => {
             let (seed, count) = (number(seed)?, number(count)?);
-            return alone("whole-table rule", move || selftest::whole(seed, count, Ways::default()));
+            return alone("whole-table rule", move || selftest::whole(PLAIN, seed, count, Ways::default()));
         },
         ["compare", seed, count] => {
             let (seed, count) = (number(seed)?, number(count)?);
-            return alone("step rules", move || selftest::all_kinds(seed, count));
+            return alone("step rules", move || selftest::all_kinds(PLAIN, seed, count));
         },
         ["judges", seed, count] => {
             let (seed, count) = (number(seed)?, number(count)?);
-            return alone("the two judges", move || selftest::judges(seed, count));
+            return alone("the two judges", move || selftest::judges(PLAIN, seed, count));
         },
         ["large", seed, count] => {
             let (seed, count) = (number(seed)?, number(count)?);
-            return alone("large tables", move || selftest::large(seed, count));
+            return alone("large tables", move || selftest::large(PLAIN, seed, count));
         },
+        ["lists", seed, count] => return Ok(selftest::run(selftest::with_lists(number(seed)?, number(count)?))),
         ["spans", seed, count] => {
             let (seed, count) = (number(seed)?, number(count)?);
             return alone("points in intervals", move || spans::random(seed, count));

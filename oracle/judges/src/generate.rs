@@ -685,7 +685,7 @@ fn alter_listed(r: &mut Random, d: &mut Draft, columns: [usize; 2]) {
         4 => generate_ranks::alter_remembered(r, &d.rules),
         5 => generate_ranks::alter_list(r, &d.rules),
         _ => {
-            let Some((put, back)) = generate_ranks::alter_waiting(r, &d.rules) else { return };
+            let Some((put, back)) = generate_ranks::alter_waiting(r, &d.rules, false) else { return };
             d.push(put);
             if r.percent(60) {
                 d.turn(r)
@@ -707,7 +707,7 @@ fn handed(r: &mut Random, mut d: Draft, carried: &mut Carried, listed: &mut List
     let columns = open_again(r, &mut d, small, carried, listed);
     for _ in 0..10 + r.below(30) {
         match r.below(24) {
-            _ if listed.gives && listed.r.percent(20) => alter_listed(r, &mut d, columns),
+            _ if listed.gives && listed.r.percent(25) => alter_listed(r, &mut d, columns),
             0..=2 => alter_join(r, &mut d, columns),
             3 | 4 => alter_area(r, &mut d),
             5 => alter_row(r, &mut d),
@@ -772,13 +772,13 @@ fn run_output(r: &mut Random, rules: &Rules, k: usize, short: usize, spare: usiz
 }
 
 /// What a host alters before a run, so that a later turn of it is refused: the numbers of turns are used up after some, or,
-/// where the first frame has no row, the remembered right row is greater than most and right has ended; with a list, a waiting
-/// frame has a value that it lacks.
+/// where the first frame has no row, the remembered right row is greater than most and right has ended; with a list, a frame
+/// behind the front has a value that it lacks.
 fn alter_for_run(r: &mut Random, rules: &Rules) -> Vec<Call> {
     let Some((words, left, _)) = rules.all_words() else { return vec![] };
     let put = |at: usize, word: i64| Call::Put(Place::Join, at, word);
     if words[RANKS] == 1 && r.percent(60) {
-        return generate_ranks::alter_waiting(r, rules).into_iter().map(|(put, _)| put).collect();
+        return generate_ranks::alter_waiting(r, rules, true).into_iter().map(|(put, _)| put).collect();
     }
     if left.get(words[QUEUE_START] as usize) == Some(&0) && r.percent(70) {
         let row = (0..11).map(|j| put(ROWS[1] + j, if (1..=5).contains(&j) { i64::MAX } else { 1 }));

@@ -194,24 +194,25 @@ pub(crate) fn alter_held(r: &mut Random, rules: &Rules) -> Vec<Call> {
     out
 }
 
-/// The places in the left area where waiting frames have values in the list's column.
-fn waiting(o: &Options, look: &Look, left: &[i64]) -> Vec<usize> {
+/// For each waiting frame the places in the left area of its values in the list's column.
+fn waiting(o: &Options, look: &Look, left: &[i64]) -> Vec<Vec<usize>> {
     let (mut at, end, mut out) = (look.queue_start, look.queue_start + look.queue_words, vec![]);
     while let Some([n @ 0..=4096, c, ..]) = left.get(at..end)
         && *c == o.b as i64 + 1
     {
         let length = 2 + 2 * *n as usize * *c as usize;
         let frame = left.get(at..(at + length).min(end)).unwrap_or(&[]);
-        out.extend(places(frame, o.ranks.column as usize).iter().map(|place| at + place));
+        out.push(places(frame, o.ranks.column as usize).iter().map(|place| at + place).collect());
         at += length;
     }
     out
 }
 
-/// What a host writes into a waiting frame: a value that the list lacks, or another code of it; and what puts it right again.
-pub(crate) fn alter_waiting(r: &mut Random, rules: &Rules) -> Option<(Call, Call)> {
+/// What a host writes into a waiting frame, or into one that waits behind the front: a value that the list lacks, or another code
+/// of it; and what puts it right again.
+pub(crate) fn alter_waiting(r: &mut Random, rules: &Rules, behind: bool) -> Option<(Call, Call)> {
     let (o, look, left, _) = listed(rules)?;
-    let places = waiting(o, look, left);
+    let places = waiting(o, look, left).into_iter().skip(behind as usize).flatten().collect::<Vec<_>>();
     let at = (!places.is_empty()).then(|| r.pick(&places))?;
     let value = if r.percent(80) { lacked(r, codes(o)) } else { r.pick(codes(o)) };
     Some((Call::Put(Place::Left, at, value), Call::Put(Place::Left, at, left[at])))

@@ -28,6 +28,9 @@ pub struct Counts {
     pub faults: u64,
     /// Frames that were never turned.
     pub waiting: u64,
+    /// Lists that opening refused, and frames that were refused for a value that their list lacks.
+    pub bad_lists: u64,
+    pub unlisted: u64,
 }
 
 impl Counts {
@@ -42,6 +45,8 @@ impl Counts {
         self.wants += other.wants;
         self.faults += other.faults;
         self.waiting += other.waiting;
+        self.bad_lists += other.bad_lists;
+        self.unlisted += other.unlisted;
     }
 }
 
@@ -259,6 +264,12 @@ fn due(holds: bool, what: &str) -> Verdict {
 }
 
 impl<'a> Judged<'a> {
+    /// A frame for which this refusal is due.
+    fn refused(&mut self, number: u8, answer: &Answer) -> Verdict {
+        self.counts.unlisted += (number == 12) as u64;
+        due(*answer == Answer::Refused(number), &format!("{number} is due"))
+    }
+
     /// A left frame: 3, 4, 5, 12, 6 or taken.
     fn left(&mut self, words: &'a [i64], answer: &Answer) -> Verdict {
         let refusal = match () {
@@ -270,7 +281,7 @@ impl<'a> Judged<'a> {
             _ => 0,
         };
         if refusal > 0 {
-            return due(*answer == Answer::Refused(refusal), &format!("{refusal} is due"));
+            return self.refused(refusal, answer);
         }
         self.waiting.push_back(words);
         self.waiting_words += words.len();
@@ -287,7 +298,7 @@ impl<'a> Judged<'a> {
             _ => 0,
         };
         if refusal > 0 {
-            return due(*answer == Answer::Refused(refusal), &format!("{refusal} is due"));
+            return self.refused(refusal, answer);
         }
         let (n, room) = (words[0] as usize, self.right_words / (2 * widths(self.o)[1]));
         if *answer == Answer::Refused(6) {
@@ -471,7 +482,8 @@ pub fn judge(calls: &[Call], answers: &[Answer]) -> Result<Counts, String> {
     let (o, refusal, opened) = (&o, no_options(&o), &answers[lines - 1]);
     if refusal > 0 {
         let why = format!("open: {refusal} is due");
-        return due(*opened == Answer::Refused(refusal), &why).map(|_| Counts::default());
+        let counts = Counts { bad_lists: (refusal == 11) as u64, ..Counts::default() };
+        return due(*opened == Answer::Refused(refusal), &why).map(|_| counts);
     }
     due(*opened == Answer::Ok, "open: nothing is to be refused")?;
     let (rest, answers) = (&calls[lines..], &answers[lines..]);
