@@ -811,7 +811,9 @@ impl Runs {
         let waits = self.rules.look().is_some_and(|l| l.queue_words > 0);
         if !waits && r.percent(70) {
             return;
-        } else if self.alters && r.percent(15) {
+        }
+        let lists = self.rules.options().is_some_and(|o| o.ranks.given);
+        if self.alters && r.percent(if lists { 40 } else { 15 }) {
             alter_for_run(r, &self.rules).into_iter().for_each(|call| self.push(call));
         }
         let k = run_turns(r);
