@@ -14,7 +14,7 @@ use oracle::{edits, notice, sample, selftest, spans};
 /// What the program can be asked for.
 const USAGE: &str = "oracle rust | rules                   answer the script on standard input
 oracle generate KIND SEED COUNT       print random scripts (whole mixed flush nullslast order ends equal refusals handed
-                                      large)
+                                      large strict)
 oracle generate KIND SEED COUNT runs  the same scripts with runs in the place of turns
 oracle generate KIND SEED COUNT list  print random scripts with a list of codes
 oracle generate KIND SEED COUNT list runs
@@ -28,9 +28,10 @@ oracle large SEED COUNT               the same over COUNT scripts with thousands
 oracle lists SEED COUNT               the steps of the self-test over scripts with lists of codes, COUNT scripts a kind
 oracle spans SEED COUNT               the range join of the Rust and SCOPE 19 over COUNT inputs
 oracle sample write|replay FOLDER     record the sample, or replay it
-oracle edits LIST                     print the edits of the Rust
-oracle edit LIST NAME FROM TO         lay an edited copy of the source down
+oracle edits LIST                     print the edits
+oracle edit LIST NAME RUST OWN TO     lay an edited copy of the Rust's source and of the oracle down
 oracle notice SEED COUNT FOLDER       which judge sees that the Rust was edited, and whether the sample does
+oracle notice-lists SEED COUNT        which judge sees it in scripts with lists, and that none does in others
 oracle notice-spans SEED COUNT        at which input SCOPE 19 sees that the Rust's range join was edited";
 
 /// How the words behind a count of scripts want them made.
@@ -101,8 +102,11 @@ fn run(args: &[&str]) -> Result<bool, String> {
             return alone("recorded sample", move || sample::replay(Path::new(&folder)));
         },
         ["edits", list] => edits::print(list)?,
-        ["edit", list, name, from, to] => edits::apply(list, name, Path::new(from), Path::new(to))?,
+        ["edit", list, name, rust, own, to] => {
+            edits::apply(list, name, [Path::new(rust), Path::new(own)], Path::new(to))?
+        },
         ["notice", seed, count, folder] => notice::print(number(seed)?, number(count)?, Path::new(folder))?,
+        ["notice-lists", seed, count] => notice::print_lists(number(seed)?, number(count)?),
         ["notice-spans", seed, count] => notice::print_spans(number(seed)?, number(count)?),
         _ => return Err(USAGE.to_string()),
     }
