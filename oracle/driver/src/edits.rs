@@ -82,7 +82,8 @@ fn edited(edit: &Edit, text: String) -> Result<String, String> {
     Ok(text.replacen(&old, &edit.new.join("\n"), 1))
 }
 
-/// Copies a file, edited where the edit is of this name. A copy that is as it should be stays: nothing is built anew for it.
+/// Copies a file, edited where the edit is of this name. A copy that is as it should be stays: nothing is built anew for
+/// it.
 fn copy(from: &Path, to: &Path, name: &str, edit: Option<&Edit>) -> Result<(), String> {
     let text = fs::read_to_string(from).map_err(|e| format!("{}: {e}", from.display()))?;
     let text = edit.filter(|e| e.file == name).map_or(Ok(text.clone()), |e| edited(e, text))?;
@@ -93,8 +94,8 @@ fn copy(from: &Path, to: &Path, name: &str, edit: Option<&Edit>) -> Result<(), S
     fs::write(to, text).map_err(|e| format!("{}: {e}", to.display()))
 }
 
-/// Lays copies of the Rust's source (`rust`) and of the oracle (`oracle`) down with one edit made, or with none where the name is
-/// `none`. The name of a file of the oracle begins with `oracle/`.
+/// Lays copies of the Rust's source (`rust`) and of the oracle (`oracle`) down with one edit made, or with none where the
+/// name is `none`. The name of a file of the oracle begins with `oracle/`.
 pub fn apply(list: &str, name: &str, [rust, own]: [&Path; 2], to: &Path) -> Result<(), String> {
     let edits = read(list)?;
     let edit = edits.iter().find(|e| e.name == name);

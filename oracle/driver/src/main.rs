@@ -8,7 +8,7 @@ use judges::generate::{Kind, script, script_with_list, script_with_list_and_runs
 use judges::generate_spans;
 use judges::rules::Rules;
 use oracle::rust::{Rust, Ways};
-use oracle::selftest::{Make, PLAIN};
+use oracle::selftest::{Make, Named, PLAIN};
 use oracle::{edits, notice, sample, selftest, spans};
 
 /// What the program can be asked for.
@@ -60,9 +60,24 @@ fn print_spans(seed: u64, count: u64) -> Result<(), String> {
     inputs.try_for_each(|call| writeln!(output, "{call}")).map_err(|e| e.to_string())
 }
 
-/// Runs one step of the self-test alone; an error where it fails.
-fn alone(name: &'static str, step: impl FnOnce() -> Result<String, String> + 'static) -> Result<bool, String> {
-    Ok(selftest::run(vec![(name, Box::new(step))]))
+/// Steps of the self-test that can be run alone, by name: how many scripts of which seed.
+fn steps(name: &str, seed: u64, count: u64) -> Option<Vec<Named>> {
+    let step: Named = match name {
+        "whole" => ("whole-table rule", Box::new(move || selftest::whole(PLAIN, seed, count, Ways::default()))),
+        "compare" => ("step rules", Box::new(move || selftest::all_kinds(PLAIN, seed, count))),
+        "judges" => ("the two judges", Box::new(move || selftest::judges(PLAIN, seed, count))),
+        "large" => ("large tables", Box::new(move || selftest::large(PLAIN, seed, count))),
+        "spans" => ("points in intervals", Box::new(move || spans::random(seed, count))),
+        "lists" => return Some(selftest::with_lists(seed, count)),
+        _ => return None,
+    };
+    Some(vec![step])
+}
+
+/// Replays the recorded sample; whether it went well.
+fn replay(folder: &str) -> bool {
+    let folder = folder.to_string();
+    selftest::run(vec![("recorded sample", Box::new(move || sample::replay(Path::new(&folder))))])
 }
 
 /// Does what the command line asks for; whether it went well.
@@ -75,32 +90,8 @@ fn run(args: &[&str]) -> Result<bool, String> {
             print_scripts(maker(how)?, kind, number(seed)?, number(count)?)?
         },
         ["selftest", seed, count] => return Ok(selftest::all(number(seed)?, number(count)?)),
-        ["whole", seed, count] => {
-            let (seed, count) = (number(seed)?, number(count)?);
-            return alone("whole-table rule", move || selftest::whole(PLAIN, seed, count, Ways::default()));
-        },
-        ["compare", seed, count] => {
-            let (seed, count) = (number(seed)?, number(count)?);
-            return alone("step rules", move || selftest::all_kinds(PLAIN, seed, count));
-        },
-        ["judges", seed, count] => {
-            let (seed, count) = (number(seed)?, number(count)?);
-            return alone("the two judges", move || selftest::judges(PLAIN, seed, count));
-        },
-        ["large", seed, count] => {
-            let (seed, count) = (number(seed)?, number(count)?);
-            return alone("large tables", move || selftest::large(PLAIN, seed, count));
-        },
-        ["lists", seed, count] => return Ok(selftest::run(selftest::with_lists(number(seed)?, number(count)?))),
-        ["spans", seed, count] => {
-            let (seed, count) = (number(seed)?, number(count)?);
-            return alone("points in intervals", move || spans::random(seed, count));
-        },
         ["sample", "write", folder] => sample::write(Path::new(folder))?,
-        ["sample", "replay", folder] => {
-            let folder = folder.to_string();
-            return alone("recorded sample", move || sample::replay(Path::new(&folder)));
-        },
+        ["sample", "replay", folder] => return Ok(replay(folder)),
         ["edits", list] => edits::print(list)?,
         ["edit", list, name, rust, own, to] => {
             edits::apply(list, name, [Path::new(rust), Path::new(own)], Path::new(to))?
@@ -108,6 +99,10 @@ fn run(args: &[&str]) -> Result<bool, String> {
         ["notice", seed, count, folder] => notice::print(number(seed)?, number(count)?, Path::new(folder))?,
         ["notice-lists", seed, count] => notice::print_lists(number(seed)?, number(count)?),
         ["notice-spans", seed, count] => notice::print_spans(number(seed)?, number(count)?),
+        [name, seed, count] => {
+            let steps = steps(name, number(seed)?, number(count)?).ok_or(USAGE.to_string())?;
+            return Ok(selftest::run(steps));
+        },
         _ => return Err(USAGE.to_string()),
     }
     Ok(true)

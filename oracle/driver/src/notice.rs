@@ -100,8 +100,9 @@ fn by_rules(make: Make, seed: u64, count: u64, ways: Ways) -> Noticed {
     noticed
 }
 
-/// Prints where something is noticed in scripts with lists: in the worked cases, by the two judges, of the Rust by the whole table and
-/// by the step rules, and with values that the list lacks; and whether anything is noticed in a tenth as many scripts without.
+/// Prints where something is noticed in scripts with lists: in the worked cases, by the two judges, of the Rust by the
+/// whole table and by the step rules, and with values that the list lacks; and whether anything is noticed in a tenth as
+/// many scripts without.
 pub fn print_lists(seed: u64, count: u64) {
     std::panic::set_hook(Box::new(|_| {}));
     let cases = if catch_unwind(ranks::cases).is_ok_and(|said| said.is_ok()) { "-" } else { "yes" };

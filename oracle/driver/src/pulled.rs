@@ -1,6 +1,6 @@
-//! SCOPE's step rules behind a host that hands right frames over only where they are wanted, as the Rust pulls them from its
-//! pipe: a list of calls like any other, so that SCOPE fixes its answers on unsorted sides too. Or behind one that writes into held
-//! rows what no right call takes.
+//! SCOPE's step rules behind a host that hands right frames over only where they are wanted, as the Rust pulls them from
+//! its pipe: a list of calls like any other, so that SCOPE fixes its answers on unsorted sides too. Or behind one that
+//! writes into held rows what no right call takes.
 use std::collections::VecDeque;
 
 use judges::rules::Rules;
@@ -109,8 +109,8 @@ impl Judge for Pulled {
     }
 }
 
-/// A right frame as if codes of the list had been handed in where it has others, and the host had then written into the held
-/// rows what the frame has there.
+/// A right frame as if codes of the list had been handed in where it has others, and the host had then written into the
+/// held rows what the frame has there.
 fn right_written(rules: &mut Rules, words: &[i64]) -> Answer {
     let Some(o) = rules.options().cloned() else { return Answer::NoJoin };
     let (column, codes) = (o.ranks.column as usize, &o.ranks.codes[..o.ranks.count as usize]);

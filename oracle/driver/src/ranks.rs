@@ -1,14 +1,12 @@
-//! Lists of codes (SCOPE 3.10, 4.9): what the self-test asks of scripts that give one, beside the steps that all scripts share.
+//! Lists of codes (SCOPE 3.10, 4.9): what the self-test asks of scripts that give one, beside the steps that all scripts
+//! share.
 use judges::generate::{COMPARED, Kind, script_with_lacked, script_with_list, script_with_list_and_runs};
 use judges::rules::Rules;
 use judges::script::{Answer, Call, Judge, Look, Options, Ranks, Stop, opening};
 
 use crate::compare::{self, Tally};
 use crate::rust::{Rust, Ways};
-use crate::selftest::{self, Makes, failure};
-
-/// How a step ends: what it counted, or what went wrong.
-type Step = Result<String, String>;
+use crate::selftest::{self, Makes, Step, failure};
 
 /// Scripts with lists, without frames that have a value which the list lacks: for a node that takes all its frames at once.
 pub const TAKEN: Makes = Makes {
@@ -82,8 +80,8 @@ fn look_by_place(o: &Options, look: &Look) -> Look {
     Look { left: row(&look.left), right: row(&look.right), ..look.clone() }
 }
 
-/// A list is nothing but its places: the same scripts with places in the stead of codes, which compare as numbers. The rules give
-/// the same answers, and after each call the same join; the Rust gives the same answers.
+/// A list is nothing but its places: the same scripts with places in the stead of codes, which compare as numbers. The
+/// rules give the same answers, and after each call the same join; the Rust gives the same answers.
 pub fn places(seed: u64, count: u64) -> Step {
     let (mut calls, mut turned) = (0, 0);
     for (kind, i) in COMPARED.into_iter().flat_map(|kind| (0..count).map(move |i| (kind, i))) {
@@ -110,8 +108,8 @@ pub fn places(seed: u64, count: u64) -> Step {
     Ok(format!("{calls} calls, {turned} turns that wrote: the same with places in the stead of codes"))
 }
 
-/// Values that the list lacks in held and remembered rows, by the step rules and by the Rust: the host writes them into held rows,
-/// the node is handed them.
+/// Values that the list lacks in held and remembered rows, by the step rules and by the Rust: the host writes them into
+/// held rows, the node is handed them.
 pub fn lacked(seed: u64, count: u64) -> Step {
     let ways = Ways { writes: true, ..Ways::default() };
     let (mut all, mut frames) = (Tally::default(), 0);
@@ -182,7 +180,8 @@ fn lacks_held(rules: &Rules) -> bool {
     (0..look.held).any(|i| right[capacity * c + at(i)] != 0 && !codes(o).contains(&right[at(i)]))
 }
 
-/// Scripts in which the host writes words of joins and areas, by the rules alone: what they reach. The port is asked about them.
+/// Scripts in which the host writes words of joins and areas, by the rules alone: what they reach. The port is asked
+/// about them.
 pub fn handed(seed: u64, count: u64) -> Step {
     let mut all = Written::default();
     for i in 0..count {

@@ -121,8 +121,8 @@ impl Names {
         Arc::new(Schema::of_names(self.columns(b, carried).chain(self.number)))
     }
 
-    /// A frame's words as the Rust's frame, the list with its column. None where they break SCOPE's frame rule, for no such frame
-    /// can be made; and, unless the host writes what it likes, where the list lacks a value.
+    /// A frame's words as the Rust's frame, the list with its column. None where they break SCOPE's frame rule, for no
+    /// such frame can be made; and, unless the host writes what it likes, where the list lacks a value.
     fn frame(&self, words: &[i64], s: &Shape, first_number: usize, writes: bool) -> Option<DataFrame> {
         let carried = s.carried.min(self.carried.len());
         let cells = frame::columns(words, self.columns(s.b, carried).count())?;

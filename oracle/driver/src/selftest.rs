@@ -17,10 +17,10 @@ use crate::rust::{Rust, Spoiled, Ways};
 use crate::{ranks, spans};
 
 /// How a step ends: what it counted, or what went wrong.
-type Step = Result<String, String>;
+pub type Step = Result<String, String>;
 
 /// A step's name, and what it does.
-type Named = (&'static str, Box<dyn FnOnce() -> Step>);
+pub type Named = (&'static str, Box<dyn FnOnce() -> Step>);
 
 /// How a script is made from its kind, seed and number.
 pub type Make = fn(Kind, u64, u64) -> Vec<Call>;
@@ -56,8 +56,8 @@ fn expected_answers(text: &str) -> Vec<&str> {
     text.lines().filter_map(|l| l.strip_prefix("= ")).collect()
 }
 
-/// Calls with the answers that were read from SCOPE by hand, by the rules, and by the Rust where it has a counterpart: not where
-/// the host has altered words.
+/// Calls with the answers that were read from SCOPE by hand, by the rules, and by the Rust where it has a counterpart:
+/// not where the host has altered words.
 pub(crate) fn cases(text: &str) -> Step {
     let lines: Vec<&str> = text.lines().filter(|l| !l.starts_with('=')).collect();
     let calls = parse_script(&lines.join("\n"))?;
@@ -120,8 +120,8 @@ pub fn longest_frames() -> Step {
     Ok("4,096 rows match, 4,097 are refused".into())
 }
 
-/// Random scripts of sorted sides over random cuts, by the whole-table rule. Frames that SCOPE refuses are left out: the Rust says ok
-/// to them.
+/// Random scripts of sorted sides over random cuts, by the whole-table rule. Frames that SCOPE refuses are left out: the
+/// Rust says ok to them.
 pub fn whole(makes: Makes, seed: u64, count: u64, ways: Ways) -> Step {
     let mut counts = Counts::default();
     for i in 0..count {
@@ -425,8 +425,8 @@ fn by_whole_table(o: Options, left: Vec<Vec<i64>>, right: Vec<Vec<i64>>, wrote: 
     whole_table::judge_whole(&calls, &[oks, wrote].concat()).map(|_| ())
 }
 
-/// SCOPE 15.12 and 16.1: the rules' own promises, over scripts full of refusals. These must all have come, those of lists too where
-/// there are lists.
+/// SCOPE 15.12 and 16.1: the rules' own promises, over scripts full of refusals. These must all have come, those of lists
+/// too where there are lists.
 pub fn refusals(makes: Makes, seed: u64, count: u64, due: &[usize]) -> Step {
     let mut refused = [0u64; 13];
     for i in 0..count {

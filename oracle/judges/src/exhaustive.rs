@@ -124,15 +124,16 @@ fn ports(each: &mut dyn FnMut(&[Call]) -> bool) -> bool {
     })
 }
 
-/// All of it without lists: tables without by-columns and with one; the same with fewer rows and one or two carried columns.
+/// All of it without lists: tables without by-columns and with one; the same with fewer rows and one or two carried
+/// columns.
 pub fn all(each: &mut dyn FnMut(&[Call]) -> bool) -> bool {
     let prices = Small { most: [2, 2], tolerances: &[-1, 0], carried: 2, ..KEYS };
     let group_prices = Small { most: [1, 1], carried: 1, ..GROUPS };
     ports(each) && [KEYS, GROUPS, prices, group_prices].into_iter().all(|small| tables(small, each))
 }
 
-/// The same with lists: one by-column whose list turns the numbers round, or lacks one of them; two by-columns, of which either
-/// has a list.
+/// The same with lists: one by-column whose list turns the numbers round, or lacks one of them; two by-columns, of which
+/// either has a list.
 pub fn listed(each: &mut dyn FnMut(&[Call]) -> bool) -> bool {
     let round: [&[i64]; 2] = [&[1, 0], &[1]];
     let one = round.map(|codes| Small { list: Some((0, codes)), ..GROUPS });
@@ -140,7 +141,8 @@ pub fn listed(each: &mut dyn FnMut(&[Call]) -> bool) -> bool {
     one.into_iter().chain(two).all(|small| tables(small, each))
 }
 
-/// Right tables with values that the list lacks, as only a host can write them: groups null, 0, 1, 2, of which the list has 1.
+/// Right tables with values that the list lacks, as only a host can write them: groups null, 0, 1, 2, of which the list
+/// has 1.
 pub fn lacked(each: &mut dyn FnMut(&[Call]) -> bool) -> bool {
     tables(Small { below: [3, 1], list: Some((0, &[1])), most: [1, 3], ..GROUPS }, each)
 }

@@ -677,8 +677,8 @@ fn alter_carried(r: &mut Random, d: &mut Draft) {
     }
 }
 
-/// The host alters what the list has a say in: values of held, waiting and remembered rows, or the list itself; often a turn comes
-/// next.
+/// The host alters what the list has a say in: values of held, waiting and remembered rows, or the list itself; often a
+/// turn comes next.
 fn alter_listed(r: &mut Random, d: &mut Draft, columns: [usize; 2]) {
     let puts = match r.below(8) {
         0..=3 => generate_ranks::alter_held(r, &d.rules),
@@ -771,9 +771,9 @@ fn run_output(r: &mut Random, rules: &Rules, k: usize, short: usize, spare: usiz
     }
 }
 
-/// What a host alters before a run, so that a later turn of it is refused: the numbers of turns are used up after some, or,
-/// where the first frame has no row, the remembered right row is greater than most and right has ended; with a list, a frame
-/// behind the front has a value that it lacks.
+/// What a host alters before a run, so that a later turn of it is refused: the numbers of turns are used up after some,
+/// or, where the first frame has no row, the remembered right row is greater than most and right has ended; with a list,
+/// a frame behind the front has a value that it lacks.
 fn alter_for_run(r: &mut Random, rules: &Rules) -> Vec<Call> {
     let Some((words, left, _)) = rules.all_words() else { return vec![] };
     let put = |at: usize, word: i64| Call::Put(Place::Join, at, word);
@@ -918,8 +918,8 @@ fn with_room(kind: Kind) -> bool {
     kind == Kind::Large || COMPARED.contains(&kind)
 }
 
-/// The calls of a script without runs and moves. Areas stay long where the host is to write values that the list lacks: frames
-/// with these are refused here.
+/// The calls of a script without runs and moves. Areas stay long where the host is to write values that the list lacks:
+/// frames with these are refused here.
 fn with_turns(kind: Kind, seed: u64, number: u64, carried: &mut Carried, listed: &mut Listed) -> Vec<Call> {
     let r = &mut Random::new(seed, kind, number);
     let mut calls = calls(r, kind, carried, listed);

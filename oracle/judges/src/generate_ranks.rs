@@ -1,5 +1,5 @@
-//! Lists of codes in random scripts: those that opening takes and those that it refuses, frames with values that a list lacks,
-//! and what a host can write so that held, remembered and waiting rows have such values.
+//! Lists of codes in random scripts: those that opening takes and those that it refuses, frames with values that a list
+//! lacks, and what a host can write so that held, remembered and waiting rows have such values.
 use crate::generate::{Kind, Pool, Random};
 use crate::rules::{self, Rules};
 use crate::script::{Call, Look, MOST_CODES, Options, Place, Ranks};
@@ -76,8 +76,8 @@ impl Listed {
         }
     }
 
-    /// The script with frames among its calls, in front of others, that have a value which the list lacks; some of them break
-    /// the frame rule too.
+    /// The script with frames among its calls, in front of others, that have a value which the list lacks; some of them
+    /// break the frame rule too.
     pub(crate) fn with_lacking(&mut self, ranks: &Ranks, calls: Vec<Call>) -> Vec<Call> {
         let mut out = vec![];
         for call in calls {
@@ -169,8 +169,8 @@ fn codes(o: &Options) -> &[i64] {
     &o.ranks.codes[..o.ranks.count as usize]
 }
 
-/// What a host writes into held rows: values that the list lacks, in a row or in some neighbours, often the first or the last
-/// ones, rising, falling or equal; and marks that say that they are there.
+/// What a host writes into held rows: values that the list lacks, in a row or in some neighbours, often the first or the
+/// last ones, rising, falling or equal; and marks that say that they are there.
 pub(crate) fn alter_held(r: &mut Random, rules: &Rules) -> Vec<Call> {
     let Some((o, look, _, right)) = listed(rules).filter(|(_, look, ..)| look.held > 0) else { return vec![] };
     let width = o.b + 1 + o.carried as usize;
@@ -208,8 +208,8 @@ fn waiting(o: &Options, look: &Look, left: &[i64]) -> Vec<Vec<usize>> {
     out
 }
 
-/// What a host writes into a waiting frame, or into one that waits behind the front: a value that the list lacks, or another code
-/// of it; and what puts it right again.
+/// What a host writes into a waiting frame, or into one that waits behind the front: a value that the list lacks, or
+/// another code of it; and what puts it right again.
 pub(crate) fn alter_waiting(r: &mut Random, rules: &Rules, behind: bool) -> Option<(Call, Call)> {
     let (o, look, left, _) = listed(rules)?;
     let places = waiting(o, look, left).into_iter().skip(behind as usize).flatten().collect::<Vec<_>>();
@@ -239,7 +239,8 @@ fn other_list(r: &mut Random, o: &Options) -> Ranks {
     out
 }
 
-/// What a host writes to lay down another list, with the places of its codes, so that held and remembered values may be lacked.
+/// What a host writes to lay down another list, with the places of its codes, so that held and remembered values may be
+/// lacked.
 pub(crate) fn alter_list(r: &mut Random, rules: &Rules) -> Vec<Call> {
     let Some(((o, ..), (words, ..))) = listed(rules).zip(rules.all_words()) else { return vec![] };
     let ranks = other_list(r, o);
@@ -251,8 +252,8 @@ pub(crate) fn alter_list(r: &mut Random, rules: &Rules) -> Vec<Call> {
     differs.map(|at| Call::Put(Place::Join, at, new[at])).collect()
 }
 
-/// Another word in the place of one of a list's words, whether there is a list or not: near what it is, small, at an end, or with
-/// one of its bytes another one.
+/// Another word in the place of one of a list's words, whether there is a list or not: near what it is, small, at an end,
+/// or with one of its bytes another one.
 pub(crate) fn other_list_word(r: &mut Random, words: &[i64]) -> (usize, i64) {
     let many = words[RANKS + 2].clamp(0, MOST_CODES as i64 - 1) as usize;
     let near = [CODES + r.below(many + 1), RISING + r.below(many + 1) / 8, RANKS + r.below(3)];

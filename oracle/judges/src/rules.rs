@@ -258,8 +258,8 @@ fn bad_ranks(o: &Options) -> bool {
     o.ranks.given && (!(1..=64).contains(&o.ranks.count) || o.ranks.column >= o.b as u64 || twice(codes(o)))
 }
 
-/// The places of a list's codes in the order of the codes as numbers, and zeros behind them: an opened join keeps them beside
-/// its options.
+/// The places of a list's codes in the order of the codes as numbers, and zeros behind them: an opened join keeps them
+/// beside its options.
 pub fn rising(ranks: &Ranks) -> Rising {
     let mut out = [0; MOST_CODES];
     if ranks.given {
@@ -445,14 +445,15 @@ impl Join {
         rows_of(c, self.look.held, values, marks)
     }
 
-    /// Whether the list's places are not those of its codes in rising order. Those behind the count are free, as its words are.
+    /// Whether the list's places are not those of its codes in rising order. Those behind the count are free, as its
+    /// words are.
     fn bad_rising(&self) -> bool {
         let count = self.o.ranks.count as usize;
         self.o.ranks.given && self.rising[..count] != rising(&self.o.ranks)[..count]
     }
 
-    /// 2: whether the fields cannot be those of a join; "a join holding such a p is 2", and so is one that holds a list which is
-    /// 11, or other places of its codes. No call reaches it; a host that alters its words can.
+    /// 2: whether the fields cannot be those of a join; "a join holding such a p is 2", and so is one that holds a list
+    /// which is 11, or other places of its codes. No call reaches it; a host that alters its words can.
     fn broken(&self) -> bool {
         let l = &self.look;
         self.strange.is_some()

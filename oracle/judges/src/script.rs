@@ -66,8 +66,8 @@ pub struct Open {
 }
 
 impl Open {
-    /// The lines that open a join so: one, which says that nothing is carried and no list given, or the options and then the
-    /// areas.
+    /// The lines that open a join so: one, which says that nothing is carried and no list given, or the options and then
+    /// the areas.
     pub fn calls(self, one_line: bool) -> Vec<Call> {
         if one_line {
             assert!(self.options.carried == 0 && !self.options.ranks.given);
@@ -433,9 +433,9 @@ fn parse_open(a: &[i64]) -> Result<Open, String> {
     Ok(Open { options, left_words: count(areas[0])?, right_words: count(areas[1])? })
 }
 
-/// The words of an `options` line: ten, the codes of the list, the flags of the by-columns. The distance has its place and is
-/// not there yet. A p, a column or a count above 2^63 − 1 is written as the negative word of the same bits; of a count above
-/// 64, 64 codes follow.
+/// The words of an `options` line: ten, the codes of the list, the flags of the by-columns. The distance has its place
+/// and is not there yet. A p, a column or a count above 2^63 − 1 is written as the negative word of the same bits; of a
+/// count above 64, 64 codes follow.
 fn parse_options_line(a: &[i64]) -> Result<Options, String> {
     let [b, _, _, _, _, carried, distance, ranked, column, codes, rest @ ..] = a else {
         return Err(format!("options needs 10 words or more, not {}", a.len()));

@@ -2,10 +2,10 @@
 //! sorting and a matching of its own. It shares no function with the step rules, the stand-ins or the Rust's driver, and looks
 //! at no call's inside: only at what was handed in and what was answered.
 //!
-//! Up to the first accepted row that is out of order every match must be the whole table's; behind it a match must at least
-//! be a row that qualifies. Order faults and refusals 1, 3 to 6 and 10 to 12 are judged everywhere. It takes from nowhere how many rows
-//! are held or when more are needed: a want is due wherever a frame waits and right is open, and a right frame may be refused
-//! by 6 where all rows accepted so far would not fit.
+//! Up to the first accepted row that is out of order every match must be the whole table's; behind it a match must at
+//! least be a row that qualifies. Order faults and refusals 1, 3 to 6 and 10 to 12 are judged everywhere. It takes from
+//! nowhere how many rows are held or when more are needed: a want is due wherever a frame waits and right is open, and a
+//! right frame may be refused by 6 where all rows accepted so far would not fit.
 use crate::script::{Answer, Call, Open, Options, Ran, Stop, opening};
 
 /// A row as handed in: b by-values, then the key, then, of a right row, what it carries; none is null.
@@ -56,8 +56,8 @@ fn list(o: &Options) -> Option<(usize, &[i64])> {
     o.ranks.given.then(|| (o.ranks.column as usize, &o.ranks.codes[..many]))
 }
 
-/// Where a value of column j stands: "as numbers", or, with a list, "by place in the list"; "a … value that the list lacks …
-/// stands after the listed ones, by number, before any reversal".
+/// Where a value of column j stands: "as numbers", or, with a list, "by place in the list"; "a … value that the list
+/// lacks … stands after the listed ones, by number, before any reversal".
 fn standing(o: &Options, j: usize, value: i64) -> i128 {
     const BEHIND_ALL_PLACES: i128 = 1 << 66;
     let Some((_, codes)) = list(o).filter(|(column, _)| *column == j) else { return value as i128 };

@@ -22,7 +22,8 @@ const KINDS: [Kind; 11] = {
 /// The place of the kind that comes once in so many scripts.
 const LARGE: (usize, u64) = (10, 1000);
 
-/// The script of this number among a seed's scripts of a kind: every second one with runs, and two of four with a list of codes.
+/// The script of this number among a seed's scripts of a kind: every second one with runs, and two of four with a list of
+/// codes.
 fn made(kind: Kind, seed: u64, number: u64) -> Vec<Call> {
     let makes = [script, script_with_runs, script_with_list, script_with_list_and_runs];
     makes[number as usize % 4](kind, seed, number)

@@ -8,8 +8,8 @@ use polars_utils::pl_str::PlSmallStr;
 use crate::chunked_array::BinaryOffsetChunked;
 use crate::value::AnyValue;
 
-/// A name and a part of shared cells, so that a slice copies nothing. With a list its values compare by their places in it, and
-/// stay the numbers that they are: the list belongs to the column, as an enumeration's categories do.
+/// A name and a part of shared cells, so that a slice copies nothing. With a list its values compare by their places in
+/// it, and stay the numbers that they are: the list belongs to the column, as an enumeration's categories do.
 #[derive(Clone, Debug)]
 pub struct Series {
     name: PlSmallStr,

@@ -3,7 +3,8 @@ use std::cmp::Ordering;
 
 use polars_utils::nulls::IsNull;
 
-/// A cell's value: null, a number, a number of a column with a list, behind its place there, or the bytes of an encoded row.
+/// A cell's value: null, a number, a number of a column with a list, behind its place there, or the bytes of an encoded
+/// row.
 #[derive(Clone, Debug)]
 pub enum AnyValue<'a> {
     Null,
@@ -34,8 +35,8 @@ impl PartialEq for AnyValue<'_> {
 }
 
 impl PartialOrd for AnyValue<'_> {
-    /// SCOPE 4.3 and 7.7: keys ascend, nulls first. SCOPE 4.9: by place in a list; those that it lacks have one place, and compare
-    /// by number.
+    /// SCOPE 4.3 and 7.7: keys ascend, nulls first. SCOPE 4.9: by place in a list; those that it lacks have one place,
+    /// and compare by number.
     fn partial_cmp(&self, other: &Self) -> Option<Ordering> {
         use AnyValue::*;
         match (self, other) {
