@@ -80,8 +80,8 @@ impl Host {
             carried: w[13] as u64,
             ranks: raw::Ranks {
                 given: ranks.given as u64,
-                column: ranks.column as _,
-                count: ranks.count as _,
+                column: ranks.column,
+                count: ranks.count,
                 codes: ranks.codes,
             },
         };
