@@ -523,7 +523,7 @@ pub fn all(seed: u64, count: u64) -> bool {
         ("spans, points in intervals", Box::new(move || spans::random(seed, 4 * count))),
         ("spans, ways of feeding", Box::new(move || spans::ways(seed, count))),
     ];
-    steps.extend(with_lists(seed, count / 2));
+    steps.extend(with_lists(seed, 250.max(count / 2)));
     run(steps)
 }
 
@@ -543,6 +543,6 @@ pub fn with_lists(seed: u64, count: u64) -> Vec<Named> {
         ("lists, places for codes", Box::new(move || ranks::places(seed, count))),
         ("lists, short scripts with lacked values", Box::new(move || short_scripts(exhaustive::lacked, written))),
         ("lists, lacked values", Box::new(move || ranks::lacked(seed, count))),
-        ("lists, a host that writes", Box::new(move || ranks::handed(seed, count))),
+        ("lists, a host that writes", Box::new(move || ranks::handed(seed, 2000.max(count)))),
     ]
 }
