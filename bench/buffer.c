@@ -16,20 +16,9 @@
  *     wrote CARRIED ROWS    the turn that matches each of these left rows, with what its right row carries
  */
 #include <inttypes.h>
-#include <stdio.h>
-#include <stdlib.h>
 
+#include "counted.h"
 #include "rowkeeper.h"
-
-#if defined(__has_include)
-#if __has_include(<valgrind/callgrind.h>)
-#include <valgrind/callgrind.h>
-#endif
-#endif
-#ifndef CALLGRIND_ZERO_STATS
-#define CALLGRIND_ZERO_STATS ((void)0)
-#define CALLGRIND_DUMP_STATS_AT(label) ((void)(label))
-#endif
 
 /* The right area has room for so many rows, the left area for one frame. */
 enum { CAPACITY = 1000000, CARRIED = 2, MOST_COLUMNS = ROWKEEPER_MOST_BY + 1 };
@@ -42,13 +31,6 @@ typedef struct host {
     size_t right_words, by, carried;
     int64_t left[FRAME_WORDS], frame[FRAME_WORDS], out[OUT_WORDS];
 } host;
-
-/* Ends the program where an answer is not the one that is due: a count of another call would be told then. */
-static void due(int is_so, const char *what) {
-    if (is_so) return;
-    fprintf(stderr, "buffer: %s\n", what);
-    exit(1);
-}
 
 /* The words of a frame: every by-value 0, the keys `key` and so on, each one more than the last; what is carried is 0. */
 static size_t make_frame(host *h, size_t carried, size_t rows, int64_t key) {
