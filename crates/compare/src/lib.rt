@@ -116,4 +116,3 @@ pub fn cmp_row(
         _ => r,
     }
 }
-

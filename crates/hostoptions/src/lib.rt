@@ -48,7 +48,10 @@ pub fn is_options(h: HostOptions) -> bool
     let strategy = h.strategy < 256;
     let flags = both(is_flag(h.allow_eq), is_code(h.check));
     let given = is_flag(h.ranks.given);
-    both(both(strategy, flags), both(both(are_flags(d), are_flags(n)), given))
+    both(
+        both(strategy, flags),
+        both(both(are_flags(d), are_flags(n)), given),
+    )
 }
 
 // The list of ranks that the numbers tell, with these places in rising order.

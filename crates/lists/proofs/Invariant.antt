@@ -100,9 +100,10 @@ flags-add es j e k f a = record {
       rw (refused-append 8 es (e ∷ []), refused-append 9 es (e ∷ []), or-false (eqb (refusalIn e) 8), or-false (eqb (refusalIn e) 9), a .failed, f .failed)
       (or-swap (refusedWith 8 es) (refusedWith 9 es) (eqb (refusalIn e) 8) (eqb (refusalIn e) 9));
   unbroken = rw (refused-append 2 es (e ∷ []), f .unbroken, a .unbroken);
-  fronts =
-      (rw (turns-append es (e ∷ []), append-nil (turnIn e), refused-append 5 (turnsIn es) (turnIn e), f .fronts .0) (a .front .0),
-      rw (turns-append es (e ∷ []), append-nil (turnIn e), refused-append 12 (turnsIn es) (turnIn e), f .fronts .1) (a .front .1));
+  fronts = (
+    rw (turns-append es (e ∷ []), append-nil (turnIn e), refused-append 5 (turnsIn es) (turnIn e), f .fronts .0) (a .front .0),
+    rw (turns-append es (e ∷ []), append-nil (turnIn e), refused-append 12 (turnsIn es) (turnIn e), f .fronts .1) (a .front .1),
+  );
 }
 
 -- ---- the invariant of a list of calls

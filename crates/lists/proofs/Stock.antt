@@ -228,7 +228,7 @@ module _ (o : Options) (l r : Words) (L R Os : List Words) (j : Join) (left righ
     unfolding rowsIn
     next-codes =
         let all : rowsIn (columns o) L ≡ rowsIn (columns o) (take (length Os) L) ++ (frameRows (columns o) f ++ rowsIn (columns o) rest) =
-            ap (rowsIn (columns o)) (sym (take-append-drop (length Os) L)) ∙ rows-in-append (columns o) (take (length Os) L) (drop (length Os) L) ∙ rw e
+        ap (rowsIn (columns o)) (sym (take-append-drop (length Os) L)) ∙ rows-in-append (columns o) (take (length Os) L) (drop (length Os) L) ∙ rw e
         in
         lacks-parts o (frameRows (columns o) f) (rowsIn (columns o) rest) (lacks-parts o (rowsIn (columns o) (take (length Os) L)) (frameRows (columns o) f ++ rowsIn (columns o) rest) (rw all at (s .left-codes)) .1) .0
 
