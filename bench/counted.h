@@ -1,5 +1,5 @@
-/* Calls that are counted by themselves: under `valgrind --tool=callgrind --toggle-collect=…` the instructions since the last start are
-   dumped under a label. Without valgrind's header nothing is counted. */
+/* Calls that are counted by themselves: under `valgrind --tool=callgrind --toggle-collect=…` the instructions since the last
+   start are dumped under a label. Without valgrind's header nothing is counted. */
 #ifndef COUNTED_H
 #define COUNTED_H
 

@@ -540,7 +540,8 @@ static int try_call(attempt *a) {
     why = untouched(a);
     if (why == NULL) why = o.answer == ANSWER_UNKNOWN ? "an answer that does not exist" : judge(a, &o);
     if (why == NULL && a->call == CALL_RUN) why = same_by_turns(a, &o);
-    if (why == NULL && a->call == CALL_TURN && a->join.options.ranks.given == 1 && judge_known(a) < 0) why = ranked_by_number(a, &o);
+    if (why == NULL && a->call == CALL_TURN && a->join.options.ranks.given == 1 && judge_known(a) < 0)
+        why = ranked_by_number(a, &o);
     if (why != NULL) fault(a, why);
     count(a, &o);
     if (a->call == CALL_LEFT) memcpy(now.left, left_lend.at, now.left_len * sizeof *now.left);
@@ -633,7 +634,8 @@ static void equip(attempt *a) {
 
 /* Whether two joins have other lists. */
 static int other_list(const rowkeeper_join *a, const rowkeeper_join *b) {
-    return memcmp(&a->options.ranks, &b->options.ranks, sizeof a->options.ranks) != 0 || memcmp(a->rising, b->rising, sizeof a->rising) != 0;
+    return memcmp(&a->options.ranks, &b->options.ranks, sizeof a->options.ranks) != 0 ||
+           memcmp(a->rising, b->rising, sizeof a->rising) != 0;
 }
 
 /* One call on the host, or on an altered one; after an altered one the host most often goes on as it was. */

@@ -277,7 +277,8 @@ static void bad_lists(rowkeeper_options options) {
     for (i = 0; i < ROWKEEPER_MOST_RANKS; i++) other.ranks.codes[i] = 31 - i;
     other.ranks.count = ROWKEEPER_MOST_RANKS;
     took = rowkeeper_open(other);
-    want(took.refusal == 0 && took.join.rising[0] == 63 && took.join.rising[63] == 0, "opening with the longest list", AT(rowkeeper_join, rising));
+    want(took.refusal == 0 && took.join.rising[0] == 63 && took.join.rising[63] == 0, "opening with the longest list",
+         AT(rowkeeper_join, rising));
     other = options;
     other.ranks.count = 0;
     want(rowkeeper_open(other).refusal == ROWKEEPER_BAD_RANKS, "opening with an empty list", NO_WORD);
@@ -382,7 +383,8 @@ static void ranked(rowkeeper_options options) {
     options = with_list(options);
     options.check = ROWKEEPER_CHECK_ON;
     took = rowkeeper_open(options);
-    want(took.refusal == 0 && memcmp(&took.join.options, &options, sizeof options) == 0, "opening with a list", AT(rowkeeper_join, options));
+    want(took.refusal == 0 && memcmp(&took.join.options, &options, sizeof options) == 0, "opening with a list",
+         AT(rowkeeper_join, options));
     list_words(took.join);
     list_places(took.join);
     bad_lists(options);
