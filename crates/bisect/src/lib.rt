@@ -1,4 +1,5 @@
 // Binary search over the rows of a stretch, by the cells of one column.
+use cells::cmp_cell;
 use cells::cmp_listed;
 use order::Order;
 use searching::Seek;
@@ -45,6 +46,12 @@ fn probe(
     requires { ⌜ Indexed (now codes) (now rising) × CellIn k (now values) (now marks) ⌝ }
     ensures { λ r. ⌜ r ≡ meets seek (cmpCell (record { descending = descending; nullsLast = «nulls_last»; codes = now (codes .entry) }) (cellAt k (now (values .entry)) (now (marks .entry))) (cellOf value mark)) ⌝ }
 {
+    if codes.len() == 0 {
+        return is_met(
+            seek,
+            cmp_cell(values[k], marks[k], value, mark, descending, nulls_last),
+        );
+    }
     is_met(
         seek,
         cmp_listed(

@@ -68,7 +68,7 @@ fn cmp_place(a: i64, b: i64, codes: &[i64], rising: &[u8]) -> Order
     cmp_value(a, b)
 }
 
-// Two cells of a column with a list; an empty list is none.
+// Two cells of a column with a list.
 pub fn cmp_listed(
     va: i64,
     ma: i64,
@@ -82,9 +82,6 @@ pub fn cmp_listed(
     requires { ⌜ Indexed (now codes) (now rising) ⌝ }
     ensures { λ r. ⌜ r ≡ cmpCell (record { descending = descending; nullsLast = «nulls_last»; codes = now (codes .entry) }) (cellOf va ma) (cellOf vb mb) ⌝ }
 {
-    if codes.len() == 0 {
-        return cmp_cell(va, ma, vb, mb, descending, nulls_last);
-    }
     if ma == 0 {
         return cmp_cell(va, ma, vb, mb, descending, nulls_last);
     }
