@@ -11,6 +11,8 @@ ghost use Rattle.frames.specs.Cells.{rowFrom};
 ghost use Rattle.options.specs.Options.{byRule, keyRule};
 ghost use Rattle.order.specs.Order.{cmpCell, cmpGroup, cmpRow, keyOf};
 ghost use Rattle.order.specs.Requires.{cellAt, CellIn, RowAt};
+ghost use Rattle.options.specs.declared.Options.{Options};
+ghost use Rattle.compare.specs.Plain.{PlainAt, Plain};
 
 // The cell at place ka of the one side, and that at place kb of the other, of a column without a list.
 fn cmp_at(
@@ -54,8 +56,8 @@ fn cmp_column(
     cmp_at(va, ma, a, vb, mb, b, descending[j], last[j])
 }
 
-// The groups of the rows at pa and pb, whatever the rows' widths.
-pub fn cmp_group(
+// The groups of the rows at pa and pb by rules of which one may have a list.
+fn cmp_listed_group(
     va: &[i64],
     ma: &[i64],
     pa: usize,
@@ -78,6 +80,54 @@ pub fn cmp_group(
         j += 1;
     }
     Order::Equal
+}
+
+// The groups of the rows at pa and pb by the flags of their columns, without a list.
+fn cmp_plain_group(
+    va: &[i64],
+    ma: &[i64],
+    pa: usize,
+    vb: &[i64],
+    mb: &[i64],
+    pb: usize,
+    by: usize,
+    descending: [bool; 4],
+    nulls_last: [bool; 4],
+) -> Order
+    requires { ⌜ PlainAt by pa (now va) (now ma) × PlainAt by pb (now vb) (now mb) ⌝ }
+    ensures { λ r. ⌜ ((o : Options) → Plain by descending «nulls_last» o → (wa wb : ℕ) → by < wa → by < wb → r ≡ cmpGroup o (rowFrom wa pa (now (va .entry)) (now (ma .entry))) (rowFrom wb pb (now (vb .entry)) (now (mb .entry)))) ⌝ }
+{
+    let mut j = 0;
+    while j < by {
+        let r = cmp_at(va, ma, pa + j, vb, mb, pb + j, descending[j], nulls_last[j]);
+        match r {
+            Order::Equal => {}
+            _ => return r,
+        }
+        j += 1;
+    }
+    Order::Equal
+}
+
+// The groups of the rows at pa and pb, whatever the rows' widths. The options with their list are handed on only if there is one: that copies them.
+pub fn cmp_group(
+    va: &[i64],
+    ma: &[i64],
+    pa: usize,
+    vb: &[i64],
+    mb: &[i64],
+    pb: usize,
+    o: Options,
+) -> Order
+    requires { ⌜ RowAt o pa (now va) (now ma) × RowAt o pb (now vb) (now mb) ⌝ }
+    ensures { λ r. ⌜ ((wa wb : ℕ) → o .by < wa → o .by < wb → r ≡ cmpGroup o (rowFrom wa pa (now (va .entry)) (now (ma .entry))) (rowFrom wb pb (now (vb .entry)) (now (mb .entry)))) ⌝ }
+{
+    if o.ranks.given {
+        return cmp_listed_group(va, ma, pa, vb, mb, pb, o);
+    }
+    let descending = o.descending;
+    let last = o.nulls_last;
+    cmp_plain_group(va, ma, pa, vb, mb, pb, o.by, descending, last)
 }
 
 // The keys of the rows at pa and pb: ascending, nulls first.
