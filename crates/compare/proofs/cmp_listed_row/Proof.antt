@@ -1,0 +1,27 @@
+-- `compare::cmp_listed_row` meets its contract. Assumes nothing.
+use mathlib.Core.Path.{sym}
+use Rattle.order.specs.Order.{cmpRow}
+use Rattle.order.proofs.RowLaws.{next-stop}
+use borrow.Author.Needs.{needs}
+use Rattle.compare.proofs.cmp_listed_row.Statement.{statement}
+use Rattle.compare.proofs.cmp_listed_row.Tie as tie
+
+cmp-listed-group-requires : tie.Need-cmp-listed-group-requires
+cmp-listed-group-requires c κs = search needs
+
+enum-told : tie.Need-enum-told
+enum-told c = search needs
+
+cmp-key-requires : tie.Need-cmp-key-requires
+cmp-key-requires c κs = search needs
+
+returns : tie.Need-returns
+unfolding cmpRow
+returns c = λ wa wb ha hb. rw (← (c .before .before .before .cmp-listed-group .ensures wa wb ha hb), c .before .enum-told .given .1) (c .cmp-key .ensures wa wb ha hb)
+
+returns-2 : tie.Need-returns-2
+unfolding cmpRow
+returns-2 c = λ wa wb ha hb. rw (← (c .before .cmp-listed-group .ensures wa wb ha hb)) (sym (next-stop (c .before .cmp-listed-group .result) _ (c .match .keys2)))
+
+pub cmp-listed-row-spec : {M : Type 1} → statement M
+cmp-listed-row-spec = tie.close (tie.spec cmp-listed-group-requires enum-told cmp-key-requires returns returns-2)
