@@ -147,27 +147,7 @@ fn cmp_key(
     cmp_at(va, ma, pa + by, vb, mb, pb + by, false, false)
 }
 
-// The rows at pa and pb by rules of which one may have a list: by group, then by key.
-fn cmp_listed_row(
-    va: &[i64],
-    ma: &[i64],
-    pa: usize,
-    vb: &[i64],
-    mb: &[i64],
-    pb: usize,
-    o: Options,
-) -> Order
-    requires { ⌜ RowAt o pa (now va) (now ma) × RowAt o pb (now vb) (now mb) ⌝ }
-    ensures { λ r. ⌜ ((wa wb : ℕ) → o .by < wa → o .by < wb → r ≡ cmpRow o (rowFrom wa pa (now (va .entry)) (now (ma .entry))) (rowFrom wb pb (now (vb .entry)) (now (mb .entry)))) ⌝ }
-{
-    let r = cmp_listed_group(va, ma, pa, vb, mb, pb, o);
-    match r {
-        Order::Equal => cmp_key(va, ma, pa, vb, mb, pb, o),
-        _ => r,
-    }
-}
-
-// The rows at pa and pb: by group, then by key. As with groups, the options are handed on only with a list.
+// The rows at pa and pb: by group, then by key.
 pub fn cmp_row(
     va: &[i64],
     ma: &[i64],
@@ -180,12 +160,7 @@ pub fn cmp_row(
     requires { ⌜ RowAt o pa (now va) (now ma) × RowAt o pb (now vb) (now mb) ⌝ }
     ensures { λ r. ⌜ ((wa wb : ℕ) → o .by < wa → o .by < wb → r ≡ cmpRow o (rowFrom wa pa (now (va .entry)) (now (ma .entry))) (rowFrom wb pb (now (vb .entry)) (now (mb .entry)))) ⌝ }
 {
-    if o.ranks.given {
-        return cmp_listed_row(va, ma, pa, vb, mb, pb, o);
-    }
-    let descending = o.descending;
-    let last = o.nulls_last;
-    let r = cmp_plain_group(va, ma, pa, vb, mb, pb, o.by, descending, last);
+    let r = cmp_group(va, ma, pa, vb, mb, pb, o);
     match r {
         Order::Equal => cmp_key(va, ma, pa, vb, mb, pb, o),
         _ => r,
