@@ -56,8 +56,8 @@ fn cmp_column(
     cmp_at(va, ma, a, vb, mb, b, descending[j], last[j])
 }
 
-// The groups of the rows at pa and pb by rules of which one may have a list.
-fn cmp_listed_group(
+// The groups of the rows at pa and pb, whatever the rows' widths.
+pub fn cmp_group(
     va: &[i64],
     ma: &[i64],
     pa: usize,
@@ -82,8 +82,8 @@ fn cmp_listed_group(
     Order::Equal
 }
 
-// The groups of the rows at pa and pb by the flags of their columns, without a list.
-fn cmp_plain_group(
+// The same without a list, by the flags of the columns: the options, which have room for 64 codes, need not be handed on then, since that copies them.
+pub fn cmp_plain_group(
     va: &[i64],
     ma: &[i64],
     pa: usize,
@@ -107,27 +107,6 @@ fn cmp_plain_group(
         j += 1;
     }
     Order::Equal
-}
-
-// The groups of the rows at pa and pb, whatever the rows' widths. The options with their list are handed on only if there is one: that copies them.
-pub fn cmp_group(
-    va: &[i64],
-    ma: &[i64],
-    pa: usize,
-    vb: &[i64],
-    mb: &[i64],
-    pb: usize,
-    o: Options,
-) -> Order
-    requires { ⌜ RowAt o pa (now va) (now ma) × RowAt o pb (now vb) (now mb) ⌝ }
-    ensures { λ r. ⌜ ((wa wb : ℕ) → o .by < wa → o .by < wb → r ≡ cmpGroup o (rowFrom wa pa (now (va .entry)) (now (ma .entry))) (rowFrom wb pb (now (vb .entry)) (now (mb .entry)))) ⌝ }
-{
-    if o.ranks.given {
-        return cmp_listed_group(va, ma, pa, vb, mb, pb, o);
-    }
-    let descending = o.descending;
-    let last = o.nulls_last;
-    cmp_plain_group(va, ma, pa, vb, mb, pb, o.by, descending, last)
 }
 
 // The keys of the rows at pa and pb: ascending, nulls first.
