@@ -11,8 +11,6 @@ ghost use Rattle.frames.specs.Cells.{rowFrom};
 ghost use Rattle.options.specs.Options.{byRule, keyRule};
 ghost use Rattle.order.specs.Order.{cmpCell, cmpGroup, cmpRow, keyOf};
 ghost use Rattle.order.specs.Requires.{cellAt, CellIn, RowAt};
-ghost use Rattle.options.specs.declared.Options.{Options};
-ghost use Rattle.compare.specs.Plain.{PlainAt, Plain};
 
 // The cell at place ka of the one side, and that at place kb of the other, of a column without a list.
 fn cmp_at(
@@ -73,33 +71,6 @@ pub fn cmp_group(
     let mut j = 0;
     while j < by {
         let r = cmp_column(va, ma, pa, vb, mb, pb, j, o);
-        match r {
-            Order::Equal => {}
-            _ => return r,
-        }
-        j += 1;
-    }
-    Order::Equal
-}
-
-// The same without a list, by the flags of the columns: the options, which have room for 64 codes, need not be handed on then, since that copies them.
-pub fn cmp_plain_group(
-    va: &[i64],
-    ma: &[i64],
-    pa: usize,
-    vb: &[i64],
-    mb: &[i64],
-    pb: usize,
-    by: usize,
-    descending: [bool; 4],
-    nulls_last: [bool; 4],
-) -> Order
-    requires { ⌜ PlainAt by pa (now va) (now ma) × PlainAt by pb (now vb) (now mb) ⌝ }
-    ensures { λ r. ⌜ ((o : Options) → Plain by descending «nulls_last» o → (wa wb : ℕ) → by < wa → by < wb → r ≡ cmpGroup o (rowFrom wa pa (now (va .entry)) (now (ma .entry))) (rowFrom wb pb (now (vb .entry)) (now (mb .entry)))) ⌝ }
-{
-    let mut j = 0;
-    while j < by {
-        let r = cmp_at(va, ma, pa + j, vb, mb, pb + j, descending[j], nulls_last[j]);
         match r {
             Order::Equal => {}
             _ => return r,

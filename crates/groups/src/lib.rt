@@ -1,6 +1,5 @@
 // Runs of equal groups, and the one right cursor that serves a frame.
 use compare::cmp_group;
-use compare::cmp_plain_group;
 use keyed::null_group;
 use matching::RunCursor;
 use neighbours::same_values;
@@ -15,33 +14,12 @@ ghost use Rattle.matching.specs.Groups.{sameRun};
 ghost use Rattle.matching.specs.Stretches.{between, runLength, standing};
 ghost use Rattle.matching.specs.Loops.{Within, PassRoom, Stands, Passed, Serves};
 
-// How the groups of the rows at pa and pb compare; without a list the options are not handed on.
-fn group_order(
-    va: &[i64],
-    ma: &[i64],
-    pa: usize,
-    vb: &[i64],
-    mb: &[i64],
-    pb: usize,
-    o: Options,
-) -> Order
-    requires { ⌜ RowAt o pa (now va) (now ma) × RowAt o pb (now vb) (now mb) ⌝ }
-    ensures { λ r. ⌜ ((wa wb : ℕ) → o .by < wa → o .by < wb → r ≡ cmpGroup o (rowFrom wa pa (now (va .entry)) (now (ma .entry))) (rowFrom wb pb (now (vb .entry)) (now (mb .entry)))) ⌝ }
-{
-    if o.ranks.given {
-        return cmp_group(va, ma, pa, vb, mb, pb, o);
-    }
-    let descending = o.descending;
-    let last = o.nulls_last;
-    cmp_plain_group(va, ma, pa, vb, mb, pb, o.by, descending, last)
-}
-
 // Whether the rows at p and q, which stand one behind the other, are of one run.
 fn same_run(values: &[i64], marks: &[i64], p: usize, q: usize, o: Options) -> bool
     requires { ⌜ RowAt o p (now values) (now marks) × RowAt o q (now values) (now marks) ⌝ }
     ensures { λ r. ⌜ ((w : ℕ) → o .by < w → r ≡ sameRun o (rowFrom w p (now (values .entry)) (now (marks .entry))) (rowFrom w q (now (values .entry)) (now (marks .entry)))) ⌝ }
 {
-    match group_order(values, marks, p, values, marks, q, o) {
+    match cmp_group(values, marks, p, values, marks, q, o) {
         Order::Equal => return true,
         _ => {}
     }
@@ -94,7 +72,7 @@ fn stands_to(
     if null_group(rm, q, o) {
         return Order::Less;
     }
-    group_order(rv, rm, q, lv, lm, p, o)
+    cmp_group(rv, rm, q, lv, lm, p, o)
 }
 
 // From the right run from..to on, the cursor passes null runs and runs before the group of the left row at p.

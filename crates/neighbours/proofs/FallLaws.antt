@@ -7,7 +7,7 @@ use Rattle.frames.specs.Cells.{Cell, null, value, cellOf, isNull}
 use Rattle.options.specs.Options.{keyRule}
 use Rattle.options.specs.declared.Options.{Options}
 use Rattle.order.specs.Order.{cmpCell, cmpGroup, cmpRow, isGreater, keyOf}
-use Rattle.order.specs.declared.Order.the-variants.{Less, Equal, Greater}
+use Rattle.order.specs.declared.Order.the-variants.{Equal}
 
 -- A null is greater than no key.
 pub null-first : (x y : Cell) → isNull x ≡ true → isGreater (cmpCell keyRule x y) ≡ false
@@ -23,12 +23,3 @@ keys-decide o r s e = rw e
 -- The same words tell the same cell.
 pub same-cell : {v w m n : ℤ} → v ≡ w → m ≡ n → cellOf v m ≡ cellOf w n
 same-cell e f = rw (e, f)
-
--- Groups that differ decide.
-pub group-less : (o : Options) (r s : List Cell) → cmpGroup o r s ≡ Less → isGreater (cmpRow o r s) ≡ false
-unfolding cmpRow
-group-less o r s e = rw e
-
-pub group-greater : (o : Options) (r s : List Cell) → cmpGroup o r s ≡ Greater → isGreater (cmpRow o r s) ≡ true
-unfolding cmpRow
-group-greater o r s e = rw e

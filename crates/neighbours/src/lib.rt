@@ -1,11 +1,10 @@
 // Neighbouring rows: whether two have the same by-values, whether one is greater than the next, whether rows are sorted.
-use compare::cmp_plain_group;
 use compare::cmp_row;
 use keyed::null_at;
 use options::Options;
 use order::Order;
 ghost use mathlib.Core.Path.{_≡_};
-ghost use mathlib.Core.Bool.{true, false};
+ghost use mathlib.Core.Bool.{true};
 ghost use Prim.Native.Nat.{ℕ, _<_};
 ghost use Rattle.frames.specs.Cells.{rowFrom, rowsOf};
 ghost use Rattle.options.specs.Options.{keyRule};
@@ -60,32 +59,14 @@ fn key_falls(values: &[i64], marks: &[i64], p: usize, q: usize) -> bool
     false
 }
 
-// Whether the row at p is greater than the one at q, without a list: the options are not handed on.
-fn plain_falls(values: &[i64], marks: &[i64], p: usize, q: usize, o: Options) -> bool
-    requires { ⌜ RowAt o p (now values) (now marks) × RowAt o q (now values) (now marks) × (o .ranks .given ≡ false) ⌝ }
-    ensures { λ r. ⌜ ((w : ℕ) → o .by < w → r ≡ isGreater (cmpRow o (rowFrom w p (now (values .entry)) (now (marks .entry))) (rowFrom w q (now (values .entry)) (now (marks .entry))))) ⌝ }
-{
-    let by = o.by;
-    let descending = o.descending;
-    let last = o.nulls_last;
-    match cmp_plain_group(values, marks, p, values, marks, q, by, descending, last) {
-        Order::Less => false,
-        Order::Equal => key_falls(values, marks, p + by, q + by),
-        Order::Greater => true,
-    }
-}
-
 // Whether the row at p is greater than the one at q. If both have the same by-values their keys decide, and most neighbours have.
 fn row_falls(values: &[i64], marks: &[i64], p: usize, q: usize, o: Options) -> bool
     requires { ⌜ RowAt o p (now values) (now marks) × RowAt o q (now values) (now marks) ⌝ }
     ensures { λ r. ⌜ ((w : ℕ) → o .by < w → r ≡ isGreater (cmpRow o (rowFrom w p (now (values .entry)) (now (marks .entry))) (rowFrom w q (now (values .entry)) (now (marks .entry))))) ⌝ }
 {
-    let by = o.by;
     if same_values(values, marks, p, q, o) {
+        let by = o.by;
         return key_falls(values, marks, p + by, q + by);
-    }
-    if !o.ranks.given {
-        return plain_falls(values, marks, p, q, o);
     }
     match cmp_row(values, marks, p, values, marks, q, o) {
         Order::Greater => true,

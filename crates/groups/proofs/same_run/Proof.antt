@@ -8,8 +8,8 @@ use borrow.Author.Needs.{needs}
 use Rattle.groups.proofs.same_run.Statement.{statement}
 use Rattle.groups.proofs.same_run.Tie as tie
 
-group-order-requires : tie.Need-group-order-requires
-group-order-requires c κs = search needs
+cmp-group-requires : tie.Need-cmp-group-requires
+cmp-group-requires c κs = search needs
 
 enum-told : tie.Need-enum-told
 enum-told c = search needs
@@ -19,7 +19,7 @@ returns c = λ w h.
     let a = c .before .before .before .args in
     let r = rowFrom w (a .p) (now (a .values)) (now (a .marks)) in
     let s = rowFrom w (a .q) (now (a .values)) (now (a .marks)) in
-    same-yes (a .o) r s (sym (c .before .before .group-order .ensures w w h h) ∙ c .enum-told .given .1)
+    same-yes (a .o) r s (sym (c .before .before .cmp-group .ensures w w h h) ∙ c .enum-told .given .1)
 
 null-group-requires : tie.Need-null-group-requires
 null-group-requires c κs = search needs
@@ -29,9 +29,9 @@ returns-2 c = λ w h.
     let a = c .before .before .before .before .args in
     let r = rowFrom w (a .p) (now (a .values)) (now (a .marks)) in
     let s = rowFrom w (a .q) (now (a .values)) (now (a .marks)) in
-    let e = not-equal-arm (c .before .before .before .group-order .result) (c .before .before .match .keys2) in
+    let e = not-equal-arm (c .before .before .before .cmp-group .result) (c .before .before .match .keys2) in
     let n = c .before .null-group .ensures w (now (a .values)) (omega arith) (omega arith) in
-    same-no (a .o) r s (rw (c .before .before .before .group-order .ensures w w h h) at e) (sym n ∙ not-true _ (c .if1 .taken))
+    same-no (a .o) r s (rw (c .before .before .before .cmp-group .ensures w w h h) at e) (sym n ∙ not-true _ (c .if1 .taken))
 
 null-group-requires-2 : tie.Need-null-group-requires-2
 null-group-requires-2 c κs = search needs
@@ -41,16 +41,16 @@ returns-3 c = λ w h.
     let a = c .before .before .before .before .before .args in
     let r = rowFrom w (a .p) (now (a .values)) (now (a .marks)) in
     let s = rowFrom w (a .q) (now (a .values)) (now (a .marks)) in
-    let e = not-equal-arm (c .before .before .before .before .group-order .result) (c .before .before .before .match .keys2) in
+    let e = not-equal-arm (c .before .before .before .before .cmp-group .result) (c .before .before .before .match .keys2) in
     let n = c .before .before .null-group .ensures w (now (a .values)) (omega arith) (omega arith) in
     let m = c .null-group2 .ensures w (now (a .values)) (omega arith) (omega arith) in
-    m ∙ same-nulls (a .o) r s (rw (c .before .before .before .before .group-order .ensures w w h h) at e) (sym n ∙ not-false _ (c .before .if1 .left))
+    m ∙ same-nulls (a .o) r s (rw (c .before .before .before .before .cmp-group .ensures w w h h) at e) (sym n ∙ not-false _ (c .before .if1 .left))
 
 pub same-run-spec : {M : Type 1} → statement M
 same-run-spec =
     tie.close
     (tie.spec
-    group-order-requires
+    cmp-group-requires
     enum-told
     returns
     null-group-requires

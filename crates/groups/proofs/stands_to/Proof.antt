@@ -16,15 +16,15 @@ returns c = λ wl wr h k.
     let n = c .before .null-group .ensures wr (now (a .rv)) (omega arith) (omega arith) in
     rw (sym n ∙ c .if1 .taken)
 
-group-order-requires : tie.Need-group-order-requires
-group-order-requires c κs = search needs
+cmp-group-requires : tie.Need-cmp-group-requires
+cmp-group-requires c κs = search needs
 
 returns-2 : tie.Need-returns-2
 unfolding standing
 returns-2 c = λ wl wr h k.
     let a = c .before .before .before .args in
     let n = c .before .before .null-group .ensures wr (now (a .rv)) (omega arith) (omega arith) in
-    rw (sym n ∙ c .before .if1 .left) (c .group-order .ensures wr wl k h)
+    rw (sym n ∙ c .before .if1 .left) (c .cmp-group .ensures wr wl k h)
 
 pub stands-to-spec : {M : Type 1} → statement M
-stands-to-spec = tie.close (tie.spec null-group-requires returns group-order-requires returns-2)
+stands-to-spec = tie.close (tie.spec null-group-requires returns cmp-group-requires returns-2)

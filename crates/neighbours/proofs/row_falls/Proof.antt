@@ -1,14 +1,12 @@
--- `neighbours::row_falls` meets its contract. Assumes nothing.
+use borrow.Author.Needs.{needs}
 use mathlib.Core.Path.{_≡_, sym, ap, _∙_}
 use native.Mathlib.Omega.{arith}
 use denote.Ref.{now}
-use borrow.Author.Tests.{not-true}
 use Rattle.frames.specs.Cells.{rowFrom}
 use Rattle.options.specs.Options.{keyRule}
 use Rattle.order.specs.Order.{cmpCell, cmpRow, isGreater}
 use Rattle.order.proofs.RowLaws.{row-cell, not-greater-arm}
 use Rattle.neighbours.proofs.FallLaws.{keys-decide}
-use borrow.Author.Needs.{needs}
 use Rattle.neighbours.proofs.row_falls.Statement.{statement}
 use Rattle.neighbours.proofs.row_falls.Tie as tie
 
@@ -36,23 +34,17 @@ returns c = λ w h.
     c .key-falls .ensures
     ∙ sym (ap isGreater (keys-decide (a .o) (rowFrom w (a .p) vs ms) (rowFrom w (a .q) vs ms) e) ∙ rw (row-cell w (a .p) (a .o .by) vs ms h (r .values), row-cell w (a .q) (a .o .by) vs ms h (u .values)))
 
-plain-falls-requires : tie.Need-plain-falls-requires
-plain-falls-requires c κs = let s = c .before .before .before .before in (s .pre .0, s .pre .1, not-true (s .args .o .ranks .given) (c .if2 .taken))
-
-returns-2 : tie.Need-returns-2
-returns-2 c = search needs
-
 cmp-row-requires : tie.Need-cmp-row-requires
 cmp-row-requires c κs = search needs
 
 enum-told : tie.Need-enum-told
 enum-told c = search needs
 
-returns-3 : tie.Need-returns-3
-returns-3 c = λ w h. rw (← (c .before .before .cmp-row .ensures w w h h), c .enum-told .given .1)
+returns-2 : tie.Need-returns-2
+returns-2 c = λ w h. rw (← (c .before .before .cmp-row .ensures w w h h), c .enum-told .given .1)
 
-returns-4 : tie.Need-returns-4
-returns-4 c = λ w h. rw (← (c .before .cmp-row .ensures w w h h), not-greater-arm (c .before .cmp-row .result) (c .match .keys2))
+returns-3 : tie.Need-returns-3
+returns-3 c = λ w h. rw (← (c .before .cmp-row .ensures w w h h), not-greater-arm (c .before .cmp-row .result) (c .match .keys2))
 
 pub row-falls-spec : {M : Type 1} → statement M
 row-falls-spec =
@@ -63,9 +55,7 @@ row-falls-spec =
     add-key-falls-2
     key-falls-requires
     returns
-    plain-falls-requires
-    returns-2
     cmp-row-requires
     enum-told
-    returns-3
-    returns-4)
+    returns-2
+    returns-3)
