@@ -16,20 +16,9 @@
  *     wrote CARRIED ROWS    the turn that matches each of these left rows, with what its right row carries
  */
 #include <inttypes.h>
-#include <stdio.h>
-#include <stdlib.h>
 
+#include "counted.h"
 #include "rowkeeper.h"
-
-#if defined(__has_include)
-#if __has_include(<valgrind/callgrind.h>)
-#include <valgrind/callgrind.h>
-#endif
-#endif
-#ifndef CALLGRIND_ZERO_STATS
-#define CALLGRIND_ZERO_STATS ((void)0)
-#define CALLGRIND_DUMP_STATS_AT(label) ((void)(label))
-#endif
 
 /* The right area has room for so many rows, the left area for one frame. */
 enum { CAPACITY = 1000000, CARRIED = 2, MOST_COLUMNS = ROWKEEPER_MOST_BY + 1 };
@@ -42,13 +31,6 @@ typedef struct host {
     size_t right_words, by, carried;
     int64_t left[FRAME_WORDS], frame[FRAME_WORDS], out[OUT_WORDS];
 } host;
-
-/* Ends the program where an answer is not the one that is due: a count of another call would be told then. */
-static void due(int is_so, const char *what) {
-    if (is_so) return;
-    fprintf(stderr, "buffer: %s\n", what);
-    exit(1);
-}
 
 /* The words of a frame: every by-value 0, the keys `key` and so on, each one more than the last; what is carried is 0. */
 static size_t make_frame(host *h, size_t carried, size_t rows, int64_t key) {
@@ -110,7 +92,7 @@ static rowkeeper_join counted_push(host *h, const char *what, size_t rows, uint6
     uint64_t held = h->join.held;
     rowkeeper_took t;
     snprintf(label, sizeof label, "%s %zu %" PRIu64 " %zu", what, h->by, held, rows);
-    CALLGRIND_ZERO_STATS;
+    CALLGRIND_DUMP_STATS_AT("before");
     t = push(h, words);
     CALLGRIND_DUMP_STATS_AT(label);
     due(t.refusal == 0 && t.join.held == held + rows && t.join.base == base, label);
@@ -147,7 +129,7 @@ static void want(host *h, uint64_t strategy, size_t left) {
     char label[80];
     rowkeeper_turned t;
     snprintf(label, sizeof label, "want %zu %" PRIu64 " %" PRIu64 " %zu", h->by, strategy, h->join.held, left);
-    CALLGRIND_ZERO_STATS;
+    CALLGRIND_DUMP_STATS_AT("before");
     t = turn(h);
     CALLGRIND_DUMP_STATS_AT(label);
     due(t.answer == ROWKEEPER_WANTS_RIGHT, label);
@@ -178,18 +160,18 @@ static void carries(host *h, size_t carried, size_t rows) {
     rowkeeper_turned w;
     start(h, 0, carried, ROWKEEPER_BACKWARD);
     words = make_frame(h, carried, rows, 0);
-    CALLGRIND_ZERO_STATS;
+    CALLGRIND_DUMP_STATS_AT("before");
     t = push(h, words);
     dump(h, "right", rows);
     due(t.refusal == 0 && t.join.held == rows, "a right frame with carried columns is refused");
     h->join = rowkeeper_end_right(t.join, h->left, FRAME_WORDS, h->right, h->right_words).join;
     words = make_frame(h, 0, rows, 0);
-    CALLGRIND_ZERO_STATS;
+    CALLGRIND_DUMP_STATS_AT("before");
     t = rowkeeper_left(h->join, h->left, FRAME_WORDS, h->right, h->right_words, h->frame, words);
     dump(h, "left", rows);
     due(t.refusal == 0, "a left frame beside carried columns is refused");
     h->join = t.join;
-    CALLGRIND_ZERO_STATS;
+    CALLGRIND_DUMP_STATS_AT("before");
     w = turn(h);
     dump(h, "wrote", rows);
     due(w.answer == ROWKEEPER_WROTE && h->out[1] == (int64_t)(1 + carried) && h->out[2] == 0, "the turn does not write");

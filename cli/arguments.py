@@ -1,11 +1,11 @@
 """The command line."""
 import argparse
 
-from rowkeeper.interface import MOST_BY, STRATEGIES, VERSION
+from rowkeeper.interface import MOST_BY, MOST_RANKS, STRATEGIES, VERSION
 
 from .cells import MOST, number
 from .page import PAGE, SHORT
-from .problem import BAD_USAGE, Problem
+from .problem import BAD_USAGE, Problem, quoted
 
 
 class Parser(argparse.ArgumentParser):
@@ -35,6 +35,25 @@ def distance(text):
     return value
 
 
+def code(text):
+    """A code of --rank."""
+    try:
+        value = number(text)
+    except ValueError as why:
+        raise argparse.ArgumentTypeError(str(why)) from None
+    if value is None:
+        raise argparse.ArgumentTypeError('there is an empty code')
+    return value
+
+
+def ranks(text):
+    """The column of --rank and its codes in order."""
+    name, sign, codes = text.rpartition('=')
+    if not sign:
+        raise argparse.ArgumentTypeError(f'must be COLUMN=CODES, as band=30,10,20, not {quoted(text)}')
+    return name, [code(each) for each in codes.split(',')]
+
+
 def parser():
     """The options of `rowkeeper join`, as the page tells them."""
     top = Parser(prog='rowkeeper', allow_abbrev=False)
@@ -52,9 +71,24 @@ def parser():
     join.add_argument('--no-check', dest='check', action='store_false')
     join.add_argument('--descending', action='append', default=[], metavar='COLUMN')
     join.add_argument('--nulls-last', action='append', default=[], metavar='COLUMN')
+    join.add_argument('--rank', type=ranks, action='append', default=[], metavar='COLUMN=CODES')
     join.add_argument('--output', metavar='FILE')
     join.add_argument('--explain', action='store_true')
     return top
+
+
+def judge_rank(args):
+    """Stops at a list of codes that cannot be taken."""
+    if len(args.rank) > 1:
+        raise Problem('--rank: can be said once, for one column', BAD_USAGE)
+    for name, codes in args.rank:
+        if name not in args.by:
+            raise Problem(f'--rank: {name} is not a --by column', BAD_USAGE)
+        if len(codes) > MOST_RANKS:
+            raise Problem(f'--rank: {len(codes)} codes, but there can be {MOST_RANKS} at most', BAD_USAGE)
+        twice = next((each for each in codes if codes.count(each) > 1), None)
+        if twice is not None:
+            raise Problem(f'--rank: code {twice} is named twice', BAD_USAGE)
 
 
 def judge(args):
@@ -69,6 +103,7 @@ def judge(args):
         for name in columns:
             if name not in args.by:
                 raise Problem(f'{option}: {name} is not a --by column', BAD_USAGE)
+    judge_rank(args)
     if args.strategy == 'nearest' and not args.exact:
         raise Problem('--no-exact: does not go with --strategy nearest', BAD_USAGE)
 

@@ -31,7 +31,7 @@ class Join(rowkeeper.Join):
             told(lambda: super(Join, self).__init__(
                 by=self.columns - 1, strategy=strategy, allow_exact_matches=exact, tolerance=tolerance,
                 check='strict' if check else 'off',
-                descending=order.descending, nulls_last=order.nulls_last, right_rows=right_rows))
+                descending=order.descending, nulls_last=order.nulls_last, right_rows=right_rows, ranks=order.ranks))
         self.output = array('q', bytes(8 * self.output_words()))
         self.grown = self.most_held = self.most_waiting = 0
         self.answers = {WROTE: 0, WANTS_RIGHT: 0, IDLE: 0}

@@ -20,7 +20,7 @@ BY_SIGNAL = 128
 
 def price(args):
     """Does the main job: both files are opened and looked at before anything is built or written."""
-    order = Order(args.by, args.on, args.descending, args.nulls_last)
+    order = Order(args.by, args.on, args.descending, args.nulls_last, *args.rank)
     progress = Progress(wanted=args.output is not None or not sys.stdout.isatty())
     with contextlib.ExitStack() as stack:
         sales, notices = (stack.enter_context(contextlib.closing(Source(path, order, args.check)))

@@ -51,6 +51,9 @@ WHICH NOTICE
 HOW THE FILES ARE SORTED
   --descending COLUMN  the numbers of this --by column fall
   --nulls-last COLUMN  the empty cells of this --by column come last
+  --rank COLUMN=CODES  this --by column is sorted in the order of these codes,
+                       not by number: --rank band=30,10,20 for stalls, circle,
+                       gods. Up to 64 codes; no other may stand in the column
   --check              look that both files are sorted, to their ends (this is
                        what happens when nothing is said)
   --no-check           do not look: faster, but sales may get a wrong notice

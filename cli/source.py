@@ -115,7 +115,7 @@ class Source:
                 raise ValueError
             columns = [column_numbers([cells[place] for cells in frame.cells]) for place in self.places]
             frame.numbers = list(zip(*columns))
-            if self.check and not self.sorted(frame.numbers):
+            if self.order.lacks(columns) or self.check and not self.sorted(frame.numbers):
                 raise ValueError
         except ValueError:
             self.find_fault(frame)
@@ -126,7 +126,7 @@ class Source:
 
     def sorted(self, rows):
         """Whether these rows are sorted, and come after the last one before them."""
-        ranks = self.order.ranks(rows if self.last is None else [self.last, *rows])
+        ranks = self.order.ranks_of(rows if self.last is None else [self.last, *rows])
         return all(map(operator.le, ranks, islice(ranks, 1, None)))
 
     def find_fault(self, frame):
@@ -145,11 +145,13 @@ class Source:
         if len(cells) != len(self.header):
             raise Problem(f'{at(self.path, line)}: columns: {len(cells)}, but the header names {len(self.header)}')
         found = []
-        for name, place in zip(self.order.columns, self.places):
+        for column, (name, place) in enumerate(zip(self.order.columns, self.places)):
             try:
                 found.append(number(cells[place]))
             except ValueError as why:
                 raise Problem(f'{at(self.path, line, name)}: {why}') from None
+            if not self.order.may_stand(column, found[-1]):
+                raise Problem(f'{at(self.path, line, name)}: {found[-1]} is not among the codes of --rank')
         return found
 
     def compare(self, line_before, before, line, row):

@@ -1,7 +1,8 @@
 /*
  * A hostile host. Makes calls with joins, areas and frames that real calls left, that were altered in some words, or that
  * are random words, over slices of any length between guard words and pages that cannot be touched. Every answer, the join
- * and every word afterwards are judged (judge.c); a run is also made again by single turns, which must leave the same.
+ * and every word afterwards are judged (judge.c); a run is also made again by single turns, which must leave the same, and a
+ * turn with a list of ranks by one over numbers without it (ranked.c).
  *
  *     hostile SEED CALLS     prints how often each call gave each answer; status 1 at the first fault
  */
@@ -16,31 +17,32 @@
 
 #include "judge.h"
 #include "lend.h"
+#include "ranked.h"
 
 static const char *const CALL_NAMES[CALLS] = {"open", "left", "right", "end_right", "ports", "turn", "run", "move"};
 
 /* The answers that each call can give, and at the end no answer. The run fails if one was never met. */
-enum { MOST_ANSWERS = 12, NO_ANSWER = -1 };
+enum { MOST_ANSWERS = 14, NO_ANSWER = -1 };
 static const int POSSIBLE[CALLS][MOST_ANSWERS] = {
-    {0, 1, 10, NO_ANSWER},
-    {0, 2, 3, 4, 5, 6, NO_ANSWER},
-    {0, 2, 3, 4, 5, 6, 7, NO_ANSWER},
+    {0, 1, 10, 11, NO_ANSWER},
+    {0, 2, 3, 4, 5, 12, 6, NO_ANSWER},
+    {0, 2, 3, 4, 5, 12, 6, 7, NO_ANSWER},
     {0, 2, 3, 4, NO_ANSWER},
     {0, 2, 3, NO_ANSWER},
-    {0, 2, 3, 4, 5, 6, 7, 8, 9, ANSWER_WANTS, ANSWER_IDLE, NO_ANSWER},
-    {0, 2, 3, 4, 5, 6, 7, 8, 9, ANSWER_WANTS, ANSWER_IDLE, NO_ANSWER},
+    {0, 2, 3, 4, 5, 12, 6, 7, 8, 9, ANSWER_WANTS, ANSWER_IDLE, NO_ANSWER},
+    {0, 2, 3, 4, 5, 12, 6, 7, 8, 9, ANSWER_WANTS, ANSWER_IDLE, NO_ANSWER},
     {0, 2, 6, NO_ANSWER},
 };
 
 /* The answers that must have stopped a run after a turn that wrote: those that a turn can change. 9 can too, if the host
    itself has altered the remembered row and the frame before had no row; it is not waited for. */
-static const int POSSIBLE_AFTER[MOST_ANSWERS] = {0, 5, 6, 7, 8, ANSWER_WANTS, ANSWER_IDLE, NO_ANSWER};
+static const int POSSIBLE_AFTER[MOST_ANSWERS] = {0, 5, 12, 6, 7, 8, ANSWER_WANTS, ANSWER_IDLE, NO_ANSWER};
 
 /* The counts of a call: one for each answer, known or not. */
 enum { ANSWERS = ANSWER_UNKNOWN + 1 };
 
-/* How many words a join is. */
-enum { JOIN_WORDS = sizeof(rowkeeper_join) / sizeof(int64_t) };
+/* How many words a join is, and where the codes of its list begin. */
+enum { JOIN_WORDS = sizeof(rowkeeper_join) / sizeof(int64_t), CODES_AT = offsetof(rowkeeper_join, options.ranks.codes) / 8 };
 
 /* A host's join and areas, and where its tables stand, so that its frames are mostly in order. */
 typedef struct host {
@@ -60,6 +62,8 @@ static uint64_t run_turns, several, met_after[ANSWERS];
 /* Of turns and runs that wrote: carried cells with a value, and null ones of matched rows. Of accepted right frames: those with
    carried columns. */
 static uint64_t carried_values, carried_nulls, carried_frames;
+/* Of accepted frames: those of a join with a list. Of joins whose list or places the host altered: those that were not refused. */
+static uint64_t listed_frames, altered_lists;
 
 /* Any 64 bits (splitmix64). */
 static uint64_t any(void) {
@@ -114,6 +118,36 @@ static uint64_t any_carried(void) {
     return percent(85) ? below(4) : below(ROWKEEPER_MOST_CARRIED + 1);
 }
 
+/* How many codes a list has: mostly few, at times many; now and then none, or more than there can be. */
+static uint64_t any_list_length(void) {
+    static const uint64_t NONE[] = {0, 65, 66, 255, 256, (uint64_t)1 << 32, INT64_MAX, UINT64_MAX};
+    if (percent(4)) return NONE[below(sizeof NONE / sizeof *NONE)];
+    return 1 + below(percent(80) ? 6 : ROWKEEPER_MOST_RANKS);
+}
+
+/* A list for a join of so many by-columns, now and then one that is refused. Its codes are a number, an odd step further the
+   next and so on, which are 64 different ones; behind its count stand any words. */
+static rowkeeper_ranks any_ranks(uint64_t by) {
+    rowkeeper_ranks k;
+    uint64_t code = (uint64_t)any_word(), step = percent(50) ? 1 + 2 * below(40) : any() | 1;
+    size_t i;
+    k.given = percent(99) ? 1 : (uint64_t)any_word();
+    k.column = by > 0 && percent(97) ? below(by) : below(by + 2);
+    k.count = any_list_length();
+    for (i = 0; i < ROWKEEPER_MOST_RANKS; i++, code += step) k.codes[i] = i < k.count ? (int64_t)code : any_word();
+    if (percent(4)) k.codes[below(ROWKEEPER_MOST_RANKS)] = k.codes[below(ROWKEEPER_MOST_RANKS)];
+    return k;
+}
+
+/* No list: zeros, or any words behind the flag. */
+static rowkeeper_ranks no_ranks(uint64_t by) {
+    rowkeeper_ranks k;
+    memset(&k, 0, sizeof k);
+    if (percent(20)) k = any_ranks(by);
+    k.given = 0;
+    return k;
+}
+
 /* Options, now and then refused ones. */
 static rowkeeper_options any_options(void) {
     rowkeeper_options o;
@@ -128,13 +162,24 @@ static rowkeeper_options any_options(void) {
         o.descending[j] = percent(15);
         o.nulls_last[j] = percent(15);
     }
-    if (percent(4)) ((int64_t *)&o)[below(sizeof o / sizeof(int64_t))] = any_word();
+    o.ranks = percent(o.by > 0 ? 45 : 2) ? any_ranks(o.by) : no_ranks(o.by);
+    if (percent(4)) ((int64_t *)&o)[below(offsetof(rowkeeper_options, ranks.codes) / sizeof(int64_t))] = any_word();
     return o;
+}
+
+/* Whether the join has a list that opening takes. */
+static int has_list(void) {
+    return now.join.options.ranks.given == 1 && judge_options(&now.join.options) == 0;
+}
+
+/* Whether a side can go on to the next group: a list has no more groups than codes. */
+static int has_next(int64_t group) {
+    return !has_list() || group + 1 < (int64_t)now.join.options.ranks.count || percent(2);
 }
 
 /* The next row of a side: its group and key mostly do not go back. */
 static void next_row(int64_t *group, int64_t *key) {
-    if (percent(10)) {
+    if (percent(10) && has_next(*group)) {
         ++*group;
         *key = 0;
     }
@@ -152,10 +197,24 @@ static size_t carried_columns(void) {
     return now.join.options.carried > ROWKEEPER_MOST_CARRIED ? 9 : (size_t)now.join.options.carried;
 }
 
+/* The place of a group's code in the list, which the join has; beyond the list any place, behind its count too. */
+static size_t place_of(int64_t group) {
+    const rowkeeper_ranks *k = &now.join.options.ranks;
+    if (group < 0 || group >= (int64_t)k->count) return below(ROWKEEPER_MOST_RANKS);
+    return (size_t)(now.join.options.descending[k->column] == 1 ? (int64_t)k->count - 1 - group : group);
+}
+
+/* A group as a value of a by-column: as it rises, or falls, by number or by place in the list. */
+static int64_t by_value(size_t column, int64_t group) {
+    const rowkeeper_ranks *k = &now.join.options.ranks;
+    if (has_list() && k->column == column) return k->codes[place_of(group)];
+    return now.join.options.descending[column] == 1 ? -group : group;
+}
+
 /* A cell of a row: its group, its key, or behind them anything that it carries. */
 static int64_t next_cell(size_t column, int64_t group, int64_t key) {
     if (column >= keyed_columns()) return any_word();
-    return column + 1 == keyed_columns() ? key : now.join.options.descending[column] == 1 ? -group : group;
+    return column + 1 == keyed_columns() ? key : by_value(column, group);
 }
 
 /* A side's next frame of so many columns with at most this many rows; a row's by-values are alike, some cells are null. */
@@ -201,11 +260,36 @@ static uint64_t other_layout(void) {
     }
 }
 
+/* Alters the list of the join, its places, or both: bytes that are no places, places the other way round, a list of the host's
+   own with the places that are due. */
+static void alter_list(rowkeeper_join *j) {
+    rowkeeper_ranks *k = &j->options.ranks;
+    size_t one = below(ROWKEEPER_MOST_RANKS), other = below(k->count > 1 && k->count <= ROWKEEPER_MOST_RANKS ? k->count : 8);
+    uint8_t place = j->rising[one];
+    switch (below(8)) {
+    case 0: j->rising[other] = (uint8_t)any(); break;
+    case 1: j->rising[one] = j->rising[other]; break;
+    case 2: j->rising[one] = j->rising[other], j->rising[other] = place; break;
+    case 3: k->codes[has_list() ? place_of(now.left_group) : other] = any_word(); break;
+    case 4: k->count = any_count(k->count, ROWKEEPER_MOST_RANKS); break;
+    case 5: k->column = percent(70) ? below(4) : any_count(k->column, ROWKEEPER_MOST_BY); break;
+    case 6: k->given = percent(80) ? 1 - k->given : (uint64_t)any_word(); break;
+    default: *k = any_ranks(j->options.by); break;
+    }
+    if (percent(50)) judge_places(k, j->rising);
+}
+
+/* The place of a word of a join, seldom of one of the list's codes: they are more than all others. */
+static size_t any_place(void) {
+    size_t at = below(JOIN_WORDS);
+    return at < CODES_AT || at >= CODES_AT + ROWKEEPER_MOST_RANKS || percent(10) ? at : any_place();
+}
+
 /* Alters a word of the join so that it may still hold together. */
 static void alter_join(void) {
     rowkeeper_join *j = &now.join;
     uint64_t capacity = now.right_len / (2 * (j->options.by % 8 + 1 + j->options.carried % 16));
-    switch (below(16)) {
+    switch (below(18)) {
     case 0: j->base = any_count(j->base, capacity - j->held % (capacity + 1)); break;
     case 1: j->held = any_count(j->held, capacity - j->base % (capacity + 1)); break;
     case 2: j->pruned = percent(50) ? INT64_MAX - j->held - below(40) : any_count(j->pruned, INT64_MAX); break;
@@ -220,7 +304,9 @@ static void alter_join(void) {
     case 11: ((int64_t *)&j->last_right)[below(11)] = percent(50) ? 1 : any_word(); break;
     case 12: j->layout = percent(50) ? ROWKEEPER_LAYOUT : other_layout(); break;
     case 13: j->options.carried = percent(50) ? any_carried() : any_count(j->options.carried, ROWKEEPER_MOST_CARRIED); break;
-    default: ((int64_t *)j)[below(JOIN_WORDS)] = any_word(); break;
+    case 14:
+    case 15: alter_list(j); break;
+    default: ((int64_t *)j)[any_place()] = any_word(); break;
     }
 }
 
@@ -234,12 +320,29 @@ static void alter_area(int64_t *area, size_t len, uint64_t first, uint64_t live)
     }
 }
 
+/* Alters a value of the list's column in a frame that waits, often not the first. The join holds together. */
+static void alter_waiting(void) {
+    uint64_t at = now.join.queue_start, end = at + now.join.queue_words, c = now.join.options.by + 1;
+    while (at + 2 + 2 * c <= end && now.left[at] > 0 && now.left[at + 1] == (int64_t)c) {
+        uint64_t n = (uint64_t)now.left[at], length = 2 + 2 * n * c;
+        if (n > ROWKEEPER_MOST_ROWS || length > end - at) return;
+        if (percent(40) || at + length == end) {
+            now.left[at + 2 + below(n) * c + now.join.options.ranks.column] = any_word();
+            return;
+        }
+        at += length;
+    }
+}
+
 /* Alters the host's words in one to three places; whether the join is among them. */
 static int alter_host(void) {
     int n, joins = 0;
     for (n = 1 + (int)below(3); n > 0; n--) {
         switch (below(4)) {
-        case 0: alter_area(now.left, now.left_len, now.join.queue_start, now.join.queue_words); break;
+        case 0:
+            if (percent(40) && has_list() && !judge_bad_join(&now.join, now.left_len, now.right_len)) alter_waiting();
+            else alter_area(now.left, now.left_len, now.join.queue_start, now.join.queue_words);
+            break;
         case 1: alter_area(now.right, now.right_len, 0, 0); break;
         default: alter_join(); joins = 1; break;
         }
@@ -411,6 +514,7 @@ static void count_carried(const int64_t *words, size_t len) {
 static void count(const attempt *a, const outcome *o) {
     met[a->call][o->answer]++;
     carried_frames += a->call == CALL_RIGHT && o->answer == 0 && a->join.options.carried > 0;
+    listed_frames += (a->call == CALL_LEFT || a->call == CALL_RIGHT) && o->answer == 0 && a->join.options.ranks.given == 1;
     if (a->call == CALL_TURN && o->answer == 0) count_carried(o->out, 1);
     if (a->call != CALL_RUN) return;
     count_carried(o->out, (size_t)o->words);
@@ -436,6 +540,8 @@ static int try_call(attempt *a) {
     why = untouched(a);
     if (why == NULL) why = o.answer == ANSWER_UNKNOWN ? "an answer that does not exist" : judge(a, &o);
     if (why == NULL && a->call == CALL_RUN) why = same_by_turns(a, &o);
+    if (why == NULL && a->call == CALL_TURN && a->join.options.ranks.given == 1 && judge_known(a) < 0)
+        why = ranked_by_number(a, &o);
     if (why != NULL) fault(a, why);
     count(a, &o);
     if (a->call == CALL_LEFT) memcpy(now.left, left_lend.at, now.left_len * sizeof *now.left);
@@ -526,6 +632,12 @@ static void equip(attempt *a) {
     for (i = 0; i < 3; i++) a->ports[i] = percent(97) ? percent(95) ? below(2) : 2 : (uint64_t)any_word();
 }
 
+/* Whether two joins have other lists. */
+static int other_list(const rowkeeper_join *a, const rowkeeper_join *b) {
+    return memcmp(&a->options.ranks, &b->options.ranks, sizeof a->options.ranks) != 0 ||
+           memcmp(a->rising, b->rising, sizeof a->rising) != 0;
+}
+
 /* One call on the host, or on an altered one; after an altered one the host most often goes on as it was. */
 static void step(void) {
     int altered = percent(45), joins = 0, answer;
@@ -544,6 +656,7 @@ static void step(void) {
     answer = try_call(&a);
     altered_joins += (uint64_t)joins;
     altered_past_2 += joins && answer != ROWKEEPER_BAD_JOIN;
+    altered_lists += joins && answer != ROWKEEPER_BAD_JOIN && a.join.options.ranks.given == 1 && other_list(&a.join, &before.join);
     if (altered && (answer == ROWKEEPER_BAD_JOIN || percent(70))) copy_host(&now, &before);
 }
 
@@ -608,7 +721,14 @@ static int report(void) {
            several);
     printf("carried: %" PRIu64 " right frames accepted, %" PRIu64 " values and %" PRIu64 " nulls written with matches\n",
            carried_frames, carried_values, carried_nulls);
+    printf("lists: %" PRIu64 " frames accepted, %" PRIu64 " turns made again over numbers, %" PRIu64
+           " with values that the list lacks; %" PRIu64 " altered lists not refused\n", listed_frames, ranked_turns, ranked_unlisted,
+           altered_lists);
     if (!all) printf("FAIL an answer that a call can give was never met\n");
+    if (listed_frames == 0 || ranked_turns == 0 || ranked_unlisted == 0 || altered_lists == 0) {
+        printf("FAIL no list was met, or none that was altered\n");
+        all = 0;
+    }
     if (carried_frames == 0 || carried_values == 0 || carried_nulls == 0) {
         printf("FAIL nothing was carried\n");
         all = 0;

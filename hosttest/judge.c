@@ -11,15 +11,55 @@ static int above(uint64_t a, uint64_t b, uint64_t limit) {
 
 /* Whether a flag of the options is neither 0 nor 1. */
 static int strange_flags(const rowkeeper_options *o) {
-    int j, strange = o->allow_eq > 1 || o->check > 2;
+    int j, strange = o->allow_eq > 1 || o->check > 2 || o->ranks.given > 1;
     for (j = 0; j < 4; j++) strange |= o->descending[j] > 1 || o->nulls_last[j] > 1;
     return strange;
+}
+
+int judge_place(const rowkeeper_ranks *k, int64_t value) {
+    int place = 0;
+    while (place < (int)k->count && k->codes[place] != value) place++;
+    return place;
+}
+
+/* Whether a code of a list stands in it before as well. */
+static int has_twice(const rowkeeper_ranks *k) {
+    int place;
+    for (place = 0; place < (int)k->count; place++)
+        if (judge_place(k, k->codes[place]) < place) return 1;
+    return 0;
+}
+
+/* Whether the options have a list that opening refuses. */
+static int bad_list(const rowkeeper_options *o) {
+    const rowkeeper_ranks *k = &o->ranks;
+    if (k->given == 0) return 0;
+    return k->count == 0 || k->count > ROWKEEPER_MOST_RANKS || k->column >= o->by || has_twice(k);
 }
 
 int judge_options(const rowkeeper_options *o) {
     if (strange_flags(o) || o->by > 4 || o->strategy > 2 || o->tolerance < -1 || (o->strategy == 2 && o->allow_eq == 0))
         return ROWKEEPER_BAD_OPTIONS;
-    return o->carried > ROWKEEPER_MOST_CARRIED ? ROWKEEPER_TOO_MANY_CARRIED : 0;
+    if (o->carried > ROWKEEPER_MOST_CARRIED) return ROWKEEPER_TOO_MANY_CARRIED;
+    return bad_list(o) ? ROWKEEPER_BAD_RANKS : 0;
+}
+
+void judge_places(const rowkeeper_ranks *k, uint8_t *places) {
+    size_t i, j, lesser;
+    memset(places, 0, ROWKEEPER_MOST_RANKS);
+    if (k->given != 1 || k->count > ROWKEEPER_MOST_RANKS) return;
+    for (i = 0; i < k->count; i++) {
+        for (j = 0, lesser = 0; j < k->count; j++) lesser += k->codes[j] < k->codes[i];
+        places[lesser] = (uint8_t)i;
+    }
+}
+
+/* Whether a join has other places than its list, which is one that opening takes; those behind the count may be anything. */
+static int bad_places(const rowkeeper_join *j) {
+    uint8_t places[ROWKEEPER_MOST_RANKS];
+    if (j->options.ranks.given == 0) return 0;
+    judge_places(&j->options.ranks, places);
+    return memcmp(places, j->rising, j->options.ranks.count) != 0;
 }
 
 size_t judge_right_columns(const rowkeeper_options *o) {
@@ -38,7 +78,7 @@ static int no_join(const rowkeeper_join *j) {
 }
 
 int judge_bad_join(const rowkeeper_join *j, size_t left_len, size_t right_len) {
-    if (no_join(j) || judge_options(&j->options) != 0) return 1;
+    if (no_join(j) || judge_options(&j->options) != 0 || bad_places(j)) return 1;
     return above(j->base, j->held, right_len / (2 * judge_right_columns(&j->options))) ||
            above(j->queue_start, j->queue_words, left_len) || above(j->pruned, j->held, INT64_MAX) || j->sequence % 2 == 1;
 }
@@ -52,6 +92,15 @@ static int is_frame(const int64_t *w, size_t len, uint64_t c) {
     for (i = 2; i < 2 + cells; i++)
         if (!(w[i + cells] == 1 || (w[i + cells] == 0 && w[i] == 0))) return 0;
     return 1;
+}
+
+/* Whether a frame of so many columns has a value in the column of the list that the list lacks. */
+static int lacks_code(const rowkeeper_options *o, const int64_t *w, size_t c) {
+    size_t n = (size_t)w[0], i;
+    if (o->ranks.given == 0) return 0;
+    for (i = o->ranks.column; i < n * c; i += c)
+        if (w[2 + n * c + i] == 1 && judge_place(&o->ranks, w[2 + i]) == (int)o->ranks.count) return 1;
+    return 0;
 }
 
 /* The length of the frame that waits first, or 0 where none does. */
@@ -81,6 +130,7 @@ static int frame_refusal(const attempt *a) {
     const rowkeeper_join *j = &a->join;
     uint64_t c = a->call == CALL_LEFT ? j->options.by + 1 : judge_right_columns(&j->options);
     if (!is_frame(a->frame, a->frame_len, c)) return ROWKEEPER_BAD_FRAME;
+    if (lacks_code(&j->options, a->frame, c)) return ROWKEEPER_UNKNOWN_CODE;
     if (a->call == CALL_LEFT) return above(j->queue_words, a->frame_len, a->left_len) ? ROWKEEPER_NO_ROOM : 0;
     if (above(j->held, (uint64_t)a->frame[0], a->right_len / (2 * c))) return ROWKEEPER_NO_ROOM;
     return above(j->pruned + j->held, (uint64_t)a->frame[0], INT64_MAX) ? ROWKEEPER_USED_UP : 0;
@@ -92,8 +142,7 @@ static int short_of_room(const attempt *a) {
            a->join.held > a->new_right_len / (2 * judge_right_columns(&a->join.options));
 }
 
-/* The answer that is known before rows are compared, or -1 for a turn that goes on from there. */
-static int known_answer(const attempt *a) {
+int judge_known(const attempt *a) {
     const uint64_t *p = a->ports;
     if (a->call == CALL_OPEN) return judge_options(&a->join.options);
     if (judge_bad_join(&a->join, a->left_len, a->right_len)) return ROWKEEPER_BAD_JOIN;
@@ -104,10 +153,11 @@ static int known_answer(const attempt *a) {
     if (a->call == CALL_LEFT || a->call == CALL_RIGHT) return frame_refusal(a);
     if (a->call != CALL_TURN) return 0;
     if (a->join.queue_words == 0) return ANSWER_IDLE;
-    return front(a) == 0 ? ROWKEEPER_BAD_FRAME : -1;
+    if (front(a) == 0) return ROWKEEPER_BAD_FRAME;
+    return lacks_code(&a->join.options, a->left + a->join.queue_start, a->join.options.by + 1) ? ROWKEEPER_UNKNOWN_CODE : -1;
 }
 
-/* Whether a turn that got past Idle and refusal 5 may answer so. */
+/* Whether a turn that got past Idle and refusals 5 and 12 may answer so. */
 static int turn_may(const attempt *a, int answer) {
     int64_t n = a->left[a->join.queue_start];
     int room = a->out_len >= answer_words(&a->join.options, n), last = a->join.sequence == UINT64_MAX - 1;
@@ -248,7 +298,8 @@ static int moved_on(const rowkeeper_join *was, const rowkeeper_join *now, uint64
     if (now->sequence != was->sequence + 2 * turns) return 0;
     if (now->last_left.some > 1 || now->last_right.some > 1) return 0;
     return now->layout == was->layout && memcmp(&was->options, &now->options, sizeof was->options) == 0 &&
-           now->state == was->state && now->right_ended == was->right_ended;
+           memcmp(was->rising, now->rising, sizeof was->rising) == 0 && now->state == was->state &&
+           now->right_ended == was->right_ended;
 }
 
 /* Whether a turn that wrote moved the join on by one frame. */
@@ -256,9 +307,17 @@ static int turn_moved(const attempt *a, const outcome *o) {
     return moved_on(&a->join, &o->join, front(a), 1) && o->sequence == a->join.sequence && o->join.failed == 0;
 }
 
+/* The join that comes back where nothing else is changed: that of an opening has the places of its list, unless its numbers
+   tell no options. */
+static rowkeeper_join as_it_came(const attempt *a) {
+    rowkeeper_join join = a->join;
+    if (a->call == CALL_OPEN && !no_join(&join)) judge_places(&join.options.ranks, join.rising);
+    return join;
+}
+
 /* What is wrong with a call that was accepted or wrote. */
 static const char *judge_done(const attempt *a, const outcome *o) {
-    rowkeeper_join want = a->join;
+    rowkeeper_join want = as_it_came(a);
     switch (a->call) {
     case CALL_OPEN: return same_join(&want, &o->join) ? NULL : "the opened join is not a fresh one";
     case CALL_LEFT: return left_taken(a, o) ? NULL : "the frame does not wait as it came";
@@ -274,7 +333,7 @@ static const char *judge_done(const attempt *a, const outcome *o) {
 
 /* What is wrong with a call that changes nothing, or with 8 and 9 marks the join failed. */
 static const char *judge_unchanged(const attempt *a, const outcome *o) {
-    rowkeeper_join want = a->join;
+    rowkeeper_join want = as_it_came(a);
     if (o->answer == ROWKEEPER_LEFT_ORDER || o->answer == ROWKEEPER_RIGHT_ORDER) want.failed = 1;
     if (!same_join(&want, &o->join)) return "the join was changed";
     if (o->sequence != 0 || (o->told[0] | o->told[1] | o->told[2]) != 0) return "an answer with something beside it";
@@ -291,7 +350,7 @@ static const char *judge_written(attempt *next, const outcome *o, size_t *at) {
     uint64_t turns;
     for (turns = 0; turns < o->turns; turns++) {
         size_t frame, words;
-        if (known_answer(next) >= 0 || !turn_may(next, 0)) return "a turn of the run cannot have written";
+        if (judge_known(next) >= 0 || !turn_may(next, 0)) return "a turn of the run cannot have written";
         if (!are_matches(next, o->out + *at)) return "the output is not one of matches";
         frame = front(next);
         words = answer_words(&next->join.options, next->left[next->join.queue_start]);
@@ -306,7 +365,7 @@ static const char *judge_written(attempt *next, const outcome *o, size_t *at) {
 
 /* Whether this may have stopped a run, before the turn `next`. */
 static int run_may_stop(const attempt *a, const outcome *o, const attempt *next) {
-    int known = known_answer(next);
+    int known = judge_known(next);
     if (no_join(&a->join)) return o->answer == ROWKEEPER_BAD_JOIN;
     if (o->turns == a->turns) return o->answer == 0;
     return known >= 0 ? o->answer == known : o->answer != 0 && turn_may(next, o->answer);
@@ -338,7 +397,7 @@ static const char *judge_run(const attempt *a, const outcome *o) {
 const char *judge(const attempt *a, const outcome *o) {
     int known;
     if (a->call == CALL_RUN) return judge_run(a, o);
-    known = known_answer(a);
+    known = judge_known(a);
     if (known >= 0 && o->answer != known) return "another answer than SCOPE gives";
     if (known < 0 && !turn_may(a, o->answer)) return "an answer that this turn cannot give";
     return o->answer == 0 ? judge_done(a, o) : judge_unchanged(a, o);

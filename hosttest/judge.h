@@ -36,11 +36,21 @@ typedef struct outcome {
 /* The refusal that these options meet at opening, or 0. */
 int judge_options(const rowkeeper_options *o);
 
+/* The place of a value in a list of at most 64 codes; its length if the list lacks the value. */
+int judge_place(const rowkeeper_ranks *k, int64_t value);
+
+/* The places of a list's codes by rising code, as opening puts them into a join; zeros behind them, and where there is no list
+   or it is too long. Of equal codes the last one has the place. */
+void judge_places(const rowkeeper_ranks *k, uint8_t *places);
+
 /* The columns of a right row with options that are not refused. */
 size_t judge_right_columns(const rowkeeper_options *o);
 
 /* Whether every call on this join is refused by 2. */
 int judge_bad_join(const rowkeeper_join *j, size_t left_len, size_t right_len);
+
+/* The answer that is known before rows are compared, or -1 for a turn that goes on from there. Not for runs. */
+int judge_known(const attempt *a);
 
 /* What is wrong with an outcome, or null. Guard words, the frame and areas that are only read are not looked at here. */
 const char *judge(const attempt *a, const outcome *o);

@@ -13,7 +13,12 @@
 #define AT(type, member) (offsetof(type, member) / 8)
 
 /* ---- tools/interface writes: layout */
-HOLDS(options_size, sizeof(rowkeeper_options) == 112);
+HOLDS(ranks_size, sizeof(rowkeeper_ranks) == 536);
+HOLDS(ranks_given_at, AT(rowkeeper_ranks, given) == 0);
+HOLDS(ranks_column_at, AT(rowkeeper_ranks, column) == 1);
+HOLDS(ranks_count_at, AT(rowkeeper_ranks, count) == 2);
+HOLDS(ranks_codes_at, AT(rowkeeper_ranks, codes) == 3);
+HOLDS(options_size, sizeof(rowkeeper_options) == 648);
 HOLDS(options_by_at, AT(rowkeeper_options, by) == 0);
 HOLDS(options_strategy_at, AT(rowkeeper_options, strategy) == 1);
 HOLDS(options_allow_eq_at, AT(rowkeeper_options, allow_eq) == 2);
@@ -22,39 +27,41 @@ HOLDS(options_check_at, AT(rowkeeper_options, check) == 4);
 HOLDS(options_descending_at, AT(rowkeeper_options, descending) == 5);
 HOLDS(options_nulls_last_at, AT(rowkeeper_options, nulls_last) == 9);
 HOLDS(options_carried_at, AT(rowkeeper_options, carried) == 13);
+HOLDS(options_ranks_at, AT(rowkeeper_options, ranks) == 14);
 HOLDS(row_size, sizeof(rowkeeper_row) == 88);
 HOLDS(row_some_at, AT(rowkeeper_row, some) == 0);
 HOLDS(row_values_at, AT(rowkeeper_row, values) == 1);
 HOLDS(row_marks_at, AT(rowkeeper_row, marks) == 6);
-HOLDS(join_size, sizeof(rowkeeper_join) == 368);
+HOLDS(join_size, sizeof(rowkeeper_join) == 968);
 HOLDS(join_layout_at, AT(rowkeeper_join, layout) == 0);
 HOLDS(join_options_at, AT(rowkeeper_join, options) == 1);
-HOLDS(join_base_at, AT(rowkeeper_join, base) == 15);
-HOLDS(join_held_at, AT(rowkeeper_join, held) == 16);
-HOLDS(join_pruned_at, AT(rowkeeper_join, pruned) == 17);
-HOLDS(join_queue_start_at, AT(rowkeeper_join, queue_start) == 18);
-HOLDS(join_queue_words_at, AT(rowkeeper_join, queue_words) == 19);
-HOLDS(join_state_at, AT(rowkeeper_join, state) == 20);
-HOLDS(join_right_ended_at, AT(rowkeeper_join, right_ended) == 21);
-HOLDS(join_failed_at, AT(rowkeeper_join, failed) == 22);
-HOLDS(join_sequence_at, AT(rowkeeper_join, sequence) == 23);
-HOLDS(join_last_left_at, AT(rowkeeper_join, last_left) == 24);
-HOLDS(join_last_right_at, AT(rowkeeper_join, last_right) == 35);
-HOLDS(took_size, sizeof(rowkeeper_took) == 376);
+HOLDS(join_rising_at, AT(rowkeeper_join, rising) == 82);
+HOLDS(join_base_at, AT(rowkeeper_join, base) == 90);
+HOLDS(join_held_at, AT(rowkeeper_join, held) == 91);
+HOLDS(join_pruned_at, AT(rowkeeper_join, pruned) == 92);
+HOLDS(join_queue_start_at, AT(rowkeeper_join, queue_start) == 93);
+HOLDS(join_queue_words_at, AT(rowkeeper_join, queue_words) == 94);
+HOLDS(join_state_at, AT(rowkeeper_join, state) == 95);
+HOLDS(join_right_ended_at, AT(rowkeeper_join, right_ended) == 96);
+HOLDS(join_failed_at, AT(rowkeeper_join, failed) == 97);
+HOLDS(join_sequence_at, AT(rowkeeper_join, sequence) == 98);
+HOLDS(join_last_left_at, AT(rowkeeper_join, last_left) == 99);
+HOLDS(join_last_right_at, AT(rowkeeper_join, last_right) == 110);
+HOLDS(took_size, sizeof(rowkeeper_took) == 976);
 HOLDS(took_refusal_at, AT(rowkeeper_took, refusal) == 0);
 HOLDS(took_join_at, AT(rowkeeper_took, join) == 1);
-HOLDS(ported_size, sizeof(rowkeeper_ported) == 400);
+HOLDS(ported_size, sizeof(rowkeeper_ported) == 1000);
 HOLDS(ported_refusal_at, AT(rowkeeper_ported, refusal) == 0);
 HOLDS(ported_left_at, AT(rowkeeper_ported, left) == 1);
 HOLDS(ported_right_at, AT(rowkeeper_ported, right) == 2);
 HOLDS(ported_send_at, AT(rowkeeper_ported, send) == 3);
 HOLDS(ported_join_at, AT(rowkeeper_ported, join) == 4);
-HOLDS(turned_size, sizeof(rowkeeper_turned) == 392);
+HOLDS(turned_size, sizeof(rowkeeper_turned) == 992);
 HOLDS(turned_answer_at, AT(rowkeeper_turned, answer) == 0);
 HOLDS(turned_refusal_at, AT(rowkeeper_turned, refusal) == 1);
 HOLDS(turned_sequence_at, AT(rowkeeper_turned, sequence) == 2);
 HOLDS(turned_join_at, AT(rowkeeper_turned, join) == 3);
-HOLDS(ran_size, sizeof(rowkeeper_ran) == 400);
+HOLDS(ran_size, sizeof(rowkeeper_ran) == 1000);
 HOLDS(ran_turns_at, AT(rowkeeper_ran, turns) == 0);
 HOLDS(ran_words_at, AT(rowkeeper_ran, words) == 1);
 HOLDS(ran_stop_at, AT(rowkeeper_ran, stop) == 2);
@@ -76,11 +83,12 @@ typedef struct field {
 } field;
 #define FIELD(member, bad) {AT(rowkeeper_join, member), sizeof(((rowkeeper_join *)0)->member) / 8, bad}
 
-/* All fields. A word that no line is about fails the test. */
+/* All fields of a join without a list of ranks. A word that no line is about fails the test. */
 static const field FIELDS[] = {
     FIELD(layout, ROWKEEPER_LAYOUT + 1), FIELD(options.by, 5), FIELD(options.strategy, 3), FIELD(options.allow_eq, 2), FIELD(options.tolerance, (uint64_t)-2),
     FIELD(options.check, 3), FIELD(options.descending, 2), FIELD(options.nulls_last, 2), FIELD(options.carried, 9),
-    FIELD(base, 7), FIELD(held, 7), FIELD(pruned, (uint64_t)1 << 63), FIELD(queue_start, LEFT + 1), FIELD(queue_words, LEFT + 1),
+    FIELD(options.ranks.given, 2), FIELD(options.ranks.column, 0), FIELD(options.ranks.count, 0), FIELD(options.ranks.codes, 0),
+    FIELD(rising, 0), FIELD(base, 7), FIELD(held, 7), FIELD(pruned, (uint64_t)1 << 63), FIELD(queue_start, LEFT + 1), FIELD(queue_words, LEFT + 1),
     FIELD(state, 3), FIELD(right_ended, 2), FIELD(failed, 2), FIELD(sequence, 1),
     FIELD(last_left.some, 2), FIELD(last_left.values, 0), FIELD(last_left.marks, 0),
     FIELD(last_right.some, 2), FIELD(last_right.values, 0), FIELD(last_right.marks, 0),
@@ -95,17 +103,21 @@ static void want(int holds, const char *what, size_t word) {
     failed = 1;
 }
 
-/* The answer to an end of right on this join with one word altered; the join must come back with that word. */
-static uint64_t end_with(rowkeeper_join join, size_t word, uint64_t value) {
-    uint64_t words[WORDS];
-    rowkeeper_took took;
-    memcpy(words, &join, sizeof words);
-    words[word] = value;
-    memcpy(&join, words, sizeof words);
-    took = rowkeeper_end_right(join, left, LEFT, right, RIGHT);
+/* The answer to an end of right on this join, of which a word was altered; it must come back with that word. */
+static uint64_t end_of(rowkeeper_join join, size_t word) {
+    rowkeeper_took took = rowkeeper_end_right(join, left, LEFT, right, RIGHT);
     if (took.refusal == 0) join.right_ended = 1;
     want(memcmp(&join, &took.join, sizeof join) == 0, "the join does not come back", word);
     return took.refusal;
+}
+
+/* The same with one word altered first. */
+static uint64_t end_with(rowkeeper_join join, size_t word, uint64_t value) {
+    uint64_t words[WORDS];
+    memcpy(words, &join, sizeof words);
+    words[word] = value;
+    memcpy(&join, words, sizeof words);
+    return end_of(join, word);
 }
 
 /* Alters each word of a join in turn: the answer must be what its field gives. */
@@ -207,10 +219,184 @@ static void carried(rowkeeper_options options) {
     want(took.refusal == ROWKEEPER_BAD_JOIN, "the join of a refused opening", NO_WORD);
 }
 
+/* Options with one by-column that is sorted by a list of three codes: stalls 30, circle 10, gods 20. The words behind them
+   are 10, which is no second code. */
+static rowkeeper_options with_list(rowkeeper_options options) {
+    size_t i;
+    options.by = 1;
+    options.ranks.given = 1;
+    options.ranks.column = 0;
+    options.ranks.count = 3;
+    for (i = 0; i < ROWKEEPER_MOST_RANKS; i++) options.ranks.codes[i] = 10;
+    options.ranks.codes[0] = 30;
+    options.ranks.codes[2] = 20;
+    return options;
+}
+
+/* A word of a join's list with another value, and the answer that is due to an end of right. */
+typedef struct alteration {
+    size_t word;
+    uint64_t value, refusal;
+} alteration;
+#define LIST(member) AT(rowkeeper_join, options.ranks.member)
+
+/* What the archive reads of a list, by each of its words: the flag, the column, the count, the codes up to the count. */
+static void list_words(rowkeeper_join join) {
+    static const alteration CASES[] = {
+        {LIST(given), 0, 0}, {LIST(given), 2, 2}, {LIST(column), 1, 2}, {LIST(column), UINT64_MAX, 2}, {LIST(count), 0, 2},
+        {LIST(count), 2, 2}, {LIST(count), 4, 2}, {LIST(count), ROWKEEPER_MOST_RANKS, 2}, {LIST(count), ROWKEEPER_MOST_RANKS + 1, 2},
+        {LIST(count), UINT64_MAX, 2}, {LIST(codes), 31, 0}, {LIST(codes), 21, 0}, {LIST(codes), 20, 2}, {LIST(codes), 19, 2},
+        {LIST(codes) + 1, 19, 0}, {LIST(codes) + 1, (uint64_t)-7, 0}, {LIST(codes) + 1, 40, 2}, {LIST(codes) + 2, 11, 0},
+        {LIST(codes) + 2, 9, 2}, {LIST(codes) + 3, 30, 0}, {LIST(codes) + ROWKEEPER_MOST_RANKS - 1, 30, 0},
+    };
+    size_t i;
+    for (i = 0; i < sizeof CASES / sizeof *CASES; i++)
+        want(end_with(join, CASES[i].word, CASES[i].value) == CASES[i].refusal, "another answer than the list gives", CASES[i].word);
+}
+
+/* The places of the codes by rising code: found at opening, and held to the list in every call, up to its count. */
+static void list_places(rowkeeper_join join) {
+    static const uint8_t PLACES[ROWKEEPER_MOST_RANKS] = {1, 2, 0};
+    size_t i, value;
+    want(memcmp(join.rising, PLACES, sizeof PLACES) == 0, "the places of a list", AT(rowkeeper_join, rising));
+    for (i = 0; i < ROWKEEPER_MOST_RANKS; i++) {
+        for (value = 0; value < 256; value++) {
+            rowkeeper_join other = join;
+            other.rising[i] = (uint8_t)value;
+            want(end_of(other, AT(rowkeeper_join, rising) + i / 8) == (i < 3 && value != PLACES[i] ? 2u : 0u),
+                 "another answer than the places give", AT(rowkeeper_join, rising) + i / 8);
+        }
+    }
+}
+
+/* Openings that refuse a list by 11, and those that are refused by an earlier number. */
+static void bad_lists(rowkeeper_options options) {
+    rowkeeper_options other = options;
+    rowkeeper_took took;
+    int64_t i;
+    for (i = 0; i < ROWKEEPER_MOST_RANKS; i++) other.ranks.codes[i] = 31 - i;
+    other.ranks.count = ROWKEEPER_MOST_RANKS;
+    took = rowkeeper_open(other);
+    want(took.refusal == 0 && took.join.rising[0] == 63 && took.join.rising[63] == 0, "opening with the longest list",
+         AT(rowkeeper_join, rising));
+    other = options;
+    other.ranks.count = 0;
+    want(rowkeeper_open(other).refusal == ROWKEEPER_BAD_RANKS, "opening with an empty list", NO_WORD);
+    other.carried = ROWKEEPER_MOST_CARRIED + 1;
+    want(rowkeeper_open(other).refusal == ROWKEEPER_TOO_MANY_CARRIED, "10 comes before 11", NO_WORD);
+    other.by = ROWKEEPER_MOST_BY + 1;
+    want(rowkeeper_open(other).refusal == ROWKEEPER_BAD_OPTIONS, "1 comes before 10 and 11", NO_WORD);
+    other = options;
+    other.ranks.count = ROWKEEPER_MOST_RANKS + 1;
+    want(rowkeeper_open(other).refusal == ROWKEEPER_BAD_RANKS, "opening with a list that is too long", NO_WORD);
+    other.ranks.count = 4;
+    took = rowkeeper_open(other);
+    want(took.refusal == ROWKEEPER_BAD_RANKS && took.join.layout == ROWKEEPER_LAYOUT, "opening with a code twice", NO_WORD);
+    want(memcmp(&took.join.options, &other, sizeof other) == 0, "the options of a refused opening", AT(rowkeeper_join, options));
+    took = rowkeeper_end_right(took.join, left, LEFT, right, RIGHT);
+    want(took.refusal == ROWKEEPER_BAD_JOIN, "the join of a refused opening", NO_WORD);
+    other = options;
+    other.ranks.column = 1;
+    want(rowkeeper_open(other).refusal == ROWKEEPER_BAD_RANKS, "opening with a list for the key", NO_WORD);
+    other.by = 2;
+    want(rowkeeper_open(other).refusal == 0, "opening with a list for the second by-column", NO_WORD);
+    other = options;
+    other.by = 0;
+    want(rowkeeper_open(other).refusal == ROWKEEPER_BAD_RANKS, "opening with a list and no by-column", NO_WORD);
+    other.ranks.given = 0;
+    want(rowkeeper_open(other).refusal == 0, "opening with words of a list that is not given", NO_WORD);
+    other.ranks.given = 2;
+    want(rowkeeper_open(other).refusal == ROWKEEPER_BAD_OPTIONS, "opening with a flag that is none", NO_WORD);
+}
+
+/* Frames in the order of the list: they are sorted, and are not if the list is not given or its column descends. */
+static void list_order(rowkeeper_options options) {
+    static const int64_t FRAME[] = {3, 2, 30, 5, 10, 5, 20, 5, 1, 1, 1, 1, 1, 1};
+    static const int64_t WANT[] = {3, 1, 0, 1, 2, 1, 1, 1};
+    int given, down;
+    for (given = 0; given < 2; given++) {
+        for (down = 0; down < 2; down++) {
+            int64_t out[8] = {0};
+            rowkeeper_join join;
+            rowkeeper_turned turned;
+            options.ranks.given = (uint64_t)given;
+            options.descending[0] = (uint64_t)down;
+            join = rowkeeper_open(options).join;
+            join = rowkeeper_right(join, left, LEFT, right, RIGHT, FRAME, 14).join;
+            join = rowkeeper_left(join, left, LEFT, right, RIGHT, FRAME, 14).join;
+            join = rowkeeper_end_right(join, left, LEFT, right, RIGHT).join;
+            turned = rowkeeper_turn(join, left, LEFT, right, RIGHT, out, 8);
+            want(turned.refusal == (given && !down ? 0 : ROWKEEPER_LEFT_ORDER), "the order of a list", LIST(given));
+            want(!given || down || memcmp(out, WANT, sizeof out) == 0, "the matches of a list", NO_WORD);
+        }
+    }
+}
+
+/* Values that the list lacks: 12 behind 5 and before 6, in the list's own column alone, and nothing is altered. */
+static void unlisted(rowkeeper_options options) {
+    static const int64_t FORTY[] = {1, 2, 40, 10, 1, 1}, NULLS[] = {1, 2, 0, 40, 0, 1}, SHORT[] = {1, 2, 40, 10, 1};
+    int64_t out[8] = {-1, -1, -1, -1, -1, -1, -1, -1};
+    rowkeeper_join join = rowkeeper_open(options).join, before;
+    rowkeeper_took took;
+    rowkeeper_turned turned;
+    rowkeeper_ran ran;
+    memset(left, 0, sizeof left);
+    took = rowkeeper_left(join, left, 5, right, RIGHT, FORTY, 6);
+    want(took.refusal == ROWKEEPER_UNKNOWN_CODE && memcmp(&took.join, &join, sizeof join) == 0 && left[0] == 0,
+         "a left frame with an unknown code, and no room for it", NO_WORD);
+    took = rowkeeper_right(join, left, LEFT, right, 3, FORTY, 6);
+    want(took.refusal == ROWKEEPER_UNKNOWN_CODE && memcmp(&took.join, &join, sizeof join) == 0,
+         "a right frame with an unknown code, and no room for it", NO_WORD);
+    want(rowkeeper_left(join, left, LEFT, right, RIGHT, SHORT, 5).refusal == ROWKEEPER_BAD_FRAME, "5 comes before 12", NO_WORD);
+    took = rowkeeper_left(join, left, LEFT, right, RIGHT, NULLS, 6);
+    want(took.refusal == 0, "a null is no unknown code, and neither is a key", NO_WORD);
+    before = took.join;
+    memcpy(left, FORTY, sizeof FORTY);
+    turned = rowkeeper_turn(before, left, LEFT, right, RIGHT, out, 0);
+    want(turned.answer == ROWKEEPER_REFUSED && turned.refusal == ROWKEEPER_UNKNOWN_CODE, "a turn over an unknown code", NO_WORD);
+    want(memcmp(&turned.join, &before, sizeof before) == 0 && left[2] == 40 && out[0] == -1, "what 12 leaves", NO_WORD);
+    ran = rowkeeper_run(before, 9, left, LEFT, right, RIGHT, out, 8);
+    want(ran.turns == 0 && ran.refusal == ROWKEEPER_UNKNOWN_CODE && out[0] == -1, "a run over an unknown code", NO_WORD);
+}
+
+/* Held rows that the host itself has altered: a value that the list lacks stands behind the listed ones, by number. */
+static void altered_rows(rowkeeper_options options) {
+    static const int64_t ROWS[] = {3, 2, 30, 1, 10, 1, 20, 1, 1, 1, 1, 1, 1, 1}, LAST[] = {1, 2, 20, 1, 1, 1};
+    static const int64_t CASES[][3] = {{30, 10, 20}, {30, 41, 42}, {30, 42, 41}, {40, 10, 20}, {30, 20, -5}, {30, -5, 20}};
+    static const int SORTED[] = {1, 1, 0, 0, 1, 0};
+    size_t i, j;
+    for (i = 0; i < sizeof SORTED / sizeof *SORTED; i++) {
+        int64_t out[4];
+        rowkeeper_join join = rowkeeper_open(options).join;
+        join = rowkeeper_right(join, left, LEFT, right, RIGHT, ROWS, 14).join;
+        join = rowkeeper_left(join, left, LEFT, right, RIGHT, LAST, 6).join;
+        join = rowkeeper_end_right(join, left, LEFT, right, RIGHT).join;
+        for (j = 0; j < 3; j++) right[2 * j] = CASES[i][j];
+        want(rowkeeper_turn(join, left, LEFT, right, RIGHT, out, 4).refusal == (SORTED[i] ? 0 : ROWKEEPER_RIGHT_ORDER),
+             "held values that the list lacks", NO_WORD);
+    }
+}
+
+/* A list of ranks: where its words are read, when it is refused, and what it does. */
+static void ranked(rowkeeper_options options) {
+    rowkeeper_took took;
+    options = with_list(options);
+    options.check = ROWKEEPER_CHECK_ON;
+    took = rowkeeper_open(options);
+    want(took.refusal == 0 && memcmp(&took.join.options, &options, sizeof options) == 0, "opening with a list",
+         AT(rowkeeper_join, options));
+    list_words(took.join);
+    list_places(took.join);
+    bad_lists(options);
+    list_order(options);
+    unlisted(options);
+    altered_rows(options);
+}
+
 /* What a join of another layout gets: 2 from every call, a run of no turns too, and itself as it came. The first word of
    joins from before there was a layout word is `by`; the last word here has the bytes of the layout in the other order. */
 static void other_layouts(rowkeeper_join join) {
-    static const uint64_t OTHER[] = {0, 1, 4, ROWKEEPER_LAYOUT - 1, ROWKEEPER_LAYOUT + 1, UINT64_MAX, 0x017065656b776f72u};
+    static const uint64_t OTHER[] = {0, 1, 4, ROWKEEPER_LAYOUT - 1, ROWKEEPER_LAYOUT + 1, UINT64_MAX, 0x037065656b776f72u};
     static const int64_t NONE[] = {0, 2};
     int64_t out[2] = {-1, -1};
     size_t i;
@@ -284,6 +470,7 @@ int main(void) {
     answers(took.join);
     runs(took.join);
     carried(options);
+    ranked(options);
     spans();
     options.by = 5;
     took = rowkeeper_open(options);

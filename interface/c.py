@@ -4,7 +4,7 @@ import textwrap
 
 # The columns of a line, and of the text of a comment.
 WIDTH, TEXT = 120, 117
-TYPES = {'u64': 'uint64_t', 'i64': 'int64_t', 'size': 'size_t'}
+TYPES = {'u64': 'uint64_t', 'i64': 'int64_t', 'size': 'size_t', 'u8': 'uint8_t'}
 
 
 def c_type(name):

@@ -3,7 +3,7 @@ import textwrap
 
 from .reader import camel, sentence
 
-TYPES = {'u64': 'c_uint64', 'i64': 'c_int64', 'size': 'c_size_t'}
+TYPES = {'u64': 'c_uint64', 'i64': 'c_int64', 'size': 'c_size_t', 'u8': 'c_uint8'}
 
 
 def python_type(field):
@@ -37,7 +37,7 @@ def call(each):
 def module(d):
     """The whole module."""
     lines = ['"""The C interface: numbers, texts, structs and calls. Written by tools/interface from interface/rowkeeper.txt."""',
-             'import ctypes', 'from ctypes import c_int64, c_size_t, c_uint64, c_void_p', '',
+             'import ctypes', 'from ctypes import c_int64, c_size_t, c_uint8, c_uint64, c_void_p', '',
              '# The version of the library that these declarations are of.', f"VERSION = '{d.version.text}'", f'VERSION_NUMBER = {d.version.number}',
              '', '# The name of its shared object, which has another number if a host must be compiled anew.',
              f"SONAME = 'librowkeeper.so.{d.abi}'"]

@@ -4,7 +4,7 @@ import re
 
 from .reader import camel
 
-TYPES = {'u64': ('u64', 'usize'), 'size': ('usize',), 'i64': ('i64',)}
+TYPES = {'u64': ('u64', 'usize'), 'size': ('usize',), 'i64': ('i64',), 'u8': ('u8',)}
 
 
 class Crates:

@@ -18,7 +18,10 @@ Struct = collections.namedtuple('Struct', 'name fields comment more')
 Parameter = collections.namedtuple('Parameter', 'name type length')
 Call = collections.namedtuple('Call', 'name gives parameters refused comment more')
 
-PLAIN = ('u64', 'i64', 'size')
+# The plain types with their bytes. A field of bytes is an array that fills whole words.
+PLAIN = {'u64': 8, 'i64': 8, 'size': 8, 'u8': 1}
+# The bytes of a word.
+WORD = 8
 
 
 class Fault(Exception):
@@ -141,7 +144,10 @@ class Description:
                 raise entry.fault(f'there is no type {kind}')
             if not comment:
                 raise entry.fault(f'field {name} has no comment')
-            fields.append(Field(name, kind, int(length) if length else None, comment))
+            field = Field(name, kind, int(length) if length else None, comment)
+            if self.bytes_of(field) % WORD:
+                raise entry.fault(f'field {name} does not fill whole words')
+            fields.append(field)
         names = [field.name for field in fields]
         if len(set(names)) < len(names):
             raise entry.fault('two fields have one name')
@@ -199,19 +205,23 @@ class Description:
         given = {refusal.number for refusal in self.given_refusals()}
         return listed([refusal.number for refusal in self.refusals if refusal.number in given], ', ')
 
+    def bytes_of(self, field):
+        """How many bytes a field takes."""
+        return (PLAIN.get(field.type) or WORD * self.words(field.type)) * (field.length or 1)
+
     def words(self, name):
         """How many words a type takes."""
         if name in PLAIN:
             return 1
         struct, = [each for each in self.structs if each.name == name]
-        return sum(self.words(field.type) * (field.length or 1) for field in struct.fields)
+        return sum(map(self.bytes_of, struct.fields)) // WORD
 
     def places(self, struct):
         """A struct's fields with their places, in words."""
         place, found = 0, []
         for field in struct.fields:
             found.append((field, place))
-            place += self.words(field.type) * (field.length or 1)
+            place += self.bytes_of(field) // WORD
         return found
 
     def comment(self, entry):

@@ -3,10 +3,12 @@ import textwrap
 
 from .reader import camel, sentence
 
-TYPES = {'u64': 'u64', 'i64': 'i64', 'size': 'usize'}
+TYPES = {'u64': 'u64', 'i64': 'i64', 'size': 'usize', 'u8': 'u8'}
 # Words that no function of Rust can have as its name.
 KEYWORDS = ('move', 'match', 'type', 'use', 'ref', 'in', 'loop', 'where')
 WIDTH = 120
+# The elements that an array can have at most to be a default of Rust's own.
+LONGEST_DEFAULT = 32
 
 
 def rust_type(field):
@@ -21,6 +23,32 @@ def doc(text, indent=''):
     return [f'{indent}/// {line}' for line in lines]
 
 
+def default_of(field):
+    """The default of a field: zeros throughout."""
+    one = '0' if field.type in TYPES else f'{camel(field.type)}::default()'
+    return f'[{one}; {field.length}]' if field.length else one
+
+
+def defaults(struct):
+    """The default of a struct with an array that has none of its own."""
+    fields = [f'{field.name}: {default_of(field)}' for field in struct.fields]
+    body = [f'        {camel(struct.name)} {{ {", ".join(fields)} }}']
+    if len(body[0]) > WIDTH:
+        body = [f'        {camel(struct.name)} {{', *(f'            {each},' for each in fields), '        }']
+    return ['', f'impl Default for {camel(struct.name)} {{', '    /// Zeros throughout.', '    fn default() -> Self {', *body, '    }', '}']
+
+
+def struct(d, each):
+    """A struct with its default."""
+    long = any((field.length or 0) > LONGEST_DEFAULT for field in each.fields)
+    lines = ['', *doc(' '.join(d.comment(each))), '#[repr(C)]',
+             f'#[derive(Clone, Copy, Debug, {"" if long else "Default, "}PartialEq, Eq)]', f'pub struct {camel(each.name)} {{']
+    for field in each.fields:
+        lines += doc(field.comment, '    ')
+        lines.append(f'    pub {field.name}: {rust_type(field)},')
+    return lines + ['}'] + (defaults(each) if long else [])
+
+
 def structs(d):
     """The constants and the structs."""
     lines = ['/// The version of the library that these declarations are of.', f'pub const VERSION: &str = "{d.version.text}";',
@@ -33,13 +61,8 @@ def structs(d):
         for value in enum.values:
             if not value.defined:
                 lines += [*doc(value.comment), f'pub const {value.c}: u64 = {value.number};']
-    for struct in d.structs:
-        lines += ['', *doc(' '.join(d.comment(struct))), '#[repr(C)]',
-                  '#[derive(Clone, Copy, Debug, Default, PartialEq, Eq)]', f'pub struct {camel(struct.name)} {{']
-        for field in struct.fields:
-            lines += doc(field.comment, '    ')
-            lines.append(f'    pub {field.name}: {rust_type(field)},')
-        lines.append('}')
+    for each in d.structs:
+        lines += struct(d, each)
     lines += ['', '/// How many words a join is.', f'pub const JOIN_WORDS: usize = {d.words("join")};',
               'const _: () = assert!(size_of::<Join>() == 8 * JOIN_WORDS && align_of::<Join>() == 8 && size_of::<usize>() == 8);']
     return lines

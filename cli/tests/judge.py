@@ -34,27 +34,31 @@ def matches(lefts, rights, strategy='backward', exact=True, tolerance=None):
     return found
 
 
-def cell_before(a, b, descending, nulls_last):
-    """Whether a cell comes strictly before another."""
+def cell_before(a, b, descending, nulls_last, codes=None):
+    """Whether a cell comes strictly before another: by number, or as the codes of a list come."""
     if a is None or b is None:
         return a != b and (b is None) == nulls_last
+    if codes is not None:
+        a, b = codes.index(a), codes.index(b)
     return a > b if descending else a < b
 
 
-def row_before(a, b, descending, nulls_last):
-    """Whether a row comes strictly before another: by-columns in turn, then the key, ascending with nulls first."""
-    for x, y, down, last in zip(a, b, [*descending, False], [*nulls_last, False]):
+def row_before(a, b, descending, nulls_last, lists=()):
+    """Whether a row comes strictly before another: by-columns in turn, then the key, ascending with nulls first. Lists are the codes
+    of each by-column, or None."""
+    lists = [*lists, *[None] * (len(a) - len(lists))]
+    for x, y, down, last, codes in zip(a, b, [*descending, False], [*nulls_last, False], lists):
         if x != y:
-            return cell_before(x, y, down, last)
+            return cell_before(x, y, down, last, codes)
     return False
 
 
-def in_order(rows, descending, nulls_last):
+def in_order(rows, descending, nulls_last, lists=()):
     """Rows sorted, by putting each in its place."""
     done = []
     for row in rows:
         place = len(done)
-        while place and row_before(row, done[place - 1], descending, nulls_last):
+        while place and row_before(row, done[place - 1], descending, nulls_last, lists):
             place -= 1
         done.insert(place, row)
     return done

@@ -89,6 +89,16 @@ class Usage(Case):
                             ([*join, '--on', 'm', *'--by a --by b --by c --by d --by e'.split()], '4 at most'),
                             ([*join, '--on', 'm', '--descending', 'm'], '--descending: m is not a --by column'),
                             ([*join, '--on', 'm', '--by', 'p', '--nulls-last', 'q'], '--nulls-last: q is not'),
+                            ([*join, '--on', 'm', '--by', 'p', '--rank', 'q=1'], '--rank: q is not a --by column'),
+                            ([*join, '--on', 'm', '--by', 'p', '--rank', 'm=1'], '--rank: m is not a --by column'),
+                            ([*join, '--on', 'm', '--by', 'p', '--rank', 'p'], "must be COLUMN=CODES, as band=30,10,20, not 'p'"),
+                            ([*join, '--on', 'm', '--by', 'p', '--rank', 'p='], '--rank: there is an empty code'),
+                            ([*join, '--on', 'm', '--by', 'p', '--rank', 'p=1,,2'], '--rank: there is an empty code'),
+                            ([*join, '--on', 'm', '--by', 'p', '--rank', 'p=1,two'], "--rank: 'two' is not a whole number"),
+                            ([*join, '--on', 'm', '--by', 'p', '--rank', f'p={2**63}'], 'is beyond 64 bits'),
+                            ([*join, '--on', 'm', '--by', 'p', '--rank', 'p=1,2,01'], '--rank: code 1 is named twice'),
+                            ([*join, '--on', 'm', '--by', 'p', '--rank', 'p=' + ','.join(map(str, range(65)))], '64 at most'),
+                            ([*join, '--on', 'm', '--by', 'p', '--rank', 'p=1', '--rank', 'p=2'], '--rank: can be said once'),
                             ([*join, '--on', 'm', '--strategy', 'nearest', '--no-exact'], 'does not go with'),
                             ([*join, '--on', 'm', '--strategy', 'sideways'], 'sideways'),
                             ([*join, '--on', 'm', '--tolerance', '-1'], '--tolerance'),
@@ -131,6 +141,22 @@ class BadFiles(Case):
                 with self.subTest(said=said, files=files):
                     self.refused(within(['join', *files, *ON, '--output', out]), f'{bad}, {said}')
                     self.assertEqual(sorted(os.listdir(self.folder)), ['bad.csv', 'good.csv'])
+
+    def test_codes(self):
+        """A code that --rank does not name, with the check and without it; and rows out of the order that it names."""
+        rank, good = [*ON, '--rank', 'performance=30,10,20'], self.file('good.csv', 'performance,minute\n30,5\n10,5\n')
+        for content, words, said in (
+                ('30,5\n40,5\n', [], 'line 3, column performance: 40 is not among the codes of --rank'),
+                ('30,5\n40,5\n', ['--no-check'], 'line 3, column performance: 40 is not among the codes of --rank'),
+                ('30,5\n10,5\n30,6\n', [], 'line 4, column performance: out of order: 30 comes after 10 of line 3; rows must be sorted by '
+                                            'performance (in the order 30 10 20), then minute'),
+                ('10,5\n30,5\n', [], 'line 3, column performance: out of order: 30 comes after 10 of line 2'),
+                ('30,5\n,5\n', [], 'line 3, column performance: out of order: an empty cell comes after 30 of line 2'),
+                ('20,5\n10,5\n40,5\n', [], 'line 3, column performance: out of order')):
+            bad = self.file('bad.csv', f'performance,minute\n{content}')
+            for files in ((bad, good), (good, bad)):
+                with self.subTest(said=said, files=files):
+                    self.refused(within(['join', *files, *rank, *words]), f'{bad}, {said}')
 
     def test_no_file(self):
         """A file that is not there, and a folder."""
@@ -199,6 +225,21 @@ class Tables(Case):
         self.assertEqual(self.priced('a,b,c,d,m\n1,2,3,4,9\n1,2,3,5,9\n', 'm,d,c,b,a\n8,4,3,2,1\n9,4,3,2,1\n',
                                      '--on', 'm', *'--by a --by b --by c --by d'.split()),
                          'a,b,c,d,m,notice_row,notice_m\n1,2,3,4,9,1,9\n1,2,3,5,9,,\n')
+
+    def test_bands(self):
+        """Bands whose codes do not follow their order: stalls 30, circle 10, gods 20; and the other way round."""
+        sales, notices = ['30,9', '30,12', '10,12', '20,99'], ['30,10,55', '10,10,40', '20,15,20', '20,20,25']
+        priced = ['30,9,,,', '30,12,0,10,55', '10,12,1,10,40', '20,99,3,20,25']
+        words = ('--on', 'minute', '--by', 'band', '--rank')
+        table = lambda head, rows: '\n'.join([head, *rows, ''])
+        head = 'band,minute,notice_row,notice_minute,price'
+        for rank in (['band=30,10,20'], ['band= 30 ,+10, 020'], ['band=20,10,30', '--descending', 'band']):
+            self.assertEqual(self.priced(table('band,minute', sales), table('band,minute,price', notices), *words, *rank), table(head, priced))
+        self.assertEqual(self.priced(table('a=b,minute', sales), table('a=b,minute', ['30,1']), '--on', 'minute', '--by', 'a=b', '--rank',
+                                     'a=b=30,10,20').splitlines()[1:], ['30,9,0,1', '30,12,0,1', '10,12,,', '20,99,,'])
+        run = within(['join', self.file('s.csv', table('band,minute', sales)), self.file('n.csv', table('band,minute', ['30,1'])), *words,
+                      'band=30,10,20', '--explain'])
+        self.assertIn('order       band (in the order 30 10 20), then minute; checked\n', run.err)
 
     def test_a_file_with_itself(self):
         """One file may serve as both."""

@@ -78,8 +78,26 @@ class Orders(unittest.TestCase):
                     for b in rows:
                         before = row_before(b, a, [down], [last])
                         self.assertEqual(order.fault(a, b) is not None, before)
-                        ranks = order.ranks([a, b])
+                        ranks = order.ranks_of([a, b])
                         self.assertEqual(ranks[1] < ranks[0], before)
+
+    def test_list(self):
+        """All pairs of rows of listed codes and nulls, in all directions; which other cells may stand where."""
+        codes = [30, -2**63, 10, 2**63 - 1]
+        rows = [(a, b, c) for a in (None, 1, 2) for b in (None, *codes) for c in (None, 0, 5)]
+        for down in (False, True):
+            for last in (False, True):
+                order = Order(['p', 'band'], 'm', ['band'] * down, ['band'] * last, ('band', codes))
+                for a in rows:
+                    for b in rows:
+                        before = row_before(b, a, [False, down], [False, last], [None, codes])
+                        self.assertEqual(order.fault(a, b) is not None, before)
+                        ranks = order.ranks_of([a, b])
+                        self.assertEqual(ranks[1] < ranks[0], before)
+        self.assertEqual([order.may_stand(column, 20) for column in range(3)], [True, False, True])
+        self.assertEqual([order.may_stand(1, cell) for cell in (None, 30, 10)], [True] * 3)
+        self.assertEqual([order.lacks([[20], cells, [20]]) for cells in ([], [30, None, 10], [30, 20])], [False, False, True])
+        self.assertEqual(order.ranks, (1, codes))
 
     def test_column(self):
         """The column that a message names, and the order in words."""
@@ -88,6 +106,10 @@ class Orders(unittest.TestCase):
         self.assertEqual(order.fault((1, 2, 3), (1, 3, 9)), 1)
         self.assertEqual(order.fault((None, 2, 3), (1, 2, 3)), 0)
         self.assertEqual(str(order), 'p (empty cells last), then q (descending), then m')
+        order = Order(['p', 'q'], 'm', ['q'], [], ('q', [30, 10, 20]))
+        self.assertEqual(order.fault((1, 10, 3), (1, 20, 9)), 1)
+        self.assertEqual(str(order), 'p, then q (descending, in the order 30 10 20), then m')
+        self.assertEqual(str(Order(['p'], 'm', listed=('p', range(64)))), 'p (in the order 0 1 2 3 4 5 6 7 …), then m')
 
 
 class Sources(Case):

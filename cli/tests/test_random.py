@@ -33,6 +33,7 @@ class Tables:
         self.exact = self.strategy == 'nearest' or r.random() < 0.6
         self.tolerance = r.choice((None, None, 0, 1, 3, 2**63 - 1))
         self.check = r.random() < 0.7
+        self.rank = (r.choice(self.by), r.sample(range(4), 4)) if self.by and r.random() < 0.4 else None
         keys = r.choice((range(4), range(12), ENDS))
         self.sales, self.notices = (self.rows(r, keys) for _ in range(2))
         self.matches = matches(self.sales, self.notices, self.strategy, self.exact, self.tolerance)
@@ -43,7 +44,7 @@ class Tables:
         cell = lambda values: None if r.random() < 0.1 else r.choice(values)
         rows = [(*(cell(range(groups)) for _ in self.by), cell(keys)) for _ in range(r.randrange(r.choice((2, 8, 40))))]
         flags = ([name in names for name in self.by] for names in (self.descending, self.nulls_last))
-        return in_order(rows, *flags)
+        return in_order(rows, *flags, [self.rank[1] if self.rank and name == self.rank[0] else None for name in self.by])
 
     def text(self, rows, r):
         """A table as CSV: the columns in any order, and one with the row's number."""
@@ -65,6 +66,8 @@ class Tables:
         for option, names in (('--by', self.by), ('--descending', self.descending), ('--nulls-last', self.nulls_last)):
             for name in names:
                 words += [option, name]
+        if self.rank:
+            words += ['--rank', f'{self.rank[0]}={",".join(map(str, self.rank[1]))}']
         return words
 
     def judge(self, test, text):
@@ -92,7 +95,7 @@ class RandomTables(Case):
         for seed in range(TABLES):
             r = random.Random(seed)
             tables = Tables(r)
-            order = Order(tables.by, 'm', tables.descending, tables.nulls_last)
+            order = Order(tables.by, 'm', tables.descending, tables.nulls_last, tables.rank)
             join = Join(order, tables.strategy, tables.exact, tables.tolerance, tables.check, right_rows=r.choice((0, 1, 5)))
             sales, notices = (Source(path, order, tables.check) for path in self.files(tables, r))
             out = io.StringIO(newline='')

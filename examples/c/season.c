@@ -58,7 +58,7 @@ typedef struct kept {
     rowkeeper_join join;
 } kept;
 
-static const uint64_t MARK = 0x324e4f5341455300u;
+static const uint64_t MARK = 0x334e4f5341455300u;
 
 /* All that the program has. */
 typedef struct till {

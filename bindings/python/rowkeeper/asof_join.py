@@ -19,16 +19,17 @@ def tools():
 
 
 class Side:
-    """One table: its keys, its groups or None, and which rows are handed in, in which order, or None for all as they stand."""
+    """One table: its keys, its groups or None, and which rows are handed in, in which order, or None for all as they stand. Rows are
+    sorted by their groups, and these are the by-column that is handed in, unless by-columns that tell the same groups are named."""
 
-    def __init__(self, keys, groups, valid):
+    def __init__(self, keys, groups, valid, by=None):
         self.keys, self.groups, self.rows = keys, groups, len(keys)
+        self.by = by if by is not None else [] if groups is None else [groups]
         self.order = tools().rows_in_order(groups, valid, self.rows)
 
     def frames(self):
-        """Its frames: the group if there are groups, then the key."""
-        columns = [self.keys] if self.groups is None else [self.groups, self.keys]
-        return tools().Frames(columns, self.order, self.rows if self.order is None else len(self.order))
+        """Its frames: the by-columns, then the key."""
+        return tools().Frames([*self.by, self.keys], self.order, self.rows if self.order is None else len(self.order))
 
 
 def sides(left_on, right_on, left_by, right_by):
@@ -80,10 +81,10 @@ def matched(join, lefts, rights, found):
                 hand_in_right(join, right, length) if length else join.end_right()
 
 
-def positions(left, right, strategy, allow_exact_matches, tolerance):
+def positions(left, right, strategy, allow_exact_matches, tolerance, ranks=None):
     """The place of each left row's right row, or -1. The tables are sorted: the library is not asked to check it again."""
-    join = Join(by=0 if left.groups is None else 1, strategy=strategy, allow_exact_matches=allow_exact_matches, tolerance=tolerance,
-                check='off', right_rows=4 * c.MOST_ROWS)
+    join = Join(by=len(left.by), strategy=strategy, allow_exact_matches=allow_exact_matches, tolerance=tolerance, check='off',
+                right_rows=4 * c.MOST_ROWS, ranks=ranks)
     if not right.rows or right.order is not None and not len(right.order):
         return tools().Nothing.positions(left.rows)
     found = tools().Found(left.rows, left.order, right.order)

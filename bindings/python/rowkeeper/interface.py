@@ -1,13 +1,13 @@
 """The C interface: numbers, texts, structs and calls. Written by tools/interface from interface/rowkeeper.txt."""
 import ctypes
-from ctypes import c_int64, c_size_t, c_uint64, c_void_p
+from ctypes import c_int64, c_size_t, c_uint8, c_uint64, c_void_p
 
 # The version of the library that these declarations are of.
-VERSION = '0.2.0'
-VERSION_NUMBER = 2000
+VERSION = '0.3.0'
+VERSION_NUMBER = 3000
 
 # The name of its shared object, which has another number if a host must be compiled anew.
-SONAME = 'librowkeeper.so.1'
+SONAME = 'librowkeeper.so.2'
 
 # The rows that a frame can have at most.
 MOST_ROWS = 4096
@@ -18,11 +18,14 @@ MOST_BY = 4
 # The carried columns that a join can have at most.
 MOST_CARRIED = 8
 
+# The codes that a list of ranks can have at most.
+MOST_RANKS = 64
+
 # options.tolerance if any distance will do.
 NO_TOLERANCE = -1
 
-# join.layout: the bytes "rowkeep" from the highest down, then the layout's version, 2.
-LAYOUT = 0x726f776b65657002
+# join.layout: the bytes "rowkeep" from the highest down, then the layout's version, 3.
+LAYOUT = 0x726f776b65657003
 
 # options.strategy
 BACKWARD = 0
@@ -68,6 +71,8 @@ USED_UP = 7
 LEFT_ORDER = 8
 RIGHT_ORDER = 9
 TOO_MANY_CARRIED = 10
+BAD_RANKS = 11
+UNKNOWN_CODE = 12
 BAD_POINTS = 16
 
 # What each refusal says.
@@ -82,15 +87,22 @@ REFUSALS = {
     8: 'left rows are out of order',
     9: 'right rows are out of order',
     10: 'there are more than 8 carried columns',
+    11: 'the list of ranks is empty or too long, has a code twice or is for no by-column',
+    12: 'the by-column with a list of ranks has a value that is not on the list',
     16: 'a point is null, or greater than the next',
 }
+
+
+class Ranks(ctypes.Structure):
+    """A list of codes for one by-column, which then compares by place in the list and not by number; or none."""
+    _fields_ = [('given', c_uint64), ('column', c_uint64), ('count', c_uint64), ('codes', c_int64 * 64)]
 
 
 class Options(ctypes.Structure):
     """What a join is opened with. Flags are 0 or 1, also those past `by`."""
     _fields_ = [('by', c_uint64), ('strategy', c_uint64), ('allow_eq', c_uint64), ('tolerance', c_int64),
                 ('check', c_uint64), ('descending', c_uint64 * 4), ('nulls_last', c_uint64 * 4),
-                ('carried', c_uint64)]
+                ('carried', c_uint64), ('ranks', Ranks)]
 
 
 class Row(ctypes.Structure):
@@ -99,11 +111,11 @@ class Row(ctypes.Structure):
 
 
 class Join(ctypes.Structure):
-    """A join: 46 words, no padding. A host may read every field and need not."""
-    _fields_ = [('layout', c_uint64), ('options', Options), ('base', c_uint64), ('held', c_uint64),
-                ('pruned', c_uint64), ('queue_start', c_uint64), ('queue_words', c_uint64), ('state', c_uint64),
-                ('right_ended', c_uint64), ('failed', c_uint64), ('sequence', c_uint64), ('last_left', Row),
-                ('last_right', Row)]
+    """A join: 121 words, no padding. A host may read every field and need not."""
+    _fields_ = [('layout', c_uint64), ('options', Options), ('rising', c_uint8 * 64), ('base', c_uint64),
+                ('held', c_uint64), ('pruned', c_uint64), ('queue_start', c_uint64), ('queue_words', c_uint64),
+                ('state', c_uint64), ('right_ended', c_uint64), ('failed', c_uint64), ('sequence', c_uint64),
+                ('last_left', Row), ('last_right', Row)]
 
 
 class Took(ctypes.Structure):

@@ -46,10 +46,30 @@ def number_or_bad(number):
     return number if 0 <= number < 2**63 else 2**64 - 1
 
 
+def code_of(value):
+    """A code of a list of ranks. ValueError unless it is a whole number of 64 bits."""
+    if not hasattr(value, '__index__') or not -2**63 <= value < 2**63:
+        raise ValueError(f'ranks: the code {value!r} is no whole number of 64 bits')
+    return int(value)
+
+
+def ranks_of(ranks):
+    """A list of ranks in numbers: none, or a pair of a by-column from 0 and its codes in order. Of a list that is too long its
+    length is told, which is refused."""
+    if ranks is None:
+        return c.Ranks()
+    column, codes = ranks if isinstance(ranks, (list, tuple)) and len(ranks) == 2 else (None, ())
+    if not hasattr(column, '__index__') or not hasattr(codes, '__iter__'):
+        raise ValueError(f'ranks {ranks!r} is no pair of a by-column from 0 and its codes in order')
+    codes = [code_of(code) for code in codes]
+    words = dict(c.Ranks._fields_)['codes'](*codes[:c.MOST_RANKS])
+    return c.Ranks(given=1, column=number_or_bad(column), count=len(codes), codes=words)
+
+
 def options(by=0, strategy='backward', allow_exact_matches=True, tolerance=None, check='on', descending=(), nulls_last=(),
-            carried=0):
-    """The options of a join in numbers. What no number can say is said by one that is refused; a name that is none, or more
-    flags than columns, is a ValueError."""
+            carried=0, ranks=None):
+    """The options of a join in numbers. What no number can say is said by one that is refused; a name that is none, more flags
+    than columns, or a list of ranks that is none, is a ValueError."""
     if strategy not in c.STRATEGIES:
         raise ValueError(f'strategy {strategy!r} is none of {", ".join(c.STRATEGIES)}')
     if check not in c.CHECKS:
@@ -63,7 +83,7 @@ def options(by=0, strategy='backward', allow_exact_matches=True, tolerance=None,
                      tolerance=c.NO_TOLERANCE if tolerance is None else tolerance, check=c.CHECKS.index(check),
                      descending=types['descending'](*map(bool, descending)),
                      nulls_last=types['nulls_last'](*map(bool, nulls_last)),
-                     carried=number_or_bad(carried))
+                     carried=number_or_bad(carried), ranks=ranks_of(ranks))
 
 
 class Matches:
@@ -110,7 +130,8 @@ class Join:
     """An open join. It owns the areas that it works in, for so many left rows that wait in one frame and so many right rows
     that are held at once; `grow` makes them larger. Every call goes on with what the last one handed back. A call that is
     refused raises Refused, and changes nothing but that 8 and 9 mark the join failed. Frames are anything with the buffer
-    protocol of 64-bit numbers.
+    protocol of 64-bit numbers. Of one by-column `ranks` may say in which order its codes come, if that is not the order of
+    numbers: a pair, the by-column from 0 and its codes, at most 64.
 
     >>> from array import array
     >>> join = Join(carried=1)
@@ -118,11 +139,20 @@ class Join:
     >>> join.left(array('q', [3, 1,  5, 15, 25,  1, 1, 1]))
     >>> join.turn().matches.rows()
     [None, (0, 1800), (1, None)]
+
+    Stalls 30 before circle 10:
+
+    >>> join = Join(by=1, ranks=(0, [30, 10, 20]))
+    >>> join.right(array('q', [2, 2,  30, 5,  10, 5,  1, 1,  1, 1]))
+    >>> join.left(array('q', [2, 2,  30, 7,  10, 7,  1, 1,  1, 1]))
+    >>> join.end_right()
+    >>> join.turn().matches.numbers()
+    [0, 1]
     """
 
     def __init__(self, by=0, strategy='backward', allow_exact_matches=True, tolerance=None, check='on', descending=(),
-                 nulls_last=(), carried=0, left_rows=c.MOST_ROWS, right_rows=2 * c.MOST_ROWS):
-        given = options(by, strategy, allow_exact_matches, tolerance, check, descending, nulls_last, carried)
+                 nulls_last=(), carried=0, left_rows=c.MOST_ROWS, right_rows=2 * c.MOST_ROWS, ranks=None):
+        given = options(by, strategy, allow_exact_matches, tolerance, check, descending, nulls_last, carried, ranks)
         took = library().rowkeeper_open(given)
         expect(took.refusal)
         self._set(took.join, Area(2 + 2 * left_rows * (by + 1)), Area(2 * right_rows * (by + 1 + carried)))

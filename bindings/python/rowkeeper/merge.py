@@ -2,8 +2,15 @@
 import collections
 import datetime
 
+from .interface import MOST_RANKS
+
 # What is joined by on each side: a column's name, or the index where it is None; then the by-columns' names.
 Keys = collections.namedtuple('Keys', 'on by')
+# A by-column that has a list of ranks: its place among the by-columns, and the list's values, each with its place.
+Listed = collections.namedtuple('Listed', 'column places')
+# The groups of both sides: a number for each row, by which rows are sorted, or None; the by-columns that are handed in; and the
+# list of ranks of the first of them, or None.
+Groups = collections.namedtuple('Groups', 'numbers columns ranks')
 
 
 def modules():
@@ -111,19 +118,80 @@ def codes_of(left, right, numpy, pandas, arrays):
     return found[:len(left)], found[len(left):], len(known) + 1
 
 
-def groups_of(left, right, keys, numpy, pandas, arrays):
-    """The groups of both sides in numbers, or None and None if there is no by-column."""
+def listed_of(ranks, names, pandas):
+    """The by-column that ranks name, with its list, or None. A null, of whatever kind, is the value None."""
+    if ranks is None:
+        return None
+    if not isinstance(ranks, dict) or len(ranks) != 1:
+        raise ValueError('ranks is a dict of one by-column and its values in order')
+    (name, values), = ranks.items()
+    if name not in names:
+        raise ValueError(f'ranks: {name!r} is no by-column of the left side')
+    values = [None if pandas.isna(value) else value for value in values]
+    if not 1 <= len(values) <= MOST_RANKS:
+        raise ValueError(f'ranks: {name!r} has {len(values)} values: 1 to {MOST_RANKS} are wanted')
+    places = {value: place for place, value in enumerate(values)}
+    if len(places) < len(values):
+        raise ValueError(f'ranks: {name!r} has a value twice')
+    return Listed(names.index(name), places)
+
+
+def places_of(series, places, side, numpy, pandas):
+    """For each row of a by-column the place of its value in a list. ValueError with the row if the list lacks it."""
+    found, known = pandas.factorize(series)
+    found = numpy.array([places.get(value, -1) for value in known] + [places.get(None, -1)], dtype='i8')[found]
+    if (found < 0).any():
+        row = int((found < 0).argmax())
+        raise ValueError(f'the {side} by-column {series.name!r} has a value that ranks do not list: row {row} has {series.iloc[row]!r}')
+    return found
+
+
+def codes_for(places):
+    """The codes of a list of values, in order: the values themselves if all are whole numbers, else their places."""
+    if all(hasattr(value, '__index__') for value in places):
+        return [int(value) for value in places]
+    return list(places.values())
+
+
+def by_pairs(left, right, keys):
+    """The pairs of by-columns, one of each side."""
     if len(keys[0].by) != len(keys[1].by):
         raise ValueError(f'left_by has {len(keys[0].by)} columns and right_by has {len(keys[1].by)}')
-    groups, width = None, 1
+    pairs = []
     for names in zip(keys[0].by, keys[1].by):
-        pair = [column_of(*each) for each in ((left, names[0], 'left'), (right, names[1], 'right'))]
-        same_dtype(*pair, f'the by-column {names[0]!r}')
-        one, other, more = codes_of(*pair, numpy, pandas, arrays)
-        if groups is not None:
-            one, other, more = arrays.coded(groups[0] * more + one, groups[1] * more + other)
-        groups, width = (one, other), more
-    return groups or (None, None)
+        pairs.append([column_of(*each) for each in ((left, names[0], 'left'), (right, names[1], 'right'))])
+        same_dtype(*pairs[-1], f'the by-column {names[0]!r}')
+    return pairs
+
+
+def combined(codes, arrays):
+    """Codes of several pairs of by-columns as those of one: the same for rows with the same codes, and in their order."""
+    left, right, width = codes[0]
+    for one, other, more in codes[1:]:
+        left, right, width = arrays.coded(left * more + one, right * more + other)
+    return left, right, width
+
+
+def ranked_groups(pairs, listed, numpy, pandas, arrays):
+    """The groups of by-columns of which one has a list: it is handed in first, in codes, and the others behind it, as one."""
+    ranked = pairs.pop(listed.column)
+    places = [places_of(*each, numpy, pandas) for each in zip(ranked, (listed.places,) * 2, ('left', 'right'))]
+    others = [combined([codes_of(*pair, numpy, pandas, arrays) for pair in pairs], arrays)] if pairs else []
+    one, other, _ = combined([(*places, len(listed.places)), *others], arrays)
+    codes = codes_for(listed.places)
+    columns = [[numpy.array(codes, dtype='i8')[places[side]], *(each[side] for each in others)] for side in (0, 1)]
+    return Groups((one, other), columns, (0, codes))
+
+
+def groups_of(left, right, keys, ranks, numpy, pandas, arrays):
+    """The groups of both sides."""
+    pairs, listed = by_pairs(left, right, keys), listed_of(ranks, keys[0].by, pandas)
+    if listed is not None:
+        return ranked_groups(pairs, listed, numpy, pandas, arrays)
+    if not pairs:
+        return Groups((None, None), ([], []), None)
+    one, other, _ = combined([codes_of(*pair, numpy, pandas, arrays) for pair in pairs], arrays)
+    return Groups((one, other), ([one], [other]), None)
 
 
 def whole_tolerance(tolerance, dtype, numpy, pandas):
@@ -180,12 +248,16 @@ def put_together(left, right, places, positions, index, pandas):
 
 
 def merge_asof(left, right, on=None, left_on=None, right_on=None, left_index=False, right_index=False, by=None, left_by=None,
-               right_by=None, suffixes=('_x', '_y'), tolerance=None, allow_exact_matches=True, direction='backward'):
+               right_by=None, suffixes=('_x', '_y'), tolerance=None, allow_exact_matches=True, direction='backward', ranks=None):
     """pandas.merge_asof over the proved join: the same parameters, and the same columns, order, dtypes and index come out.
 
     Keys are whole numbers, datetime64 or timedelta64, of one dtype on both sides, without nulls, and ascend. By-columns are
     of any dtype, the same on both sides, in any order; a null by-value is a value like any other. ValueError, before
     anything is joined, says in one line what is wrong, and which row.
+
+    `ranks`, which pandas does not have, names one by-column, by its left name, and all its values in their order, 1 to 64, each
+    once: {'band': ['stalls', 'circle', 'gods']}. The join is then opened with this list, and its rows are handed in in this
+    order. It changes no match; a by-value that is not listed, on either side, is a ValueError.
 
     What differs from pandas, by rule:
     - nearest, of two rows as near, takes the one ahead, and of equal keys ahead the last; pandas takes the one behind, and
@@ -208,10 +280,11 @@ def merge_asof(left, right, on=None, left_on=None, right_on=None, left_index=Fal
     numbers, dtype = sorted_keys(left, right, keys, *tools)
     tolerance = whole_tolerance(tolerance, dtype, numpy, pandas)
     judge_options(direction, allow_exact_matches, tolerance)
-    groups = groups_of(left, right, keys, *tools)
+    groups = groups_of(left, right, keys, ranks, *tools)
     places = kept_columns(left, right, keys)
     names = suffixed(left.columns[places[0]], right.columns[places[1]], suffixes)
-    found = positions(Side(numbers[0], groups[0], None), Side(numbers[1], groups[1], None), direction, allow_exact_matches, tolerance)
+    sides = [Side(*each) for each in zip(numbers, groups.numbers, (None, None), groups.columns)]
+    found = positions(*sides, direction, allow_exact_matches, tolerance, groups.ranks)
     index = left.index if len(left) or not right_index else right.index[:0]
     index = index if left_index or right_index else pandas.RangeIndex(len(left))
     result = put_together(left, right, places, found, index, pandas)

@@ -62,6 +62,13 @@ class Tables:
         return asof(left, right, left_by, right_by, self.strategy, self.exact, self.tolerance)
 
 
+def ranked_side(kind, rows, codes):
+    """A table of rows of a place and a key, as a side that hands in the code at the place."""
+    columns = [array('q', cells) for cells in ([row[1] for row in rows], [row[0] for row in rows], [codes[row[0]] for row in rows])]
+    keys, places, by = columns if kind is plain else map(numpy.array, columns)
+    return asof_join.Side(keys, places, None, [by])
+
+
 class Asof(unittest.TestCase):
     """The function asof."""
 
@@ -87,6 +94,19 @@ class Asof(unittest.TestCase):
                 self.assertEqual(list(asof(left, left, groups, groups)), list(range(rows)))
                 self.assertEqual(list(asof(array('q', [10 * rows]), array('q', range(10 * rows)))), [10 * rows - 1])
                 self.assertEqual(list(asof(left, array('q', [0]))), [0] * rows)
+
+    def test_ranked(self):
+        """Tables whose by-column is handed in by codes and sorted by their places, with the list: the same matches."""
+        for kind in KINDS:
+            for seed in range(100):
+                r = random.Random(seed)
+                codes = r.sample((30, 10, 20, *ENDS), r.randrange(1, 6))
+                rows = [sorted(((r.randrange(len(codes)), r.randrange(9)) for _ in range(r.choice((0, 5, 30)))), key=lambda row: row[1])
+                        for _ in range(2)]
+                with self.subTest(kind=kind.__name__, seed=seed), using(kind):
+                    sides = [ranked_side(kind, side, codes) for side in rows]
+                    found = asof_join.positions(*sides, 'backward', True, None, (0, codes))
+                    self.assertEqual(list(found), positions(*rows, 'backward'))
 
     def test_many_groups(self):
         """More groups than a pass of the sort tells apart, in by-columns far apart."""

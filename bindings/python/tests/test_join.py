@@ -11,9 +11,13 @@ from unittest import mock
 
 import rowkeeper
 from rowkeeper import Join, NoLibrary, Refused, asof_join, join, lent, library
-from rowkeeper.interface import (BAD_FRAME, BAD_JOIN, BAD_OPTIONS, CLOSED, DONE, IDLE, LAYOUT, LEFT_ORDER, MOST_ROWS, NO_ROOM, PORT_DONE,
-                                 PORT_READY, REFUSALS, REFUSED, RUNNING, TOO_MANY_CARRIED, TURNS_USED, VERSION_NUMBER, WANTS_RIGHT,
-                                 WROTE)
+from rowkeeper.interface import (BAD_FRAME, BAD_JOIN, BAD_OPTIONS, BAD_RANKS, CLOSED, DONE, IDLE, LAYOUT, LEFT_ORDER, MOST_ROWS, NO_ROOM,
+                                 PORT_DONE, PORT_READY, REFUSALS, REFUSED, RIGHT_ORDER, RUNNING, TOO_MANY_CARRIED, TURNS_USED,
+                                 UNKNOWN_CODE, VERSION_NUMBER, WANTS_RIGHT, WROTE, Options, Ranks)
+from rowkeeper.interface import Join as Words
+
+# Codes of a house that do not follow its order: stalls, circle, gods.
+STALLS, CIRCLE, GODS = 30, 10, 20
 
 
 def frame(rows):
@@ -82,6 +86,65 @@ class Calls(unittest.TestCase):
         join.left(frame([(2, 3), (1, 3), (None, 3)]))
         join.end_right()
         self.assertEqual(join.turn().matches.numbers(), [0, 1, None])
+
+    def bands(self, left, right, **options):
+        """The matches of rows of a band and a key, with a list of ranks and the check strict."""
+        join = Join(by=1, **{'check': 'strict', 'ranks': (0, [STALLS, CIRCLE, GODS]), **options})
+        join.right(frame(right))
+        join.left(frame(left))
+        join.end_right()
+        return join.turn().matches.numbers()
+
+    def test_ranks(self):
+        """A by-column goes by the places of its codes, the other way round if it descends, nulls as ever; without the list it goes
+        by number."""
+        sales, notices = [(STALLS, 9), (STALLS, 12), (CIRCLE, 12), (GODS, 99)], [(STALLS, 10), (CIRCLE, 10), (GODS, 15), (GODS, 20)]
+        self.assertEqual(self.bands(sales, notices), [None, 0, 1, 3])
+        self.assertEqual(self.bands(sales, notices, descending=[True], ranks=(0, (GODS, CIRCLE, STALLS))), [None, 0, 1, 3])
+        self.assertEqual(self.bands([(None, 1), *sales], [(None, 1), *notices]), [None, None, 1, 2, 4])
+        self.assertEqual(self.bands([*sales, (None, 1)], [*notices, (None, 1)], nulls_last=[True]), [None, 0, 1, 3, None])
+        self.refused(LEFT_ORDER, self.bands, sales, notices, ranks=None)
+        self.refused(LEFT_ORDER, self.bands, sales[::-1], notices)
+        self.refused(RIGHT_ORDER, self.bands, [(STALLS, 11)], [(CIRCLE, 1), (STALLS, 1)])
+
+    def test_bad_ranks(self):
+        """Lists that are refused by 11, behind 1 and 10, and those that are none. The longest is taken."""
+        self.assertEqual(Join(by=1, ranks=(0, range(64))).held, 0)
+        for ranks in ((0, []), (0, range(65)), (0, range(1000)), (0, [1, 2, 1]), (1, [1]), (-1, [1]), (2**64, [1])):
+            with self.subTest(ranks):
+                self.refused(BAD_RANKS, Join, by=1, ranks=ranks)
+                self.refused(TOO_MANY_CARRIED, Join, by=1, carried=9, ranks=ranks)
+                self.refused(BAD_OPTIONS, Join, by=5, ranks=ranks)
+        self.refused(BAD_RANKS, Join, by=0, ranks=(0, [1]))
+        for ranks in (3, [1], (0, 1), (0, ['stalls']), (0, [1.5]), (0, [2**63]), (0, [-2**63 - 1]), ('band', [1]), {0: [1], 1: [2]}):
+            with self.subTest(ranks), self.assertRaisesRegex(ValueError, 'ranks'):
+                Join(by=1, ranks=ranks)
+
+    def test_unknown_code(self):
+        """A value that is not on the list is refused by 12, in either frame and in one that waits; nulls, keys and other columns are
+        not looked at."""
+        join = Join(by=2, ranks=(1, [STALLS, CIRCLE]), left_rows=2, right_rows=0)
+        before = join.state()
+        self.refused(UNKNOWN_CODE, join.left, frame([(1, GODS, 1)]))
+        self.refused(UNKNOWN_CODE, join.right, frame([(1, GODS, 1)]))
+        self.refused(NO_ROOM, join.right, frame([(1, CIRCLE, 1)]))
+        self.assertEqual(join.state(), before)
+        join.left(frame([(GODS, None, GODS)]))
+        join.end_right()
+        self.assertEqual(join.turn().matches.numbers(), [None])
+
+    def test_saved_list(self):
+        """A join keeps its list, and the places of its codes, where it is saved; with other ones it is refused by 2."""
+        join = Join(by=1, ranks=(0, [STALLS, CIRCLE, GODS]), left_rows=1, right_rows=3)
+        join.right(frame([(STALLS, 1), (CIRCLE, 1), (GODS, 1)]))
+        saved = join.state()
+        again = Join.from_state(saved)
+        again.left(frame([(CIRCLE, 5)]))
+        self.assertEqual(again.turn().matches.numbers(), [1])
+        rising, codes = Words.rising.offset, Words.options.offset + Options.ranks.offset + Ranks.codes.offset
+        self.assertEqual(saved[rising:rising + 4], bytes([1, 2, 0, 0]))
+        for place, other in ((rising, b'\xff'), (rising + 1, b'\x01'), (codes, bytes([GODS]))):
+            self.refused(BAD_JOIN, Join.from_state(saved[:place] + other + saved[place + 1:]).turn)
 
     def test_failed(self):
         """Rows out of order mark the join failed; without the check they do not."""
@@ -197,10 +260,11 @@ class State(unittest.TestCase):
         with self.assertRaises(Refused) as caught:
             Join.from_state(struct.pack('=Q', LAYOUT - 1) + saved[8:])
         self.assertEqual(caught.exception.number, BAD_JOIN)
-        for other in (b'', saved[:100], saved[:-8], saved + bytes(8), saved[:8 * 46] + struct.pack('=2q', -1, 0)):
+        words = ctypes.sizeof(Words)
+        for other in (b'', saved[:100], saved[:-8], saved + bytes(8), saved[:words] + struct.pack('=2q', -1, 0)):
             with self.assertRaises(ValueError):
                 Join.from_state(other)
-        join = Join.from_state(saved[:8] + b'\xff' * (8 * 45) + saved[8 * 46:])
+        join = Join.from_state(saved[:8] + b'\xff' * (words - 8) + saved[words:])
         self.assertRaises(Refused, join.turn)
 
     def test_refusals_travel(self):

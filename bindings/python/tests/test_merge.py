@@ -6,8 +6,9 @@ import os
 import random
 import re
 import unittest
+from unittest import mock
 
-from rowkeeper import merge_asof
+from rowkeeper import asof_join, merge_asof
 from rowkeeper.interface import STRATEGIES
 from rowkeeper.library import ROOT
 
@@ -66,6 +67,14 @@ class Tables:
         self.right['place'] = numpy.arange(len(self.right))
         self.how = {'direction': r.choice(STRATEGIES), 'tolerance': self.tolerance(r), **self.names(r)}
         self.how['allow_exact_matches'] = self.how['direction'] == 'nearest' or r.random() < 0.6
+        self.ranks = self.listed(r) if self.by and r.random() < 0.4 else None
+
+    def listed(self, r):
+        """All values of one by-column, in any order, as a list of ranks."""
+        place = r.randrange(len(self.by))
+        values = list(pandas.unique(pandas.Series(GROUPS[self.by[place]]([0, 1, 2, 3]))))
+        r.shuffle(values)
+        return {f'g{place}': values}
 
     def side(self, r, side):
         """A frame: the key, the by-columns, others, in any order, with some index."""
@@ -124,7 +133,8 @@ class Pandas(unittest.TestCase):
 
     def both(self, tables):
         """Holds one pair of frames against pandas; the differences that were met, by name, and how many rows matched."""
-        ours, theirs = (merge(tables.left, tables.right, **tables.how) for merge in (merge_asof, pandas.merge_asof))
+        ours = merge_asof(tables.left, tables.right, **tables.how, ranks=tables.ranks)
+        theirs = pandas.merge_asof(tables.left, tables.right, **tables.how)
         places = [frame['place'].fillna(-1).astype('i8').to_numpy() for frame in (ours, theirs)]
         differ = numpy.flatnonzero(places[0] != places[1])
         met = [tables.allowed(row, *(int(each[row]) for each in places)) for row in differ]
@@ -137,15 +147,18 @@ class Pandas(unittest.TestCase):
         return met, int((places[0] >= 0).sum())
 
     def test_random(self):
-        """Random frames in every way of naming keys; all that differs is named, and each name is met."""
-        names, matched = collections.Counter(), 0
+        """Random frames in every way of naming keys, some with a list of ranks; all that differs is named, and each name is met."""
+        names, matched, listed = collections.Counter(), 0, 0
         for seed in range(FRAMES):
             with self.subTest(seed=seed):
-                met, found = self.both(Tables(random.Random(seed)))
+                tables = Tables(random.Random(seed))
+                met, found = self.both(tables)
                 names.update(met)
                 matched += found
+                listed += found if tables.ranks else 0
         self.assertEqual(set(names), {TIE, LAST_AHEAD})
         self.assertGreater(matched, 2 * FRAMES)
+        self.assertGreater(listed, FRAMES // 10)
         print(f'merge_asof and pandas.merge_asof: {FRAMES:,} frames, {matched:,} matches; '
               + ', '.join(f'{count:,} × {name}' for name, count in sorted(names.items())))
 
@@ -203,6 +216,33 @@ class Pandas(unittest.TestCase):
         right = pandas.DataFrame({'k': [0, 1], 'g': numpy.array([None, numpy.nan], dtype=object), 'v': [7, 8]})
         self.assertEqual(merge_asof(left, right, on='k', by='g')['v'].tolist(), [8, 8])
         self.assertEqual(pandas.merge_asof(left, right, on='k', by='g')['v'].tolist(), [7, 8])
+
+    def test_ranks(self):
+        """A list of ranks changes no match, whatever the values are; it is the join's own list, of numbers as they are."""
+        for values in ([30, 10, 20], ['stalls', 'circle', 'gods'], [2.5, 1.5, None], [True, False]):
+            names = [values[place % len(values)] for place in range(6)]
+            left = pandas.DataFrame({'k': range(6), 'band': names, 'g': list('aabbab')})
+            right = pandas.DataFrame({'k': range(6), 'band': names[::-1], 'g': list('ababab'), 'v': range(6)})
+            for by in ('band', ['g', 'band'], ['band', 'g']):
+                with self.subTest(values=values, by=by), mock.patch.object(asof_join, 'Join', wraps=asof_join.Join) as opened:
+                    ours = merge_asof(left, right, on='k', by=by, ranks={'band': values})
+                    pandas.testing.assert_frame_equal(ours, merge_asof(left, right, on='k', by=by))
+                    listed, plain = (call[1]['ranks'] for call in opened.call_args_list)
+                    self.assertEqual((listed[0], len(listed[1]), plain), (0, len(values), None))
+                    self.assertTrue(values[0] != 30 or listed[1] == values)
+
+    def test_bad_ranks(self):
+        """What is wrong with a list of ranks, each in one line, before anything is joined."""
+        left = pandas.DataFrame({'k': [1, 2], 'band': ['stalls', 'gods']})
+        right = left.assign(band=['stalls', 'circle'])
+        for ranks, said in (({}, 'a dict of one by-column'), (['stalls'], 'a dict of one by-column'), ({'k': [1]}, "'k' is no by-column"),
+                            ({'band': []}, 'has 0 values: 1 to 64'), ({'band': range(65)}, 'has 65 values'),
+                            ({'band': ['stalls', 'gods', 'stalls']}, 'has a value twice'), ({'band': [None, float('nan')]}, 'has a value twice'),
+                            ({'band': ['stalls']}, "the left by-column 'band' has a value that ranks do not list: row 1 has 'gods'"),
+                            ({'band': ['gods', 'stalls']}, "the right by-column 'band' .*: row 1 has 'circle'")):
+            with self.subTest(said=said), self.assertRaisesRegex(ValueError, said) as caught:
+                merge_asof(left, right, on='k', by='band', ranks=ranks)
+            self.assertNotIn('\n', str(caught.exception))
 
     def test_frames_stay(self):
         """Neither frame is altered by a join."""

@@ -15,7 +15,8 @@ use crate::{Join, Match, Matches, Options, Refusal, Turn};
 /// last left row has its match, no further one. What is in memory at any time is one left frame, its matches, and the right
 /// rows that are held; the areas for these grow as frames need them, at least to twice their length, and never shrink.
 ///
-/// Refused by 1 if the options are invalid, by 10 if too many columns are carried. A frame or a turn that is refused is an item of the iterator, and its last.
+/// Refused by 1 if the options are invalid, by 10 if too many columns are carried, by 11 if the list of ranks is invalid. A frame or
+/// a turn that is refused is an item of the iterator, and its last.
 ///
 /// If the source of a table can fail, it must not just end there: where right rows are missing, matches are wrong. Such a
 /// host makes the calls of [`Join`] itself, or drops the matches if it finds out later.

@@ -70,6 +70,27 @@
 //! # Ok::<(), Box<dyn std::error::Error>>(())
 //! ```
 //!
+//! Both tables are sorted by their by-columns, then by the key. One by-column may have codes that do not follow its order: then
+//! [`Ranks`] lists them as they come.
+//!
+//! ```
+//! use rowkeeper::{ByColumn, Frames, Options, Ranks, asof};
+//!
+//! // Stalls have the code 30, the circle 10, the gods 20, and both tables are sorted in this order.
+//! let (band, sale_at) = (vec![30, 30, 10, 20], vec![5, 25, 15, 15]);
+//! let (notice_band, notice_at) = (vec![30, 10, 20, 20], vec![10, 10, 10, 20]);
+//! let options = Options {
+//!     by: vec![ByColumn::default()],
+//!     ranks: Some(Ranks::new(0, [30, 10, 20])),
+//!     ..Options::default()
+//! };
+//! let sales = Frames::of_columns(&[&band, &sale_at])?;
+//! let notices = Frames::of_columns(&[&notice_band, &notice_at])?;
+//! let matches: Vec<Option<u64>> = asof(&options, sales, notices)?.collect::<Result<_, _>>()?;
+//! assert_eq!(matches, [None, Some(0), Some(1), Some(2)]);
+//! # Ok::<(), Box<dyn std::error::Error>>(())
+//! ```
+//!
 //! Without a join, [`spans()`] lists which points lie inside the bounds of which intervals:
 //!
 //! ```
@@ -115,7 +136,7 @@
 //! fn known(refusal: rowkeeper::Refusal) -> bool {
 //!     match refusal {
 //!         BadOptions | BadJoin | Failed | Closed | BadFrame | NoRoom | UsedUp | LeftOrder | RightOrder => true,
-//!         TooManyCarried | BadPoints => true,
+//!         TooManyCarried | BadRanks | UnknownCode | BadPoints => true,
 //!     }
 //! }
 //! ```
@@ -143,10 +164,45 @@ pub use spans::{Bounds, Pairs, spans, spans_words};
 /// How a by-column is sorted.
 #[derive(Clone, Copy, Debug, Default, PartialEq, Eq)]
 pub struct ByColumn {
-    /// Whether its numbers descend.
+    /// Whether its numbers descend, or its codes go from the last of their [`Ranks`] to the first.
     pub descending: bool,
     /// Whether its nulls come last.
     pub nulls_last: bool,
+}
+
+/// The codes of a by-column in the order in which rows are sorted by them, if that is not the order of numbers.
+///
+/// Rows are compared by a code's place in the list; values are equal if they are the same code. Frames may have listed codes and
+/// nulls in that column and no other value: [`Refusal::UnknownCode`].
+#[derive(Clone, Debug, PartialEq, Eq)]
+pub struct Ranks {
+    /// The by-column, from 0.
+    pub column: usize,
+    /// Its codes in order, at least one and at most 64, each once.
+    pub codes: Vec<i64>,
+}
+
+impl Ranks {
+    /// The list of a by-column, from 0.
+    ///
+    /// ```
+    /// use rowkeeper::{ByColumn, Join, Options, Ranks, Refusal};
+    ///
+    /// let by = vec![ByColumn::default()];
+    /// let list = |codes: &[i64]| Options { by: by.clone(), ranks: Some(Ranks::new(0, codes)), ..Options::default() };
+    /// assert!(Join::open_rows(&list(&[30, 10, 20]), 10, 10).is_ok());
+    /// assert_eq!(Join::open_rows(&list(&[30, 10, 30]), 10, 10).unwrap_err(), Refusal::BadRanks);
+    /// ```
+    pub fn new(column: usize, codes: impl Into<Vec<i64>>) -> Ranks {
+        Ranks { column, codes: codes.into() }
+    }
+
+    /// The list in numbers. Of one that is too long the first codes, and its own length, which is refused.
+    fn raw(&self) -> raw::Ranks {
+        let mut codes = [0; raw::MOST_RANKS];
+        codes.iter_mut().zip(&self.codes).for_each(|(word, code)| *word = *code);
+        raw::Ranks { given: 1, column: self.column as u64, count: self.codes.len() as u64, codes }
+    }
 }
 
 /// What a join is opened with.
@@ -164,10 +220,12 @@ pub struct Options {
     pub by: Vec<ByColumn>,
     /// How many columns right rows carry behind their key, at most eight. They come with the match.
     pub carried: usize,
+    /// The codes by whose places one by-column is sorted; none: all are sorted by number.
+    pub ranks: Option<Ranks>,
 }
 
 impl Default for Options {
-    /// Backward with equality, any distance, the check on, no by-columns, nothing carried.
+    /// Backward with equality, any distance, the check on, no by-columns, nothing carried, no list of ranks.
     fn default() -> Self {
         Options {
             strategy: Strategy::Backward,
@@ -176,6 +234,7 @@ impl Default for Options {
             check: Check::On,
             by: Vec::new(),
             carried: 0,
+            ranks: None,
         }
     }
 }
@@ -203,6 +262,7 @@ impl Options {
             descending: array::from_fn(|j| flag(j, |by| by.descending)),
             nulls_last: array::from_fn(|j| flag(j, |by| by.nulls_last)),
             carried: self.carried as u64,
+            ranks: self.ranks.as_ref().map_or_else(raw::Ranks::default, Ranks::raw),
         }
     }
 }

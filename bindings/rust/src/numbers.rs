@@ -118,13 +118,18 @@ pub enum Refusal {
     RightOrder = 9,
     /// At opening: more than eight carried columns.
     TooManyCarried = 10,
+    /// At opening: a list of ranks that is empty or has more than 64 codes, has a code twice, or is for a column that
+    /// is no by-column.
+    BadRanks = 11,
+    /// The by-column with a list of ranks has a value in the frame that is not on the list.
+    UnknownCode = 12,
     /// Spans: a point is null, or greater than the next.
     BadPoints = 16,
 }
 
 impl Refusal {
     /// All refusals, by number.
-    pub const ALL: [Refusal; 11] = [
+    pub const ALL: [Refusal; 13] = [
         Refusal::BadOptions,
         Refusal::BadJoin,
         Refusal::Failed,
@@ -135,6 +140,8 @@ impl Refusal {
         Refusal::LeftOrder,
         Refusal::RightOrder,
         Refusal::TooManyCarried,
+        Refusal::BadRanks,
+        Refusal::UnknownCode,
         Refusal::BadPoints,
     ];
 
@@ -151,6 +158,8 @@ impl Refusal {
             Refusal::LeftOrder => "left rows are out of order",
             Refusal::RightOrder => "right rows are out of order",
             Refusal::TooManyCarried => "there are more than 8 carried columns",
+            Refusal::BadRanks => "the list of ranks is empty or too long, has a code twice or is for no by-column",
+            Refusal::UnknownCode => "the by-column with a list of ranks has a value that is not on the list",
             Refusal::BadPoints => "a point is null, or greater than the next",
         }
     }

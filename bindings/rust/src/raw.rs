@@ -2,19 +2,21 @@
 
 // ---- tools/interface writes: structs
 /// The version of the library that these declarations are of.
-pub const VERSION: &str = "0.2.0";
+pub const VERSION: &str = "0.3.0";
 /// The same as a number: 1,000,000 × major + 1,000 × minor + patch.
-pub const VERSION_NUMBER: u64 = 2000;
+pub const VERSION_NUMBER: u64 = 3000;
 /// The rows that a frame can have at most.
 pub const MOST_ROWS: usize = 4096;
 /// The by-columns that a join can have at most.
 pub const MOST_BY: usize = 4;
 /// The carried columns that a join can have at most.
 pub const MOST_CARRIED: usize = 8;
+/// The codes that a list of ranks can have at most.
+pub const MOST_RANKS: usize = 64;
 /// Options.tolerance if any distance will do.
 pub const NO_TOLERANCE: i64 = -1;
-/// Join.layout: the bytes "rowkeep" from the highest down, then the layout's version, 2.
-pub const LAYOUT: u64 = 0x726f776b65657002;
+/// Join.layout: the bytes "rowkeep" from the highest down, then the layout's version, 3.
+pub const LAYOUT: u64 = 0x726f776b65657003;
 /// The last row whose key is not greater.
 pub const BACKWARD: u64 = 0;
 /// The first row whose key is not smaller.
@@ -50,6 +52,27 @@ pub const REFUSED: u64 = 3;
 /// As many turns wrote as the run was given.
 pub const TURNS_USED: u64 = 0;
 
+/// A list of codes for one by-column, which then compares by place in the list and not by number; or none.
+#[repr(C)]
+#[derive(Clone, Copy, Debug, PartialEq, Eq)]
+pub struct Ranks {
+    /// 1: there is a list; 0: there is none, and the fields below may be anything.
+    pub given: u64,
+    /// The by-column that it is for, from 0.
+    pub column: u64,
+    /// How many codes it has, 1 to 64.
+    pub count: u64,
+    /// The codes in their order, each once; the words behind the first `count` may be anything.
+    pub codes: [i64; 64],
+}
+
+impl Default for Ranks {
+    /// Zeros throughout.
+    fn default() -> Self {
+        Ranks { given: 0, column: 0, count: 0, codes: [0; 64] }
+    }
+}
+
 /// What a join is opened with. Flags are 0 or 1, also those past `by`.
 #[repr(C)]
 #[derive(Clone, Copy, Debug, Default, PartialEq, Eq)]
@@ -70,6 +93,8 @@ pub struct Options {
     pub nulls_last: [u64; 4],
     /// Columns that right rows have behind the key, 0 to 8: they come with the match.
     pub carried: u64,
+    /// The codes by whose places one by-column is sorted, or none.
+    pub ranks: Ranks,
 }
 
 /// A row that the order check remembers, or none. A mark other than 0 means present.
@@ -84,14 +109,16 @@ pub struct Row {
     pub marks: [i64; 5],
 }
 
-/// A join: 46 words, no padding. A host may read every field and need not.
+/// A join: 121 words, no padding. A host may read every field and need not.
 #[repr(C)]
-#[derive(Clone, Copy, Debug, Default, PartialEq, Eq)]
+#[derive(Clone, Copy, Debug, PartialEq, Eq)]
 pub struct Join {
     /// LAYOUT.
     pub layout: u64,
     /// What it was opened with.
     pub options: Options,
+    /// The places of the list's codes by rising code, found at opening: nothing for a host to fill or read.
+    pub rising: [u8; 64],
     /// The place of the first held row in the right area, in rows.
     pub base: u64,
     /// Right rows held.
@@ -114,6 +141,28 @@ pub struct Join {
     pub last_left: Row,
     /// What the order check remembers of right.
     pub last_right: Row,
+}
+
+impl Default for Join {
+    /// Zeros throughout.
+    fn default() -> Self {
+        Join {
+            layout: 0,
+            options: Options::default(),
+            rising: [0; 64],
+            base: 0,
+            held: 0,
+            pruned: 0,
+            queue_start: 0,
+            queue_words: 0,
+            state: 0,
+            right_ended: 0,
+            failed: 0,
+            sequence: 0,
+            last_left: Row::default(),
+            last_right: Row::default(),
+        }
+    }
 }
 
 /// The answer of opening, left, right and the end of right.
@@ -183,7 +232,7 @@ pub struct Written {
 }
 
 /// How many words a join is.
-pub const JOIN_WORDS: usize = 46;
+pub const JOIN_WORDS: usize = 121;
 const _: () = assert!(size_of::<Join>() == 8 * JOIN_WORDS && align_of::<Join>() == 8 && size_of::<usize>() == 8);
 // ---- tools/interface: end of structs
 
@@ -203,7 +252,8 @@ impl Join {
 
 // ---- tools/interface writes: calls
 unsafe extern "C" {
-    /// Opens a join: strategy, equality, tolerance, order check, by-columns, carried columns. Safe: it is lent nothing.
+    /// Opens a join: strategy, equality, tolerance, order check, by-columns, carried columns, a list of ranks. Safe: it
+    /// is lent nothing.
     pub safe fn rowkeeper_open(options: Options) -> Took;
     /// Takes a left frame, which then waits.
     pub fn rowkeeper_left(

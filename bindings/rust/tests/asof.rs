@@ -1,8 +1,8 @@
-//! The driver: whole tables by any cut and every option, what it asks for and when, areas that grow, what is carried, and
-//! refusals.
+//! The driver: whole tables by any cut and every option, lists of ranks among them, what it asks for and when, areas that grow,
+//! what is carried, and refusals.
 use std::cell::Cell;
 
-use rowkeeper::{ByColumn, Check, Column, Frame, Frames, Match, Options, Refusal, Strategy, asof};
+use rowkeeper::{ByColumn, Check, Column, Frame, Frames, Match, Options, Ranks, Refusal, Strategy, asof};
 
 type Row = [Option<i64>; 2];
 type Matches = Vec<Option<u64>>;
@@ -19,13 +19,22 @@ impl Random {
         (z ^ (z >> 31)) % n
     }
 
-    /// A sorted table of up to 40 rows: a group and a key, some of them null.
-    fn table(&mut self) -> Vec<Row> {
+    /// A table of up to 40 rows, sorted as these options want it: a group and a key, some of them null.
+    fn table(&mut self, options: &Options) -> Vec<Row> {
         let count = self.below(41);
+        let groups = options.ranks.as_ref().map_or_else(|| (0..4).collect(), |list| list.codes.clone());
         let mut cell = |n| (self.below(10) > 0).then(|| self.below(n) as i64);
-        let mut rows: Vec<Row> = (0..count).map(|_| [cell(4), cell(12)]).collect();
-        rows.sort();
+        let group = |place: i64| groups[place as usize];
+        let mut rows: Vec<Row> = (0..count).map(|_| [cell(groups.len() as u64).map(group), cell(12)]).collect();
+        rows.sort_by_key(|[group, key]| (order_of(options, *group), *key));
         rows
+    }
+
+    /// No list for the by-column, or one of up to six codes in any order.
+    fn ranks(&mut self) -> Option<Ranks> {
+        let mut codes: Vec<i64> = (0..1 + self.below(6) as i64).map(|i| 7 * i - 9).collect();
+        (0..codes.len()).for_each(|i| codes.swap(i, self.below(i as u64 + 1) as usize));
+        (self.below(2) == 0).then(|| Ranks::new(0, codes))
     }
 
     /// A table as frames of no more than so many rows, some of them empty.
@@ -45,9 +54,18 @@ impl Random {
         let allow_eq = strategy == Strategy::Nearest || self.below(2) == 0;
         let tolerance = (self.below(2) == 0).then(|| self.below(5));
         let check = [Check::Off, Check::On, Check::Strict][self.below(3) as usize];
-        let by = vec![ByColumn::default()];
-        Options { strategy, allow_eq, tolerance, check, by, ..Options::default() }
+        let by = vec![ByColumn { descending: self.below(4) == 0, nulls_last: self.below(4) == 0 }];
+        Options { strategy, allow_eq, tolerance, check, by, ranks: self.ranks(), ..Options::default() }
     }
+}
+
+/// What a by-value is sorted by: nulls before or behind all others, else its place in the list or its number, in its direction.
+fn order_of(options: &Options, group: Option<i64>) -> (i64, usize) {
+    let ByColumn { descending, nulls_last } = options.by[0];
+    let Some(value) = group else { return (if nulls_last { 1 } else { -1 }, 0) };
+    let codes = options.ranks.as_ref().map_or(&[0, 1, 2, 3][..], |list| &list.codes);
+    let place = codes.iter().position(|code| *code == value).unwrap();
+    (0, if descending { codes.len() - place } else { place })
 }
 
 /// The match of a left row by SCOPE 14's rule, over the whole right table.
@@ -91,7 +109,8 @@ fn any_cut_and_options() {
     let r = &mut Random(1);
     let mut matched = 0;
     for _ in 0..3000 {
-        let (options, left, right, most) = (r.options(), r.table(), r.table(), 1 + r.below(20));
+        let options = r.options();
+        let (left, right, most) = (r.table(&options), r.table(&options), 1 + r.below(20));
         let want: Matches = left.iter().map(|row| plain_match(&options, row, &right)).collect();
         let (lefts, rights) = (r.cut(&left, most), r.cut(&right, most));
         matched += want.iter().flatten().count();
@@ -108,8 +127,8 @@ fn carrying<const P: usize>(r: &mut Random, rows: &[Row]) -> Vec<(Row, [Option<i
 
 /// Both tables in any cut, with every option and P carried columns: the same matches, each with the cells of its right row.
 fn any_cut_with<const P: usize>(r: &mut Random) -> usize {
-    let (options, left, right, most) = (r.options(), r.table(), r.table(), 1 + r.below(20));
-    let options = Options { carried: P, ..options };
+    let options = Options { carried: P, ..r.options() };
+    let (left, right, most) = (r.table(&options), r.table(&options), 1 + r.below(20));
     let right = carrying::<P>(r, &right);
     let keyed: Vec<Row> = right.iter().map(|(row, _)| *row).collect();
     let number = |row: &Row| plain_match(&options, row, &keyed);
@@ -274,6 +293,15 @@ fn refusals() {
         let many = Options { carried, ..Options::default() };
         assert_eq!(asof(&many, [keys(&[1])], [keys(&[1])]).unwrap_err(), Refusal::TooManyCarried);
     }
+    let listed = |codes: &[i64]| {
+        let by = vec![ByColumn::default()];
+        Options { by, ranks: Some(Ranks::new(0, codes)), ..Options::default() }
+    };
+    assert_eq!(asof(&listed(&[]), [keys(&[1])], [keys(&[1])]).unwrap_err(), Refusal::BadRanks);
+    let frame = |band| Frame::new(2, &[[Some(band), Some(1)]]).unwrap();
+    let mut unknown = asof(&listed(&[30, 10]), [frame(30), frame(20)], [frame(30)]).unwrap();
+    assert_eq!((unknown.next(), unknown.next()), (Some(Ok(Some(0))), Some(Err(Refusal::UnknownCode))));
+    assert_eq!(unknown.next(), None);
     let cases = [
         (vec![keys(&[1, 2]), keys(&[4, 3])], vec![keys(&[1, 9])], 2, Refusal::LeftOrder),
         (vec![keys(&[1, 2]), keys(&[1])], vec![keys(&[1, 9])], 2, Refusal::LeftOrder),

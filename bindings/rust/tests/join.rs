@@ -1,7 +1,8 @@
-//! The wrapper over the archive: the worked cases, every refusal, any cut, what is carried, runs, keeping a join, areas that
-//! grow, threads.
+//! The wrapper over the archive: the worked cases, every refusal, any cut, what is carried, lists of ranks, runs, keeping a join,
+//! areas that grow, threads.
 use rowkeeper::{
-    ByColumn, Check, Frame, Join, Match, NodeState, Options, Port, Ports, Refusal, Run, Stop, Strategy, Turn, raw,
+    ByColumn, Check, Frame, Join, Match, NodeState, Options, Port, Ports, Ranks, Refusal, Run, Stop, Strategy, Turn,
+    raw,
 };
 
 type Row = [Option<i64>; 2];
@@ -199,6 +200,141 @@ fn carried_in_runs() {
     assert!(output[18..].iter().all(|w| *w == 7));
 }
 
+/// Codes of a house: stalls, circle and gods, in this order.
+const STALLS: i64 = 30;
+const CIRCLE: i64 = 10;
+const GODS: i64 = 20;
+
+/// Options with one by-column and these codes for it.
+fn ranked(codes: &[i64]) -> Options {
+    let by = vec![ByColumn::default()];
+    Options { by, check: Check::Strict, ranks: Some(Ranks::new(0, codes)), ..Options::default() }
+}
+
+/// A frame of bands and keys.
+fn bands(rows: &[(i64, i64)]) -> Frame {
+    let rows: Vec<Row> = rows.iter().map(|(band, key)| [Some(*band), Some(*key)]).collect();
+    Frame::new(2, &rows).unwrap()
+}
+
+/// Right rows and left rows in these frames, right ended: the matches of all turns, or the refusal that stops them.
+fn joined(options: &Options, left: &[Frame], right: &Frame) -> Result<Vec<Option<u64>>, Refusal> {
+    let (mut join, mut out) = (open(options), vec![]);
+    join.right(right)?;
+    left.iter().try_for_each(|frame| join.left(frame))?;
+    join.end_right()?;
+    loop {
+        let mut output = [7; 100];
+        match join.turn(&mut output)? {
+            Turn::Wrote { matches, .. } => out.extend(matches.iter()),
+            Turn::WantsRight | Turn::Idle => return Ok(out),
+        }
+    }
+}
+
+/// A by-column goes by the places of its codes, wherever the frames are cut; and by number without the list.
+#[test]
+fn bands_by_rank() {
+    let notices = bands(&[(STALLS, 10), (STALLS, 20), (CIRCLE, 10), (GODS, 15)]);
+    let sales = [bands(&[(STALLS, 12), (STALLS, 25), (CIRCLE, 9)]), bands(&[(CIRCLE, 10), (GODS, 99)])];
+    let list = ranked(&[STALLS, CIRCLE, GODS]);
+    let due = [Some(0), Some(1), None, Some(2), Some(3)];
+    assert_eq!(joined(&list, &sales, &notices), Ok(due.to_vec()));
+    assert_eq!(joined(&Options { ranks: None, ..list.clone() }, &sales, &notices), Err(Refusal::LeftOrder));
+    assert_eq!(joined(&ranked(&[STALLS, GODS, CIRCLE]), &sales, &notices), Err(Refusal::RightOrder));
+    let down =
+        Options { by: vec![ByColumn { descending: true, nulls_last: false }], ..ranked(&[GODS, CIRCLE, STALLS]) };
+    assert_eq!(joined(&down, &sales, &notices), Ok(due.to_vec()));
+    let by_number = bands(&[(CIRCLE, 10), (GODS, 15), (STALLS, 10), (STALLS, 20)]);
+    assert_eq!(joined(&list, &[bands(&[(CIRCLE, 10)])], &by_number), Err(Refusal::RightOrder));
+}
+
+/// Nulls come first or last, whatever the list.
+#[test]
+fn nulls_and_ranks() {
+    let null_first = Frame::new(2, &[[None, Some(1)], [Some(STALLS), Some(1)], [Some(CIRCLE), Some(1)]]).unwrap();
+    let null_last = Frame::new(2, &[[Some(STALLS), Some(1)], [Some(CIRCLE), Some(1)], [None, Some(1)]]).unwrap();
+    for (nulls_last, good, bad) in [(false, &null_first, &null_last), (true, &null_last, &null_first)] {
+        let by = vec![ByColumn { descending: false, nulls_last }];
+        let options = Options { by, ..ranked(&[STALLS, CIRCLE]) };
+        assert!(joined(&options, std::slice::from_ref(good), good).is_ok());
+        assert_eq!(joined(&options, std::slice::from_ref(bad), good), Err(Refusal::LeftOrder));
+    }
+}
+
+/// 11: lists that open no join, behind 1 and 10. The longest list does, and is kept as it came.
+#[test]
+fn bad_ranks() {
+    let codes: Vec<i64> = (0..200).map(|i| i * 7 % 200).collect();
+    for bad in [ranked(&[]), ranked(&codes[..65]), ranked(&codes), ranked(&[1, 2, 1])] {
+        assert_eq!(Join::open(&bad, 9, 9).unwrap_err(), Refusal::BadRanks, "{bad:?}");
+        let carrying = Options { carried: 9, ..bad };
+        assert_eq!(Join::open(&carrying, 9, 9).unwrap_err(), Refusal::TooManyCarried);
+        let five = Options { by: vec![ByColumn::default(); 5], ..carrying };
+        assert_eq!(Join::open(&five, 9, 9).unwrap_err(), Refusal::BadOptions);
+    }
+    for (by, column) in [(0, 0), (1, 1), (4, 4), (4, usize::MAX)] {
+        let by = vec![ByColumn::default(); by];
+        let options = Options { by, ranks: Some(Ranks::new(column, [1])), ..Options::default() };
+        assert_eq!(Join::open(&options, 9, 9).unwrap_err(), Refusal::BadRanks);
+    }
+    let most = Join::open(&ranked(&codes[..64]), 9, 9).unwrap().parts().0.options.ranks;
+    assert_eq!((most.given, most.column, most.count, &most.codes[..]), (1, 0, 64, &codes[..64]));
+    let none = Join::open(&Options::default(), 9, 9).unwrap().parts().0.options.ranks;
+    assert_eq!(none, raw::Ranks::default());
+}
+
+/// 12: a value that the list lacks, in its own column alone, in a frame and in one that waits; nothing is changed.
+#[test]
+fn unknown_code() {
+    let options = Options { by: vec![ByColumn::default(); 2], ..ranked(&[STALLS, CIRCLE]) };
+    let mut join = Join::open_rows(&options, 2, 0).unwrap();
+    let frame = |band| Frame::new(3, &[[band, Some(99), Some(99)]]).unwrap();
+    let before = join.clone();
+    assert_eq!(join.left(&frame(Some(GODS))), Err(Refusal::UnknownCode));
+    assert_eq!(join.right(&frame(Some(GODS))), Err(Refusal::UnknownCode));
+    assert_eq!(join.right(&frame(Some(CIRCLE))), Err(Refusal::NoRoom));
+    assert_eq!(join.left(&frame(Some(GODS))[..7]), Err(Refusal::BadFrame));
+    assert_eq!(join.parts(), before.parts());
+    assert_eq!((join.left(&frame(None)), join.left(&frame(Some(STALLS)))), (Ok(()), Ok(())));
+    join.end_right().unwrap();
+    let (words, mut left, right) = (join.parts().0, join.left_area().to_vec(), join.right_area().to_vec());
+    left[8 + 2] = GODS;
+    let mut join = Join::from_parts(words, left, right);
+    let mut output = [0; 20];
+    let run = join.run(9, &mut output);
+    assert_eq!((run.written.len(), run.stop), (1, Stop::Refused(Refusal::UnknownCode)));
+    let before = join.clone();
+    assert_eq!(join.turn(&mut []), Err(Refusal::UnknownCode));
+    assert_eq!(join.parts(), before.parts());
+}
+
+/// A join that holds a list which is refused, or other places of its codes, is refused by 2.
+#[test]
+fn altered_ranks() {
+    let join = open(&ranked(&[STALLS, CIRCLE, GODS]));
+    assert_eq!(join.parts().0.rising[..4], [1, 2, 0, 0]);
+    let alterations: [fn(&mut raw::Join); 9] = [
+        |j| j.options.ranks.given = 2,
+        |j| j.options.ranks.count = 0,
+        |j| j.options.ranks.count = 65,
+        |j| j.options.ranks.count = u64::MAX,
+        |j| j.options.ranks.column = 1,
+        |j| j.options.ranks.codes[2] = STALLS,
+        |j| j.rising[..3].copy_from_slice(&[0, 1, 2]),
+        |j| j.rising[2] = 3,
+        |j| j.rising[0] = 255,
+    ];
+    for alter in alterations {
+        let mut strange = altered(&join, alter);
+        let before = strange.clone();
+        assert_eq!(strange.right(&bands(&[(STALLS, 1)])), Err(Refusal::BadJoin));
+        assert_eq!(strange.parts(), before.parts());
+    }
+    let mut free = altered(&join, |j| (j.options.ranks.codes[3], j.rising[3]) = (STALLS, 255));
+    assert_eq!(free.right(&bands(&[(STALLS, 1)])), Ok(()));
+}
+
 /// The library is of the version that the wrapper is for, and an opened join has its layout.
 #[test]
 fn version() {
@@ -266,7 +402,7 @@ fn out_of_order() {
 /// Numbers, order and texts of refusals.
 #[test]
 fn numbers() {
-    let numbers = [1, 2, 3, 4, 5, 6, 7, 8, 9, 10, 16];
+    let numbers = [1, 2, 3, 4, 5, 6, 7, 8, 9, 10, 11, 12, 16];
     assert_eq!(Refusal::ALL.len(), numbers.len());
     for (refusal, number) in Refusal::ALL.iter().zip(numbers) {
         assert_eq!(refusal.number(), number);

@@ -19,6 +19,7 @@ use Rattle.frames.specs.Cells.{Words}
 use Rattle.frames.specs.Frame.{rowCount, valuesIn, marksIn}
 use Rattle.order.specs.Requires.{RowsIn}
 use Rattle.frames.specs.Front.{HasCount}
+use Rattle.options.specs.Options.{Few}
 use Rattle.options.specs.declared.Options.{Options}
 use Rattle.frames.proofs.Signed.{back}
 use Rattle.frames.proofs.FrameLaws.{frame-length, values-length, marks-length}
@@ -82,7 +83,7 @@ base-room c base area h =
     (omega arith, omega arith)
 
 -- The held rows, as parts that `held_values` and `held_marks` give: all of them are there.
-pub held-in : (o : Options) (c base held : ℕ) (area : Words) → o .by ≤ 4 → o .by < c → base + held ≤ capacity c area
+pub held-in : (o : Options) (c base held : ℕ) (area : Words) → Few o → o .by < c → base + held ≤ capacity c area
     → RowsIn o c held (drop (base * c) area) (drop ((capacity c area + base) * c) area)
 held-in o c base held area few wide h =
     let r = capacity-room c area in

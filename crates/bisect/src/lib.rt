@@ -1,9 +1,11 @@
 // Binary search over the rows of a stretch, by the cells of one column.
-use compare::cmp_cell;
+use cells::cmp_cell;
+use cells::cmp_listed;
 use order::Order;
 use searching::Seek;
 ghost use mathlib.Core.Path.{_≡_};
 ghost use Prim.Native.Nat.{ℕ, _≤_};
+ghost use Rattle.ranks.specs.Ranks.{Indexed};
 ghost use Rattle.frames.specs.Cells.{cellOf, rowsOf};
 ghost use Rattle.order.specs.Order.{cmpCell};
 ghost use Rattle.order.specs.Requires.{cellAt, CellIn};
@@ -33,18 +35,35 @@ fn probe(
     seek: Seek,
     descending: bool,
     nulls_last: bool,
+    codes: &[i64],
+    rising: &[u8],
     value: i64,
     mark: i64,
     values: &[i64],
     marks: &[i64],
     k: usize,
 ) -> bool
-    requires { ⌜ CellIn k (now values) (now marks) ⌝ }
-    ensures { λ r. ⌜ r ≡ meets seek (cmpCell (record { descending = descending; nullsLast = «nulls_last» }) (cellAt k (now (values .entry)) (now (marks .entry))) (cellOf value mark)) ⌝ }
+    requires { ⌜ Indexed (now codes) (now rising) × CellIn k (now values) (now marks) ⌝ }
+    ensures { λ r. ⌜ r ≡ meets seek (cmpCell (record { descending = descending; nullsLast = «nulls_last»; codes = now (codes .entry) }) (cellAt k (now (values .entry)) (now (marks .entry))) (cellOf value mark)) ⌝ }
 {
+    if codes.len() == 0 {
+        return is_met(
+            seek,
+            cmp_cell(values[k], marks[k], value, mark, descending, nulls_last),
+        );
+    }
     is_met(
         seek,
-        cmp_cell(values[k], marks[k], value, mark, descending, nulls_last),
+        cmp_listed(
+            values[k],
+            marks[k],
+            value,
+            mark,
+            descending,
+            nulls_last,
+            codes,
+            rising,
+        ),
     )
 }
 
@@ -53,6 +72,8 @@ pub fn find(
     seek: Seek,
     descending: bool,
     nulls_last: bool,
+    codes: &[i64],
+    rising: &[u8],
     j: usize,
     value: i64,
     mark: i64,
@@ -62,8 +83,8 @@ pub fn find(
     lower: usize,
     upper: usize,
 ) -> usize
-    requires { ⌜ ColumnIn j w upper (now values) (now marks) ⌝ }
-    ensures { λ r. ⌜ ((n : ℕ) → upper ≤ n → r ≡ find seek (record { descending = descending; nullsLast = «nulls_last» }) j (cellOf value mark) (rowsOf w n (now (values .entry)) (now (marks .entry))) lower upper) ⌝ }
+    requires { ⌜ Indexed (now codes) (now rising) × ColumnIn j w upper (now values) (now marks) ⌝ }
+    ensures { λ r. ⌜ ((n : ℕ) → upper ≤ n → r ≡ find seek (record { descending = descending; nullsLast = «nulls_last»; codes = now (codes .entry) }) j (cellOf value mark) (rowsOf w n (now (values .entry)) (now (marks .entry))) lower upper) ⌝ }
 {
     let mut low = lower;
     let mut high = upper;
@@ -73,6 +94,8 @@ pub fn find(
             seek,
             descending,
             nulls_last,
+            codes,
+            rising,
             value,
             mark,
             values,

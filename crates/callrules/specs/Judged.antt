@@ -6,14 +6,15 @@ use Prim.Native.Nat.{ℕ, _+_, _%_, _≤_}
 use lib.Dec.{ltb, eqb}
 use lib.ListN.{length}
 use Rattle.frames.specs.Cells.{Words}
-use Rattle.frames.specs.Frame.{rowCount, isFrame}
-use Rattle.options.specs.Options.{badOptions, manyCarried, refusedOptions, rightColumns}
+use Rattle.frames.specs.Frame.{rowCount, isFrame, frameRows}
+use Rattle.options.specs.Options.{badOptions, manyCarried, badRanked, refusedOptions, columns, rightColumns, Few}
 use Rattle.options.specs.declared.Options.{Options}
+use Rattle.order.specs.Listed.{lacksCode}
 use Rattle.area.specs.Area.{capacity, newBase, pushed, moved, written}
 use Rattle.outcomes.specs.Answers.{isRunning, isDone, mostRows}
 use Rattle.outcomes.specs.declared.NodeState.{NodeState}
 use Rattle.refusals.specs.Tests.{Test, test, firstOf}
-use Rattle.refusals.specs.declared.Refusal.the-variants.{BadOptions, TooManyCarried, BadJoin, Failed, Closed, BadFrame, NoRoom, UsedUp}
+use Rattle.refusals.specs.declared.Refusal.the-variants.{BadOptions, TooManyCarried, BadRanks, BadJoin, Failed, Closed, BadFrame, UnknownCode, NoRoom, UsedUp}
 use Rattle.outcomes.specs.declared.Took.{Took}
 use Rattle.outcomes.specs.declared.Took.the-variants.{Accepted, Refused}
 use Rattle.outcomes.specs.declared.Answer.{Answer}
@@ -29,16 +30,18 @@ badNumbers o base held pruned start words sequence left right =
 
 -- SCOPE 16.3: the answer to opening.
 unfoldable pub openAnswer : Options → Took
-openAnswer o = firstOf (test (badOptions o) (Refused BadOptions) ∷ test (manyCarried o) (Refused TooManyCarried) ∷ []) Accepted
+openAnswer o =
+    firstOf (test (badOptions o) (Refused BadOptions) ∷ test (manyCarried o) (Refused TooManyCarried) ∷ test (badRanked o) (Refused BadRanks) ∷ []) Accepted
 
 -- SCOPE 16.3: the answer to a left frame, by the numbers of a join.
-unfoldable pub leftJudged : Bool → Bool → NodeState → ℕ → ℕ → Words → Words → Took
-leftJudged bad failed state c words left f =
+unfoldable pub leftJudged : Bool → Bool → NodeState → Options → ℕ → Words → Words → Took
+leftJudged bad failed state o words left f =
     firstOf (
     test bad (Refused BadJoin)
     ∷ test failed (Refused Failed)
     ∷ test (not (isRunning state)) (Refused Closed)
-    ∷ test (not (isFrame c f)) (Refused BadFrame)
+    ∷ test (not (isFrame (columns o) f)) (Refused BadFrame)
+    ∷ test (lacksCode o (frameRows (columns o) f)) (Refused UnknownCode)
     ∷ test (ltb (length left) (words + length f)) (Refused NoRoom)
     ∷ []
     )
@@ -53,12 +56,13 @@ unfoldable pub endJudged : Bool → Bool → Bool → NodeState → Took
 endJudged bad failed ended state = firstOf (endTests bad failed ended state) Accepted
 
 -- SCOPE 16.3: the answer to a right frame.
-unfoldable pub rightJudged : Bool → Bool → Bool → NodeState → ℕ → ℕ → ℕ → Words → Words → Took
-rightJudged bad failed ended state c held pruned right f =
+unfoldable pub rightJudged : Bool → Bool → Bool → NodeState → Options → ℕ → ℕ → Words → Words → Took
+rightJudged bad failed ended state o held pruned right f =
     firstOf (
     endTests bad failed ended state
-    ++ test (not (isFrame c f)) (Refused BadFrame)
-    ∷ test (ltb (capacity c right) (held + rowCount f)) (Refused NoRoom)
+    ++ test (not (isFrame (rightColumns o) f)) (Refused BadFrame)
+    ∷ test (lacksCode o (frameRows (rightColumns o) f)) (Refused UnknownCode)
+    ∷ test (ltb (capacity (rightColumns o) right) (held + rowCount f)) (Refused NoRoom)
     ∷ test (ltb mostRows (pruned + held + rowCount f)) (Refused UsedUp)
     ∷ []
     )
@@ -78,17 +82,17 @@ abbrev pub taken : {A : Type 0} → Took → A → A → A
 taken Accepted x y = x
 taken (Refused n) x y = y
 
--- A join that is not bad holds together: few columns, and the waiting words are there.
+-- A join that is not bad holds together: its options compare rows, and the waiting words are there.
 pub record LeftHolds (o : Options) (start words : ℕ) (left : Words) : Type 0 where
-  pub few : o .by ≤ 4
+  pub few : Few o
   pub room : start + words ≤ length left
 
 -- A left frame: the answer, where the queue starts, how many words wait, and the left area's words as they are afterwards.
-pub record LeftFed (bad failed : Bool) (state : NodeState) (c start words : ℕ) (left f : Words) (r : FedLeft) (left′ : Words) : Type 0 where
-  pub answer : r .answer ≡ leftJudged bad failed state c words left f
-  pub start-is : r .start ≡ taken (leftJudged bad failed state c words left f) (newBase start words (length f) (length left)) start
-  pub words-are : r .words ≡ taken (leftJudged bad failed state c words left f) (words + length f) words
-  pub area : left′ ≡ taken (leftJudged bad failed state c words left f) (let to = newBase start words (length f) (length left) in written f (to + words) (moved start to words left)) left
+pub record LeftFed (bad failed : Bool) (state : NodeState) (o : Options) (start words : ℕ) (left f : Words) (r : FedLeft) (left′ : Words) : Type 0 where
+  pub answer : r .answer ≡ leftJudged bad failed state o words left f
+  pub start-is : r .start ≡ taken (leftJudged bad failed state o words left f) (newBase start words (length f) (length left)) start
+  pub words-are : r .words ≡ taken (leftJudged bad failed state o words left f) (words + length f) words
+  pub area : left′ ≡ taken (leftJudged bad failed state o words left f) (let to = newBase start words (length f) (length left) in written f (to + words) (moved start to words left)) left
 
 -- The end of right: the answer, and whether right has ended.
 pub record EndFed (bad failed ended : Bool) (state : NodeState) (r : FedEnd) : Type 0 where
@@ -97,14 +101,14 @@ pub record EndFed (bad failed ended : Bool) (state : NodeState) (r : FedEnd) : T
 
 -- The same on the right: the held rows are there, and are few enough.
 pub record RightHolds (o : Options) (base held pruned : ℕ) (right : Words) : Type 0 where
-  pub few : o .by ≤ 4
+  pub few : Few o
   pub carried : o .carried ≤ 8
   pub room : base + held ≤ capacity (rightColumns o) right
   pub rows : pruned + held ≤ mostRows
 
 -- A right frame: the answer, where the held rows start, how many are held, and the right area's words as they are afterwards.
-pub record RightFed (bad failed ended : Bool) (state : NodeState) (c base held pruned : ℕ) (right f : Words) (r : FedRight) (right′ : Words) : Type 0 where
-  pub answer : r .answer ≡ rightJudged bad failed ended state c held pruned right f
-  pub base-is : r .base ≡ taken (rightJudged bad failed ended state c held pruned right f) (newBase base held (rowCount f) (capacity c right)) base
-  pub held-is : r .held ≡ taken (rightJudged bad failed ended state c held pruned right f) (held + rowCount f) held
-  pub area : right′ ≡ taken (rightJudged bad failed ended state c held pruned right f) (pushed c base held f right) right
+pub record RightFed (bad failed ended : Bool) (state : NodeState) (o : Options) (base held pruned : ℕ) (right f : Words) (r : FedRight) (right′ : Words) : Type 0 where
+  pub answer : r .answer ≡ rightJudged bad failed ended state o held pruned right f
+  pub base-is : r .base ≡ taken (rightJudged bad failed ended state o held pruned right f) (newBase base held (rowCount f) (capacity (rightColumns o) right)) base
+  pub held-is : r .held ≡ taken (rightJudged bad failed ended state o held pruned right f) (held + rowCount f) held
+  pub area : right′ ≡ taken (rightJudged bad failed ended state o held pruned right f) (pushed (rightColumns o) base held f right) right

@@ -227,7 +227,7 @@ module _ (o : Options) (n w nr : ℕ) (vs ms : Words) (number m : ℕ) (out : Wo
       let z : getD now (2 + m + i) (pos 0) ≡ getD out (2 + m + i) (pos 0) = rw e (mark-kept o number w vs ms m n out f (i + 1) i (omega arith) (omega arith)) in
       let b : i < i * c + c = before-own i in
       record {
-        few = h .right .few;
+        few = h .right .few .by;
         carried = h .carried;
         there = omega arith;
         choice = record { there = omega arith; room = omega arith; whole = rw (v, z) (s .whole) };

@@ -1,13 +1,29 @@
 // Whether the numbers of a join hold together and fit its areas, for any numbers and any areas: refusal 2.
 use options::Options;
-use options::refused_options;
+use options::bad_options;
+use options::many_carried;
 use options::right_columns;
 use outcomes::above;
+use ranking::bad_ranks;
 ghost use mathlib.Core.Path.{_≡_};
+ghost use Rattle.options.specs.Options.{refusedOptions};
 ghost use Rattle.callrules.specs.Judged.{badNumbers};
 
 // The greatest number of right rows.
 const MOST_ROWS: usize = 9223372036854775807;
+
+// Whether opening refuses the options (SCOPE 3.9).
+fn refused_options(o: Options) -> bool
+    ensures { λ r. ⌜ r ≡ refusedOptions o ⌝ }
+{
+    if bad_options(o) {
+        return true;
+    }
+    if many_carried(o) {
+        return true;
+    }
+    bad_ranks(o.by, o.ranks)
+}
 
 // Whether the numbers of a join, with these areas, meet refusal 2.
 pub fn bad_numbers(

@@ -4,47 +4,19 @@ use mathlib.Core.Bool.{Bool, true, false, cond, _&&_}
 use mathlib.Core.Option.{none, some}
 use Prim.Native.Nat.{ℕ, _<_}
 use native.Mathlib.Omega.{arith}
-use borrow.Author.Tests.{ltb-true, lt-ltb, eqb-true}
-use lib.Dec.{ltb, eqb}
+use borrow.Author.Tests.{eqb-true}
+use lib.Dec.{eqb}
 use Rattle.options.specs.declared.Options.{Options}
 use Rattle.order.specs.declared.Row.{Row}
 use Rattle.node.specs.declared.Join.{Join}
-use Rattle.codes.specs.Codes.{isFlag, areFlags, isCode}
-use Rattle.convert.specs.Convert.{layoutNow, isOptions, optionsOf, encodeOptions, decodeOptions, rowOf, encodeRow, isJoin, joinOf, encode, decode, ThereAndBack}
-use Rattle.convert.specs.declared.HostOptions.{HostOptions}
+use Rattle.codes.specs.Codes.{isFlag, isCode}
+use Rattle.convert.specs.Convert.{layoutNow, rowOf, encodeRow, isJoin, joinOf, encode, decode, ThereAndBack}
+use Rattle.hostoptions.specs.HostOptions.{isOptions, keptRanks, givenRanks, optionsWith, optionsOf, encodeOptions, decodeOptions}
+use Rattle.hostoptions.specs.declared.HostOptions.{HostOptions}
+use Rattle.hostoptions.proofs.OptionsLaws.{options-parts, options-is, ranks-same, ranks-numbers, options-same, numbers-same, given-numbers}
 use Rattle.convert.specs.declared.HostRow.{HostRow}
 use Rattle.convert.specs.declared.HostJoin.{HostJoin}
-use Rattle.codes.proofs.CodeLaws.{and-both, flag-is, flag-back, flag-there, flags-are, flags-back, flags-there, check-is, check-back, check-there, state-is, state-back, state-there}
-
--- ---- options
--- What numbers that tell options have: a strategy that a byte holds, a setting of the order check, and flags.
-pub record OptionsParts (h : HostOptions) : Type 0 where
-  pub byte : h .strategy < 256
-  pub eq : isFlag (h .«allow_eq») ≡ true
-  pub check : isCode (h .check) ≡ true
-  pub descending : areFlags (h .descending) ≡ true
-  pub nulls : areFlags (h .«nulls_last») ≡ true
-
-pub options-parts : (h : HostOptions) → isOptions h ≡ true → OptionsParts h
-unfolding isOptions
-options-parts h e =
-    let p = and-both (ltb (h .strategy) 256 && (isFlag (h .«allow_eq») && isCode (h .check))) (areFlags (h .descending) && areFlags (h .«nulls_last»)) e in
-    let q = and-both (ltb (h .strategy) 256) (isFlag (h .«allow_eq») && isCode (h .check)) (p .0) in
-    let r = and-both (isFlag (h .«allow_eq»)) (isCode (h .check)) (q .1) in
-    let s = and-both (areFlags (h .descending)) (areFlags (h .«nulls_last»)) (p .1) in
-    record { byte = ltb-true (h .strategy) 256 (q .0); eq = r .0; check = r .1; descending = s .0; nulls = s .1 }
-
-pub options-is : (o : Options) → o .strategy < 256 → isOptions (encodeOptions o) ≡ true
-unfolding isOptions
-options-is o b = rw (lt-ltb (o .strategy) 256 b, flag-is (o .«allow_eq»), check-is (o .check), flags-are (o .descending), flags-are (o .«nulls_last»))
-
-pub options-same : (o : Options) → optionsOf (encodeOptions o) ≡ o
-options-same o = rw (flag-back (o .«allow_eq»), check-back (o .check), flags-back (o .descending), flags-back (o .«nulls_last»))
-
-pub numbers-same : (h : HostOptions) → isOptions h ≡ true → encodeOptions (optionsOf h) ≡ h
-numbers-same h e =
-    let p = options-parts h e in
-    rw (flag-there (h .«allow_eq») (p .eq), check-there (h .check) (p .check), flags-there (h .descending) (p .descending), flags-there (h .«nulls_last») (p .nulls))
+use Rattle.codes.proofs.CodeLaws.{and-both, flag-is, flag-back, flag-there, state-is, state-back, state-there}
 
 -- ---- a remembered row
 pub row-same : (r : Row) → rowOf (encodeRow r) ≡ r
@@ -83,12 +55,13 @@ join-is j b =
 
 pub join-same : (j : Join) → joinOf (encode j) ≡ j
 join-same j =
-    rw (options-same (j .options), state-back (j .state), flag-back (j .«right_ended»), flag-back (j .failed), row-same (j .«last_left»), row-same (j .«last_right»))
+    rw (options-same (j .options) (keptRanks (encodeOptions (j .options) .ranks) (j .options .ranks .rising)) (ranks-same (j .options .ranks)), state-back (j .state), flag-back (j .«right_ended»), flag-back (j .failed), row-same (j .«last_left»), row-same (j .«last_right»))
 
 pub join-numbers : (h : HostJoin) → isJoin h ≡ true → encode (joinOf h) ≡ h
 join-numbers h e =
     let p = join-parts h e in
-    rw (← p .layout, numbers-same (h .options) (p .options), state-there (h .state) (p .state), flag-there (h .«right_ended») (p .ended), flag-there (h .failed) (p .failed), row-numbers (h .«last_left») (p .left), row-numbers (h .«last_right») (p .right))
+    let k = keptRanks (h .options .ranks) (h .rising) in
+    rw (← p .layout, numbers-same (h .options) k (p .options) (ranks-numbers (h .options .ranks) k (options-parts (h .options) (p .options) .given) refl), state-there (h .state) (p .state), flag-there (h .«right_ended») (p .ended), flag-there (h .failed) (p .failed), row-numbers (h .«last_left») (p .left), row-numbers (h .«last_right») (p .right))
 
 -- ---- there and back
 -- What a test lets pass is what stands behind it.
@@ -116,8 +89,8 @@ decoded h j e =
 pub there-and-back : ThereAndBack
 unfolding decodeOptions decode
 there-and-back = record {
-  options-back = λ o b. rw (options-is o b, options-same o);
-  options-there = λ h o e. let p = passed (isOptions h) (optionsOf h) o e in rw (← p .1) (numbers-same h (p .0));
+  options-back = λ o b s. rw (options-is o b, options-same o (givenRanks (encodeOptions o .ranks)) s);
+  options-there = λ h o e. let p = passed (isOptions h) (optionsOf h) o e in rw (← p .1) (numbers-same h (givenRanks (h .ranks)) (p .0) (given-numbers (h .ranks) (options-parts h (p .0) .given)));
   join-back = λ j b. rw (join-is j b, join-same j);
   join-there = λ h j e. let p = passed (isJoin h) (joinOf h) j e in rw (← p .1) (join-numbers h (p .0));
 }

@@ -3,50 +3,16 @@ use mathlib.Core.Path.{_≡_}
 use mathlib.Core.Bool.{Bool, cond, _&&_}
 use mathlib.Core.Option.{Option, none, some}
 use Prim.Native.Nat.{ℕ, _<_}
-use lib.Dec.{ltb, eqb}
+use lib.Dec.{eqb}
 use Rattle.options.specs.declared.Options.{Options}
 use Rattle.order.specs.declared.Row.{Row}
 use Rattle.outcomes.specs.Answers.{stateCode}
 use Rattle.node.specs.declared.Join.{Join}
-use Rattle.codes.specs.Codes.{isFlag, flagOf, flagCode, areFlags, flagsOf, flagCodes, checkOf, checkCode, isCode, stateOf}
-use Rattle.convert.specs.declared.HostOptions.{HostOptions}
+use Rattle.codes.specs.Codes.{isFlag, flagOf, flagCode, isCode, stateOf}
+use Rattle.hostoptions.specs.HostOptions.{isOptions, keptRanks, givenRanks, optionsWith, encodeRanks, encodeOptions, decodeOptions}
+use Rattle.hostoptions.specs.declared.HostOptions.{HostOptions}
 use Rattle.convert.specs.declared.HostRow.{HostRow}
 use Rattle.convert.specs.declared.HostJoin.{HostJoin}
-
--- ---- options
--- Options that the library could have written: a strategy is any number that a byte holds, the order check one up to 2, and the rest are flags.
-unfoldable pub isOptions : HostOptions → Bool
-isOptions h = (ltb (h .strategy) 256 && (isFlag (h .«allow_eq») && isCode (h .check))) && (areFlags (h .descending) && areFlags (h .«nulls_last»))
-
--- The options that such numbers tell.
-abbrev pub optionsOf : HostOptions → Options
-optionsOf h = record {
-  by = h .by;
-  strategy = h .strategy;
-  «allow_eq» = flagOf (h .«allow_eq»);
-  tolerance = h .tolerance;
-  check = checkOf (h .check);
-  descending = flagsOf (h .descending);
-  «nulls_last» = flagsOf (h .«nulls_last»);
-  carried = h .carried;
-}
-
--- The numbers of options.
-abbrev pub encodeOptions : Options → HostOptions
-encodeOptions o = record {
-  by = o .by;
-  strategy = o .strategy;
-  «allow_eq» = flagCode (o .«allow_eq»);
-  tolerance = o .tolerance;
-  check = checkCode (o .check);
-  descending = flagCodes (o .descending);
-  «nulls_last» = flagCodes (o .«nulls_last»);
-  carried = o .carried;
-}
-
--- Numbers that no options encode are none.
-unfoldable pub decodeOptions : HostOptions → Option Options
-decodeOptions h = cond (isOptions h) (some (optionsOf h)) none
 
 -- ---- a remembered row
 -- Its flag says whether a row is remembered; its words are the row's own.
@@ -60,7 +26,7 @@ encodeRow r = record { some = flagCode (r .some); values = r .values; marks = r 
 -- ---- the join
 -- The first word of a join: the bytes "rowkeep", then the layout's version. Joins of another layout have another first word (SCOPE 16.5).
 abbrev pub layoutNow : ℕ
-layoutNow = 0x726f_776b_6565_7002
+layoutNow = 0x726f_776b_6565_7003
 
 -- A join that the library could have written: this layout, one of the three states, and flags that are 0 or 1.
 unfoldable pub isJoin : HostJoin → Bool
@@ -72,7 +38,7 @@ isJoin h =
 -- The join that such numbers tell.
 abbrev pub joinOf : HostJoin → Join
 joinOf h = record {
-  options = optionsOf (h .options);
+  options = optionsWith (h .options) (keptRanks (h .options .ranks) (h .rising));
   base = h .base;
   held = h .held;
   pruned = h .pruned;
@@ -91,6 +57,7 @@ abbrev pub encode : Join → HostJoin
 encode j = record {
   layout = layoutNow;
   options = encodeOptions (j .options);
+  rising = j .options .ranks .rising;
   base = j .base;
   held = j .held;
   pruned = j .pruned;
@@ -109,10 +76,11 @@ unfoldable pub decode : HostJoin → Option Join
 decode h = cond (isJoin h) (some (joinOf h)) none
 
 -- ---- there and back
--- What the library writes is read as what it was (a strategy is a byte in every join that runs); what is read came from exactly these numbers,
+-- What the library writes is read as what it was (a strategy is a byte in every join that runs; options alone do not tell a list's places in
+-- rising order, which are found anew); what is read came from exactly these numbers,
 -- so a call that changes no field hands back the words that came.
 pub record ThereAndBack : Type 0 where
-  pub options-back : (o : Options) → o .strategy < 256 → decodeOptions (encodeOptions o) ≡ some o
+  pub options-back : (o : Options) → o .strategy < 256 → givenRanks (encodeRanks (o .ranks)) ≡ o .ranks → decodeOptions (encodeOptions o) ≡ some o
   pub options-there : (h : HostOptions) (o : Options) → decodeOptions h ≡ some o → encodeOptions o ≡ h
   pub join-back : (j : Join) → j .options .strategy < 256 → decode (encode j) ≡ some j
   pub join-there : (h : HostJoin) (j : Join) → decode h ≡ some j → encode j ≡ h

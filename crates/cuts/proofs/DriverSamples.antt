@@ -4,15 +4,18 @@ use mathlib.Core.Bool.{true, false}
 use mathlib.Core.List.{List, [], _∷_, map}
 use Prim.Native.Nat.{ℕ, zero, suc}
 use lib.IntN.{pos, negsuc}
-use Rattle.frames.specs.Cells.{null, Words}
-use Rattle.order.proofs.Samples.{options, carrying, row, frameOf}
+use Rattle.frames.specs.Cells.{null, Rows, Words}
+use Rattle.order.specs.Listed.{unlistedIn}
+use Rattle.order.proofs.Samples.{options, carrying, ranksBy, ranking, row, frameOf}
+use Rattle.ranks.specs.Ranks.{rises, risesBehind, below, placed, listed}
 use Rattle.options.specs.declared.Options.{Options}
 use Rattle.turnrows.specs.Prunes.{keptRows, lastPrune}
 use Rattle.lists.proofs.Script.{leftArea, rightArea, space, speakAll}
 use Rattle.plan.specs.Plan.{planFrom, plan}
 use Rattle.plan.specs.Table.{isTable, fullHeights}
-use Rattle.cuts.specs.Cut.{cutAt, cutBy}
-use Rattle.cuts.specs.Driver.{inFrames, wordsFor, tooShort, anyShort, ascending, anyNull, badBoundaries, cutAnswer}
+use Rattle.matching.specs.Match.{matchTable, wholeTable}
+use Rattle.cuts.specs.Cut.{cutAt, cutBy, joined}
+use Rattle.cuts.specs.Driver.{inFrames, wordsFor, tooShort, anyShort, ascending, anyNull, badBoundaries, cutAnswer, cutOutput}
 
 abbrev pub o : Options
 o = options 1 0 true (negsuc 0) false [] []
@@ -71,3 +74,44 @@ pub carried : toldPriced (carrying 1 o) lefts 12 18 ∷ toldPriced (carrying 1 o
     ≡ 0 ∷ 6 ∷ 6 ∷ 5 ∷ 10 ∷ 1 ∷ []
 unfolding toldPriced lefts cutAnswer cutBy cutAt anyShort tooShort wordsFor fullHeights inFrames plan planFrom lastPrune keptRows isTable badBoundaries ascending anyNull speakAll
 carried = refl
+
+-- By rank the stalls, 7, come first, then the circle, 3, then the gods, 5.
+abbrev pub banded : List ℕ → Options
+banded codes = ranking (ranksBy 0 (map pos codes)) o
+
+abbrev pub bands : Options
+bands = banded (7 ∷ 3 ∷ 5 ∷ [])
+
+unfoldable pub sold : Rows
+sold = map row ((7 ∷ 15 ∷ []) ∷ (3 ∷ 4 ∷ []) ∷ (5 ∷ 9 ∷ []) ∷ (5 ∷ 30 ∷ []) ∷ [])
+
+unfoldable pub posted : Rows
+posted = map row ((7 ∷ 10 ∷ []) ∷ (3 ∷ 1 ∷ []) ∷ (3 ∷ 2 ∷ []) ∷ (5 ∷ 1 ∷ []) ∷ (5 ∷ 20 ∷ []) ∷ [])
+
+unfoldable pub toldBanded : Options → Rows → Rows → Words → ℕ
+toldBanded x left right b = cutAnswer x (frameOf 2 left) (frameOf 2 right) b (leftArea 10) (rightArea 8) (space 10)
+
+-- Boundaries ascend by rank: 7, 3 and 5 do, 3, 5 and 7 do not. Without a list, and by another one, the tables are unsorted.
+pub ranked : toldBanded bands sold posted (at (7 ∷ 3 ∷ 5 ∷ [])) ∷ toldBanded bands sold posted (at (3 ∷ 5 ∷ 7 ∷ [])) ∷ toldBanded o sold posted (at (3 ∷ 5 ∷ []))
+    ∷ toldBanded (banded (3 ∷ 5 ∷ 7 ∷ [])) sold posted (at (3 ∷ 5 ∷ [])) ∷ []
+    ≡ 0 ∷ 18 ∷ 14 ∷ 14 ∷ []
+unfolding sold posted toldBanded cutAnswer cutBy cutAt anyShort tooShort wordsFor fullHeights inFrames plan planFrom lastPrune keptRows isTable badBoundaries ascending anyNull speakAll rises risesBehind placed below listed unlistedIn
+ranked = refl
+
+pub ranked-output : cutOutput bands (frameOf 2 sold) (frameOf 2 posted) (at (3 ∷ 5 ∷ [])) (leftArea 10) (rightArea 8) (space 11)
+    ≡ pos 4 ∷ pos 1 ∷ pos 0 ∷ pos 2 ∷ pos 3 ∷ pos 4 ∷ pos 1 ∷ pos 1 ∷ pos 1 ∷ pos 1 ∷ negsuc 8 ∷ []
+unfolding sold posted cutOutput joined wholeTable matchTable cutAnswer cutBy cutAt anyShort tooShort wordsFor fullHeights inFrames plan planFrom lastPrune keptRows isTable badBoundaries ascending anyNull speakAll rises risesBehind placed below listed unlistedIn
+ranked-output = refl
+
+-- An empty list, a code twice: 11, behind 10 and before 5.
+pub bad-lists : cutAnswer (banded []) [] [] [] [] [] [] ∷ cutAnswer (banded (7 ∷ 3 ∷ 7 ∷ [])) [] [] [] [] [] [] ∷ cutAnswer (carrying 9 (banded [])) [] [] [] [] [] [] ∷ cutAnswer bands [] [] [] [] [] [] ∷ []
+    ≡ 11 ∷ 11 ∷ 10 ∷ 5 ∷ []
+unfolding cutAnswer isTable speakAll rises risesBehind placed below
+bad-lists = refl
+
+-- A code that the list lacks, on the left alone and on the right alone, each before 14, and in a boundary alone, before 18: 12, behind 5. A null boundary has no code: 18.
+pub unknown-codes : toldBanded bands (row (4 ∷ 1 ∷ []) ∷ sold) posted (at (3 ∷ 5 ∷ [])) ∷ toldBanded bands sold (row (4 ∷ 1 ∷ []) ∷ posted) (at (3 ∷ 5 ∷ [])) ∷ toldBanded bands sold posted (at (4 ∷ 5 ∷ []))
+    ∷ toldBanded bands (row (4 ∷ 1 ∷ []) ∷ sold) posted (frameOf 2 (map row ((3 ∷ 5 ∷ []) ∷ []))) ∷ toldBanded bands sold posted (frameOf 1 ((null ∷ []) ∷ [])) ∷ []
+    ≡ 12 ∷ 12 ∷ 12 ∷ 5 ∷ 18 ∷ []
+unfolding sold posted toldBanded cutAnswer cutBy cutAt anyShort tooShort wordsFor fullHeights inFrames plan planFrom lastPrune keptRows isTable badBoundaries ascending anyNull speakAll rises risesBehind placed below listed unlistedIn
+unknown-codes = refl

@@ -7,15 +7,17 @@ use native.Mathlib.Nat.{mul-le-mul-right}
 use native.Mathlib.Omega.{arith}
 use borrow.Author.Tests.{ltb-false, not-false, eqb-false}
 use lib.Dec.{ltb, eqb}
-use lib.ListN.{length, take, drop, length-append, length-drop, replicate}
+use lib.ListN.{length, take, drop, length-append, length-drop, take-append-drop, replicate}
 use lib.Seq.{length-take-le}
 use Rattle.frames.specs.Cells.{Rows, Words, rowsOf}
 use Rattle.frames.specs.Frame.{rowCount, frameWords, pairsFine, isFrame, frameRows}
-use Rattle.options.specs.Options.{columns, rightColumns, answerColumns, badOptions, manyCarried, refusedOptions}
+use Rattle.options.specs.Options.{columns, rightColumns, answerColumns, badOptions, manyCarried, badRanked, refusedOptions}
 use Rattle.order.specs.Order.{sorted}
+use Rattle.order.specs.Listed.{lacksCode}
 use Rattle.options.specs.declared.Options.{Options}
 use Rattle.options.proofs.OptionLaws.{good-allowed}
 use Rattle.order.proofs.SortedLaws.{sorted-take, sorted-drop}
+use Rattle.order.proofs.ListedLaws.{lacks-parts}
 use Rattle.frames.proofs.BoolLaws.{and-true}
 use Rattle.frames.proofs.WordLaws.{rows-length, rows-read, rows-drop}
 use Rattle.area.specs.Area.{capacity}
@@ -98,13 +100,24 @@ others-fine c a s h f =
       fits = fine-drop (a * c) (s .values) (s .marks) (f .fits);
     }
 
+-- Rows that are sorted, and of which the list of ranks lacks no value; so are the first i of them, and the others.
+record Sound (o : Options) (rs : Rows) : Type 0 where
+  in-order : sorted o rs ≡ true
+  codes : lacksCode o rs ≡ false
+
+sound-take : (o : Options) (i : ℕ) (rs : Rows) → Sound o rs → Sound o (take i rs)
+sound-take o i rs s = record { in-order = sorted-take o i rs (s .in-order); codes = lacks-parts o (take i rs) (drop i rs) (rw (take-append-drop i rs) (s .codes)) .0 }
+
+sound-drop : (o : Options) (i : ℕ) (rs : Rows) → Sound o rs → Sound o (drop i rs)
+sound-drop o i rs s = record { in-order = sorted-drop o i rs (s .in-order); codes = lacks-parts o (take i rs) (drop i rs) (rw (take-append-drop i rs) (s .codes)) .1 }
+
 -- ---- one pair
 module _ (o : Options) (allowed : refusedOptions o ≡ false) (l r : Words) where
   -- The rows of two stretches.
   abbrev pairOf : Stretch → Stretch → Pair
   pairOf x y = record { left = rowsWithin (columns o) x; right = rowsWithin (rightColumns o) y }
 
-  pair-fits : (x y : Stretch) → Fine (columns o) x → Fine (rightColumns o) y → sorted o (rowsWithin (columns o) x) ≡ true → sorted o (rowsWithin (rightColumns o) y) ≡ true → x .rows < 2 ^ 63 → y .rows ≤ mostRows
+  pair-fits : (x y : Stretch) → Fine (columns o) x → Fine (rightColumns o) y → Sound o (rowsWithin (columns o) x) → Sound o (rowsWithin (rightColumns o) y) → x .rows < 2 ^ 63 → y .rows ≤ mostRows
       → tooShort o l r (pairOf x y) ≡ false → (e : Lent) → length (e .left) ≡ length l → length (e .right) ≡ length r
       → Each (λ f out. frameWords (rowCount f) (answerColumns o) ≤ length out) (framesOf (columns o) x) (e .outs) → Fits o (pairOf x y) (loadOf o x y e)
   unfolding tooShort
@@ -131,8 +144,10 @@ module _ (o : Options) (allowed : refusedOptions o ≡ false) (l r : Words) wher
           allowed = allowed;
           left-frames = X .0;
           right-frames = Y .0;
-          left-sorted = rw X₁ sx;
-          right-sorted = rw Y₁ sy;
+          left-sorted = rw X₁ (sx .in-order);
+          right-sorted = rw Y₁ (sy .in-order);
+          left-codes = rw X₁ (sx .codes);
+          right-codes = rw Y₁ (sy .codes);
           left-room = omega (arith, FX .1, s₁, el);
           outputs = outs;
           few-rights = rw (Y₁, ry) ny;
@@ -143,7 +158,7 @@ module _ (o : Options) (allowed : refusedOptions o ≡ false) (l r : Words) wher
         right = Y₁;
       }
 
-  all-fit : (gs : Rows) (x y : Stretch) → Fine (columns o) x → Fine (rightColumns o) y → sorted o (rowsWithin (columns o) x) ≡ true → sorted o (rowsWithin (rightColumns o) y) ≡ true → x .rows < 2 ^ 63 → y .rows ≤ mostRows
+  all-fit : (gs : Rows) (x y : Stretch) → Fine (columns o) x → Fine (rightColumns o) y → Sound o (rowsWithin (columns o) x) → Sound o (rowsWithin (rightColumns o) y) → x .rows < 2 ^ 63 → y .rows ≤ mostRows
       → anyShort o l r (cutBy o gs (pairOf x y)) ≡ false → (es : List Lent) → LentWell o (length l) (length r) gs x es → Each (Fits o) (cutBy o gs (pairOf x y)) (loads o gs x y es)
   unfolding cutBy anyShort LentWell loads
   all-fit [] x y fx fy sx sy nx ny a [] w = absurd w
@@ -164,8 +179,8 @@ module _ (o : Options) (allowed : refusedOptions o ≡ false) (l r : Words) wher
       let p₁ : pairOf (firstOf i x) (firstOf k y) ≡ before o g p = rw (x₁, y₁) refl in
       let p₂ : pairOf (othersOf c i x) (othersOf d k y) ≡ behind o g p = rw (x₂, y₂) refl in
       let q = or-none (tooShort o l r (before o g p)) (anyShort o l r (cutBy o gs (behind o g p))) a in
-      let f₁ = pair-fits (firstOf i x) (firstOf k y) (first-fine c i x hi fx) (first-fine d k y hk fy) (rw x₁ (sorted-take o i (rowsWithin c x) sx)) (rw y₁ (sorted-take o k (rowsWithin d y) sy)) (omega arith) (omega arith) (rw p₁ (q .0)) e (w .0) (w .1) (w .2) in
-      let f₂ = all-fit gs (othersOf c i x) (othersOf d k y) (others-fine c i x hi fx) (others-fine d k y hk fy) (rw x₂ (sorted-drop o i (rowsWithin c x) sx)) (rw y₂ (sorted-drop o k (rowsWithin d y) sy)) (omega arith) (omega arith) (rw p₂ (q .1)) es (w .3) in
+      let f₁ = pair-fits (firstOf i x) (firstOf k y) (first-fine c i x hi fx) (first-fine d k y hk fy) (rw x₁ (sound-take o i (rowsWithin c x) sx)) (rw y₁ (sound-take o k (rowsWithin d y) sy)) (omega arith) (omega arith) (rw p₁ (q .0)) e (w .0) (w .1) (w .2) in
+      let f₂ = all-fit gs (othersOf c i x) (othersOf d k y) (others-fine c i x hi fx) (others-fine d k y hk fy) (rw x₂ (sound-drop o i (rowsWithin c x) sx)) (rw y₂ (sound-drop o k (rowsWithin d y) sy)) (omega arith) (omega arith) (rw p₂ (q .1)) es (w .3) in
       pairs (rw p₁ at f₁) (rw p₂ at f₂)
 
 -- ---- the whole
@@ -181,16 +196,20 @@ driver-fits o left right boundaries l r out e nl nr es w =
     let gs = groups o left right boundaries l r out in
     let p₁ = passes (badOptions o) 0 _ e in
     let p₁₀ = passes (manyCarried o) 9 _ (p₁ .1) in
-    let p₅ = passes (not (isTable c left && isTable d right && isFrame (o .by) boundaries)) 4 _ (p₁₀ .1) in
+    let p₁₁ = passes (badRanked o) 10 _ (p₁₀ .1) in
+    let p₅ = passes (not (isTable c left && isTable d right && isFrame (o .by) boundaries)) 4 _ (p₁₁ .1) in
     let u = and-true (isTable c left && isTable d right) (isFrame (o .by) boundaries) (not-false (isTable c left && isTable d right && isFrame (o .by) boundaries) (p₅ .0)) in
     let v = and-true (isTable c left) (isTable d right) (u .0) in
-    let p₁₄ = passes (not (sorted o (t .left) && sorted o (t .right))) 13 _ (p₅ .1) in
+    let p₁₂ = passes (lacksCode o (t .left) || lacksCode o (t .right) || lacksCode o gs) 11 _ (p₅ .1) in
+    let k = or-none (lacksCode o (t .left)) (lacksCode o (t .right)) (or-none (lacksCode o (t .left) || lacksCode o (t .right)) (lacksCode o gs) (p₁₂ .0) .0) in
+    let p₁₄ = passes (not (sorted o (t .left) && sorted o (t .right))) 13 _ (p₁₂ .1) in
     let s = and-true (sorted o (t .left)) (sorted o (t .right)) (not-false (sorted o (t .left) && sorted o (t .right)) (p₁₄ .0)) in
     let p₁₈ = passes (badBoundaries o gs) 17 _ (p₁₄ .1) in
     let words = frameWords (length (t .left)) (answerColumns o) in
     let p₆ = passes (anyShort o l r (cutBy o gs t) || ltb (length out) words) 5 0 (p₁₈ .1) in
     let a = or-none (anyShort o l r (cutBy o gs t)) (ltb (length out) words) (p₆ .0) in
-    all-fit o (good-allowed o (p₁ .0) (p₁₀ .0)) l r gs (wholeOf c left) (wholeOf d right) (whole-fine c left (v .0)) (whole-fine d right (v .1)) (s .0) (s .1) nl nr (a .0) es w
+    all-fit o (good-allowed o (p₁ .0) (p₁₀ .0) (p₁₁ .0)) l r gs (wholeOf c left) (wholeOf d right) (whole-fine c left (v .0)) (whole-fine d right (v .1))
+    (record { in-order = s .0; codes = k .0 }) (record { in-order = s .1; codes = k .1 }) nl nr (a .0) es w
 
 -- Both tables are sorted where the answer is 0.
 both-sorted : (o : Options) (left right boundaries l r out : Words) → cutAnswer o left right boundaries l r out ≡ 0 → BothSorted o (tables o left right boundaries l r out)
@@ -199,8 +218,10 @@ both-sorted o left right boundaries l r out e =
     let t = tables o left right boundaries l r out in
     let p₁ = passes (badOptions o) 0 _ e in
     let p₁₀ = passes (manyCarried o) 9 _ (p₁ .1) in
-    let p₅ = passes (not (isTable (columns o) left && isTable (rightColumns o) right && isFrame (o .by) boundaries)) 4 _ (p₁₀ .1) in
-    let p₁₄ = passes (not (sorted o (t .left) && sorted o (t .right))) 13 _ (p₅ .1) in
+    let p₁₁ = passes (badRanked o) 10 _ (p₁₀ .1) in
+    let p₅ = passes (not (isTable (columns o) left && isTable (rightColumns o) right && isFrame (o .by) boundaries)) 4 _ (p₁₁ .1) in
+    let p₁₂ = passes (lacksCode o (t .left) || lacksCode o (t .right) || lacksCode o (groups o left right boundaries l r out)) 11 _ (p₅ .1) in
+    let p₁₄ = passes (not (sorted o (t .left) && sorted o (t .right))) 13 _ (p₁₂ .1) in
     and-true (sorted o (t .left)) (sorted o (t .right)) (not-false (sorted o (t .left) && sorted o (t .right)) (p₁₄ .0))
 
 pub driver-writes : DriverWrites

@@ -1,4 +1,4 @@
--- A programme cut in parts, by computation: an absent boundary group, empty halves, null groups, and numbers counted on. Assumes nothing.
+-- A programme cut in parts, by computation: an absent boundary group, empty halves, null groups, a list of ranks, and numbers counted on. Assumes nothing.
 use mathlib.Core.Path.{_≡_, refl}
 use mathlib.Core.Bool.{true, false}
 use mathlib.Core.List.{List, [], _∷_, map}
@@ -7,7 +7,8 @@ use lib.IntN.{pos, negsuc}
 use lib.ListN.{length}
 use Rattle.frames.specs.Cells.{null, value}
 use Rattle.order.specs.Order.{cmpFirst, nullIn}
-use Rattle.order.proofs.Samples.{options, row}
+use Rattle.order.proofs.Samples.{options, ranksBy, ranking, row}
+use Rattle.ranks.specs.Ranks.{below, placed}
 use Rattle.options.specs.declared.Options.{Options}
 use Rattle.matching.specs.Match.{choose, takesOver, fits, tolerate, matchTable, wholeTable}
 use Rattle.matching.specs.declared.Choice.the-variants.{Row, Nothing}
@@ -58,6 +59,32 @@ turned = record {
 pub cut-down : sizes (cutBy down (map row ((3 ∷ []) ∷ (2 ∷ []) ∷ [])) turned) ≡ size 1 1 ∷ size 0 0 ∷ size 1 2 ∷ []
 unfolding cutBy cutAt turned cmpFirst
 cut-down = refl
+
+-- By rank the stalls, 7, come first, then the circle, 3, then the gods, 5; descending, the other way round.
+abbrev pub ranked : Options → Options
+ranked o = ranking (ranksBy 0 (map pos (7 ∷ 3 ∷ 5 ∷ []))) o
+
+unfoldable pub house : Pair
+house = record {
+  left = map row ((7 ∷ 15 ∷ []) ∷ (3 ∷ 4 ∷ []) ∷ (5 ∷ 9 ∷ []) ∷ (5 ∷ 30 ∷ []) ∷ []);
+  right = map row ((7 ∷ 10 ∷ []) ∷ (3 ∷ 1 ∷ []) ∷ (3 ∷ 2 ∷ []) ∷ (5 ∷ 1 ∷ []) ∷ (5 ∷ 20 ∷ []) ∷ []);
+}
+
+unfoldable pub house-down : Pair
+house-down = record {
+  left = map row ((5 ∷ 9 ∷ []) ∷ (5 ∷ 30 ∷ []) ∷ (3 ∷ 4 ∷ []) ∷ (7 ∷ 15 ∷ []) ∷ []);
+  right = map row ((5 ∷ 1 ∷ []) ∷ (3 ∷ 1 ∷ []) ∷ (3 ∷ 2 ∷ []) ∷ (7 ∷ 10 ∷ []) ∷ []);
+}
+
+pub cut-ranked : (sizes (cutBy (ranked up) (map row ((3 ∷ []) ∷ (5 ∷ []) ∷ [])) house) ≡ size 1 1 ∷ size 1 2 ∷ size 2 2 ∷ [])
+    × (sizes (cutBy (ranked down) (map row ((3 ∷ []) ∷ (7 ∷ []) ∷ [])) house-down) ≡ size 2 1 ∷ size 1 2 ∷ size 1 1 ∷ [])
+unfolding cutBy cutAt house house-down cmpFirst placed below
+cut-ranked = (refl, refl)
+
+pub parts-ranked : (joined (ranked up) house ≡ Row 0 ∷ Row 2 ∷ Row 3 ∷ Row 4 ∷ [])
+    × (appended (ranked up) 0 (cutBy (ranked up) (map row ((3 ∷ []) ∷ (5 ∷ []) ∷ [])) house) ≡ Row 0 ∷ Row 2 ∷ Row 3 ∷ Row 4 ∷ [])
+unfolding appended cutBy cutAt joined house wholeTable matchTable choose takesOver fits tolerate cmpFirst nullIn placed below
+parts-ranked = (refl, refl)
 
 -- The uncut join, and the answers of three pairs appended.
 pub whole : joined up season ≡ Nothing ∷ Row 1 ∷ Row 1 ∷ Nothing ∷ Row 3 ∷ Row 4 ∷ []

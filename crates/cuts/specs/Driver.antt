@@ -6,13 +6,14 @@ use lib.Dec.{ltb, eqb}
 use lib.ListN.{length, take, drop}
 use Rattle.frames.specs.Cells.{Rows, Words}
 use Rattle.frames.specs.Frame.{frameWords, isFrame, frameRows}
-use Rattle.options.specs.Options.{columns, badOptions, manyCarried, rightColumns, answerColumns}
+use Rattle.options.specs.Options.{columns, badOptions, manyCarried, badRanked, rightColumns, answerColumns}
 use Rattle.order.specs.Order.{cmpGroup, isLess, nullGroup, sorted}
+use Rattle.order.specs.Listed.{lacksCode}
 use Rattle.options.specs.declared.Options.{Options}
 use Rattle.area.specs.Area.{capacity}
 use Rattle.matching.specs.Answer.{answerRows, answered}
 use Rattle.refusals.specs.Refusals.{number}
-use Rattle.refusals.specs.declared.Refusal.the-variants.{BadOptions, TooManyCarried, BadFrame, NoRoom, Unsorted, BadBoundaries}
+use Rattle.refusals.specs.declared.Refusal.the-variants.{BadOptions, TooManyCarried, BadRanks, BadFrame, UnknownCode, NoRoom, Unsorted, BadBoundaries}
 use Rattle.plan.specs.Plan.{plan}
 use Rattle.plan.specs.Table.{isTable, fullHeights}
 use Rattle.cuts.specs.Cut.{Pair, cutBy, joined}
@@ -63,17 +64,19 @@ module _ (o : Options) (left right boundaries l r out : Words) where
   abbrev pub groups : Rows
   groups = frameRows (o .by) boundaries
 
-  -- Options 1 and 10; tables, then boundaries, 5; an unsorted table 14; boundaries 18; no room for one of the pairs in an area, or for the answer in the output, 6. Else 0.
-  -- (11 and 12 come with rank lists: behind 10, and behind 5.)
+  -- Options 1, 10 and 11; tables, then boundaries, 5; a table or a boundary with a value that the list of ranks lacks 12; an unsorted table 14; boundaries 18; no room for
+  -- one of the pairs in an area, or for the answer in the output, 6. Else 0.
   unfoldable pub cutAnswer : ℕ
   cutAnswer =
       cond (badOptions o) (number BadOptions)
       (cond (manyCarried o) (number TooManyCarried)
+      (cond (badRanked o) (number BadRanks)
       (cond (not (isTable (columns o) left && isTable (rightColumns o) right && isFrame (o .by) boundaries)) (number BadFrame)
+      (cond (lacksCode o (tables .left) || lacksCode o (tables .right) || lacksCode o groups) (number UnknownCode)
       (cond (not (sorted o (tables .left) && sorted o (tables .right))) (number Unsorted)
       (cond (badBoundaries o groups) (number BadBoundaries)
       (cond (anyShort o l r (cutBy o groups tables) || ltb (length out) (frameWords (length (tables .left)) (answerColumns o))) (number NoRoom)
-      0)))))
+      0)))))))
 
   -- Refused, the output stays; else it is the answer of the uncut tables. The words of both areas are free.
   unfoldable pub cutOutput : Words

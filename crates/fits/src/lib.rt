@@ -1,6 +1,6 @@
 // Matching: whether a right key may be chosen for a left one, which of two is nearer, which takes the place of the other, and when one is too far.
-use compare::cmp_cell;
-use compare::distance;
+use cells::cmp_cell;
+use cells::distance;
 use keyed::null_at;
 use options::Strategy;
 use order::Order;

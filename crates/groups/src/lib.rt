@@ -19,9 +19,6 @@ fn same_run(values: &[i64], marks: &[i64], p: usize, q: usize, o: Options) -> bo
     requires { ⌜ RowAt o p (now values) (now marks) × RowAt o q (now values) (now marks) ⌝ }
     ensures { λ r. ⌜ ((w : ℕ) → o .by < w → r ≡ sameRun o (rowFrom w p (now (values .entry)) (now (marks .entry))) (rowFrom w q (now (values .entry)) (now (marks .entry)))) ⌝ }
 {
-    if same_values(values, marks, p, q, o) {
-        return true;
-    }
     match cmp_group(values, marks, p, values, marks, q, o) {
         Order::Equal => return true,
         _ => {}
@@ -32,7 +29,8 @@ fn same_run(values: &[i64], marks: &[i64], p: usize, q: usize, o: Options) -> bo
     null_group(marks, q, o)
 }
 
-// The end of the run that starts at row i, of n rows that are each w wide; i itself behind the last of them.
+// The end of the run that starts at row i, of n rows that are each w wide; i itself behind the last of them. Most rows have the by-values of
+// the row before, word for word: these are not compared by the rules.
 pub fn run_end(values: &[i64], marks: &[i64], n: usize, w: usize, i: usize, o: Options) -> usize
     requires { ⌜ Within o w n (now values) (now marks) i ⌝ }
     ensures { λ r. ⌜ r ≡ i + runLength o (between w i n (now (values .entry)) (now (marks .entry))) ⌝ }
@@ -44,11 +42,16 @@ pub fn run_end(values: &[i64], marks: &[i64], n: usize, w: usize, i: usize, o: O
     let mut e = i + 1;
     while e < n {
         let q = p + w;
-        if !same_run(values, marks, p, q, o) {
-            return e;
+        if same_values(values, marks, p, q, o) {
+            p = q;
+            e += 1;
+        } else {
+            if !same_run(values, marks, p, q, o) {
+                return e;
+            }
+            p = q;
+            e += 1;
         }
-        p = q;
-        e += 1;
     }
     e
 }

@@ -14,8 +14,9 @@ ghost use Rattle.hostcalls.specs.Contracts.{HostOpenContract, HostLeftContract,
 ghost use Rattle.spanhost.specs.Call.{HostSpanContract};
 ghost use Rattle.version.specs.Version.{versionNow};
 pub use convert::HostJoin;
-pub use convert::HostOptions;
 pub use convert::HostRow;
+pub use hostoptions::HostOptions;
+pub use hostoptions::HostRanks;
 pub use results::HostPorted;
 pub use results::HostRan;
 pub use results::HostTook;

@@ -25,11 +25,12 @@ use Rattle.outcomes.specs.declared.Ported.the-variants.{Refused as PortsRefused
 use Rattle.outcomes.specs.declared.Answer.{Answer}
 use Rattle.outcomes.specs.declared.Answer.the-variants.{Refused as TurnRefused}
 use Rattle.codes.specs.Codes.{isCode, portOf}
-use Rattle.convert.specs.Convert.{isOptions, optionsOf, decodeOptions, isJoin, joinOf, encode, decode}
+use Rattle.convert.specs.Convert.{isJoin, joinOf, encode, decode}
+use Rattle.hostoptions.specs.HostOptions.{isOptions, optionsOf, decodeOptions}
 use Rattle.results.specs.Results.{tookHost, portedHost, turnedHost, freshHost, Made, ranHost, refusedRun}
 use Rattle.hostcalls.specs.Calls.{HostAfter, afterHost, encodeAfter, byJoin, openHost, leftHost, rightHost, endHost, moveHost, portsHost, turnHost, ranAfter, runHost}
 use Rattle.hostcalls.specs.Contracts.{HostLeftContract, HostRightContract, HostEndContract, HostMoveContract, HostPortsContract, HostTurnContract, HostRunContract}
-use Rattle.convert.specs.declared.HostOptions.{HostOptions}
+use Rattle.hostoptions.specs.declared.HostOptions.{HostOptions}
 use Rattle.convert.specs.declared.HostJoin.{HostJoin}
 use Rattle.results.specs.declared.HostTook.{HostTook}
 use Rattle.results.specs.declared.HostPorted.{HostPorted}

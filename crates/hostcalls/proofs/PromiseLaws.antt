@@ -10,7 +10,7 @@ use lib.Dec.{eqb}
 use lib.ListN.{take, drop}
 use Rattle.ports.specs.Ports.{portsJudged}
 use Rattle.frames.specs.Cells.{Words}
-use Rattle.options.specs.Options.{answerColumns, badOptions, manyCarried, refusedOptions}
+use Rattle.options.specs.Options.{answerColumns, badOptions, manyCarried, badRanked, refusedOptions}
 use Rattle.options.specs.declared.Options.{Options}
 use Rattle.node.specs.State.{fresh, badJoin, stateAt, endedRight}
 use Rattle.outcomes.specs.Answers.{portCode, wrote}
@@ -20,7 +20,7 @@ use Rattle.node.specs.declared.Join.{Join}
 use Rattle.outcomes.specs.declared.PortState.{PortState}
 use Rattle.refusals.specs.Refusals.{marksFailed}
 use Rattle.refusals.specs.declared.Refusal.{Refusal}
-use Rattle.refusals.specs.declared.Refusal.the-variants.{BadOptions, TooManyCarried, BadJoin}
+use Rattle.refusals.specs.declared.Refusal.the-variants.{BadOptions, TooManyCarried, BadRanks, BadJoin}
 use Rattle.outcomes.specs.declared.Took.{Took}
 use Rattle.outcomes.specs.declared.Took.the-variants.{Accepted, Refused}
 use Rattle.outcomes.specs.declared.Ported.{Ported}
@@ -33,15 +33,17 @@ use Rattle.node.proofs.Good.{opened-bad}
 use Rattle.runs.proofs.RunLaws.{turn-options}
 use Rattle.moves.specs.Moves.{moveAnswer, atFront, leftMoved, rightMoved, moveCall}
 use Rattle.codes.specs.Codes.{isCode, portOf, tookCode}
-use Rattle.convert.specs.Convert.{layoutNow, isOptions, optionsOf, decodeOptions, isJoin, joinOf, decode}
+use Rattle.convert.specs.Convert.{layoutNow, isJoin, joinOf, decode}
+use Rattle.hostoptions.specs.HostOptions.{isOptions, optionsOf, decodeOptions}
 use Rattle.results.specs.Results.{freshHost, Made, refusedRun}
 use Rattle.hostcalls.specs.Calls.{HostAfter, afterHost, encodeAfter, byJoin, openHost, leftHost, rightHost, endHost, moveHost, portsHost, turnHost, ranAfter, runHost}
 use Rattle.hostcalls.specs.Promises.{stays, staysAt, noTurn, Shut, NoJoin, Same, Follows, Promises}
-use Rattle.convert.specs.declared.HostOptions.{HostOptions}
+use Rattle.hostoptions.specs.declared.HostOptions.{HostOptions}
 use Rattle.convert.specs.declared.HostJoin.{HostJoin}
 use Rattle.results.specs.declared.HostTook.{HostTook}
 use Rattle.codes.proofs.CodeLaws.{port-is, port-back}
-use Rattle.convert.proofs.ConvertLaws.{join-numbers, join-same, options-parts, decoded-options, Is, decoded, there-and-back}
+use Rattle.convert.proofs.ConvertLaws.{join-numbers, join-same, decoded-options, Is, decoded, there-and-back}
+use Rattle.hostoptions.proofs.OptionsLaws.{options-parts}
 use Rattle.hostcalls.proofs.CallLaws.{open-bad, open-through, by-none, by-some}
 
 -- ---- the node's calls that change nothing
@@ -275,15 +277,16 @@ layout-none : (h : HostJoin) → eqb (h .layout) layoutNow ≡ false → decode 
 unfolding decode isJoin
 layout-none h e = rw e
 
--- Options that opening refuses meet 1 or 10.
+-- Options that opening refuses meet 1, 10 or 11.
 refused-bad : (o : Options) → eqb (tookCode (openAnswer o)) 0 ≡ false → refusedOptions o ≡ true
 unfolding openAnswer refusedOptions
-refused-bad o = go (badOptions o) (manyCarried o)
+refused-bad o = go (badOptions o) (manyCarried o) (badRanked o)
   where
-    go : (a b : Bool) → eqb (tookCode (cond a (Refused BadOptions) (cond b (Refused TooManyCarried) Accepted))) 0 ≡ false → (a || b) ≡ true
-    go true b e = refl
-    go false true e = refl
-    go false false e = let z : _≡_ {A = ℕ} 0 1 = cc in absurd (omega arith)
+    go : (a b c : Bool) → eqb (tookCode (cond a (Refused BadOptions) (cond b (Refused TooManyCarried) (cond c (Refused BadRanks) Accepted)))) 0 ≡ false → (a || b || c) ≡ true
+    go true b c e = refl
+    go false true c e = refl
+    go false false true e = refl
+    go false false false e = let z : _≡_ {A = ℕ} 0 1 = cc in absurd (omega arith)
 
 -- Options that are no options make no join.
 fresh-none : (o : HostOptions) → isOptions o ≡ false → isJoin (freshHost o) ≡ false

@@ -18,8 +18,9 @@ use Rattle.outcomes.specs.declared.Ported.the-variants.{Refused as PortsRefused
 use Rattle.outcomes.specs.declared.Answer.{Answer}
 use Rattle.outcomes.specs.declared.Answer.the-variants.{Refused as TurnRefused}
 use Rattle.codes.specs.Codes.{isCode, portOf}
-use Rattle.convert.specs.Convert.{decodeOptions, decode, encode}
-use Rattle.convert.specs.declared.HostOptions.{HostOptions}
+use Rattle.convert.specs.Convert.{decode, encode}
+use Rattle.hostoptions.specs.HostOptions.{decodeOptions}
+use Rattle.hostoptions.specs.declared.HostOptions.{HostOptions}
 use Rattle.convert.specs.declared.HostJoin.{HostJoin}
 use Rattle.results.specs.Results.{tookHost, freshHost, Made, refusedRun}
 use Rattle.results.specs.declared.HostTook.{HostTook}

@@ -4,7 +4,7 @@ use Prim.Native.Nat.{ℕ}
 use Rattle.frames.specs.Cells.{Words}
 use Rattle.results.specs.Results.{tookHost, portedHost, turnedHost, ranHost}
 use Rattle.hostcalls.specs.Calls.{openHost, leftHost, rightHost, endHost, moveHost, portsHost, turnHost, runHost}
-use Rattle.convert.specs.declared.HostOptions.{HostOptions}
+use Rattle.hostoptions.specs.declared.HostOptions.{HostOptions}
 use Rattle.convert.specs.declared.HostJoin.{HostJoin}
 use Rattle.results.specs.declared.HostTook.{HostTook}
 use Rattle.results.specs.declared.HostPorted.{HostPorted}

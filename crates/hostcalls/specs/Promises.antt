@@ -23,10 +23,11 @@ use Rattle.outcomes.specs.declared.Stop.{Stop}
 use Rattle.outcomes.specs.declared.Stop.the-variants.{Used, WantsRight as StopWants, Idle as StopIdle, Refused as StopRefused}
 use Rattle.runs.specs.Run.{runCall}
 use Rattle.moves.specs.Moves.{moveCall}
-use Rattle.convert.specs.Convert.{layoutNow, decodeOptions, decode}
+use Rattle.convert.specs.Convert.{layoutNow, decode}
+use Rattle.hostoptions.specs.HostOptions.{decodeOptions}
 use Rattle.results.specs.Results.{Made}
 use Rattle.hostcalls.specs.Calls.{HostAfter, afterHost, encodeAfter, openHost, leftHost, rightHost, endHost, moveHost, portsHost, turnHost, ranAfter, runHost}
-use Rattle.convert.specs.declared.HostOptions.{HostOptions}
+use Rattle.hostoptions.specs.declared.HostOptions.{HostOptions}
 use Rattle.convert.specs.declared.HostJoin.{HostJoin}
 
 -- The answers of a turn that changes nothing: Wants right, Idle, and any refusal but 8 and 9.

@@ -1,10 +1,10 @@
 // Opening, frames and the end of right, over structs of numbers: each reads the join, makes its call and hands the join back in numbers.
 use convert::HostJoin;
-use convert::HostOptions;
 use convert::is_join;
-use convert::is_options;
 use convert::join_of;
-use convert::options_of;
+use hostoptions::HostOptions;
+use hostoptions::is_options;
+use hostoptions::options_of;
 use node::Join;
 use results::HostTook;
 use results::bad_took;

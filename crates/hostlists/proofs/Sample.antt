@@ -5,17 +5,24 @@ use mathlib.Core.Bool.{true}
 use mathlib.Core.List.{List, [], _∷_, map}
 use Prim.Native.Nat.{ℕ}
 use lib.IntN.{pos, negsuc}
+use lib.ListN.{replicate}
 use Rattle.frames.specs.Cells.{Words}
 use Rattle.order.proofs.Samples.{row, keys, frameOf}
 use Rattle.codes.specs.Codes.{areFlags, flagsOf, flagCodes}
-use Rattle.convert.specs.Convert.{isOptions, decodeOptions, isJoin, decode}
-use Rattle.convert.specs.declared.HostOptions.{HostOptions}
+use Rattle.convert.specs.Convert.{isJoin, decode}
+use Rattle.hostoptions.specs.HostOptions.{isOptions, decodeOptions}
+use Rattle.hostoptions.specs.declared.HostOptions.{HostOptions}
+use Rattle.hostoptions.specs.declared.HostRanks.{HostRanks}
 use Rattle.runs.specs.Run.{runCall}
 use Rattle.hostcalls.specs.Calls.{byJoin, openHost, leftHost, rightHost, endHost, portsHost, turnHost, runHost}
 use Rattle.lists.specs.Lists.{Entry, entriesOf, writtenIn, matchesIn}
 use Rattle.lists.proofs.Script.{leftArea, rightArea, space, speakAll}
 use Rattle.hostlists.specs.HostLists.{HostCall, left, right, end, ports, turn, run, HostEvent, onLeft, onRight, onEnd, onPorts, onTurn, onRun, hostStep, hostEvents, hostFinal}
 use Rattle.hostlists.specs.HostTable.{runOutputs, hostLefts, hostRights, hostOutputs, returned, has, hostWaiting, hostMatches}
+
+-- No list of ranks.
+abbrev none-given : HostRanks
+none-given = record { given = 0; column = 0; count = 0; codes = replicate 64 (pos 0) }
 
 -- Backward with equality, no by-column, no tolerance, the check on.
 abbrev h : HostOptions
@@ -28,6 +35,7 @@ h = record {
   descending = 0 ∷ 0 ∷ 0 ∷ 0 ∷ [];
   «nulls_last» = 0 ∷ 0 ∷ 0 ∷ 0 ∷ [];
   carried = 0;
+  ranks = none-given;
 }
 
 -- The numbers of what a call returned, without its join.
@@ -94,6 +102,7 @@ carrying = record {
   descending = 0 ∷ 0 ∷ 0 ∷ 0 ∷ [];
   «nulls_last» = 0 ∷ 0 ∷ 0 ∷ 0 ∷ [];
   carried = 1;
+  ranks = none-given;
 }
 
 unfoldable pub prices : List HostCall

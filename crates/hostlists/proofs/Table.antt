@@ -10,7 +10,7 @@ use lib.ListN.{length, take, drop, length-append, take-append-drop, length-drop}
 use lib.Seq.{length-take-le}
 use Rattle.frames.specs.Cells.{Words}
 use Rattle.frames.specs.Frame.{rowCount, frameWords}
-use Rattle.options.specs.Options.{answerColumns, badOptions, manyCarried, refusedOptions}
+use Rattle.options.specs.Options.{answerColumns, badOptions, manyCarried, badRanked, refusedOptions}
 use Rattle.options.specs.declared.Options.{Options}
 use Rattle.options.proofs.OptionLaws.{good-allowed}
 use Rattle.node.specs.Calls.{After, leftCall, rightCall, turnCall}
@@ -24,16 +24,16 @@ use Rattle.outcomes.specs.declared.Answer.the-variants.{Wrote, WantsRight, Idle
 use Rattle.outcomes.specs.declared.Took.{Took}
 use Rattle.outcomes.specs.declared.Took.the-variants.{Accepted, Refused}
 use Rattle.codes.specs.Codes.{isCode, portOf, tookCode, stateOf}
-use Rattle.convert.specs.Convert.{isOptions, optionsOf, decodeOptions}
+use Rattle.hostoptions.specs.HostOptions.{isOptions, optionsOf, decodeOptions}
 use Rattle.convert.proofs.ConvertLaws.{decoded}
-use Rattle.convert.specs.declared.HostOptions.{HostOptions}
+use Rattle.hostoptions.specs.declared.HostOptions.{HostOptions}
 use Rattle.convert.specs.declared.HostJoin.{HostJoin}
 use Rattle.results.specs.Results.{turnedHost}
 use Rattle.results.specs.declared.HostTook.{HostTook}
 use Rattle.hostcalls.specs.Calls.{openHost}
 use Rattle.hostcalls.proofs.CallLaws.{open-bad, open-through}
 use Rattle.hostcalls.proofs.PromiseLaws.{promises}
-use Rattle.refusals.specs.declared.Refusal.the-variants.{BadOptions, TooManyCarried}
+use Rattle.refusals.specs.declared.Refusal.the-variants.{BadOptions, TooManyCarried, BadRanks}
 use Rattle.refusals.proofs.RefusalLaws.{number-above}
 use Rattle.lists.specs.Lists.{Call, left as nodeLeft, right as nodeRight, end as nodeEnd, ports as nodePorts, turn as nodeTurn, Event, onLeft as nodeOnLeft, onRight as nodeOnRight, onEnd as nodeOnEnd, onPorts as nodeOnPorts, onTurn as nodeOnTurn, World, start, step, events, final, when, leftFrames, rightFrames, whenWrote, outputIn, outputs, entriesOf, writtenIn, matchesIn, rightEnded, nodeDone, backToBack}
 use Rattle.lists.specs.Runs.{turnsOf, answersOf, wordsOf, lentBy, writtenWords}
@@ -229,15 +229,16 @@ opened : (h : HostOptions) → openHost h .refusal ≡ 0 → (decodeOptions h �
 unfolding decodeOptions openAnswer
 opened h z = go (isOptions h) refl
   where
-    fine : (a b : Bool) → tookCode (cond a (Refused BadOptions) (cond b (Refused TooManyCarried) Accepted)) ≡ 0 → (a ≡ false) × (b ≡ false)
-    fine true b e = absurd (omega arith)
-    fine false true e = absurd (omega arith)
-    fine false false e = (refl, refl)
+    fine : (a b c : Bool) → tookCode (cond a (Refused BadOptions) (cond b (Refused TooManyCarried) (cond c (Refused BadRanks) Accepted))) ≡ 0 → (a ≡ false) × (b ≡ false) × (c ≡ false)
+    fine true b c e = absurd (omega arith)
+    fine false true c e = absurd (omega arith)
+    fine false false true e = absurd (omega arith)
+    fine false false false e = (refl, refl, refl)
 
     go : (b : Bool) → isOptions h ≡ b → (decodeOptions h ≡ some (optionsOf h)) × (refusedOptions (optionsOf h) ≡ false)
     go true e =
-        let f = fine (badOptions (optionsOf h)) (manyCarried (optionsOf h)) (sym (ap (λ (t : HostTook). t .refusal) (open-through h e)) ∙ z) in
-        (rw e, good-allowed (optionsOf h) (f .0) (f .1))
+        let f = fine (badOptions (optionsOf h)) (manyCarried (optionsOf h)) (badRanked (optionsOf h)) (sym (ap (λ (t : HostTook). t .refusal) (open-through h e)) ∙ z) in
+        (rw e, good-allowed (optionsOf h) (f .0) (f .1) (f .2))
     go false e = absurd (let x : _≡_ {A = ℕ} 1 0 = sym (ap (λ (t : HostTook). t .refusal) (open-bad h e)) ∙ z in omega arith)
 
 not-done : (x : ℕ) → x < 2 → isDone (stateOf x) ≡ false

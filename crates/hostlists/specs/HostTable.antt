@@ -11,8 +11,8 @@ use Rattle.options.specs.Options.{columns, rightColumns, answerColumns}
 use Rattle.order.specs.Order.{sorted}
 use Rattle.options.specs.declared.Options.{Options}
 use Rattle.runs.specs.Run.{turnWords}
-use Rattle.convert.specs.Convert.{optionsOf}
-use Rattle.convert.specs.declared.HostOptions.{HostOptions}
+use Rattle.hostoptions.specs.HostOptions.{optionsOf}
+use Rattle.hostoptions.specs.declared.HostOptions.{HostOptions}
 use Rattle.hostcalls.specs.Calls.{openHost}
 use Rattle.lists.specs.Lists.{Entry, rowsIn, matchesIn}
 use Rattle.lists.specs.WholeTables.{dueOver, Each}

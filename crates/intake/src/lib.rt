@@ -14,7 +14,6 @@ use outcomes::NodeState;
 use outcomes::Took;
 ghost use mathlib.Core.Path.{_≡_};
 ghost use mathlib.Core.Bool.{false};
-ghost use Rattle.options.specs.Options.{columns, rightColumns};
 ghost use Rattle.callrules.specs.Judged.{EndFed, LeftHolds, LeftFed, RightHolds, RightFed};
 
 // A left frame: where it would pass the end, those that wait move to the front first.
@@ -29,7 +28,7 @@ pub fn feed_left(
     frame: &[i64],
 ) -> FedLeft
     requires { ⌜ (bad ≡ false → LeftHolds o start words (now left)) ⌝ }
-    ensures { λ r. ⌜ LeftFed bad failed state (columns o) start words (now (left .entry)) (now (frame .entry)) r (now (left .exit)) ⌝ }
+    ensures { λ r. ⌜ LeftFed bad failed state o start words (now (left .entry)) (now (frame .entry)) r (now (left .exit)) ⌝ }
 {
     let answer = judge_left(bad, failed, state, o, words, left, frame);
     if let Took::Refused(_) = answer {
@@ -62,7 +61,7 @@ pub fn feed_right(
     frame: &[i64],
 ) -> FedRight
     requires { ⌜ (bad ≡ false → RightHolds o base held pruned (now right)) ⌝ }
-    ensures { λ r. ⌜ RightFed bad failed ended state (rightColumns o) base held pruned (now (right .entry)) (now (frame .entry)) r (now (right .exit)) ⌝ }
+    ensures { λ r. ⌜ RightFed bad failed ended state o base held pruned (now (right .entry)) (now (frame .entry)) r (now (right .exit)) ⌝ }
 {
     let answer = judge_right(bad, failed, ended, state, o, held, pruned, right, frame);
     if let Took::Refused(_) = answer {

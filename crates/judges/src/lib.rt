@@ -1,6 +1,7 @@
 // The refusals of opening, of frames, of the end of right and of the start of a turn, in checking order. Nothing is altered here.
 use framerule::is_frame;
 use framerule::row_count;
+use listed::lacks_code;
 use options::Options;
 use options::bad_options;
 use options::left_columns;
@@ -12,18 +13,19 @@ use outcomes::Took;
 use outcomes::above;
 use outcomes::is_done;
 use outcomes::is_running;
+use ranking::bad_ranks;
 use refusals::Refusal;
 ghost use mathlib.Core.Path.{_≡_};
 ghost use mathlib.Core.Bool.{false};
 ghost use Prim.Native.Nat.{_+_, _≤_};
-ghost use Rattle.options.specs.Options.{columns, rightColumns};
+ghost use Rattle.options.specs.Options.{Few};
 ghost use Rattle.outcomes.specs.Answers.{mostRows};
 ghost use Rattle.callrules.specs.Judged.{openAnswer, leftJudged, endJudged, rightJudged, readyJudged};
 
 // The greatest number of right rows.
 const MOST_ROWS: usize = 9223372036854775807;
 
-// Opening: refused for its options or for the columns that they carry, or accepted.
+// Opening: refused for its options, for the columns that they carry or for their list of ranks, or accepted.
 pub fn judge_open(o: Options) -> Took
     ensures { λ r. ⌜ r ≡ openAnswer o ⌝ }
 {
@@ -32,6 +34,9 @@ pub fn judge_open(o: Options) -> Took
     }
     if many_carried(o) {
         return Took::Refused(Refusal::TooManyCarried);
+    }
+    if bad_ranks(o.by, o.ranks) {
+        return Took::Refused(Refusal::BadRanks);
     }
     Took::Accepted
 }
@@ -46,8 +51,8 @@ pub fn judge_left(
     left: &[i64],
     frame: &[i64],
 ) -> Took
-    requires { ⌜ (bad ≡ false → o .by ≤ 4) ⌝ }
-    ensures { λ r. ⌜ r ≡ leftJudged bad failed state (columns o) words (now (left .entry)) (now (frame .entry)) ⌝ }
+    requires { ⌜ (bad ≡ false → Few o) ⌝ }
+    ensures { λ r. ⌜ r ≡ leftJudged bad failed state o words (now (left .entry)) (now (frame .entry)) ⌝ }
 {
     if bad {
         return Took::Refused(Refusal::BadJoin);
@@ -61,6 +66,9 @@ pub fn judge_left(
     let c = left_columns(o);
     if !is_frame(frame, c) {
         return Took::Refused(Refusal::BadFrame);
+    }
+    if lacks_code(frame, c, o) {
+        return Took::Refused(Refusal::UnknownCode);
     }
     if above(words, frame.len(), left.len()) {
         return Took::Refused(Refusal::NoRoom);
@@ -99,8 +107,8 @@ pub fn judge_right(
     right: &[i64],
     frame: &[i64],
 ) -> Took
-    requires { ⌜ (bad ≡ false → (o .by ≤ 4) × (o .carried ≤ 8) × (pruned + held ≤ mostRows)) ⌝ }
-    ensures { λ r. ⌜ r ≡ rightJudged bad failed ended state (rightColumns o) held pruned (now (right .entry)) (now (frame .entry)) ⌝ }
+    requires { ⌜ (bad ≡ false → Few o × (o .carried ≤ 8) × (pruned + held ≤ mostRows)) ⌝ }
+    ensures { λ r. ⌜ r ≡ rightJudged bad failed ended state o held pruned (now (right .entry)) (now (frame .entry)) ⌝ }
 {
     let open = judge_end(bad, failed, ended, state);
     if let Took::Refused(_) = open {
@@ -109,6 +117,9 @@ pub fn judge_right(
     let c = right_columns(o);
     if !is_frame(frame, c) {
         return Took::Refused(Refusal::BadFrame);
+    }
+    if lacks_code(frame, c, o) {
+        return Took::Refused(Refusal::UnknownCode);
     }
     let n = row_count(frame);
     if above(held, n, right.len() / (2 * c)) {

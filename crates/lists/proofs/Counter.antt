@@ -7,6 +7,7 @@ use Prim.Native.Nat.{ℕ, _*_}
 use lib.IntN.{pos, negsuc}
 use lib.ListN.{length, replicate}
 use Rattle.frames.specs.Cells.{null, value, Words}
+use Rattle.ranks.specs.Ranks.{badRanks}
 use Rattle.options.specs.Options.{badOptions}
 use Rattle.order.proofs.Samples.{options, plain, carrying, checking, row, keys, frameOf}
 use Rattle.options.specs.declared.Options.{Options}
@@ -133,5 +134,5 @@ counter = refl
 
 -- SCOPE 21.11; 8 columns may be carried.
 pub opened : map (λ o. sayTook (openAnswer o)) (carrying 9 (plain 0 true) ∷ carrying 9 (options 5 0 true (negsuc 0) false [] []) ∷ carrying 8 (plain 0 true) ∷ []) ≡ refused 10 ∷ refused 1 ∷ ok ∷ []
-unfolding openAnswer badOptions
+unfolding openAnswer badOptions badRanks
 opened = refl

@@ -14,6 +14,7 @@ use Rattle.frames.specs.Cells.{Rows, Words, rowsOf}
 use Rattle.order.specs.declared.Row.{Row}
 use Rattle.frames.specs.Frame.{rowCount, valuesIn, marksIn, frameRows, frameWords, isFrame, front}
 use Rattle.frames.proofs.WordLaws.{drop-take, rows-read, rows-length}
+use Rattle.order.specs.Listed.{lacksCode}
 use Rattle.area.specs.Area.{capacity, heldRows, newBase, moved, written, pushed}
 use Rattle.searching.specs.Reach.{pruneBy}
 use Rattle.area.proofs.PushLaws.{newBase-room, append-length, append-part, pushed-length, pushed-values, pushed-marks}
@@ -24,7 +25,7 @@ use Rattle.outcomes.specs.declared.Answer.{Answer}
 use Rattle.outcomes.specs.declared.Answer.the-variants.{Wrote, WantsRight, Idle, Refused as TurnRefused}
 use Rattle.refusals.specs.Refusals.{marksFailed}
 use Rattle.refusals.specs.declared.Refusal.{Refusal}
-use Rattle.refusals.specs.declared.Refusal.the-variants.{BadJoin, Failed, Closed, BadFrame, NoRoom, UsedUp}
+use Rattle.refusals.specs.declared.Refusal.the-variants.{BadJoin, Failed, Closed, BadFrame, UnknownCode, NoRoom, UsedUp}
 use Rattle.outcomes.specs.declared.Took.{Took}
 use Rattle.outcomes.specs.declared.Took.the-variants.{Accepted, Refused}
 use Rattle.outcomes.specs.declared.Ported.{Ported}
@@ -207,8 +208,11 @@ module _ (j : Join) (s b : ℕ) (l r l′ r′ : Words) (a : Live (placedAt j s 
       let x = ltb (length l) (j .«queue_words» + length f) in
       let t5′ = cond x′ (Refused NoRoom) Accepted in
       let t5 = cond x (Refused NoRoom) Accepted in
-      let t4′ = cond (not (isFrame (leftWidth j) f)) (Refused BadFrame) t5′ in
-      let t4 = cond (not (isFrame (leftWidth j) f)) (Refused BadFrame) t5 in
+      let lack = lacksCode (j .options) (frameRows (leftWidth j) f) in
+      let t12′ = cond lack (Refused UnknownCode) t5′ in
+      let t12 = cond lack (Refused UnknownCode) t5 in
+      let t4′ = cond (not (isFrame (leftWidth j) f)) (Refused BadFrame) t12′ in
+      let t4 = cond (not (isFrame (leftWidth j) f)) (Refused BadFrame) t12 in
       let t3′ = cond (not (isRunning (j .state))) (Refused Closed) t4′ in
       let t3 = cond (not (isRunning (j .state))) (Refused Closed) t4 in
       let t2′ = cond (j .failed) (Refused Failed) t3′ in
@@ -217,8 +221,9 @@ module _ (j : Join) (s b : ℕ) (l r l′ r′ : Words) (a : Live (placedAt j s 
       (past (badJoin j l r) BadJoin t2′ t2
       (past (j .failed) Failed t3′ t3
       (past (not (isRunning (j .state))) Closed t4′ t4
-      (past (not (isFrame (leftWidth j) f)) BadFrame t5′ t5
-      (room-last Accepted refl x′ x)))) (rw (a .bad) at e))
+      (past (not (isFrame (leftWidth j) f)) BadFrame t12′ t12
+      (past lack UnknownCode t5′ t5
+      (room-last Accepted refl x′ x))))) (rw (a .bad) at e))
 
   queued-same : (f : Words) → LeftTaken k l′ r′ f → LeftTaken j l r f → Same (queued k l′ r′ f) (queued j l r f)
   unfolding queued waiting heldValues heldMarks
@@ -265,8 +270,11 @@ module _ (j : Join) (s b : ℕ) (l r l′ r′ : Words) (a : Live (placedAt j s 
       let x = ltb (capacity c r) (j .held + rowCount f) in
       let t5′ = cond x′ (Refused NoRoom) u in
       let t5 = cond x (Refused NoRoom) u in
-      let t4′ = cond (not (isFrame c f)) (Refused BadFrame) t5′ in
-      let t4 = cond (not (isFrame c f)) (Refused BadFrame) t5 in
+      let lack = lacksCode (j .options) (frameRows c f) in
+      let t12′ = cond lack (Refused UnknownCode) t5′ in
+      let t12 = cond lack (Refused UnknownCode) t5 in
+      let t4′ = cond (not (isFrame c f)) (Refused BadFrame) t12′ in
+      let t4 = cond (not (isFrame c f)) (Refused BadFrame) t12 in
       let t3′ = cond ended (Refused Closed) t4′ in
       let t3 = cond ended (Refused Closed) t4 in
       let t2′ = cond (j .failed) (Refused Failed) t3′ in
@@ -275,8 +283,9 @@ module _ (j : Join) (s b : ℕ) (l r l′ r′ : Words) (a : Live (placedAt j s 
       (past (badJoin j l r) BadJoin t2′ t2
       (past (j .failed) Failed t3′ t3
       (past ended Closed t4′ t4
-      (past (not (isFrame c f)) BadFrame t5′ t5
-      (room-last u (used-up (ltb mostRows (j .pruned + j .held + rowCount f))) x′ x)))) (rw (a .bad) at e))
+      (past (not (isFrame c f)) BadFrame t12′ t12
+      (past lack UnknownCode t5′ t5
+      (room-last u (used-up (ltb mostRows (j .pruned + j .held + rowCount f))) x′ x))))) (rw (a .bad) at e))
 
   pushed-same : (f : Words) → RightTaken k l′ r′ f → RightTaken j l r f → Same (pushedRight k l′ r′ f) (pushedRight j l r f)
   unfolding pushedRight waiting heldValues heldMarks

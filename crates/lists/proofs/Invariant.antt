@@ -17,6 +17,7 @@ use Rattle.options.specs.Options.{columns, rightColumns, refusedOptions}
 use Rattle.options.specs.declared.Options.{Options}
 use Rattle.options.specs.declared.Check.the-variants.{Strict}
 use Rattle.frames.proofs.FrameLaws.{frame-length}
+use Rattle.order.specs.Listed.{lacksCode}
 use Rattle.area.specs.Area.{capacity}
 use Rattle.node.proofs.Good.{left-taken, right-taken}
 use Rattle.node.specs.declared.Join.{Join}
@@ -25,7 +26,7 @@ use Rattle.outcomes.specs.declared.NodeState.the-variants.{Running, Flush, Done
 use Rattle.outcomes.specs.declared.PortState.{PortState}
 use Rattle.outcomes.specs.declared.PortState.the-variants.{Blocked, Ready, Done as PortDone}
 use Rattle.refusals.specs.declared.Refusal.{Refusal}
-use Rattle.refusals.specs.declared.Refusal.the-variants.{BadOptions, BadJoin, Failed, Closed, BadFrame, NoRoom, UsedUp, LeftOrder, RightOrder}
+use Rattle.refusals.specs.declared.Refusal.the-variants.{BadOptions, BadJoin, Failed, Closed, BadFrame, UnknownCode, NoRoom, UsedUp, LeftOrder, RightOrder}
 use Rattle.outcomes.specs.declared.Answer.{Answer}
 use Rattle.outcomes.specs.declared.Answer.the-variants.{Wrote, WantsRight, Idle, Refused as TurnRefused}
 use Rattle.outcomes.specs.declared.Took.{Took}
@@ -49,7 +50,7 @@ pub record Flags (es : List Event) (j : Join) : Type 0 where
   pub running : isRunning (j .state) ≡ not (leftEnded es || nodeDone es)
   pub failed : j .failed ≡ (refusedWith 8 es || refusedWith 9 es)
   pub unbroken : refusedWith 2 es ≡ false
-  pub fronts : refusedWith 5 (turnsIn es) ≡ false
+  pub fronts : (refusedWith 5 (turnsIn es) ≡ false) × (refusedWith 12 (turnsIn es) ≡ false)
 
 -- What one more event must say of the join it leaves.
 pub record Adds (es : List Event) (j : Join) (e : Event) (k : Join) : Type 0 where
@@ -58,7 +59,7 @@ pub record Adds (es : List Event) (j : Join) (e : Event) (k : Join) : Type 0 whe
   pub running : isRunning (k .state) ≡ (isRunning (j .state) && not (leftDone e || doneBy es e))
   pub failed : k .failed ≡ (j .failed || (eqb (refusalIn e) 8 || eqb (refusalIn e) 9))
   pub unbroken : eqb (refusalIn e) 2 ≡ false
-  pub front : refusedWith 5 (turnIn e) ≡ false
+  pub front : (refusedWith 5 (turnIn e) ≡ false) × (refusedWith 12 (turnIn e) ≡ false)
 
 -- A join whose flags are the same.
 pub record SameFlags (j k : Join) : Type 0 where
@@ -99,7 +100,10 @@ flags-add es j e k f a = record {
       rw (refused-append 8 es (e ∷ []), refused-append 9 es (e ∷ []), or-false (eqb (refusalIn e) 8), or-false (eqb (refusalIn e) 9), a .failed, f .failed)
       (or-swap (refusedWith 8 es) (refusedWith 9 es) (eqb (refusalIn e) 8) (eqb (refusalIn e) 9));
   unbroken = rw (refused-append 2 es (e ∷ []), f .unbroken, a .unbroken);
-  fronts = rw (turns-append es (e ∷ []), append-nil (turnIn e), refused-append 5 (turnsIn es) (turnIn e), f .fronts) (a .front);
+  fronts = (
+    rw (turns-append es (e ∷ []), append-nil (turnIn e), refused-append 5 (turnsIn es) (turnIn e), f .fronts .0) (a .front .0),
+    rw (turns-append es (e ∷ []), append-nil (turnIn e), refused-append 12 (turnsIn es) (turnIn e), f .fronts .1) (a .front .1),
+  );
 }
 
 -- ---- the invariant of a list of calls
@@ -130,6 +134,9 @@ plain4 = record { not2 = refl; not8 = refl; not9 = refl }
 
 abbrev plain5 : Plain 5
 plain5 = record { not2 = refl; not8 = refl; not9 = refl }
+
+abbrev plain12 : Plain 12
+plain12 = record { not2 = refl; not8 = refl; not9 = refl }
 
 abbrev plain6 : Plain 6
 plain6 = record { not2 = refl; not8 = refl; not9 = refl }
@@ -231,7 +238,7 @@ module _ (o : Options) (l r : Words) (allowed : refusedOptions o ≡ false) (es 
     running = sym (and-true-right (isRunning (j .state)));
     failed = rw (p .not8, p .not9) (sym (or-false (j .failed)));
     unbroken = p .not2;
-    front = refl;
+    front = (refl, refl);
   }
 
   quiet-right : (f : Words) (a : Took) → Plain (tookRefusal a) → Adds es j (onRight f a) j
@@ -246,15 +253,17 @@ module _ (o : Options) (l r : Words) (allowed : refusedOptions o ≡ false) (es 
       (plain-took (j .failed) (Refused Failed) _ plain3
       (plain-took (not (isRunning (j .state))) (Refused Closed) _ plain4
       (plain-took (not (isFrame (leftWidth j) f)) (Refused BadFrame) _ plain5
-      (plain-took (ltb (length (w .left)) (j .«queue_words» + length f)) (Refused NoRoom) Accepted plain6 plain0))))
+      (plain-took (lacksCode (j .options) (frameRows (leftWidth j) f)) (Refused UnknownCode) _ plain12
+      (plain-took (ltb (length (w .left)) (j .«queue_words» + length f)) (Refused NoRoom) Accepted plain6 plain0)))))
 
   -- What an accepted left frame passed.
   pub record LeftPassed (f : Words) : Type 0 where
     pub frame : isFrame (columns o) f ≡ true
+    pub codes : lacksCode o (frameRows (columns o) f) ≡ false
     pub room : j .«queue_words» + length f ≤ length (w .left)
 
   pub left-passed : (f : Words) → leftAnswer j (w .left) (w .right) f ≡ Accepted → LeftPassed f
-  left-passed f e = let t = left-taken j (w .left) (w .right) f e in record { frame = rw (s .options) at (t .frame); room = t .room }
+  left-passed f e = let t = left-taken j (w .left) (w .right) f e in record { frame = rw (s .options) at (t .frame); codes = rw (s .options) at (t .codes); room = t .room }
 
   inv-queued : (f : Words) → LeftPassed f
       → Inv o l r (es ++ (onLeft f (queued j (w .left) (w .right) f .answer) ∷ []))
@@ -263,7 +272,7 @@ module _ (o : Options) (l r : Words) (allowed : refusedOptions o ≡ false) (es 
   inv-queued f p = record {
     stock =
         rw (left-append es (onLeft f Accepted ∷ []), right-append es (onLeft f Accepted ∷ []), outputs-append es (onLeft f Accepted ∷ []), append-nil (rightFrames es), append-nil (outputs es))
-        (stock-left o l r (leftFrames es) (rightFrames es) (outputs es) j (w .left) (w .right) s f (p .frame) (p .room));
+        (stock-left o l r (leftFrames es) (rightFrames es) (outputs es) j (w .left) (w .right) s f (p .frame) (p .codes) (p .room));
     flags = flags-add es j (onLeft f Accepted) (queued j (w .left) (w .right) f .join) (i .flags) (adds-same es j (onLeft f Accepted) (queued j (w .left) (w .right) f .join) (quiet-left f Accepted plain0) (record { ended = refl; state = refl; failed = refl }));
     strict = rw (left-append es (onLeft f Accepted ∷ []), outputs-append es (onLeft f Accepted ∷ []), append-nil (outputs es), turned-more o (leftFrames es) (outputs es) f (s .gone)) (i .strict);
   }
@@ -284,8 +293,9 @@ module _ (o : Options) (l r : Words) (allowed : refusedOptions o ≡ false) (es 
       (plain-took (j .failed) (Refused Failed) _ plain3
       (plain-took (j .«right_ended» || isDone (j .state)) (Refused Closed) _ plain4
       (plain-took (not (isFrame (rightWidth j) f)) (Refused BadFrame) _ plain5
+      (plain-took (lacksCode (j .options) (frameRows (rightWidth j) f)) (Refused UnknownCode) _ plain12
       (plain-took (ltb (capacity (rightWidth j) (w .right)) (j .held + rowCount f)) (Refused NoRoom) _ plain6
-      (plain-took (ltb mostRows (j .pruned + j .held + rowCount f)) (Refused UsedUp) Accepted plain7 plain0)))))
+      (plain-took (ltb mostRows (j .pruned + j .held + rowCount f)) (Refused UsedUp) Accepted plain7 plain0))))))
 
   -- What an accepted right frame passed.
   pub record RightPassed (f : Words) : Type 0 where
@@ -385,7 +395,7 @@ module _ (o : Options) (l r : Words) (allowed : refusedOptions o ≡ false) (es 
         running = m .running;
         failed = sym (or-false (j .failed));
         unbroken = refl;
-        front = refl;
+        front = (refl, refl);
       }
 
   ports-plain : (l′ r′ s′ : PortState) → Plain (portsRefusal (portsAnswer j (w .left) (w .right) l′ r′ s′))

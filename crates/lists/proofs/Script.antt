@@ -8,6 +8,7 @@ use lib.ListN.{take, getD, replicate}
 use Rattle.ports.specs.Ports.{portsJudged}
 use Rattle.frames.specs.Cells.{Cell, cellsOf, rowsOf, Words}
 use Rattle.frames.specs.Frame.{rowCount, frameWords, pairsFine, isFrame, frameRows, front, isTable}
+use Rattle.ranks.specs.Ranks.{badRanks}
 use Rattle.options.specs.Options.{badOptions, refusedOptions}
 use Rattle.order.specs.Order.{cmpFirst, cmpRow, sorted, nullIn}
 use Rattle.order.specs.Keyed.{firstFrom, lastBelow, recall, remember, rememberLast}
@@ -116,7 +117,7 @@ speak none dump = record { said = noJoin; next = none }
 speak (some w) dump = record { said = areas (w .left) (w .right); next = some w }
 
 unfoldable pub speakAll : Option World → List Line → List Said
-unfolding speak look openAnswer step leftCall leftJudged queued rightCall rightJudged pushedRight endCall endJudged portsCall portsJudged turnCall turnAnswer turned badLeft badRight firstPrune remembered rememberedLeft dropped dequeued badJoin heldOf waiting front answered laid tableOf wordsOf answerRows answerRow cellsFrom matchFrame byRuns used pass passes runs joinRun matchIn tolerate choose takesOver fits needMore rowNeedsMore keyNeedsMore narrow narrowBy splitAt pruneBy rowBefore badSplit find search searchFor heldRows movedRows pushed rememberLast remember recall lastBelow firstFrom sorted cmpRow cmpFirst nullIn refusedOptions badOptions isFrame isTable pairsFine frameRows rowsOf cellsOf
+unfolding speak look openAnswer step leftCall leftJudged queued rightCall rightJudged pushedRight endCall endJudged portsCall portsJudged turnCall turnAnswer turned badLeft badRight firstPrune remembered rememberedLeft dropped dequeued badJoin heldOf waiting front answered laid tableOf wordsOf answerRows answerRow cellsFrom matchFrame byRuns used pass passes runs joinRun matchIn tolerate choose takesOver fits needMore rowNeedsMore keyNeedsMore narrow narrowBy splitAt pruneBy rowBefore badSplit find search searchFor heldRows movedRows pushed rememberLast remember recall lastBelow firstFrom sorted cmpRow cmpFirst nullIn refusedOptions badOptions badRanks isFrame isTable pairsFine frameRows rowsOf cellsOf
 speakAll w [] = []
 speakAll w (l ∷ ls) = let s = speak w l in s .said ∷ speakAll (s .next) ls
 

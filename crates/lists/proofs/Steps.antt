@@ -14,6 +14,7 @@ use Rattle.order.specs.Keyed.{recall}
 use Rattle.options.specs.declared.Options.{Options}
 use Rattle.order.proofs.SortedLaws.{sorted-cut}
 use Rattle.matching.specs.Answer.{answered}
+use Rattle.order.proofs.ListedLaws.{lacks-none}
 use Rattle.node.specs.declared.Join.{Join}
 use Rattle.outcomes.specs.declared.PortState.{PortState}
 use Rattle.refusals.specs.Refusals.{marksFailed}
@@ -267,11 +268,12 @@ module _ (o : Options) (l r : Words) (allowed : refusedOptions o ≡ false) wher
       values = let z : 0 * rightColumns o ≡ 0 = omega arith in rw z;
       marks = let z : 0 * rightColumns o ≡ 0 = omega arith in rw z;
       left-frames = tt;
+      left-codes = lacks-none o;
       right-frames = tt;
       rows = omega arith;
       wrote = refl;
     };
-    flags = record { ended = refl; done = refl; running = refl; failed = refl; unbroken = refl; fronts = refl };
+    flags = record { ended = refl; done = refl; running = refl; failed = refl; unbroken = refl; fronts = (refl, refl) };
     strict = λ c. together-start o;
   }
 

@@ -6,12 +6,14 @@ use Prim.Native.Nat.{ℕ, zero, suc, _+_, _-_, _*_, _/_, _≤_, _<_}
 use native.Mathlib.Nat.{mul-le-mul-right}
 use native.Mathlib.Omega.{arith}
 use lib.IntN.{ℤ, pos}
-use lib.ListN.{length, take, drop, length-append, length-drop, length-map}
+use lib.ListN.{length, take, drop, length-append, length-drop, length-map, take-append-drop}
 use lib.Seq.{drop-append-le, drop-drop, drop-at, take-at, length-take-le}
 use Rattle.frames.specs.Cells.{Rows, Words, rowsOf}
 use Rattle.frames.specs.Frame.{rowCount, frameWords, valuesIn, marksIn, isFrame, frameRows, front}
 use Rattle.options.specs.Options.{columns, rightColumns, answerColumns}
 use Rattle.options.specs.declared.Options.{Options}
+use Rattle.order.specs.Listed.{lacksCode}
+use Rattle.order.proofs.ListedLaws.{lacks-both, lacks-parts}
 use Rattle.order.specs.declared.Row.{Row}
 use Rattle.frames.proofs.WordLaws.{map-append, drop-take, rows-read, rows-append, rows-drop, rows-length}
 use Rattle.frames.proofs.FrameLaws.{frame-length, values-length, marks-length, frame-rows, count-append}
@@ -91,6 +93,7 @@ pub record Stock (o : Options) (l r : Words) (L R Os : List Words) (j : Join) (l
   pub values : heldValues j right ≡ drop (j .pruned * rightColumns o) (allValues (rightColumns o) R)
   pub marks : heldMarks j right ≡ drop (j .pruned * rightColumns o) (allMarks (rightColumns o) R)
   pub left-frames : Frames (columns o) L
+  pub left-codes : lacksCode o (rowsIn (columns o) L) ≡ false
   pub right-frames : Frames (rightColumns o) R
   pub rows : length (rowsIn (rightColumns o) R) ≡ j .pruned + j .held
   pub wrote : length (matchesIn (answerColumns o) Os) ≡ length (rowsIn (columns o) (take (length Os) L))
@@ -117,16 +120,17 @@ module _ (o : Options) (l r : Words) (L R Os : List Words) (j : Join) (left righ
     values = rw (eb, eh, ep, eo) (s .values);
     marks = rw (eb, eh, ep, eo) (s .marks);
     left-frames = s .left-frames;
+    left-codes = s .left-codes;
     right-frames = s .right-frames;
     rows = rw (ep, eh) (s .rows);
     wrote = s .wrote;
   }
 
   -- A left frame that is queued.
-  pub stock-left : (f : Words) → isFrame (columns o) f ≡ true → j .«queue_words» + length f ≤ length left
+  pub stock-left : (f : Words) → isFrame (columns o) f ≡ true → lacksCode o (frameRows (columns o) f) ≡ false → j .«queue_words» + length f ≤ length left
       → Stock o l r (L ++ (f ∷ [])) R Os (queued j left right f .join) (queued j left right f .left) (queued j left right f .right)
-  unfolding queued waiting heldValues heldMarks backToBack
-  stock-left f h room =
+  unfolding queued waiting heldValues heldMarks backToBack rowsIn
+  stock-left f h codes room =
       let start = newBase (j .«queue_start») (j .«queue_words») (length f) (length left) in
       let nb : start + j .«queue_words» + length f ≤ length left = newBase-room (j .«queue_start») (j .«queue_words») (length f) (length left) room in
       let len : length (written f (start + j .«queue_words») (moved (j .«queue_start») start (j .«queue_words») left)) ≡ length left = append-length left (j .«queue_start») start (j .«queue_words») f nb (s .queue-room) in
@@ -145,6 +149,7 @@ module _ (o : Options) (l r : Words) (L R Os : List Words) (j : Join) (left righ
         values = s .values;
         marks = s .marks;
         left-frames = frames-join (columns o) L (f ∷ []) (s .left-frames) (h, tt);
+        left-codes = rw (rows-in-append (columns o) L (f ∷ []), append-nil (frameRows (columns o) f)) (lacks-both o (rowsIn (columns o) L) (frameRows (columns o) f) (s .left-codes) codes);
         right-frames = s .right-frames;
         rows = s .rows;
         wrote = rw (take-more (length Os) L (f ∷ []) (s .gone)) (s .wrote);
@@ -186,6 +191,7 @@ module _ (o : Options) (l r : Words) (L R Os : List Words) (j : Join) (left righ
             (pushed-marks (rightColumns o) (j .base) (j .held) f right h (s .right-room) room
             ∙ ap (λ (z : Words). z ++ marksIn (rightColumns o) f) (rw (s .options) at (s .marks)) ∙ part-more (marksIn (rightColumns o)) (marks-length (rightColumns o)) f);
         left-frames = s .left-frames;
+        left-codes = s .left-codes;
         right-frames = frames-join (rightColumns o) R (f ∷ []) (s .right-frames) (h, tt);
         rows = rw (rows-in-append (rightColumns o) R (f ∷ []), length-append (rowsIn (rightColumns o) R) (rowsIn (rightColumns o) (f ∷ [])), s .rows, append-nil (frameRows (rightColumns o) f), frame-rows (rightColumns o) f h) (omega arith);
         wrote = s .wrote;
@@ -217,6 +223,14 @@ module _ (o : Options) (l r : Words) (L R Os : List Words) (j : Join) (left righ
       where
         frames-drop-head : Frames (columns o) (drop (length Os) L) → isFrame (columns o) f ≡ true
         frames-drop-head p = (rw e at p) .0
+
+    pub next-codes : lacksCode o (frameRows (columns o) f) ≡ false
+    unfolding rowsIn
+    next-codes =
+        let all : rowsIn (columns o) L ≡ rowsIn (columns o) (take (length Os) L) ++ (frameRows (columns o) f ++ rowsIn (columns o) rest) =
+        ap (rowsIn (columns o)) (sym (take-append-drop (length Os) L)) ∙ rows-in-append (columns o) (take (length Os) L) (drop (length Os) L) ∙ rw e
+        in
+        lacks-parts o (frameRows (columns o) f) (rowsIn (columns o) rest) (lacks-parts o (rowsIn (columns o) (take (length Os) L)) (frameRows (columns o) f ++ rowsIn (columns o) rest) (rw all at (s .left-codes)) .1) .0
 
     pub waits-front : waiting j left ≡ f ++ backToBack rest
     unfolding backToBack
@@ -262,6 +276,7 @@ module _ (o : Options) (l r : Words) (L R Os : List Words) (j : Join) (left righ
           values = rw (s .options, hc, pb, pk) (part-less (j .base * rightColumns o) (j .held * rightColumns o) (d * rightColumns o) (j .pruned * rightColumns o) (allValues (rightColumns o) R) held-values);
           marks = rw (s .options, hc, pm, pk) (part-less ((capacity (rightColumns o) right + j .base) * rightColumns o) (j .held * rightColumns o) (d * rightColumns o) (j .pruned * rightColumns o) (allMarks (rightColumns o) R) held-marks);
           left-frames = s .left-frames;
+          left-codes = s .left-codes;
           right-frames = s .right-frames;
           rows = omega (arith, s .rows);
           wrote =

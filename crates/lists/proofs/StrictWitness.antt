@@ -4,6 +4,7 @@ use mathlib.Core.Bool.{true, false, not}
 use mathlib.Core.List.{List, [], _∷_, _++_, map}
 use lib.IntN.{pos, negsuc}
 use Rattle.frames.specs.Cells.{null, value, Words}
+use Rattle.ranks.specs.Ranks.{badRanks}
 use Rattle.options.specs.Options.{badOptions, refusedOptions}
 use Rattle.options.specs.declared.Options.{Options}
 use Rattle.options.specs.declared.Check.the-variants.{Strict}
@@ -39,10 +40,10 @@ met = (refl, refl, refl)
 
 -- So it answers 8.
 pub eight : isLeftOrder (answerNext o L R calls (space 4)) ≡ true
-unfolding o refusedOptions badOptions
+unfolding o refusedOptions badOptions badRanks
 eight = strict-theorem o refl L R calls .exactly-eight refl (space 4) (met .0) ∙ ap not (met .2)
 
 -- And what was written before is what is due.
 pub right-so-far : matches o L R calls ≡ map (due o L R calls) (turnedRows o L R calls)
-unfolding o refusedOptions badOptions
+unfolding o refusedOptions badOptions badRanks
 right-so-far = strict-theorem o refl L R calls .right-anyway refl (met .1) .0

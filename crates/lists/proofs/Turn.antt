@@ -25,6 +25,7 @@ use Rattle.matching.proofs.ChoiceLaws.{cond-ind}
 use Rattle.matching.proofs.GroupLaws.{frame-length as match-length}
 use Rattle.matching.proofs.AnswerRows.{answer-wide, answer-count}
 use Rattle.tables.proofs.TableLaws.{Wide}
+use Rattle.order.specs.Listed.{lacksCode}
 use Rattle.node.specs.declared.Join.{Join}
 use Rattle.refusals.specs.Refusals.{marksFailed}
 use Rattle.refusals.proofs.RefusalLaws.{marked-ind}
@@ -43,7 +44,7 @@ use Rattle.turnparts.specs.Part.{roomTests, orderTests}
 use Rattle.lists.specs.Lists.{turn, Event, onTurn, World, step, leftIn, rightIn, leftFrames, rightFrames, rowsIn, outputIn, outputs, backToBack, framesWaiting, doneBy, refusedWith, turnRefusal}
 use Rattle.lists.proofs.ListLaws.{left-append, right-append, outputs-append}
 use Rattle.lists.proofs.Turned.{frame-cells, turnedOf, turned-after, Together, together-more}
-use Rattle.lists.proofs.Stock.{Stock, stock-same, stock-turn, waiting-length, next-frame, front-next, waits-front, front-room, held-rows}
+use Rattle.lists.proofs.Stock.{Stock, stock-same, stock-turn, waiting-length, next-frame, front-next, waits-front, front-room, held-rows, next-codes}
 use Rattle.lists.proofs.Invariant.{Inv, Adds, SameFlags, adds-same, flags-add, good, keep, nothing-waits}
 
 -- ---- the turn's answer and what it leaves, told by the frame's rows and the held rows
@@ -83,9 +84,9 @@ module _ (o : Options) (j : Join) (left right f : Words) (rows : Rows) (opened :
   own-front : front (columns (j .options)) (waiting j left) ≡ f
   own-front = ap (λ (q : Options). front (columns q) (waiting j left)) opened ∙ fronted
 
-  pub answer-by : badJoin j left right ≡ false → eqb (j .«queue_words») 0 ≡ false → isFrame (columns o) f ≡ true → (out : Words) → turnAnswer j left right out ≡ judged o j (frameRows (columns o) f) rows out
+  pub answer-by : badJoin j left right ≡ false → eqb (j .«queue_words») 0 ≡ false → isFrame (columns o) f ≡ true → lacksCode o (frameRows (columns o) f) ≡ false → (out : Words) → turnAnswer j left right out ≡ judged o j (frameRows (columns o) f) rows out
   unfolding turnAnswer judged
-  answer-by fine some frame out = rw (fine, own-front, some, holds, opened, frame)
+  answer-by fine some frame codes out = rw (fine, own-front, some, holds, opened, frame, codes)
 
   pub turned-by : (out : Words) → turned j left right out
       ≡ after (Wrote (j .sequence)) (leftBy o j (frameRows (columns o) f) rows (length f)) left right (answered o (matchedBy o j (frameRows (columns o) f) rows) out)
@@ -93,15 +94,16 @@ module _ (o : Options) (j : Join) (left right f : Words) (rows : Rows) (opened :
   turned-by out = rw (own-front, holds, opened)
 
 -- ---- what no turn answers
--- Neither refusal 2 nor refusal 5.
+-- Neither refusal 2, nor 5, nor 12.
 pub record Fine (a : Answer) : Type 0 where
   pub not2 : eqb (turnRefusal a) 2 ≡ false
   pub not5 : eqb (turnRefusal a) 5 ≡ false
+  pub not12 : eqb (turnRefusal a) 12 ≡ false
 
 fine-idle : (b d : Bool) → Fine (cond b (TurnRefused Failed) (cond d (TurnRefused Closed) Idle))
-fine-idle true d = record { not2 = refl; not5 = refl }
-fine-idle false true = record { not2 = refl; not5 = refl }
-fine-idle false false = record { not2 = refl; not5 = refl }
+fine-idle true d = record { not2 = refl; not5 = refl; not12 = refl }
+fine-idle false true = record { not2 = refl; not5 = refl; not12 = refl }
+fine-idle false false = record { not2 = refl; not5 = refl; not12 = refl }
 
 idle-writes : (b d : Bool) (q : ℕ) → cond b (TurnRefused Failed) (cond d (TurnRefused Closed) Idle) ≡ Wrote q → ⊥
 idle-writes true d q e = let z : _≡_ {A = ℕ} 0 1 = cc in omega arith
@@ -123,8 +125,8 @@ judged-all P o j rows held out p3 p4 pw p6 p7 p8 p9 p =
 
 fine-judged : (o : Options) (j : Join) (rows held : Rows) (out : Words) → Fine (judged o j rows held out)
 fine-judged o j rows held out =
-    judged-all Fine o j rows held out (record { not2 = refl; not5 = refl }) (record { not2 = refl; not5 = refl }) (record { not2 = refl; not5 = refl }) (record { not2 = refl; not5 = refl })
-    (record { not2 = refl; not5 = refl }) (λ t. record { not2 = refl; not5 = refl }) (λ t. record { not2 = refl; not5 = refl }) (record { not2 = refl; not5 = refl })
+    judged-all Fine o j rows held out (record { not2 = refl; not5 = refl; not12 = refl }) (record { not2 = refl; not5 = refl; not12 = refl }) (record { not2 = refl; not5 = refl; not12 = refl }) (record { not2 = refl; not5 = refl; not12 = refl })
+    (record { not2 = refl; not5 = refl; not12 = refl }) (λ t. record { not2 = refl; not5 = refl; not12 = refl }) (λ t. record { not2 = refl; not5 = refl; not12 = refl }) (record { not2 = refl; not5 = refl; not12 = refl })
 
 -- ---- what a turn that writes has passed
 pub record Passed (o : Options) (j : Join) (rows held : Rows) : Type 0 where
@@ -187,7 +189,7 @@ module _ (o : Options) (l r : Words) (allowed : refusedOptions o ≡ false) (es 
     running = sym (and-true-right (isRunning (j .state)));
     failed = rw (n8, n9) (sym (or-false (j .failed)));
     unbroken = p .not2;
-    front = rw (p .not5);
+    front = (rw (p .not5), rw (p .not12));
   }
 
   -- ---- where a frame waits
@@ -197,6 +199,9 @@ module _ (o : Options) (l r : Words) (allowed : refusedOptions o ≡ false) (es 
 
     frame : isFrame (columns o) f ≡ true
     frame = next-frame o l r (leftFrames es) (rightFrames es) (outputs es) j (w .left) (w .right) s f rest e
+
+    codes : lacksCode o (frameRows (columns o) f) ≡ false
+    codes = next-codes o l r (leftFrames es) (rightFrames es) (outputs es) j (w .left) (w .right) s f rest e
 
     pub rows-count : length rows ≡ rowCount f
     unfolding rows
@@ -212,7 +217,7 @@ module _ (o : Options) (l r : Words) (allowed : refusedOptions o ≡ false) (es 
 
     pub answer-is : (out : Words) → turnAnswer j (w .left) (w .right) out ≡ judged o j rows held out
     unfolding rows
-    answer-is = answer-by o j (w .left) (w .right) f held (s .options) is-front held-is (good o l r allowed es w i) some-words frame
+    answer-is = answer-by o j (w .left) (w .right) f held (s .options) is-front held-is (good o l r allowed es w i) some-words frame codes
 
     pub turned-is : (out : Words) → turned j (w .left) (w .right) out
         ≡ after (Wrote (j .sequence)) (leftBy o j rows held (length f)) (w .left) (w .right) (answered o (matchedBy o j rows held) out)
@@ -254,7 +259,7 @@ module _ (o : Options) (l r : Words) (allowed : refusedOptions o ≡ false) (es 
         }
       where
         adds-wrote : (out : Words) → Adds es j (onTurn (Wrote (j .sequence)) (answered o (matchedBy o j rows held) out)) (leftBy o j rows held (length f))
-        adds-wrote out = adds-same es j (onTurn (Wrote (j .sequence)) (answered o (matchedBy o j rows held) out)) (leftBy o j rows held (length f)) (quiet-turn (Wrote (j .sequence)) (answered o (matchedBy o j rows held) out) (record { not2 = refl; not5 = refl }) refl refl) (by-fields o j rows held (length f))
+        adds-wrote out = adds-same es j (onTurn (Wrote (j .sequence)) (answered o (matchedBy o j rows held) out)) (leftBy o j rows held (length f)) (quiet-turn (Wrote (j .sequence)) (answered o (matchedBy o j rows held) out) (record { not2 = refl; not5 = refl; not12 = refl }) refl refl) (by-fields o j rows held (length f))
 
   -- ---- every turn
   -- An empty queue is Idle, or refused for the join's state.
@@ -264,7 +269,7 @@ module _ (o : Options) (l r : Words) (allowed : refusedOptions o ≡ false) (es 
       let z : j .«queue_words» ≡ 0 = sym (waiting-length o l r (leftFrames es) (rightFrames es) (outputs es) j (w .left) (w .right) s) ∙ ap length (s .waits ∙ ap backToBack e) in
       rw (good o l r allowed es w i, eq-eqb (j .«queue_words») 0 z)
 
-  -- No turn meets refusal 2 or 5; none writes where no frame waits.
+  -- No turn meets refusal 2, 5 or 12; none writes where no frame waits.
   pub turn-fine : (out : Words) → Fine (turnAnswer j (w .left) (w .right) out)
   turn-fine out = go (drop (length (outputs es)) (leftFrames es)) refl
     where
@@ -283,7 +288,7 @@ module _ (o : Options) (l r : Words) (allowed : refusedOptions o ≡ false) (es 
     running = sym (and-true-right (isRunning (j .state)));
     failed = rw t (sym (or-true (j .failed)));
     unbroken = p .not2;
-    front = rw (p .not5);
+    front = (rw (p .not5), rw (p .not12));
   }
 
   stays : (a : Answer) (out : Words) → Fine a → eqb (turnRefusal a) 8 ≡ false → eqb (turnRefusal a) 9 ≡ false → outputIn (onTurn a out) ≡ []

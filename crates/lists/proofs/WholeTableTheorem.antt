@@ -244,7 +244,7 @@ whole-table-theorem o allowed l r calls =
           let z = finish o l r allowed outs es w i S (d .0) (d .1) en un (omega (arith, few)) enough in
           (z .all-write, z .all-matched);
       counts = (i .stock .rows, left-count o l r es w i);
-      never-broken = (i .flags .unbroken, i .flags .fronts);
+      never-broken = (i .flags .unbroken, i .flags .fronts .0, i .flags .fronts .1);
       no-false-alarm = λ d. or-false-both (refusedWith 8 es) (refusedWith 9 es) (sym (i .flags .failed) ∙ S (turned (d .0)) (d .1) .unfailed (d .0));
       words-kept = (i .stock .waits, i .stock .values, i .stock .marks, i .stock .left-length, i .stock .right-length);
       settled = λ st more none sf. settled-so-far o l r allowed es w i S st more (λ t. none t) sf;

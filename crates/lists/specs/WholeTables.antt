@@ -108,9 +108,9 @@ module _ (o : Options) (l r : Words) (calls : List Call) where
       let w = final (start o l r) calls in
       (length rights ≡ w .join .pruned + w .join .held) × (length lefts ≡ length matches + length (queueRows w))
 
-  -- SCOPE 15.13: no call is refused by 2, no turn by 5.
+  -- SCOPE 15.13: no call is refused by 2, no turn by 5 or 12.
   abbrev pub NeverBroken : Type 0
-  NeverBroken = (refusedWith 2 all ≡ false) × (refusedWith 5 (turnsIn all) ≡ false)
+  NeverBroken = (refusedWith 2 all ≡ false) × (refusedWith 5 (turnsIn all) ≡ false) × (refusedWith 12 (turnsIn all) ≡ false)
 
   -- SCOPE 15.14: on sorted sides no turn is refused by 8 or 9.
   abbrev pub NoFalseAlarm : Type 0

@@ -1,16 +1,107 @@
 // The held rows narrowed to those that have a left row's by-values, and a search among them by key. A left row is told by the place of its first word.
 use bisect::find;
 use options::Options;
+use options::is_ranked;
+use ranks::Ranks;
 use searching::Seek;
 use searching::Stretch;
 ghost use mathlib.Core.Path.{_≡_};
 ghost use Prim.Native.Nat.{ℕ, _≤_, _<_};
-ghost use Rattle.frames.specs.Cells.{rowFrom, rowsOf};
+ghost use Rattle.frames.specs.Cells.{cellOf, rowFrom, rowsOf};
+ghost use Rattle.ranks.specs.Ranks.{codesOf, Indexed, Kept};
 ghost use Rattle.order.specs.Requires.{cellAt, CellIn, RowAt, RowsIn};
 ghost use Rattle.searching.specs.Reach.{narrowBy, narrowed, findKey};
 ghost use Rattle.searching.specs.Requires.{rangeOf, ColumnIn};
+ghost use Rattle.narrowing.specs.Column.{narrowTo};
 
-// The stretch narrowed by the left row's by-value in column j: from the first that is at least it to the first above it.
+// The stretch narrowed to the rows whose cell in column j is this one: from the first that is at least it to the first above it.
+fn narrow_column(
+    descending: bool,
+    nulls_last: bool,
+    codes: &[i64],
+    rising: &[u8],
+    value: i64,
+    mark: i64,
+    rv: &[i64],
+    rm: &[i64],
+    w: usize,
+    j: usize,
+    s: Stretch,
+) -> Stretch
+    requires { ⌜ Indexed (now codes) (now rising) × ColumnIn j w (s .end) (now rv) (now rm) ⌝ }
+    ensures { λ r. ⌜ ((n : ℕ) → s .end ≤ n → rangeOf r ≡ narrowTo (record { descending = descending; nullsLast = «nulls_last»; codes = now (codes .entry) }) j (cellOf value mark) (rowsOf w n (now (rv .entry)) (now (rm .entry))) (rangeOf s)) ⌝ }
+{
+    let start = find(
+        Seek::AtLeast,
+        descending,
+        nulls_last,
+        codes,
+        rising,
+        j,
+        value,
+        mark,
+        rv,
+        rm,
+        w,
+        s.start,
+        s.end,
+    );
+    let end = find(
+        Seek::Above,
+        descending,
+        nulls_last,
+        codes,
+        rising,
+        j,
+        value,
+        mark,
+        rv,
+        rm,
+        w,
+        start,
+        s.end,
+    );
+    Stretch {
+        start: start,
+        end: end,
+    }
+}
+
+// The same by the column that has the list.
+fn narrow_ranked(
+    descending: bool,
+    nulls_last: bool,
+    k: Ranks,
+    value: i64,
+    mark: i64,
+    rv: &[i64],
+    rm: &[i64],
+    w: usize,
+    j: usize,
+    s: Stretch,
+) -> Stretch
+    requires { ⌜ Kept k × ColumnIn j w (s .end) (now rv) (now rm) ⌝ }
+    ensures { λ r. ⌜ ((n : ℕ) → s .end ≤ n → rangeOf r ≡ narrowTo (record { descending = descending; nullsLast = «nulls_last»; codes = codesOf k }) j (cellOf value mark) (rowsOf w n (now (rv .entry)) (now (rm .entry))) (rangeOf s)) ⌝ }
+{
+    let count = k.count;
+    let codes = k.codes;
+    let rising = k.rising;
+    narrow_column(
+        descending,
+        nulls_last,
+        &codes[..count],
+        &rising[..count],
+        value,
+        mark,
+        rv,
+        rm,
+        w,
+        j,
+        s,
+    )
+}
+
+// The stretch narrowed by the left row's by-value in column j.
 fn narrow_by(
     lv: &[i64],
     lm: &[i64],
@@ -32,36 +123,11 @@ fn narrow_by(
     let k = p + j;
     let value = lv[k];
     let mark = lm[k];
-    let start = find(
-        Seek::AtLeast,
-        down,
-        late,
-        j,
-        value,
-        mark,
-        rv,
-        rm,
-        w,
-        s.start,
-        s.end,
-    );
-    let end = find(
-        Seek::Above,
-        down,
-        late,
-        j,
-        value,
-        mark,
-        rv,
-        rm,
-        w,
-        start,
-        s.end,
-    );
-    Stretch {
-        start: start,
-        end: end,
+    if is_ranked(o, j) {
+        let list = o.ranks;
+        return narrow_ranked(down, late, list, value, mark, rv, rm, w, j, s);
     }
+    narrow_column(down, late, &[], &[], value, mark, rv, rm, w, j, s)
 }
 
 // The held rows whose by-values are those of the left row at p, as a stretch of all n: narrowed by each by-column in order.
@@ -108,6 +174,8 @@ pub fn find_key(
         seek,
         false,
         false,
+        &[],
+        &[],
         o.by,
         kv[k],
         km[k],

@@ -12,24 +12,21 @@ ghost use Rattle.order.specs.Order.{cmpCell, cmpGroup, cmpRow, isGreater, sorte
 ghost use Rattle.order.specs.Requires.{cellAt, CellIn, RowAt, RowsIn};
 ghost use Rattle.order.specs.declared.Order.the-variants.{Equal};
 
-// Whether the cells at a and b have the same value, and neither is null.
+// Whether the cells at a and b have the same words: then they are the same cell.
 fn same_value(values: &[i64], marks: &[i64], a: usize, b: usize) -> bool
     requires { ⌜ CellIn a (now values) (now marks) × CellIn b (now values) (now marks) ⌝ }
     ensures { λ r. ⌜ (r ≡ true → cellAt a (now (values .entry)) (now (marks .entry)) ≡ cellAt b (now (values .entry)) (now (marks .entry))) ⌝ }
 {
-    if null_at(marks, a) {
-        return false;
-    }
-    if null_at(marks, b) {
-        return false;
-    }
     if values[a] != values[b] {
+        return false;
+    }
+    if marks[a] != marks[b] {
         return false;
     }
     true
 }
 
-// Whether the rows at p and q have the same by-values, and none of them is null: then they are of one run. Most rows are told so.
+// Whether the by-values of the rows at p and q have the same words: then they are of one run. Most rows are told so.
 pub fn same_values(values: &[i64], marks: &[i64], p: usize, q: usize, o: Options) -> bool
     requires { ⌜ RowAt o p (now values) (now marks) × RowAt o q (now values) (now marks) ⌝ }
     ensures { λ r. ⌜ (r ≡ true → (w : ℕ) → o .by < w → cmpGroup o (rowFrom w p (now (values .entry)) (now (marks .entry))) (rowFrom w q (now (values .entry)) (now (marks .entry))) ≡ Equal) ⌝ }

@@ -47,11 +47,11 @@ module _ (j : Join) (left right : Words) where
 
   -- ---- a left frame
   module _ (f : Words) (b : Bool) (is : b ≡ badJoin j left right) (r : FedLeft) (left′ : Words)
-      (fed : LeftFed b (j .failed) (j .state) (leftWidth j) (j .«queue_start») (j .«queue_words») left f r left′) where
-    left-known : LeftFed (badJoin j left right) (j .failed) (j .state) (leftWidth j) (j .«queue_start») (j .«queue_words») left f r left′
+      (fed : LeftFed b (j .failed) (j .state) (j .options) (j .«queue_start») (j .«queue_words») left f r left′) where
+    left-known : LeftFed (badJoin j left right) (j .failed) (j .state) (j .options) (j .«queue_start») (j .«queue_words») left f r left′
     left-known = rw is at fed
 
-    left-same : leftJudged (badJoin j left right) (j .failed) (j .state) (leftWidth j) (j .«queue_words») left f ≡ leftAnswer j left right f
+    left-same : leftJudged (badJoin j left right) (j .failed) (j .state) (j .options) (j .«queue_words») left f ≡ leftAnswer j left right f
     unfolding leftJudged
     left-same = refl
 
@@ -69,11 +69,11 @@ module _ (j : Join) (left right : Words) where
 
   -- ---- a right frame
   module _ (f : Words) (b : Bool) (is : b ≡ badJoin j left right) (r : FedRight) (right′ : Words)
-      (fed : RightFed b (j .failed) (j .«right_ended») (j .state) (rightWidth j) (j .base) (j .held) (j .pruned) right f r right′) where
-    right-known : RightFed (badJoin j left right) (j .failed) (j .«right_ended») (j .state) (rightWidth j) (j .base) (j .held) (j .pruned) right f r right′
+      (fed : RightFed b (j .failed) (j .«right_ended») (j .state) (j .options) (j .base) (j .held) (j .pruned) right f r right′) where
+    right-known : RightFed (badJoin j left right) (j .failed) (j .«right_ended») (j .state) (j .options) (j .base) (j .held) (j .pruned) right f r right′
     right-known = rw is at fed
 
-    right-same : rightJudged (badJoin j left right) (j .failed) (j .«right_ended») (j .state) (rightWidth j) (j .held) (j .pruned) right f ≡ rightAnswer j left right f
+    right-same : rightJudged (badJoin j left right) (j .failed) (j .«right_ended») (j .state) (j .options) (j .held) (j .pruned) right f ≡ rightAnswer j left right f
     unfolding rightJudged
     right-same = refl
 

@@ -9,11 +9,12 @@ use lib.Signed.{ltZ}
 use lib.ListN.{length}
 use Rattle.callrules.specs.Judged.{leftJudged, endJudged, rightJudged}
 use Rattle.frames.specs.Cells.{Words}
-use Rattle.frames.specs.Frame.{rowCount, isFrame}
-use Rattle.options.specs.Options.{refusedOptions}
+use Rattle.frames.specs.Frame.{rowCount, isFrame, frameRows}
+use Rattle.options.specs.Options.{refusedOptions, Few}
 use Rattle.frames.specs.Front.{HasCount}
 use Rattle.options.specs.declared.Options.{Options}
 use Rattle.frames.proofs.FrontLaws.{frame-parts}
+use Rattle.order.specs.Listed.{lacksCode}
 use Rattle.area.specs.Area.{capacity}
 use Rattle.options.proofs.OptionLaws.{or-both, allowed-parts}
 use Rattle.node.specs.State.{fresh, leftWidth, rightWidth, badJoin, overRight, overLeft, overRows, oddSequence}
@@ -21,7 +22,7 @@ use Rattle.outcomes.specs.Answers.{isRunning, isDone, mostRows}
 use Rattle.node.specs.Calls.{leftAnswer, rightAnswer, endAnswer}
 use Rattle.node.specs.declared.Join.{Join}
 use Rattle.refusals.specs.declared.Refusal.{Refusal}
-use Rattle.refusals.specs.declared.Refusal.the-variants.{BadJoin, Failed, Closed, BadFrame, NoRoom, UsedUp}
+use Rattle.refusals.specs.declared.Refusal.the-variants.{BadJoin, Failed, Closed, BadFrame, UnknownCode, NoRoom, UsedUp}
 use Rattle.outcomes.specs.declared.Took.{Took}
 use Rattle.outcomes.specs.declared.Took.the-variants.{Accepted, Refused}
 
@@ -34,7 +35,7 @@ passed false n t e = (refl, e)
 -- ---- a join that is not bad
 pub record Good (j : Join) (left right : Words) : Type 0 where
   pub options : refusedOptions (j .options) ≡ false
-  pub few : j .options .by ≤ 4
+  pub few : Few (j .options)
   pub carried : j .options .carried ≤ 8
   pub right-room : j .base + j .held ≤ capacity (rightWidth j) right
   pub left-room : j .«queue_start» + j .«queue_words» ≤ length left
@@ -92,6 +93,7 @@ module _ (j : Join) (left right : Words) where
     pub unfailed : j .failed ≡ false
     pub running : isRunning (j .state) ≡ true
     pub frame : isFrame (leftWidth j) f ≡ true
+    pub codes : lacksCode (j .options) (frameRows (leftWidth j) f) ≡ false
     pub room : j .«queue_words» + length f ≤ length left
 
   pub left-taken : (f : Words) → leftAnswer j left right f ≡ Accepted → LeftTaken f
@@ -101,12 +103,14 @@ module _ (j : Join) (left right : Words) where
       let p3 = passed (j .failed) Failed _ (p2 .1) in
       let p4 = passed (not (isRunning (j .state))) Closed _ (p3 .1) in
       let p5 = passed (not (isFrame (leftWidth j) f)) BadFrame _ (p4 .1) in
-      let p6 = passed (ltb (length left) (j .«queue_words» + length f)) NoRoom Accepted (p5 .1) in
+      let p12 = passed (lacksCode (j .options) (frameRows (leftWidth j) f)) UnknownCode _ (p5 .1) in
+      let p6 = passed (ltb (length left) (j .«queue_words» + length f)) NoRoom Accepted (p12 .1) in
       record {
         good = good j left right (p2 .0);
         unfailed = p3 .0;
         running = not-false (isRunning (j .state)) (p4 .0);
         frame = not-false (isFrame (leftWidth j) f) (p5 .0);
+        codes = p12 .0;
         room = ltb-false (length left) (j .«queue_words» + length f) (p6 .0);
       }
 
@@ -115,6 +119,7 @@ module _ (j : Join) (left right : Words) where
     pub unfailed : j .failed ≡ false
     pub unended : (j .«right_ended» || isDone (j .state)) ≡ false
     pub frame : isFrame (rightWidth j) f ≡ true
+    pub codes : lacksCode (j .options) (frameRows (rightWidth j) f) ≡ false
     pub room : j .held + rowCount f ≤ capacity (rightWidth j) right
     pub rows : j .pruned + j .held + rowCount f ≤ mostRows
 
@@ -125,13 +130,15 @@ module _ (j : Join) (left right : Words) where
       let p3 = passed (j .failed) Failed _ (p2 .1) in
       let p4 = passed (j .«right_ended» || isDone (j .state)) Closed _ (p3 .1) in
       let p5 = passed (not (isFrame (rightWidth j) f)) BadFrame _ (p4 .1) in
-      let p6 = passed (ltb (capacity (rightWidth j) right) (j .held + rowCount f)) NoRoom _ (p5 .1) in
+      let p12 = passed (lacksCode (j .options) (frameRows (rightWidth j) f)) UnknownCode _ (p5 .1) in
+      let p6 = passed (ltb (capacity (rightWidth j) right) (j .held + rowCount f)) NoRoom _ (p12 .1) in
       let p7 = passed (ltb mostRows (j .pruned + j .held + rowCount f)) UsedUp Accepted (p6 .1) in
       record {
         good = good j left right (p2 .0);
         unfailed = p3 .0;
         unended = p4 .0;
         frame = not-false (isFrame (rightWidth j) f) (p5 .0);
+        codes = p12 .0;
         room = ltb-false (capacity (rightWidth j) right) (j .held + rowCount f) (p6 .0);
         rows = ltb-false mostRows (j .pruned + j .held + rowCount f) (p7 .0);
       }

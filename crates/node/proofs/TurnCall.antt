@@ -14,6 +14,7 @@ use Rattle.options.specs.Options.{answerColumns}
 use Rattle.frames.specs.declared.Front.{Front}
 use Rattle.frames.specs.declared.Front.the-variants.{Words as Long, Nothing}
 use Rattle.frames.proofs.FrontLaws.{Fronted, front-told}
+use Rattle.order.specs.Listed.{lacksCode}
 use Rattle.area.specs.Area.{capacity, heldRows}
 use Rattle.searching.specs.Reach.{needMore}
 use Rattle.area.proofs.PushLaws.{capacity-room}
@@ -32,7 +33,7 @@ use Rattle.turnrows.proofs.PruneLaws.{split-known}
 use Rattle.node.specs.declared.Join.{Join}
 use Rattle.refusals.specs.Refusals.{marksFailed}
 use Rattle.refusals.specs.declared.Refusal.{Refusal}
-use Rattle.refusals.specs.declared.Refusal.the-variants.{BadJoin, Failed, Closed, BadFrame, NoRoom, UsedUp, LeftOrder, RightOrder}
+use Rattle.refusals.specs.declared.Refusal.the-variants.{BadJoin, Failed, Closed, BadFrame, UnknownCode, NoRoom, UsedUp, LeftOrder, RightOrder}
 use Rattle.outcomes.specs.declared.Answer.{Answer}
 use Rattle.outcomes.specs.declared.Answer.the-variants.{Wrote, WantsRight, Idle, Refused}
 use Rattle.refusals.specs.Tests.{Test, test, firstOf}
@@ -42,7 +43,7 @@ use Rattle.callrules.specs.Judged.{readyTests, readyJudged}
 use Rattle.turnparts.specs.Part.{roomTests, orderTests, roomAnswer, orderAnswer, leftPart, failedPart}
 use Rattle.turnparts.specs.declared.Part.{Part}
 use Rattle.turnfront.specs.Turns.{left as unmoved, rowsAnswer, rowsTurn, spoiledPart, RowsTurned}
-use Rattle.turncall.specs.Queue.{waitingIn, frontTurn, queueTurn, QueueTurned}
+use Rattle.turncall.specs.Queue.{waitingIn, listedTurn, frontTurn, queueTurn, QueueTurned}
 use Rattle.turncall.proofs.QueueLaws.{front-here, front-frame}
 use Rattle.turnfront.specs.declared.TurnedPart.{TurnedPart}
 
@@ -91,6 +92,9 @@ ready-past bad failed state words x b f d w = rw (b, f, d, w)
 frame-past : (b : Bool) (x : Answer) → b ≡ true → cond (not b) (Refused BadFrame) x ≡ x
 frame-past b x e = rw e
 
+codes-past : (b : Bool) (x : Answer) → b ≡ false → cond b (Refused UnknownCode) x ≡ x
+codes-past b x e = rw e
+
 -- No frame at the front.
 none-of : (b : Bool) (m : ℕ) → cond b (Long m) Nothing ≡ Nothing → b ≡ false
 none-of true m e = let z : _≡_ {A = ℕ} 0 1 = cc in absurd (omega arith)
@@ -120,6 +124,7 @@ module _ (j : Join) (left right out : Words) where
   abbrev behind : Words → List (Test Answer)
   behind f =
       test (not (isFrame (leftWidth j) f)) (Refused BadFrame)
+      ∷ test (lacksCode (j .options) (frameRows (leftWidth j) f)) (Refused UnknownCode)
       ∷ roomTests (j .options) (j .«right_ended») (j .sequence) (frameRows (leftWidth j) f) (heldOf j right) (length out)
       ++ orderTests (badLeft (j .options) (j .«last_left») (frameRows (leftWidth j) f)) (badRight (j .options) (j .«last_right») (frameRows (leftWidth j) f) (heldOf j right))
 
@@ -187,13 +192,18 @@ module _ (j : Join) (left right out : Words) where
       unfolding turnAnswer
       front-answer e = rw (r .unbroken, fronted, r .unfailed, r .undone, r .some, e)
 
-      answer-rows : isFrame (leftWidth j) f ≡ true → turnAnswer j left right out ≡ rowsAnswer (partOf j) (frameRows (leftWidth j) f) (heldOf j right) (length out)
+      codes-answer : isFrame (leftWidth j) f ≡ true → lacksCode (j .options) (frameRows (leftWidth j) f) ≡ true → turnAnswer j left right out ≡ Refused UnknownCode
       unfolding turnAnswer
-      answer-rows e =
+      codes-answer e u = rw (r .unbroken, fronted, r .unfailed, r .undone, r .some, e, u)
+
+      answer-rows : isFrame (leftWidth j) f ≡ true → lacksCode (j .options) (frameRows (leftWidth j) f) ≡ false → turnAnswer j left right out ≡ rowsAnswer (partOf j) (frameRows (leftWidth j) f) (heldOf j right) (length out)
+      unfolding turnAnswer
+      answer-rows e u =
           rw fronted
           (first-append (readyTests (badJoin j left right) (j .failed) (j .state) (j .«queue_words»)) (behind f) (Wrote (j .sequence))
           ∙ ready-past (badJoin j left right) (j .failed) (j .state) (j .«queue_words») (firstOf (behind f) (Wrote (j .sequence))) (r .unbroken) (r .unfailed) (r .undone) (r .some)
           ∙ frame-past (isFrame (leftWidth j) f) _ e
+          ∙ codes-past (lacksCode (j .options) (frameRows (leftWidth j) f)) _ u
           ∙ sym (by-rows (partOf j) (frameRows (leftWidth j) f) (heldOf j right) (length out)))
 
       turned-rows : turned j left right out ≡ after (Wrote (j .sequence))
@@ -202,31 +212,37 @@ module _ (j : Join) (left right out : Words) where
       unfolding turned dropped dequeued leftPart keptRows lastPrune
       turned-rows = rw fronted
 
-      turns : isFrame (leftWidth j) f ≡ true → (a : Answer) → rowsAnswer (partOf j) (frameRows (leftWidth j) f) (heldOf j right) (length out) ≡ a → (x : TurnedPart) (out′ : Words)
+      turns : isFrame (leftWidth j) f ≡ true → lacksCode (j .options) (frameRows (leftWidth j) f) ≡ false → (a : Answer) → rowsAnswer (partOf j) (frameRows (leftWidth j) f) (heldOf j right) (length out) ≡ a → (x : TurnedPart) (out′ : Words)
           → RowsTurned (partOf j) (frameRows (leftWidth j) f) (heldOf j right) (length f) out x out′ → TurnContract j left right out (record { answer = x .answer; join = joinWith j (x .part) }) out′
       unfolding turnCall rowsTurn
-      turns frame (Wrote q) e x out′ h =
-          let t = answer-rows frame ∙ e in
+      turns frame codes (Wrote q) e x out′ h =
+          let t = answer-rows frame codes ∙ e in
           record { answer = rw (t, turnCall, turned-rows) (rw (e, rowsTurn) at (h .answer)); join = rw (t, turnCall, turned-rows) (ap (joinWith j) (rw (e, rowsTurn) at (h .part))); words = rw (t, turnCall, turned-rows) (rw (e, rowsTurn) at (h .words)) }
-      turns frame WantsRight e x out′ h =
-          let t = answer-rows frame ∙ e in
+      turns frame codes WantsRight e x out′ h =
+          let t = answer-rows frame codes ∙ e in
           record { answer = rw (t, turnCall) (rw (e, rowsTurn) at (h .answer)); join = rw (t, turnCall) (ap (joinWith j) (rw (e, rowsTurn) at (h .part))); words = rw (t, turnCall) (rw (e, rowsTurn) at (h .words)) }
-      turns frame Idle e x out′ h =
-          let t = answer-rows frame ∙ e in
+      turns frame codes Idle e x out′ h =
+          let t = answer-rows frame codes ∙ e in
           record { answer = rw (t, turnCall) (rw (e, rowsTurn) at (h .answer)); join = rw (t, turnCall) (ap (joinWith j) (rw (e, rowsTurn) at (h .part))); words = rw (t, turnCall) (rw (e, rowsTurn) at (h .words)) }
-      turns frame (Refused n) e x out′ h =
-          let t = answer-rows frame ∙ e in
+      turns frame codes (Refused n) e x out′ h =
+          let t = answer-rows frame codes ∙ e in
           record { answer = rw (t, turnCall) (rw (e, rowsTurn) at (h .answer)); join = rw (t, turnCall) (ap (joinWith j) (rw (e, rowsTurn) at (h .part)) ∙ part-spoiled j n); words = rw (t, turnCall) (rw (e, rowsTurn) at (h .words)) }
 
     front-stops : frontOf (leftWidth j) (waiting j left) ≡ Nothing → TurnContract j left right out (record { answer = Refused BadFrame; join = j }) out
     front-stops e = stops (Refused BadFrame) (front-answer (front (leftWidth j) (waiting j left)) refl (front-broken (leftWidth j) (waiting j left) e)) refl
 
-    frame-turns : (k : ℕ) → frontOf (leftWidth j) (waiting j left) ≡ Long k → (x : TurnedPart) (out′ : Words)
+    codes-stop : (k : ℕ) → frontOf (leftWidth j) (waiting j left) ≡ Long k → lacksCode (j .options) (frameRows (leftWidth j) (take k (drop (j .«queue_start») left))) ≡ true
+        → TurnContract j left right out (record { answer = Refused UnknownCode; join = j }) out
+    unfolding waiting
+    codes-stop k told u =
+        stops (Refused UnknownCode) (codes-answer (take k (drop (j .«queue_start») left)) (front-here (partOf j) left right k told) (front-frame (partOf j) left right k told) u) refl
+
+    frame-turns : (k : ℕ) → frontOf (leftWidth j) (waiting j left) ≡ Long k → lacksCode (j .options) (frameRows (leftWidth j) (take k (drop (j .«queue_start») left))) ≡ false → (x : TurnedPart) (out′ : Words)
         → RowsTurned (partOf j) (frameRows (leftWidth j) (take k (drop (j .«queue_start») left))) (heldRows (rightWidth j) (j .base) (j .held) right) (length (take k (drop (j .«queue_start») left))) out x out′
         → TurnContract j left right out (record { answer = x .answer; join = joinWith j (x .part) }) out′
     unfolding heldOf waiting
-    frame-turns k told x out′ h =
-        turns (take k (drop (j .«queue_start») left)) (front-here (partOf j) left right k told) (front-frame (partOf j) left right k told) _ refl x out′ h
+    frame-turns k told u x out′ h =
+        turns (take k (drop (j .«queue_start») left)) (front-here (partOf j) left right k told) (front-frame (partOf j) left right k told) u _ refl x out′ h
 
   -- What the function under the call leaves is what the call leaves.
   module _ (b : Bool) (is : b ≡ badJoin j left right) (x : TurnedPart) (out′ : Words) (h : QueueTurned b (j .state) (partOf j) left right out x out′) where
@@ -241,10 +257,15 @@ module _ (j : Join) (left right out : Words) where
     unchanged a e z = record { answer = rw e at (known .answer) ∙ z .answer; join = ap (joinWith j) (rw e at (known .part)) ∙ z .join; words = rw e at (known .words) ∙ z .words }
 
     fronted : Ready → (s : ℕ) → readyAnswer j left right ≡ Wrote s → (f : Front) → frontOf (leftWidth j) (waiting j left) ≡ f → Goal
-    unfolding queueTurn frontTurn waiting
+    unfolding queueTurn frontTurn listedTurn waiting
     fronted r s e Nothing n = unchanged (Refused BadFrame) (rw (e, queueTurn, n, frontTurn)) (front-stops r n)
-    fronted r s e (Long k) n =
-        frame-turns r k n x out′ (record { answer = rw (e, queueTurn, n, frontTurn) at (known .answer); part = rw (e, queueTurn, n, frontTurn) at (known .part); words = rw (e, queueTurn, n, frontTurn) at (known .words) })
+    fronted r s e (Long k) n = go (lacksCode (j .options) (frameRows (leftWidth j) (take k (drop (j .«queue_start») left)))) refl
+      where
+        go : (b : Bool) → lacksCode (j .options) (frameRows (leftWidth j) (take k (drop (j .«queue_start») left))) ≡ b → Goal
+        go true u = unchanged (Refused UnknownCode) (rw (e, queueTurn, n, frontTurn, listedTurn, u)) (codes-stop r k n u)
+        go false u =
+            frame-turns r k n u x out′
+            (record { answer = rw (e, queueTurn, n, frontTurn, listedTurn, u) at (known .answer); part = rw (e, queueTurn, n, frontTurn, listedTurn, u) at (known .part); words = rw (e, queueTurn, n, frontTurn, listedTurn, u) at (known .words) })
 
     pub queue-turns : Goal
     unfolding queueTurn

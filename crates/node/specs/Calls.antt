@@ -5,6 +5,7 @@ use Prim.Native.Nat.{ℕ, _+_, _-_}
 use lib.ListN.{length, drop, take}
 use Rattle.frames.specs.Cells.{Words}
 use Rattle.frames.specs.Frame.{rowCount, isFrame, frameRows, front}
+use Rattle.order.specs.Listed.{lacksCode}
 use Rattle.area.specs.Area.{capacity, newBase, pushed, moved, written}
 use Rattle.searching.specs.Reach.{pruneBy}
 use Rattle.matching.specs.Answer.{frameAnswer, answered}
@@ -19,7 +20,7 @@ use Rattle.refusals.specs.Tests.{test, firstOf}
 use Rattle.callrules.specs.Judged.{leftJudged, endJudged, rightJudged, readyTests}
 use Rattle.turnparts.specs.Part.{roomTests, orderTests}
 use Rattle.refusals.specs.declared.Refusal.{Refusal}
-use Rattle.refusals.specs.declared.Refusal.the-variants.{BadFrame}
+use Rattle.refusals.specs.declared.Refusal.the-variants.{BadFrame, UnknownCode}
 use Rattle.outcomes.specs.declared.Answer.{Answer}
 use Rattle.outcomes.specs.declared.Answer.the-variants.{Wrote, WantsRight, Idle, Refused as TurnRefused}
 use Rattle.outcomes.specs.declared.Took.{Took}
@@ -42,7 +43,7 @@ after a j l r out = record { answer = a; join = j; left = l; right = r; out = ou
 -- ---- a left frame
 -- SCOPE 16.3: its tests are those of a left frame, by the numbers of the join.
 abbrev pub leftAnswer : Join → Words → Words → Words → Took
-leftAnswer j left right f = leftJudged (badJoin j left right) (j .failed) (j .state) (leftWidth j) (j .«queue_words») left f
+leftAnswer j left right f = leftJudged (badJoin j left right) (j .failed) (j .state) (j .options) (j .«queue_words») left f
 
 -- SCOPE 5.8, 5.9: an accepted left frame.
 unfoldable pub queued : Join → Words → Words → Words → After Took
@@ -62,7 +63,7 @@ leftCall j left right f =
 -- ---- a right frame
 -- SCOPE 16.3: its tests are those of a right frame.
 abbrev pub rightAnswer : Join → Words → Words → Words → Took
-rightAnswer j left right f = rightJudged (badJoin j left right) (j .failed) (j .«right_ended») (j .state) (rightWidth j) (j .held) (j .pruned) right f
+rightAnswer j left right f = rightJudged (badJoin j left right) (j .failed) (j .«right_ended») (j .state) (j .options) (j .held) (j .pruned) right f
 
 -- SCOPE 5.8, 5.9: an accepted right frame.
 unfoldable pub pushedRight : Join → Words → Words → Words → After Took
@@ -118,6 +119,7 @@ turnAnswer j left right out =
     firstOf (
     readyTests (badJoin j left right) (j .failed) (j .state) (j .«queue_words»)
     ++ test (not (isFrame (leftWidth j) f)) (TurnRefused BadFrame)
+    ∷ test (lacksCode (j .options) rows) (TurnRefused UnknownCode)
     ∷ roomTests (j .options) (j .«right_ended») (j .sequence) rows held (length out)
     ++ orderTests (badLeft (j .options) (j .«last_left») rows) (badRight (j .options) (j .«last_right») rows held)
     )

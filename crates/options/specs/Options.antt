@@ -1,10 +1,14 @@
 -- The options that a join is opened with. Assumes nothing.
+use mathlib.Core.Path.{_≡_}
 use mathlib.Core.Bool.{Bool, true, false, cond, not, _&&_, _||_}
-use Prim.Native.Nat.{ℕ, suc, _+_}
+use mathlib.Core.List.{[]}
+use Prim.Native.Nat.{ℕ, suc, _+_, _≤_}
 use lib.Dec.{ltb, eqb}
 use lib.IntN.{negsuc}
 use lib.Signed.{ltZ}
 use lib.ListN.{getD}
+use Rattle.frames.specs.Cells.{Words}
+use Rattle.ranks.specs.Ranks.{codesOf, badRanks}
 use Rattle.options.specs.declared.Options.{Options}
 use Rattle.options.specs.declared.Strategy.{Strategy}
 use Rattle.options.specs.declared.Strategy.the-variants.{Backward, Forward, Nearest}
@@ -48,19 +52,33 @@ badOptions o =
 abbrev pub manyCarried : Options → Bool
 manyCarried o = ltb 8 (o .carried)
 
+-- SCOPE 3.10: the list of ranks is one that opening refuses.
+abbrev pub badRanked : Options → Bool
+badRanked o = badRanks (o .by) (o .ranks)
+
 -- SCOPE 3.9: options that opening refuses, and with which a join is inconsistent.
 unfoldable pub refusedOptions : Options → Bool
-refusedOptions o = badOptions o || manyCarried o
+refusedOptions o = badOptions o || manyCarried o || badRanked o
 
--- How a column is ordered.
+-- What comparing rows needs of the options: few by-columns, and no list of ranks or one that opening takes.
+pub record Few (o : Options) : Type 0 where
+  pub by : o .by ≤ 4
+  pub list : badRanked o ≡ false
+
+-- How a column is ordered: its flags, and the codes by whose places it compares; without codes it compares by number.
 pub record Rule : Type 0 where
   pub descending : Bool
   pub nullsLast : Bool
+  pub codes : Words
 
--- SCOPE 3.5: the flags of by-column j.
+-- SCOPE 3.10: whether by-column j has the list.
+abbrev pub isRanked : Options → ℕ → Bool
+isRanked o j = o .ranks .given && eqb j (o .ranks .column)
+
+-- SCOPE 3.5, 3.10: the flags of by-column j, and the codes of its list.
 abbrev pub byRule : Options → ℕ → Rule
-byRule o j = record { descending = getD (o .descending) j false; nullsLast = getD (o .«nulls_last») j false }
+byRule o j = record { descending = getD (o .descending) j false; nullsLast = getD (o .«nulls_last») j false; codes = cond (isRanked o j) (codesOf (o .ranks)) [] }
 
--- SCOPE 4.3: the key has neither flag.
+-- SCOPE 4.3: the key has neither flag and no list.
 abbrev pub keyRule : Rule
-keyRule = record { descending = false; nullsLast = false }
+keyRule = record { descending = false; nullsLast = false; codes = [] }

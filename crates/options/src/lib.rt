@@ -1,7 +1,8 @@
 // The options that a join is opened with: their definitions, and tests of them.
+use ranks::Ranks;
 ghost use mathlib.Core.Path.{_≡_};
 ghost use Prim.Native.Nat.{_≤_};
-ghost use Rattle.options.specs.Options.{badOptions, manyCarried, refusedOptions, strategyOf, isOn, isStrict, columns, rightColumns, answerColumns};
+ghost use Rattle.options.specs.Options.{badOptions, manyCarried, isRanked, strategyOf, isOn, isStrict, columns, rightColumns, answerColumns};
 
 // The strategies of a match. In the options a strategy is its number, since a host may hand in any.
 pub enum Strategy {
@@ -27,6 +28,7 @@ pub struct Options {
     pub descending: [bool; 4],
     pub nulls_last: [bool; 4],
     pub carried: usize,
+    pub ranks: Ranks,
 }
 
 // Whether the options are invalid (SCOPE 3.6).
@@ -55,14 +57,14 @@ pub fn many_carried(o: Options) -> bool
     8 < o.carried
 }
 
-// Whether opening refuses the options (SCOPE 3.9).
-pub fn refused_options(o: Options) -> bool
-    ensures { λ r. ⌜ r ≡ refusedOptions o ⌝ }
+// Whether by-column j has the list of ranks (SCOPE 3.10).
+pub fn is_ranked(o: Options, j: usize) -> bool
+    ensures { λ r. ⌜ r ≡ isRanked o j ⌝ }
 {
-    if bad_options(o) {
-        return true;
+    if o.ranks.given {
+        return j == o.ranks.column;
     }
-    many_carried(o)
+    false
 }
 
 // The strategy by its number: 0 Backward, 1 Forward, 2 Nearest.

@@ -6,3 +6,4 @@ pub mod KeyedLaws
 pub mod SeamLaws
 pub mod Apart
 pub mod RowLaws
+pub mod ListedLaws

@@ -10,9 +10,10 @@ use native.Mathlib.Decide.{ℕ-discrete}
 use borrow.Author.Tests.{ltb-true, ltb-false, lt-ltb, le-ltb}
 use lib.IntN.{ℤ, pos, negsuc}
 use lib.Signed.{ltZ}
-use Rattle.frames.specs.Cells.{Cell, null, value, cell}
+use Rattle.frames.specs.Cells.{Cell, null, value, cell, Words}
+use Rattle.ranks.specs.Ranks.{placeIn}
 use Rattle.options.specs.Options.{Rule, byRule, keyRule}
-use Rattle.order.specs.Order.{next, cmpZ, cmpCell, cmpFirst, cmpGroup, cmpRow, keyOf}
+use Rattle.order.specs.Order.{next, cmpZ, cmpValue, cmpCell, cmpFirst, cmpGroup, cmpRow, keyOf}
 use Rattle.options.specs.declared.Options.{Options}
 use Rattle.order.specs.declared.Order.{Order}
 use Rattle.order.specs.declared.Order.the-variants.{Less, Equal, Greater}
@@ -218,13 +219,21 @@ cmpZ-is = record {
 }
 
 -- ---- cells
-by-way : (d : Bool) → IsOrder (λ (a b : ℤ). cond d (cmpZ b a) (cmpZ a b))
-by-way true = reversed cmpZ-is
-by-way false = cmpZ-is
+-- By place, and by number where the places are equal: each is an order, and so is the one after the other.
+pub cmpValue-is : (cs : Words) → IsOrder (cmpValue cs)
+cmpValue-is cs = then (on (λ (a : ℤ). pos (placeIn cs a)) cmpZ-is) cmpZ-is
 
-way-equal : (d : Bool) (a b : ℤ) → cond d (cmpZ b a) (cmpZ a b) ≡ Equal → a ≡ b
-way-equal true a b e = sym (cmpZ-equal b a e)
-way-equal false a b e = cmpZ-equal a b e
+-- Equal values are equal numbers, with a list or without.
+pub cmpValue-equal : (cs : Words) (a b : ℤ) → cmpValue cs a b ≡ Equal → a ≡ b
+cmpValue-equal cs a b e = cmpZ-equal a b (next-equal (cmpZ (pos (placeIn cs a)) (pos (placeIn cs b))) (cmpZ a b) e .1)
+
+by-way : (d : Bool) (cs : Words) → IsOrder (λ (a b : ℤ). cond d (cmpValue cs b a) (cmpValue cs a b))
+by-way true cs = reversed (cmpValue-is cs)
+by-way false cs = cmpValue-is cs
+
+way-equal : (d : Bool) (cs : Words) (a b : ℤ) → cond d (cmpValue cs b a) (cmpValue cs a b) ≡ Equal → a ≡ b
+way-equal true cs a b e = sym (cmpValue-equal cs b a e)
+way-equal false cs a b e = cmpValue-equal cs a b e
 
 -- A null against a value, by the flag that says where nulls stand.
 null-less : (l : Bool) → cond l Greater Less ≡ flip (cond l Less Greater)
@@ -252,17 +261,17 @@ module _ (k : Rule) where
   cell-equal null null e = refl
   cell-equal null (value b) e = never-equal (k .nullsLast) e
   cell-equal (value a) null e = equal-never (k .nullsLast) e
-  cell-equal (value a) (value b) e = ap value (way-equal (k .descending) a b e)
+  cell-equal (value a) (value b) e = ap value (way-equal (k .descending) (k .codes) a b e)
 
   cell-refl : (x : Cell) → cmpCell k x x ≡ Equal
   cell-refl null = refl
-  cell-refl (value a) = by-way (k .descending) .equal a
+  cell-refl (value a) = by-way (k .descending) (k .codes) .equal a
 
   cell-flip : (x y : Cell) → cmpCell k x y ≡ flip (cmpCell k y x)
   cell-flip null null = refl
   cell-flip null (value b) = null-less (k .nullsLast)
   cell-flip (value a) null = value-less (k .nullsLast)
-  cell-flip (value a) (value b) = by-way (k .descending) .flipped a b
+  cell-flip (value a) (value b) = by-way (k .descending) (k .codes) .flipped a b
 
   cell-less : (x y z : Cell) → cmpCell k x y ≡ Less → cmpCell k y z ≡ Less → cmpCell k x z ≡ Less
   cell-less null null z p q = q
@@ -271,7 +280,7 @@ module _ (k : Rule) where
   cell-less (value a) null null p q = p
   cell-less (value a) null (value c) p q = not-and-not (k .nullsLast) q p
   cell-less (value a) (value b) null p q = q
-  cell-less (value a) (value b) (value c) p q = by-way (k .descending) .less a b c p q
+  cell-less (value a) (value b) (value c) p q = by-way (k .descending) (k .codes) .less a b c p q
 
   pub cmpCell-is : IsOrder (cmpCell k)
   cmpCell-is = record {

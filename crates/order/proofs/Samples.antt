@@ -10,6 +10,8 @@ use Rattle.options.specs.Options.{columns}
 use Rattle.order.specs.Order.{distance, cmpRow, nullGroup, nullIn, cmpFirst}
 use Rattle.order.specs.Keyed.{firstLeft, lastLeft, firstFrom, lastBelow, rowAt, recall, remember, rememberAt, noRow, outOfOrder}
 use Rattle.options.specs.declared.Options.{Options}
+use Rattle.ranks.specs.Ranks.{ranksFor}
+use Rattle.ranks.specs.declared.Ranks.{Ranks}
 use Rattle.options.specs.declared.Check.{Check}
 use Rattle.options.specs.declared.Check.the-variants.{Off, On, Strict}
 use Rattle.order.specs.declared.Order.the-variants.{Less}
@@ -19,7 +21,14 @@ use Rattle.order.specs.declared.Row.{Row}
 abbrev pub four : List Bool → List Bool
 four bs = bs ++ replicate (4 - length bs) false
 
--- Options by b, strategy, equality, tolerance, check, descending, nulls last; nothing is carried.
+-- No list of ranks; and a list of codes for by-column j, with zeros behind them.
+abbrev pub noRanks : Ranks
+noRanks = ranksFor false 0 0 (replicate 64 (pos 0))
+
+abbrev pub ranksBy : ℕ → List ℤ → Ranks
+ranksBy j cs = ranksFor true j (length cs) (cs ++ replicate (64 - length cs) (pos 0))
+
+-- Options by b, strategy, equality, tolerance, check, descending, nulls last; nothing is carried, no column is ranked.
 abbrev pub options : ℕ → ℕ → Bool → ℤ → Bool → List Bool → List Bool → Options
 options b strategy eq tolerance check desc last = record {
   by = b;
@@ -30,6 +39,7 @@ options b strategy eq tolerance check desc last = record {
   descending = four desc;
   «nulls_last» = four last;
   carried = 0;
+  ranks = noRanks;
 }
 
 -- The same with p carried columns.
@@ -43,6 +53,7 @@ carrying p o = record {
   descending = o .descending;
   «nulls_last» = o .«nulls_last»;
   carried = p;
+  ranks = o .ranks;
 }
 
 -- The same with another setting of the order check.
@@ -56,6 +67,21 @@ checking c o = record {
   descending = o .descending;
   «nulls_last» = o .«nulls_last»;
   carried = o .carried;
+  ranks = o .ranks;
+}
+
+-- The same with other ranks.
+abbrev pub ranking : Ranks → Options → Options
+ranking k o = record {
+  by = o .by;
+  strategy = o .strategy;
+  «allow_eq» = o .«allow_eq»;
+  tolerance = o .tolerance;
+  check = o .check;
+  descending = o .descending;
+  «nulls_last» = o .«nulls_last»;
+  carried = o .carried;
+  ranks = k;
 }
 
 -- No by-columns, no tolerance, check off.

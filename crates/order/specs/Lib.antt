@@ -1,3 +1,4 @@
 pub mod Order
 pub mod Keyed
+pub mod Listed
 pub mod Requires

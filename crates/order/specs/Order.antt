@@ -2,9 +2,10 @@
 use mathlib.Core.Bool.{Bool, true, false, cond, not, _&&_, _||_}
 use mathlib.Core.List.{List, [], _∷_}
 use Prim.Native.Nat.{ℕ, zero, suc}
-use lib.IntN.{ℤ, natAbs, _-ℤ_}
+use lib.IntN.{ℤ, pos, natAbs, _-ℤ_}
 use lib.Signed.{ltZ}
-use Rattle.frames.specs.Cells.{Cell, null, value, cell, isNull, Rows}
+use Rattle.frames.specs.Cells.{Cell, null, value, cell, isNull, Rows, Words}
+use Rattle.ranks.specs.Ranks.{placeIn}
 use Rattle.options.specs.Options.{Rule, byRule, keyRule}
 use Rattle.options.specs.declared.Options.{Options}
 use Rattle.order.specs.declared.Order.{Order}
@@ -38,12 +39,17 @@ next Greater y = Greater
 abbrev pub cmpZ : ℤ → ℤ → Order
 cmpZ a b = cond (ltZ a b) Less (cond (ltZ b a) Greater Equal)
 
+-- SCOPE 4.9: values of a column with a list compare by place in it; values that it lacks stand behind all that it has, by number. Without a
+-- list all are such values. Equal are equal numbers alone.
+abbrev pub cmpValue : Words → ℤ → ℤ → Order
+cmpValue cs a b = next (cmpZ (pos (placeIn cs a)) (pos (placeIn cs b))) (cmpZ a b)
+
 -- SCOPE 4.1, 4.2: two cells of one column.
 abbrev pub cmpCell : Rule → Cell → Cell → Order
 cmpCell k null null = Equal
 cmpCell k null (value b) = cond (k .nullsLast) Greater Less
 cmpCell k (value a) null = cond (k .nullsLast) Less Greater
-cmpCell k (value a) (value b) = cond (k .descending) (cmpZ b a) (cmpZ a b)
+cmpCell k (value a) (value b) = cond (k .descending) (cmpValue (k .codes) b a) (cmpValue (k .codes) a b)
 
 -- SCOPE 4.4: two rows by their first j by-columns.
 unfoldable pub cmpFirst : Options → ℕ → List Cell → List Cell → Order

@@ -3,6 +3,7 @@ use Prim.Native.Nat.{ℕ, _+_, _*_, _≤_, _<_}
 use lib.IntN.{pos}
 use lib.ListN.{length, getD}
 use Rattle.frames.specs.Cells.{Cell, cellOf, Words}
+use Rattle.options.specs.Options.{Few}
 use Rattle.options.specs.declared.Options.{Options}
 
 -- The cell whose words stand at place k of values and marks.
@@ -22,22 +23,22 @@ pub record CellIn (k : ℕ) (vs ms : Words) : Type 0 where
 pub record MarksAt (o : Options) (p : ℕ) (ms : Words) : Type 0 where
   pub marks : p + o .by < length ms
 
--- By-values and key of the row at place p are there; there are at most 4 by-columns.
+-- By-values and key of the row at place p are there, and the options are such that rows compare.
 pub record RowAt (o : Options) (p : ℕ) (vs ms : Words) : Type 0 where
-  pub few : o .by ≤ 4
+  pub few : Few o
   pub values : p + o .by < length vs
   pub marks : p + o .by < length ms
 
 -- n rows are there, each w wide, with the key among its columns.
 pub record RowsIn (o : Options) (w n : ℕ) (vs ms : Words) : Type 0 where
-  pub few : o .by ≤ 4
+  pub few : Few o
   pub wide : o .by < w
   pub values : n * w ≤ length vs
   pub marks : n * w ≤ length ms
 
 -- The same of their marks alone.
 pub record KeysIn (o : Options) (w n : ℕ) (ms : Words) : Type 0 where
-  pub few : o .by ≤ 4
+  pub few : Few o
   pub wide : o .by < w
   pub marks : n * w ≤ length ms
 

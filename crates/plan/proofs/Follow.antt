@@ -13,9 +13,11 @@ use Rattle.frames.specs.Cells.{Rows, Words}
 use Rattle.frames.specs.Frame.{rowCount, frameWords, frameRows}
 use Rattle.options.specs.Options.{columns, rightColumns, answerColumns, refusedOptions}
 use Rattle.order.specs.Order.{sorted}
+use Rattle.order.specs.Listed.{lacksCode}
 use Rattle.options.specs.declared.Options.{Options}
 use Rattle.frames.proofs.FrameLaws.{frame-rows}
 use Rattle.order.proofs.SortedLaws.{sorted-cut}
+use Rattle.order.proofs.ListedLaws.{lacks-parts}
 use Rattle.area.specs.Area.{capacity}
 use Rattle.searching.specs.Reach.{needMore}
 use Rattle.node.specs.declared.Join.{Join}
@@ -67,6 +69,7 @@ module _ (o : Options) (l r : Words) (allowed : refusedOptions o ≡ false) wher
     pub undone : nodeDone es ≡ false
     pub few : length (rowsIn (rightColumns o) (rightFrames es ++ fs)) ≤ mostRows
     pub frames : Frames (rightColumns o) fs
+    pub codes : lacksCode o (rowsIn (rightColumns o) fs) ≡ false
     pub short : length (leftFrames es) < 2 ^ 63
 
   -- The rows held.
@@ -93,9 +96,9 @@ module _ (o : Options) (l r : Words) (allowed : refusedOptions o ≡ false) wher
     pub moved-on : (cl : Call) (e′ : Bool) (fs′ ls′ outs′ : List Words)
         → leftFrames (es ++ (step w cl .event ∷ [])) ≡ leftFrames es → rightFrames (es ++ (step w cl .event ∷ [])) ++ fs′ ≡ rightFrames es ++ fs
         → drop (length (outputs (es ++ (step w cl .event ∷ [])))) (leftFrames (es ++ (step w cl .event ∷ []))) ≡ ls′ → Room o ls′ outs′
-        → rightEnded (es ++ (step w cl .event ∷ [])) ≡ e′ → nodeDone (es ++ (step w cl .event ∷ [])) ≡ false → Frames (rightColumns o) fs′
+        → rightEnded (es ++ (step w cl .event ∷ [])) ≡ e′ → nodeDone (es ++ (step w cl .event ∷ [])) ≡ false → Frames (rightColumns o) fs′ → lacksCode o (rowsIn (rightColumns o) fs′) ≡ false
         → At (es ++ (step w cl .event ∷ [])) (step w cl .world) e′ fs′ ls′ outs′
-    moved-on cl e′ fs′ ls′ outs′ el er ew rm en un fr = record {
+    moved-on cl e′ fs′ ls′ outs′ el er ew rm en un fr cd = record {
       inv = inv-step o l r allowed es w (a .inv) cl;
       sound = sound-step o l r allowed es w (a .inv) (a .sound) cl;
       sl = rw el (a .sl);
@@ -106,6 +109,7 @@ module _ (o : Options) (l r : Words) (allowed : refusedOptions o ≡ false) wher
       undone = un;
       few = rw er (a .few);
       frames = fr;
+      codes = cd;
       short = rw el (a .short);
     }
 
@@ -153,7 +157,7 @@ module _ (o : Options) (l r : Words) (allowed : refusedOptions o ≡ false) wher
           let ev = onTurn WantsRight out in
           let eo : outputs (es ++ (step w (turn out) .event ∷ [])) ≡ outputs es = rw wants-event (snoc-out es ev ∙ append-nil (outputs es)) in
           moved-on es w e fs (f ∷ ls) (out ∷ outs) a (turn out) e fs (f ∷ ls) (out ∷ outs) wants-left (ap (λ (z : List Words). z ++ fs) wants-rights) (rw (eo, wants-left) (a .waits)) (a .room)
-          (rw wants-event (snoc-ended es ev ∙ or-false (rightEnded es) ∙ a .ended)) (rw wants-event (snoc-done es ev ∙ or-false (nodeDone es) ∙ a .undone)) (a .frames)
+          (rw wants-event (snoc-ended es ev ∙ or-false (rightEnded es) ∙ a .ended)) (rw wants-event (snoc-done es ev ∙ or-false (nodeDone es) ∙ a .undone)) (a .frames) (a .codes)
 
       pub wants-held : heldNow (es ++ (step w (turn out) .event ∷ [])) (step w (turn out) .world) ≡ heldNow es w
       wants-held = rw (wants-world, wants-rights) refl
@@ -186,7 +190,7 @@ module _ (o : Options) (l r : Words) (allowed : refusedOptions o ≡ false) wher
           let ev = onTurn (Wrote (w .join .sequence)) (turned (w .join) (w .left) (w .right) out .out) in
           let eo : length (outputs (es ++ (step w (turn out) .event ∷ []))) ≡ suc (length (outputs es)) = rw wrote-event (ap length (snoc-out es ev) ∙ length-append (outputs es) (turned (w .join) (w .left) (w .right) out .out ∷ []) ∙ omega arith) in
           moved-on es w e fs (f ∷ ls) (out ∷ outs) a (turn out) e fs ls outs wrote-left (ap (λ (z : List Words). z ++ fs) wrote-rights) (rw (eo, wrote-left) (drop-next (length (outputs es)) (leftFrames es) f ls (a .waits))) (tail-room o (a .room))
-          (rw wrote-event (snoc-ended es ev ∙ or-false (rightEnded es) ∙ a .ended)) (rw wrote-event (snoc-done es ev ∙ or-false (nodeDone es) ∙ a .undone)) (a .frames)
+          (rw wrote-event (snoc-ended es ev ∙ or-false (rightEnded es) ∙ a .ended)) (rw wrote-event (snoc-done es ev ∙ or-false (nodeDone es) ∙ a .undone)) (a .frames) (a .codes)
 
       pub wrote-held : heldNow (es ++ (step w (turn out) .event ∷ [])) (step w (turn out) .world) ≡ keptAfter o x (heldNow es w)
       wrote-held =
@@ -206,13 +210,18 @@ module _ (o : Options) (l r : Words) (allowed : refusedOptions o ≡ false) wher
         let m = length-append (frameRows (rightColumns o) f) (rowsIn (rightColumns o) fs) in
         omega (arith, a .few, a .inv .stock .rows, n, k, m)
 
+    -- The list lacks none of its values, and none of those that come behind it.
+    codes-parts : (lacksCode o (frameRows (rightColumns o) f) ≡ false) × (lacksCode o (rowsIn (rightColumns o) fs) ≡ false)
+    unfolding rowsIn
+    codes-parts = lacks-parts o (frameRows (rightColumns o) f) (rowsIn (rightColumns o) fs) (a .codes)
+
     -- It is judged by its room alone.
     pub right-answers : rightAnswer (w .join) (w .left) (w .right) f ≡ cond (ltb (capacity (rightColumns o) r) (w .join .held + rowCount f)) (Refused NoRoom) Accepted
     unfolding rightJudged
     right-answers =
         let i = a .inv in
         let en : w .join .«right_ended» ≡ false = i .flags .ended ∙ a .ended in
-        rw (good o l r allowed es w i, unfailed es w false (f ∷ fs) ls outs a, en, not-done es w false (f ∷ fs) ls outs a, i .stock .options, a .frames .0, same-room, le-ltb mostRows (w .join .pruned + w .join .held + rowCount f) few-more)
+        rw (good o l r allowed es w i, unfailed es w false (f ∷ fs) ls outs a, en, not-done es w false (f ∷ fs) ls outs a, i .stock .options, a .frames .0, codes-parts .0, same-room, le-ltb mostRows (w .join .pruned + w .join .held + rowCount f) few-more)
         refl
 
     -- Refused.
@@ -242,7 +251,7 @@ module _ (o : Options) (l r : Words) (allowed : refusedOptions o ≡ false) wher
           let ev = onRight f Accepted in
           let eo : outputs (es ++ (step w (right f) .event ∷ [])) ≡ outputs es = rw took-event (snoc-out es ev ∙ append-nil (outputs es)) in
           moved-on es w false (f ∷ fs) ls outs a (right f) false fs ls outs took-left (rw took-rights (append-assoc (rightFrames es) (f ∷ []) fs)) (rw (eo, took-left) (a .waits)) (a .room)
-          (rw took-event (snoc-ended es ev ∙ or-false (rightEnded es) ∙ a .ended)) (rw took-event (snoc-done es ev ∙ or-false (nodeDone es) ∙ a .undone)) (a .frames .1)
+          (rw took-event (snoc-ended es ev ∙ or-false (rightEnded es) ∙ a .ended)) (rw took-event (snoc-done es ev ∙ or-false (nodeDone es) ∙ a .undone)) (a .frames .1) (codes-parts .1)
 
       pub took-held : heldNow (es ++ (step w (right f) .event ∷ [])) (step w (right f) .world) ≡ heldNow es w ++ frameRows (rightColumns o) f
       unfolding pushedRight rowsIn
@@ -279,7 +288,7 @@ module _ (o : Options) (l r : Words) (allowed : refusedOptions o ≡ false) wher
         let ev = onEnd Accepted in
         let eo : outputs (es ++ (step w end .event ∷ [])) ≡ outputs es = rw end-event (snoc-out es ev ∙ append-nil (outputs es)) in
         moved-on es w false [] ls outs a end true [] ls outs end-left (ap (λ (z : List Words). z ++ []) end-rights) (rw (eo, end-left) (a .waits)) (a .room)
-        (rw end-event (snoc-ended es ev ∙ rw (a .ended) refl)) (rw end-event (snoc-done es ev ∙ or-false (nodeDone es) ∙ a .undone)) tt
+        (rw end-event (snoc-ended es ev ∙ rw (a .ended) refl)) (rw end-event (snoc-done es ev ∙ or-false (nodeDone es) ∙ a .undone)) tt (a .codes)
 
     pub end-held : heldNow (es ++ (step w end .event ∷ [])) (step w end .world) ≡ heldNow es w
     end-held = let p : step w end .world .join .pruned ≡ w .join .pruned = ap (λ s. s .world .join .pruned) end-step in rw (p, end-rights) refl

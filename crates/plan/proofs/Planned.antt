@@ -11,8 +11,10 @@ use Rattle.frames.specs.Cells.{Rows, Words}
 use Rattle.frames.specs.Frame.{isFrame, frameRows}
 use Rattle.options.specs.Options.{columns, rightColumns, refusedOptions}
 use Rattle.order.specs.Order.{sorted}
+use Rattle.order.specs.Listed.{lacksCode}
 use Rattle.options.specs.declared.Options.{Options}
 use Rattle.order.proofs.SortedLaws.{sorted-cut}
+use Rattle.order.proofs.ListedLaws.{lacks-parts}
 use Rattle.area.specs.Area.{capacity}
 use Rattle.outcomes.specs.declared.Took.the-variants.{Accepted}
 use Rattle.outcomes.specs.Answers.{isRunning}
@@ -62,7 +64,7 @@ module _ (o : Options) (l r : Words) (allowed : refusedOptions o ≡ false) wher
     unfolding rowsIn
     none-held = let z : length (rowsIn (rightColumns o) (rightFrames es)) ≡ 0 = rw (a .rights) refl in omega (arith, a .inv .stock .rows)
 
-    module _ (f : Words) (frame : isFrame (columns o) f ≡ true) (sl : sorted o (rowsIn (columns o) (done ++ (f ∷ []))) ≡ true) (room : length (backToBack done) + length f ≤ length l) where
+    module _ (f : Words) (frame : isFrame (columns o) f ≡ true) (codes : lacksCode o (frameRows (columns o) f) ≡ false) (sl : sorted o (rowsIn (columns o) (done ++ (f ∷ []))) ≡ true) (room : length (backToBack done) + length f ≤ length l) where
       running : isRunning (w .join .state) ≡ true
       running = a .inv .flags .running ∙ rw (a .unended, a .undone) refl
 
@@ -81,7 +83,7 @@ module _ (o : Options) (l r : Words) (allowed : refusedOptions o ≡ false) wher
       left-answers : leftAnswer (w .join) (w .left) (w .right) f ≡ Accepted
       unfolding leftJudged
       left-answers =
-          rw (good o l r allowed es w (a .inv), unfailed, running, a .inv .stock .options, frame, le-ltb (length (w .left)) (w .join .«queue_words» + length f) (omega (arith, a .inv .stock .left-length, waiting-words))) refl
+          rw (good o l r allowed es w (a .inv), unfailed, running, a .inv .stock .options, frame, codes, le-ltb (length (w .left)) (w .join .«queue_words» + length f) (omega (arith, a .inv .stock .left-length, waiting-words))) refl
 
       left-event : step w (left f) .event ≡ onLeft f Accepted
       unfolding step leftCall queued
@@ -114,18 +116,19 @@ module _ (o : Options) (l r : Words) (allowed : refusedOptions o ≡ false) wher
     pub wait : Queued (es ++ events w (map left todo)) (final w (map left todo)) (done ++ todo)
     pub same : (cs : List Call) (p : Figures) (n : ℕ) → Result o l r allowed (final w (map left todo)) cs p n → Result o l r allowed w (map left todo ++ cs) p n
 
-  queue-all : (todo : List Words) (es : List Event) (w : World) (done : List Words) → Queued es w done → Frames (columns o) todo → sorted o (rowsIn (columns o) (done ++ todo)) ≡ true
+  queue-all : (todo : List Words) (es : List Event) (w : World) (done : List Words) → Queued es w done → Frames (columns o) todo → lacksCode o (rowsIn (columns o) todo) ≡ false → sorted o (rowsIn (columns o) (done ++ todo)) ≡ true
       → length (backToBack (done ++ todo)) ≤ length l → AllQueued es w done todo
-  unfolding final events
-  queue-all [] es w done a fr s room = record { wait = rw (append-nil done, append-nil es) a; same = λ cs p n h. h }
-  queue-all (f ∷ todo) es w done a fr s room =
+  unfolding final events rowsIn
+  queue-all [] es w done a fr lc s room = record { wait = rw (append-nil done, append-nil es) a; same = λ cs p n h. h }
+  queue-all (f ∷ todo) es w done a fr lc s room =
+      let k = lacks-parts o (frameRows (columns o) f) (rowsIn (columns o) todo) lc in
       let e : (done ++ (f ∷ [])) ++ todo ≡ done ++ (f ∷ todo) = append-assoc done (f ∷ []) todo in
       let sn = sorted-cut o (rowsIn (columns o) (done ++ (f ∷ []))) (rowsIn (columns o) todo) (rw (← rows-in-append (columns o) (done ++ (f ∷ [])) todo, e) s) .0 in
       let rn : length (backToBack done) + length f ≤ length l = room-first done f todo room in
-      let q = queue-all todo (es ++ (step w (left f) .event ∷ [])) (step w (left f) .world) (done ++ (f ∷ [])) (queued-next es w done a f (fr .0) sn rn) (fr .1) (rw e s) (rw e room) in
+      let q = queue-all todo (es ++ (step w (left f) .event ∷ [])) (step w (left f) .world) (done ++ (f ∷ [])) (queued-next es w done a f (fr .0) (k .0) sn rn) (fr .1) (k .1) (rw e s) (rw e room) in
       record {
         wait = rw (← e) (rw (append-assoc es (step w (left f) .event ∷ []) (events (step w (left f) .world) (map left todo))) at (q .wait));
-        same = λ cs p n h. quiet-on w (left f) (map left todo ++ cs) (onLeft f Accepted) p n (left-event es w done a f (fr .0) sn rn) refl refl refl refl (none-held es w done a) (q .same cs p n h);
+        same = λ cs p n h. quiet-on w (left f) (map left todo ++ cs) (onLeft f Accepted) p n (left-event es w done a f (fr .0) (k .0) sn rn) refl refl refl refl (none-held es w done a) (q .same cs p n h);
       }
 
   queued-start : Queued [] (start o l r) []
@@ -135,7 +138,7 @@ module _ (o : Options) (l r : Words) (allowed : refusedOptions o ≡ false) wher
   -- ---- then the rounds
   module _ (lefts rights outs : List Words) (h : Planned o l lefts rights outs) where
     pub all-queued : AllQueued [] (start o l r) [] lefts
-    all-queued = queue-all lefts [] (start o l r) [] queued-start (all-frames (columns o) lefts (h .left-frames)) (h .left-sorted) (h .left-room)
+    all-queued = queue-all lefts [] (start o l r) [] queued-start (all-frames (columns o) lefts (h .left-frames)) (h .left-codes) (h .left-sorted) (h .left-room)
 
     abbrev pub es₀ : List Event
     es₀ = events (start o l r) (map left lefts)
@@ -158,6 +161,7 @@ module _ (o : Options) (l r : Words) (allowed : refusedOptions o ≡ false) wher
       undone = q₀ .undone;
       few = rw (q₀ .rights) (h .few-rights);
       frames = all-frames (rightColumns o) rights (h .right-frames);
+      codes = h .right-codes;
       short = rw (q₀ .lefts) (h .few-lefts);
     }
 

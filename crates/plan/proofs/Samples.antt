@@ -4,14 +4,17 @@ use mathlib.Core.Bool.{true, false}
 use mathlib.Core.List.{List, [], _∷_, map}
 use Prim.Native.Nat.{ℕ}
 use lib.IntN.{pos, negsuc}
-use Rattle.frames.specs.Cells.{Cell, Words}
+use Rattle.frames.specs.Cells.{Cell, null, value, Rows, Words}
+use Rattle.ranks.specs.Ranks.{badRanks, rises, risesBehind, below, placed, listed}
 use Rattle.options.specs.Options.{badOptions}
-use Rattle.order.proofs.Samples.{options, plain, carrying, row, keys, frameOf}
+use Rattle.options.specs.declared.Options.{Options}
+use Rattle.order.specs.Listed.{unlistedIn}
+use Rattle.order.proofs.Samples.{options, plain, carrying, ranksBy, ranking, row, keys, frameOf}
 use Rattle.turnrows.specs.Prunes.{keptRows, lastPrune}
 use Rattle.lists.specs.Lists.{start, events, final, leftFrames, rightFrames, outputs, turnsIn}
 use Rattle.lists.proofs.Script.{leftArea, rightArea, space, speakAll}
 use Rattle.plan.specs.Schedule.{rounds, schedule, mostHeld, turnCalls, rightsTaken, meetsNoRoom}
-use Rattle.plan.specs.Table.{isTable}
+use Rattle.plan.specs.Table.{isTable, total, anyBad, heightsOf, badHeights}
 use Rattle.plan.specs.TablePlan.{planAnswer}
 use Rattle.plan.specs.Plan.{Figures, planFrom, plan, figures}
 
@@ -93,5 +96,56 @@ carried = (refl, refl, refl, refl)
 -- Nine carried columns: 10, behind 1 and before 5.
 pub too-many : planAnswer (carrying 9 (plain 0 true)) [] [] [] [] ∷ planAnswer (carrying 9 (options 5 0 true (negsuc 0) false [] [])) [] [] [] [] ∷ planAnswer (carrying 8 (plain 0 true)) [] [] [] [] ∷ []
     ≡ 10 ∷ 1 ∷ 5 ∷ []
-unfolding planAnswer isTable badOptions
+unfolding planAnswer isTable badOptions badRanks
 too-many = refl
+
+-- By rank the stalls, 7, come first, then the circle, 3, then the gods, 5.
+abbrev pub banded : List ℕ → Options
+banded codes = ranking (ranksBy 0 (map pos codes)) (options 1 0 true (negsuc 0) false [] [])
+
+abbrev pub bands : Options
+bands = banded (7 ∷ 3 ∷ 5 ∷ [])
+
+unfoldable pub sales : List Words
+sales = frameOf 2 (map row ((7 ∷ 15 ∷ []) ∷ (3 ∷ 4 ∷ []) ∷ [])) ∷ frameOf 2 (map row ((5 ∷ 9 ∷ []) ∷ [])) ∷ []
+
+unfoldable pub notices : List Words
+notices =
+    frameOf 2 (map row ((7 ∷ 10 ∷ []) ∷ (7 ∷ 12 ∷ []) ∷ [])) ∷ frameOf 2 (map row ((3 ∷ 1 ∷ []) ∷ (5 ∷ 2 ∷ []) ∷ [])) ∷ frameOf 2 (map row ((5 ∷ 20 ∷ []) ∷ [])) ∷ []
+
+-- The circle's sale wants the frame behind the stalls' notices: four rows of two columns, 16 words. The turn drops the stalls' notices, and the gods' sale takes the last frame.
+pub ranked : (figures bands (leftArea 20) (rightArea 16) sales notices outs ≡ told 4 5 3)
+    × (meetsNoRoom (events (start bands (leftArea 20) (rightArea 16)) (schedule bands (leftArea 20) (rightArea 16) sales notices outs)) ≡ false)
+    × (meetsNoRoom (events (start bands (leftArea 20) (rightArea 15)) (schedule bands (leftArea 20) (rightArea 15) sales notices outs)) ≡ true)
+    × (outputs (events (start bands (leftArea 20) (rightArea 16)) (schedule bands (leftArea 20) (rightArea 16) sales notices outs))
+    ≡ (pos 2 ∷ pos 1 ∷ pos 1 ∷ pos 2 ∷ pos 1 ∷ pos 1 ∷ []) ∷ (pos 1 ∷ pos 1 ∷ pos 3 ∷ pos 1 ∷ negsuc 8 ∷ negsuc 8 ∷ []) ∷ [])
+unfolding sales notices outs plan planFrom lastPrune keptRows schedule rounds meetsNoRoom speakAll events final leftFrames rightFrames outputs rises risesBehind placed below listed unlistedIn
+ranked = (refl, refl, refl, refl)
+
+-- The same rows as tables, cut in the same heights: planned by this list; unsorted, 14, without a list and by another one.
+unfoldable pub sold : Rows
+sold = map row ((7 ∷ 15 ∷ []) ∷ (3 ∷ 4 ∷ []) ∷ (5 ∷ 9 ∷ []) ∷ [])
+
+unfoldable pub posted : Rows
+posted = map row ((7 ∷ 10 ∷ []) ∷ (7 ∷ 12 ∷ []) ∷ (3 ∷ 1 ∷ []) ∷ (5 ∷ 2 ∷ []) ∷ (5 ∷ 20 ∷ []) ∷ [])
+
+abbrev pub answers : Options → Rows → Rows → ℕ
+answers o left right = planAnswer o (frameOf 2 left) (frameOf 2 right) (map pos (2 ∷ 1 ∷ [])) (map pos (2 ∷ 2 ∷ 1 ∷ []))
+
+pub by-rank : answers bands sold posted ∷ answers (options 1 0 true (negsuc 0) false [] []) sold posted ∷ answers (banded (3 ∷ 5 ∷ 7 ∷ [])) sold posted ∷ [] ≡ 0 ∷ 14 ∷ 14 ∷ []
+unfolding sold posted planAnswer isTable badHeights anyBad heightsOf total speakAll rises risesBehind placed below listed unlistedIn
+by-rank = refl
+
+-- A list that is empty, that has a code twice, and one for a column that is no by-column: 11, behind 1 and 10 and before 5.
+pub bad-lists : planAnswer (banded []) [] [] [] [] ∷ planAnswer (banded (7 ∷ 3 ∷ 7 ∷ [])) [] [] [] [] ∷ planAnswer (ranking (ranksBy 0 (pos 7 ∷ [])) (plain 0 true)) [] [] [] []
+    ∷ planAnswer (carrying 9 (banded [])) [] [] [] [] ∷ planAnswer (ranking (ranksBy 0 []) (options 5 0 true (negsuc 0) false [] [])) [] [] [] [] ∷ planAnswer bands [] [] [] [] ∷ []
+    ≡ 11 ∷ 11 ∷ 11 ∷ 10 ∷ 1 ∷ 5 ∷ []
+unfolding planAnswer isTable badOptions badRanks rises risesBehind placed below
+bad-lists = refl
+
+-- A code that the list lacks, on the left alone and on the right alone: 12, behind 5 and before 14. A null is none.
+pub unknown-codes : answers bands (row (4 ∷ 1 ∷ []) ∷ sold) posted ∷ answers bands sold (row (4 ∷ 1 ∷ []) ∷ posted) ∷ answers bands (row (4 ∷ []) ∷ sold) posted
+    ∷ answers bands ((null ∷ value (pos 1) ∷ []) ∷ map row ((7 ∷ 15 ∷ []) ∷ (3 ∷ 4 ∷ []) ∷ [])) posted ∷ []
+    ≡ 12 ∷ 12 ∷ 5 ∷ 0 ∷ []
+unfolding sold posted planAnswer isTable badHeights anyBad heightsOf total speakAll rises risesBehind placed below listed unlistedIn
+unknown-codes = refl

@@ -12,8 +12,9 @@ use lib.ListN.{length, drop, getD, length-drop}
 use lib.Seq.{length-take-le}
 use Rattle.frames.specs.Cells.{Words}
 use Rattle.frames.specs.Frame.{sameZ, rowCount, frameWords, pairsFine, valuesIn, marksIn, frameRows}
-use Rattle.options.specs.Options.{columns, rightColumns, badOptions, manyCarried}
+use Rattle.options.specs.Options.{columns, rightColumns, badOptions, manyCarried, badRanked}
 use Rattle.order.specs.Order.{sorted}
+use Rattle.order.specs.Listed.{lacksCode}
 use Rattle.options.proofs.OptionLaws.{good-allowed}
 use Rattle.frames.proofs.BoolLaws.{and-true}
 use Rattle.frames.proofs.WordLaws.{rows-length}
@@ -98,9 +99,12 @@ table-plans o left right hl hr l r outs e g =
     let d = rightColumns o in
     let p₁ = passes (badOptions o) 0 _ e in
     let p₁₀ = passes (manyCarried o) 9 _ (p₁ .1) in
-    let p₅ = passes (not (isTable c left && isTable d right)) 4 _ (p₁₀ .1) in
+    let p₁₁ = passes (badRanked o) 10 _ (p₁₀ .1) in
+    let p₅ = passes (not (isTable c left && isTable d right)) 4 _ (p₁₁ .1) in
     let t = and-true (isTable c left) (isTable d right) (not-false (isTable c left && isTable d right) (p₅ .0)) in
-    let p₁₄ = passes (not (sorted o (frameRows c left) && sorted o (frameRows d right))) 13 _ (p₅ .1) in
+    let p₁₂ = passes (lacksCode o (frameRows c left) || lacksCode o (frameRows d right)) 11 _ (p₅ .1) in
+    let k = or-none (lacksCode o (frameRows c left)) (lacksCode o (frameRows d right)) (p₁₂ .0) in
+    let p₁₄ = passes (not (sorted o (frameRows c left) && sorted o (frameRows d right))) 13 _ (p₁₂ .1) in
     let s = and-true (sorted o (frameRows c left)) (sorted o (frameRows d right)) (not-false (sorted o (frameRows c left) && sorted o (frameRows d right)) (p₁₄ .0)) in
     let p₁₇ = passes (badHeights (rowCount left) hl || badHeights (rowCount right) hr) 16 _ (p₁₄ .1) in
     let b = or-none (badHeights (rowCount left) hl) (badHeights (rowCount right) hr) (p₁₇ .0) in
@@ -108,11 +112,13 @@ table-plans o left right hl hr l r outs e g =
     let R = side d right hr (t .1) (b .1) in
     let n = frames-count c (heightsOf hl) (valuesIn c left) (marksIn c left) in
     let h : Planned o l (cutInto c left hl) (cutInto d right hr) outs = record {
-      allowed = good-allowed o (p₁ .0) (p₁₀ .0);
+      allowed = good-allowed o (p₁ .0) (p₁₀ .0) (p₁₁ .0);
       left-frames = L .frames;
       right-frames = R .frames;
       left-sorted = rw (L .rows) (s .0);
       right-sorted = rw (R .rows) (s .1);
+      left-codes = rw (L .rows) (k .0);
+      right-codes = rw (R .rows) (k .1);
       left-room = g .left-room;
       outputs = g .outputs;
       few-rights = rw (R .rows) (rows-few d right (g .few-rights));
@@ -121,5 +127,5 @@ table-plans o left right hl hr l r outs e g =
     record {
       enough = plans .enough o l r (cutInto c left hl) (cutInto d right hr) outs h;
       short = plans .short o l r (cutInto c left hl) (cutInto d right hr) outs h;
-      written = λ k. writes-all o l r (cutInto c left hl) (cutInto d right hr) outs h k ∙ rw (L .rows, R .rows) refl;
+      written = λ m. writes-all o l r (cutInto c left hl) (cutInto d right hr) outs h m ∙ rw (L .rows, R .rows) refl;
     }

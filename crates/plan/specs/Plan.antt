@@ -8,6 +8,7 @@ use Rattle.frames.specs.Cells.{Rows, Words}
 use Rattle.frames.specs.Frame.{rowCount, frameWords, isFrame, frameRows}
 use Rattle.options.specs.Options.{columns, refusedOptions, rightColumns, answerColumns}
 use Rattle.order.specs.Order.{sorted}
+use Rattle.order.specs.Listed.{lacksCode}
 use Rattle.options.specs.declared.Options.{Options}
 use Rattle.area.specs.Area.{capacity}
 use Rattle.searching.specs.Reach.{needMore}
@@ -57,13 +58,15 @@ abbrev pub AllFrames : ℕ → List Words → Type 0
 AllFrames c [] = Unit {0}
 AllFrames c (f ∷ fs) = (isFrame c f ≡ true) × AllFrames c fs
 
--- Two sorted tables in frames, with left words and output enough; and the counts that no memory reaches.
+-- Two sorted tables in frames, without a value that the list of ranks lacks, with left words and output enough; and the counts that no memory reaches.
 pub record Planned (o : Options) (l : Words) (lefts rights outs : List Words) : Type 0 where
   pub allowed : refusedOptions o ≡ false
   pub left-frames : AllFrames (columns o) lefts
   pub right-frames : AllFrames (rightColumns o) rights
   pub left-sorted : sorted o (rowsIn (columns o) lefts) ≡ true
   pub right-sorted : sorted o (rowsIn (rightColumns o) rights) ≡ true
+  pub left-codes : lacksCode o (rowsIn (columns o) lefts) ≡ false
+  pub right-codes : lacksCode o (rowsIn (rightColumns o) rights) ≡ false
   pub left-room : length (backToBack lefts) ≤ length l
   pub outputs : Each (λ f out. frameWords (rowCount f) (answerColumns o) ≤ length out) lefts outs
   pub few-rights : length (rowsIn (rightColumns o) rights) ≤ mostRows

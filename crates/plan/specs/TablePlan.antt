@@ -6,12 +6,13 @@ use Prim.Native.Nat.{ℕ, _+_, _*_, _^_, _≤_, _<_}
 use lib.ListN.{length}
 use Rattle.frames.specs.Cells.{Words}
 use Rattle.frames.specs.Frame.{rowCount, frameWords, valuesIn, marksIn, frameRows}
-use Rattle.options.specs.Options.{columns, badOptions, manyCarried, rightColumns, answerColumns}
+use Rattle.options.specs.Options.{columns, badOptions, manyCarried, badRanked, rightColumns, answerColumns}
 use Rattle.order.specs.Order.{sorted}
+use Rattle.order.specs.Listed.{lacksCode}
 use Rattle.options.specs.declared.Options.{Options}
 use Rattle.area.specs.Area.{capacity}
 use Rattle.refusals.specs.Refusals.{number}
-use Rattle.refusals.specs.declared.Refusal.the-variants.{BadOptions, TooManyCarried, BadFrame, Unsorted, BadHeights}
+use Rattle.refusals.specs.declared.Refusal.the-variants.{BadOptions, TooManyCarried, BadRanks, BadFrame, UnknownCode, Unsorted, BadHeights}
 use Rattle.outcomes.specs.Answers.{mostRows}
 use Rattle.lists.specs.Lists.{start, events, outputs, matchesIn, backToBack}
 use Rattle.lists.specs.WholeTables.{dueOver, Each}
@@ -19,16 +20,18 @@ use Rattle.plan.specs.Schedule.{schedule}
 use Rattle.plan.specs.Plan.{Figures, figures, Holds, Short}
 use Rattle.plan.specs.Table.{isTable, framesBy, heightsOf, badHeights}
 
--- Refusals: options 1 and 10; a table that breaks the rule or has another c 5, the left one first; an unsorted table 14; heights 17. Else 0: the figures.
--- (11 and 12 come with rank lists: behind 10, and behind 5.)
+-- Refusals: options 1, 10 and 11; a table that breaks the rule or has another c 5, the left one first; a table with a value that the list of ranks lacks 12; an unsorted
+-- table 14; heights 17. Else 0: the figures.
 unfoldable pub planAnswer : Options → Words → Words → Words → Words → ℕ
 planAnswer o left right hl hr =
     cond (badOptions o) (number BadOptions)
     (cond (manyCarried o) (number TooManyCarried)
+    (cond (badRanked o) (number BadRanks)
     (cond (not (isTable (columns o) left && isTable (rightColumns o) right)) (number BadFrame)
+    (cond (lacksCode o (frameRows (columns o) left) || lacksCode o (frameRows (rightColumns o) right)) (number UnknownCode)
     (cond (not (sorted o (frameRows (columns o) left) && sorted o (frameRows (rightColumns o) right))) (number Unsorted)
     (cond (badHeights (rowCount left) hl || badHeights (rowCount right) hr) (number BadHeights)
-    0))))
+    0))))))
 
 -- The frames of these heights of a table of c columns.
 abbrev pub cutInto : ℕ → Words → Words → List Words

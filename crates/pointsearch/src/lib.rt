@@ -1,6 +1,6 @@
 // The points: whether they are in order, the searches among them, and those inside the bounds of one interval.
 use bisect::find;
-use compare::cmp_cell;
+use cells::cmp_cell;
 use keyed::null_at;
 use order::Order;
 use searching::Seek;
@@ -55,7 +55,21 @@ fn search_sorted(seek: Seek, v: i64, values: &[i64], marks: &[i64], n: usize) ->
     requires { ⌜ PointsIn n (now values) (now marks) ⌝ }
     ensures { λ r. ⌜ (r ≡ searchSorted seek v (rowsOf 1 n (now (values .entry)) (now (marks .entry)))) × (r ≤ n) ⌝ }
 {
-    find(seek, false, false, 0, v, 1, values, marks, 1, 0, n)
+    find(
+        seek,
+        false,
+        false,
+        &[],
+        &[],
+        0,
+        v,
+        1,
+        values,
+        marks,
+        1,
+        0,
+        n,
+    )
 }
 
 // What the search for the start looks for: a point that is at least an inclusive lower bound, or above an exclusive one.

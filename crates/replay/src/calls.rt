@@ -6,6 +6,7 @@ use crate::words::within;
 use crate::words::word_or;
 use host::HostJoin;
 use host::HostOptions;
+use host::HostRanks;
 use host::HostTook;
 use view::Found;
 
@@ -26,7 +27,18 @@ fn flags_at(given: &[i64], k: usize) -> [u64; 4] {
     ]
 }
 
-// The options of an opening.
+// No list of ranks.
+fn no_ranks() -> HostRanks {
+    let codes = [0i64; 64];
+    HostRanks {
+        given: 0,
+        column: 0,
+        count: 0,
+        codes: codes,
+    }
+}
+
+// The options of an opening: no list of ranks is recorded.
 pub(crate) fn options_of(given: &[i64]) -> HostOptions {
     HostOptions {
         by: number_at(given, 0) as usize,
@@ -37,6 +49,7 @@ pub(crate) fn options_of(given: &[i64]) -> HostOptions {
         descending: flags_at(given, 5),
         nulls_last: flags_at(given, 9),
         carried: number_at(given, 13) as usize,
+        ranks: no_ranks(),
     }
 }
 
@@ -141,7 +154,7 @@ fn cell(given: &[i64]) -> [u64; 11] {
     let column = number_at(given, 2) as usize;
     let found = view::read_cell(behind(given, 3), c, row, column);
     match found {
-        Found::Value(v) => [0, compare::distance(v, 0), 0, 0, 0, 0, 0, 0, 0, 0, 0],
+        Found::Value(v) => [0, cells::distance(v, 0), 0, 0, 0, 0, 0, 0, 0, 0, 0],
         Found::Null => [1, 0, 0, 0, 0, 0, 0, 0, 0, 0, 0],
         Found::Nothing => [2, 0, 0, 0, 0, 0, 0, 0, 0, 0, 0],
     }

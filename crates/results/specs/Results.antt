@@ -1,5 +1,6 @@
 -- What the calls answer, in numbers. Assumes nothing.
 use Prim.Native.Nat.{ℕ}
+use lib.ListN.{replicate}
 use Rattle.order.specs.Keyed.{noRow}
 use Rattle.outcomes.specs.Answers.{stateCode, portCode}
 use Rattle.refusals.specs.Refusals.{number}
@@ -14,7 +15,7 @@ use Rattle.outcomes.specs.declared.Answer.{Answer}
 use Rattle.outcomes.specs.declared.Answer.the-variants.{Wrote, WantsRight, Idle, Refused as TurnRefused}
 use Rattle.codes.specs.Codes.{tookCode, stopCode, stopRefusal}
 use Rattle.convert.specs.Convert.{layoutNow, encodeRow}
-use Rattle.convert.specs.declared.HostOptions.{HostOptions}
+use Rattle.hostoptions.specs.declared.HostOptions.{HostOptions}
 use Rattle.convert.specs.declared.HostJoin.{HostJoin}
 use Rattle.results.specs.declared.HostTook.{HostTook}
 use Rattle.results.specs.declared.HostPorted.{HostPorted}
@@ -56,6 +57,7 @@ abbrev pub freshHost : HostOptions → HostJoin
 freshHost h = record {
   layout = layoutNow;
   options = h;
+  rising = replicate 64 0;
   base = 0;
   held = 0;
   pruned = 0;

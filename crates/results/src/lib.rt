@@ -4,10 +4,10 @@ use codes::stop_code;
 use codes::stop_refusal;
 use codes::took_code;
 use convert::HostJoin;
-use convert::HostOptions;
 use convert::LAYOUT;
 use convert::encode_join;
 use convert::encode_row;
+use hostoptions::HostOptions;
 use keyed::no_row;
 use node::PortedJoin;
 use node::TookJoin;
@@ -65,9 +65,11 @@ pub fn fresh_host(o: HostOptions) -> HostJoin
     ensures { λ r. ⌜ r ≡ freshHost o ⌝ }
 {
     let none = encode_row(no_row());
+    let rising = [0; 64];
     HostJoin {
         layout: LAYOUT,
         options: o,
+        rising: rising,
         base: 0,
         held: 0,
         pruned: 0,

@@ -17,6 +17,7 @@ use Rattle.frames.proofs.FrameLaws.{frame-rows}
 use Rattle.frames.proofs.FrontLaws.{frame-few}
 use Rattle.searching.specs.Reach.{needMore}
 use Rattle.tables.proofs.TableLaws.{Wide}
+use Rattle.order.specs.Listed.{lacksCode}
 use Rattle.matching.specs.Groups.{matchFrame}
 use Rattle.matching.specs.Answer.{frameAnswer, answered}
 use Rattle.matching.proofs.AnswerLaws.{answered-is, answered-rest, answered-count, answered-length}
@@ -34,7 +35,7 @@ use Rattle.node.proofs.Good.{good}
 use Rattle.node.specs.declared.Join.{Join}
 use Rattle.refusals.specs.Refusals.{marksFailed}
 use Rattle.refusals.specs.declared.Refusal.{Refusal}
-use Rattle.refusals.specs.declared.Refusal.the-variants.{BadJoin, Failed, Closed, BadFrame, NoRoom}
+use Rattle.refusals.specs.declared.Refusal.the-variants.{BadJoin, Failed, Closed, BadFrame, UnknownCode, NoRoom}
 use Rattle.outcomes.specs.declared.Answer.{Answer}
 use Rattle.outcomes.specs.declared.Answer.the-variants.{Wrote, WantsRight, Idle, Refused}
 use Rattle.outcomes.specs.declared.Stop.{Stop}
@@ -76,7 +77,8 @@ module _ (j : Join) (left right out : Words) where
       let p4 = past (isDone (j .state)) (Refused Closed) _ (Wrote s) (apart Closed s) (p3 .1) in
       let pi = past (eqb (j .«queue_words») 0) Idle _ (Wrote s) (λ x. let z : _≡_ {A = ℕ} 0 1 = cc in omega arith) (p4 .1) in
       let p5 = past (not (isFrame (leftWidth j) (front (leftWidth j) (waiting j left)))) (Refused BadFrame) _ (Wrote s) (apart BadFrame s) (pi .1) in
-      let pw = past (not (j .«right_ended») && needMore (j .options) rows (heldOf j right)) WantsRight _ (Wrote s) (λ x. let z : _≡_ {A = ℕ} 0 1 = cc in omega arith) (p5 .1) in
+      let p12 = past (lacksCode (j .options) rows) (Refused UnknownCode) _ (Wrote s) (apart UnknownCode s) (p5 .1) in
+      let pw = past (not (j .«right_ended») && needMore (j .options) rows (heldOf j right)) WantsRight _ (Wrote s) (λ x. let z : _≡_ {A = ℕ} 0 1 = cc in omega arith) (p12 .1) in
       let p6 = past (ltb (length out) (frameWords (length rows) (answerColumns (j .options)))) (Refused NoRoom) _ (Wrote s) (apart NoRoom s) (pw .1) in
       record { unbroken = p2 .0; frame = not-false (isFrame (leftWidth j) (front (leftWidth j) (waiting j left))) (p5 .0); room = ltb-false (length out) (frameWords (length rows) (answerColumns (j .options))) (p6 .0) }
 

@@ -9,6 +9,8 @@ use lib.Dec.{ltb, eqb}
 use lib.ListN.{length}
 use Rattle.frames.specs.Cells.{Rows, Words, rowsOf}
 use Rattle.frames.specs.Frame.{isFrame, rowCount, frameRows, valuesIn, marksIn}
+use Rattle.ranks.specs.Ranks.{badRanks}
+use Rattle.options.specs.Options.{badRanked}
 use Rattle.order.specs.Requires.{RowsIn}
 use Rattle.frames.proofs.FrameLaws.{values-length, marks-length}
 use Rattle.frames.proofs.FrontLaws.{frame-few}
@@ -43,11 +45,15 @@ module _ (s n : ℕ) (lv lm : Words) (m : ℕ) (rv rm out : Words) where
   abbrev rs : Rows
   rs = rowsOf 1 m rv rm
 
+  no-list : (s : ℕ) → badRanked (keyOptions s) ≡ false
+  unfolding badRanks
+  no-list s = refl
+
   pub left-in : PartsIn n lv lm m rv rm out → RowsIn (keyOptions s) 1 n lv lm
-  left-in p = record { few = omega arith; wide = omega arith; values = omega (arith, p .leftValues); marks = omega (arith, p .leftMarks) }
+  left-in p = record { few = record { by = omega arith; list = no-list s }; wide = omega arith; values = omega (arith, p .leftValues); marks = omega (arith, p .leftMarks) }
 
   pub right-in : PartsIn n lv lm m rv rm out → RowsIn (keyOptions s) 1 m rv rm
-  right-in p = record { few = omega arith; wide = omega arith; values = omega (arith, p .rightValues); marks = omega (arith, p .rightMarks) }
+  right-in p = record { few = record { by = omega arith; list = no-list s }; wide = omega arith; values = omega (arith, p .rightValues); marks = omega (arith, p .rightMarks) }
 
   pub run-room : PartsIn n lv lm m rv rm out → RunRoom (keyOptions s) 1 n lv lm 0 n 1 rv rm 0 m 0 out
   run-room p = record { left = left-in p; upward = omega arith; within = omega arith; right = right-in p; run = omega arith; numbers = omega (arith, p .few); room = p .room }

@@ -4,10 +4,11 @@ use mathlib.Core.Bool.{Bool, true, false, cond, not, _&&_, _||_}
 use mathlib.Core.List.{_∷_, [], map}
 use Prim.Native.Nat.{ℕ, _+_, _*_, _≤_}
 use lib.Dec.{ltb, eqb}
-use lib.IntN.{negsuc}
-use lib.ListN.{length}
+use lib.IntN.{pos, negsuc}
+use lib.ListN.{length, replicate}
 use Rattle.frames.specs.Cells.{Rows, Words}
 use Rattle.frames.specs.Frame.{isFrame, rowCount, frameRows}
+use Rattle.ranks.specs.Ranks.{ranksFor}
 use Rattle.options.specs.declared.Check.the-variants.{Off}
 use Rattle.refusals.specs.Refusals.{number}
 use Rattle.refusals.specs.declared.Refusal.the-variants.{BadOptions, BadFrame, NoRoom, Unsorted}
@@ -17,7 +18,7 @@ use Rattle.matching.specs.Stretches.{lay}
 use Rattle.matching.specs.Moves.{keysSorted, Counted}
 use Rattle.scanwalk.specs.declared.Driven.{Driven}
 
--- No by-columns, equal keys match, any distance will do.
+-- No by-columns and no list of ranks, equal keys match, any distance will do.
 abbrev pub keyOptions : ℕ → Options
 keyOptions s = record {
   by = 0;
@@ -28,6 +29,7 @@ keyOptions s = record {
   descending = false ∷ false ∷ false ∷ false ∷ [];
   «nulls_last» = false ∷ false ∷ false ∷ false ∷ [];
   carried = 0;
+  ranks = ranksFor false 0 0 (replicate 64 (pos 0));
 }
 
 -- The refusals of what is handed in: 1 for a strategy that there is not, 5 where the words are no frames of one column, 6 for too short an output; 0 for none.

@@ -6,6 +6,7 @@ use matchrun::scan_run;
 use matchrun::walk_run;
 use options::Check;
 use options::Options;
+use ranking::ranks_of;
 ghost use mathlib.Core.Path.{_≡_};
 ghost use mathlib.Core.Bool.{true, false, _&&_};
 ghost use Prim.Native.Nat.{_≤_};
@@ -24,10 +25,11 @@ pub struct Driven {
     pub moves: u64,
 }
 
-// The options of a strategy: no by-columns, equal keys match, any distance will do.
+// The options of a strategy: no by-columns and no list of ranks, equal keys match, any distance will do.
 fn key_options(strategy: u8) -> Options
     ensures { λ r. ⌜ r ≡ keyOptions strategy ⌝ }
 {
+    let none = [0; 64];
     Options {
         by: 0,
         strategy: strategy,
@@ -37,6 +39,7 @@ fn key_options(strategy: u8) -> Options
         descending: [false; 4],
         nulls_last: [false; 4],
         carried: 0,
+        ranks: ranks_of(false, 0, 0, none),
     }
 }
 

@@ -4,6 +4,7 @@ use Prim.Native.Nat.{ℕ, _+_, _*_, _≤_, _<_}
 use lib.ListN.{length}
 use Rattle.frames.specs.Cells.{Words}
 use Rattle.order.specs.Requires.{RowsIn}
+use Rattle.options.specs.Options.{Few}
 use Rattle.options.specs.declared.Options.{Options}
 use Rattle.order.specs.declared.Keyed.{Keyed}
 use Rattle.order.specs.declared.Keyed.the-variants.{At}
@@ -13,9 +14,9 @@ pub record BeforeIn (c w : ℕ) (found : Keyed) (held remembered : Words) : Type
   pub inside : (i : ℕ) → found ≡ At i → i * w + w ≤ length held
   pub other : c ≤ length remembered
 
--- The row found is there, w words wide with the key among them; there are at most 4 by-columns.
+-- The row found is there, w words wide with the key among them, and the options are such that rows compare.
 pub record FoundIn (o : Options) (w : ℕ) (found : Keyed) (vs ms : Words) : Type 0 where
-  pub few : o .by ≤ 4
+  pub few : Few o
   pub wide : o .by < w
   pub values : (i : ℕ) → found ≡ At i → i * w + w ≤ length vs
   pub marks : (i : ℕ) → found ≡ At i → i * w + w ≤ length ms

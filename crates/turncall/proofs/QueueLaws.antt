@@ -6,12 +6,13 @@ use native.Mathlib.Omega.{arith}
 use lib.Dec.{eqb}
 use lib.ListN.{length, take, drop, length-take}
 use lib.Seq.{take-take}
-use Rattle.frames.specs.Cells.{Words}
+use Rattle.frames.specs.Cells.{Words, Rows}
 use Rattle.frames.specs.Frame.{isFrame, frameRows, front}
 use Rattle.frames.specs.Front.{frontOf}
 use Rattle.options.specs.Options.{columns, rightColumns}
 use Rattle.frames.specs.declared.Front.the-variants.{Words as Long, Nothing}
 use Rattle.frames.proofs.FrontLaws.{Fronted, front-told}
+use Rattle.order.specs.Listed.{lacksCode}
 use Rattle.area.specs.Area.{capacity, heldRows}
 use Rattle.area.proofs.PushLaws.{capacity-room}
 use Rattle.area.proofs.AreaLaws.{rows-words}
@@ -19,15 +20,15 @@ use Rattle.matching.proofs.ChoiceLaws.{cond-ind}
 use Rattle.outcomes.specs.Answers.{isDone, wrote}
 use Rattle.outcomes.specs.declared.NodeState.{NodeState}
 use Rattle.refusals.specs.declared.Refusal.{Refusal}
-use Rattle.refusals.specs.declared.Refusal.the-variants.{BadJoin, Failed, Closed, BadFrame}
+use Rattle.refusals.specs.declared.Refusal.the-variants.{BadJoin, Failed, Closed, BadFrame, UnknownCode}
 use Rattle.outcomes.specs.declared.Answer.{Answer}
 use Rattle.outcomes.specs.declared.Answer.the-variants.{Wrote, WantsRight, Idle, Refused}
 use Rattle.outcomes.proofs.Tests.{past}
 use Rattle.callrules.specs.Judged.{readyJudged}
 use Rattle.turnparts.specs.declared.Part.{Part}
-use Rattle.turnfront.specs.Turns.{rowsTurn, RowsTurned, FrameIn}
+use Rattle.turnfront.specs.Turns.{RowsTurned, FrameIn}
 use Rattle.turnfront.specs.declared.TurnedPart.{TurnedPart}
-use Rattle.turncall.specs.Queue.{waitingIn, frontTurn, queueTurn, QueueTurned, QueueIn}
+use Rattle.turncall.specs.Queue.{waitingIn, listedTurn, frontTurn, queueTurn, ListedTurned, QueueTurned, QueueIn}
 
 module _ (bad : Bool) (state : NodeState) (j : Part) (area right out : Words) where
   abbrev starts : Answer
@@ -71,10 +72,25 @@ module _ (bad : Bool) (state : NodeState) (j : Part) (area right out : Words) wh
 
   -- A frame of k words at the front.
   pub front-turns : starts ≡ Wrote (j .sequence) → (k : ℕ) → frontOf (columns (j .options)) (waitingIn j area) ≡ Long k → (x : TurnedPart) (out′ : Words)
-      → RowsTurned j (frameRows (columns (j .options)) (take k (drop (j .«queue_start») area))) (heldRows (rightColumns (j .options)) (j .base) (j .held) right) (length (take k (drop (j .«queue_start») area))) out x out′
-      → QueueTurned bad state j area right out x out′
+      → ListedTurned j (take k (drop (j .«queue_start») area)) right out x out′ → QueueTurned bad state j area right out x out′
   unfolding queueTurn frontTurn
   front-turns e k t x out′ h = record { answer = rw (e, queueTurn, t, frontTurn) (h .answer); part = rw (e, queueTurn, t, frontTurn) (h .part); words = rw (e, queueTurn, t, frontTurn) (h .words) }
+
+-- ---- the frame at the front
+module _ (j : Part) (f right out : Words) where
+  abbrev rows : Rows
+  rows = frameRows (columns (j .options)) f
+
+  -- With a value that the list lacks.
+  pub codes-stop : lacksCode (j .options) rows ≡ true → ListedTurned j f right out (record { answer = Refused UnknownCode; part = j }) out
+  unfolding listedTurn
+  codes-stop u = record { answer = rw u; part = rw u; words = rw u }
+
+  -- With listed values alone.
+  pub listed-turns : lacksCode (j .options) rows ≡ false → (x : TurnedPart) (out′ : Words)
+      → RowsTurned j rows (heldRows (rightColumns (j .options)) (j .base) (j .held) right) (length f) out x out′ → ListedTurned j f right out x out′
+  unfolding listedTurn
+  listed-turns u x out′ h = record { answer = rw u (h .answer); part = rw u (h .part); words = rw u (h .words) }
 
 -- The front of so many words.
 module _ (j : Part) (area right : Words) (k : ℕ) (told : frontOf (columns (j .options)) (waitingIn j area) ≡ Long k) where

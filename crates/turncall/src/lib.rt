@@ -2,6 +2,7 @@
 use framerule::front_words;
 use frames::Front;
 use judges::judge_ready;
+use listed::lacks_code;
 use options::left_columns;
 use outcomes::Answer;
 use outcomes::NodeState;
@@ -12,7 +13,8 @@ use turnfront::turn_frame;
 use turnparts::Part;
 ghost use mathlib.Core.Path.{_≡_};
 ghost use mathlib.Core.Bool.{false};
-ghost use Rattle.turncall.specs.Queue.{QueueIn, QueueTurned};
+ghost use Rattle.turnfront.specs.Turns.{FrameIn};
+ghost use Rattle.turncall.specs.Queue.{QueueIn, QueueTurned, ListedTurned};
 
 // What a turn that does not write hands back.
 fn unturned(answer: Answer, j: Part) -> TurnedPart
@@ -22,6 +24,18 @@ fn unturned(answer: Answer, j: Part) -> TurnedPart
         answer: answer,
         part: j,
     }
+}
+
+// A turn over the frame at the front, unless it has a value that the list of ranks lacks.
+fn turn_listed(j: Part, frame: &[i64], right: &[i64], out: &mut [i64]) -> TurnedPart
+    requires { ⌜ FrameIn j (now frame) (now right) ⌝ }
+    ensures { λ r. ⌜ ListedTurned j (now (frame .entry)) (now (right .entry)) (now (out .entry)) r (now (out .exit)) ⌝ }
+{
+    let c = left_columns(j.options);
+    if lacks_code(frame, c, j.options) {
+        return unturned(Answer::Refused(Refusal::UnknownCode), j);
+    }
+    turn_frame(j, frame, right, out)
 }
 
 // A turn of the join in this state: refused, Idle, or over the frame at the front of the queue. `bad` says whether the join meets refusal 2.
@@ -48,5 +62,5 @@ pub fn turn_queue(
         return unturned(Answer::Refused(Refusal::BadFrame), j);
     };
     let e = start + k;
-    turn_frame(j, &left[start..e], right, out)
+    turn_listed(j, &left[start..e], right, out)
 }

@@ -5,7 +5,7 @@ use Prim.Native.Nat.{ℕ, _+_, _≤_}
 use lib.ListN.{length}
 use Rattle.frames.specs.Cells.{Rows, Words}
 use Rattle.frames.specs.Frame.{isFrame}
-use Rattle.options.specs.Options.{columns, rightColumns}
+use Rattle.options.specs.Options.{columns, rightColumns, Few}
 use Rattle.area.specs.Area.{capacity}
 use Rattle.matching.specs.Answer.{frameAnswer, answered}
 use Rattle.refusals.specs.Refusals.{marksFailed}
@@ -59,7 +59,7 @@ pub record RowsTurned (j : Part) (rows held : Rows) (k : ℕ) (out : Words) (r :
 
 -- The words are a frame, and wait; the held rows are there.
 pub record FrameIn (j : Part) (f right : Words) : Type 0 where
-  pub few : j .options .by ≤ 4
+  pub few : Few (j .options)
   pub carried : j .options .carried ≤ 8
   pub frame : isFrame (columns (j .options)) f ≡ true
   pub held : j .base + j .held ≤ capacity (rightColumns (j .options)) right

@@ -25,6 +25,9 @@ pub struct Tally {
     pub faults: [u64; 4],
     pub in_flush: u64,
     pub states: [u64; 3],
+    /// Scripts that give a list of codes, and calls that are refused by 12.
+    pub lists: u64,
+    pub unlisted: u64,
     pub runs: Runs,
     /// What the whole-table judge was asked about.
     pub judged: whole_table::Counts,
@@ -41,10 +44,10 @@ pub struct Runs {
     pub matched: u64,
     /// Cells that came with matches: with a value, and null.
     pub carried: [u64; 2],
-    /// How often each stopped a run: k used, wants, idle, and the refusals 1 to 9 in the places 3 to 11.
-    pub stops: [u64; 12],
+    /// How often each stopped a run: k used, wants, idle, the refusals 1 to 9 in the places 3 to 11, and 12 in the last.
+    pub stops: [u64; 13],
     /// The same of runs in which a turn had written before.
-    pub after: [u64; 12],
+    pub after: [u64; 13],
 }
 
 impl Runs {
@@ -56,8 +59,8 @@ impl Runs {
         self.rows += other.rows;
         self.matched += other.matched;
         (0..2).for_each(|i| self.carried[i] += other.carried[i]);
-        (0..12).for_each(|i| self.stops[i] += other.stops[i]);
-        (0..12).for_each(|i| self.after[i] += other.after[i]);
+        (0..13).for_each(|i| self.stops[i] += other.stops[i]);
+        (0..13).for_each(|i| self.after[i] += other.after[i]);
     }
 
     /// Counts one run, with the rows that its turns wrote.
@@ -66,6 +69,7 @@ impl Runs {
             Stop::Used => 0,
             Stop::Wants => 1,
             Stop::Idle => 2,
+            Stop::Refused(12) => 12,
             Stop::Refused(n) => 2 + (n as usize).clamp(1, 9),
         };
         self.made += 1;
@@ -88,22 +92,13 @@ impl fmt::Display for Runs {
         let Runs { made, turns, several, rows, matched, carried: [values, nulls], stops, after } = self;
         write!(f, "{made} runs of {turns} turns, {several} of more than one, wrote {rows} rows, {matched} matched, ")?;
         write!(f, "{values} carried values, {nulls} nulls; ")?;
-        write!(
-            f,
-            "stopped by k {}, wants {}, idle {}, refused by 1 to 9 {:?}; ",
-            stops[0],
-            stops[1],
-            stops[2],
-            &stops[3..]
-        )?;
-        write!(
-            f,
-            "after a turn by k {}, wants {}, idle {}, refused by 1 to 9 {:?}",
-            after[0],
-            after[1],
-            after[2],
-            &after[3..]
-        )
+        let by = |f: &mut fmt::Formatter<'_>, [k, wants, idle, refused @ .., twelve]: [u64; 13]| {
+            write!(f, "by k {k}, wants {wants}, idle {idle}, refused by 1 to 9 {refused:?}, by 12 {twelve}")
+        };
+        write!(f, "stopped ")?;
+        by(f, *stops)?;
+        write!(f, "; after a turn ")?;
+        by(f, *after)
     }
 }
 
@@ -120,6 +115,8 @@ impl Tally {
         self.wants += other.wants;
         self.idle += other.idle;
         self.in_flush += other.in_flush;
+        self.lists += other.lists;
+        self.unlisted += other.unlisted;
         self.runs.add(&other.runs);
         self.judged.add(&other.judged);
         (0..4).for_each(|i| self.faults[i] += other.faults[i]);
@@ -145,6 +142,13 @@ impl Tally {
         }
     }
 
+    /// Counts a script, and whether it gives a list.
+    pub fn script(&mut self, calls: &[Call]) {
+        let lists = script::opening(calls).is_some_and(|(open, _)| open.options.ranks.given);
+        self.scripts += 1;
+        self.lists += lists as u64;
+    }
+
     /// Counts an order fault by the place where the rules saw it.
     pub fn fault(&mut self, fault: Fault) {
         self.faults[fault as usize] += 1;
@@ -163,6 +167,9 @@ impl fmt::Display for Tally {
         write!(f, "{} wants, {} idle; ", self.wants, self.idle)?;
         write!(f, "faults 8: {continuity} between frames, {frame} in a frame, 9: {held} held, {split} split; ")?;
         write!(f, "ports: {running} Running, {flush} Flush, {done} Done")?;
+        if self.lists > 0 {
+            write!(f, "; {} scripts with a list, {} calls refused by 12", self.lists, self.unlisted)?;
+        }
         let whole_table::Counts { scripts, sorted, rows, whole, .. } = self.judged;
         if scripts > 0 {
             write!(f, "; by the whole table {scripts} scripts, {sorted} sorted, {whole} of {rows} rows")?;
@@ -180,10 +187,11 @@ pub enum Difference {
     Inside(String),
 }
 
-/// Whether SCOPE refuses the call by 1 to 7 or 10, a run in its first turn: the Rust has no counterpart.
+/// Whether SCOPE refuses the call by 1 to 7 or 10 to 12, a run in its first turn: the Rust has no counterpart.
 pub fn no_counterpart(answer: &Answer) -> bool {
-    matches!(answer, Answer::Refused(1..=7 | 10) | Answer::State(_) | Answer::Areas(..) | Answer::NoJoin)
-        || matches!(answer, Answer::Ran(Ran { turns: 0, stop: Stop::Refused(1..=7), .. }))
+    matches!(answer, Answer::Refused(1..=7 | 10..=12) | Answer::NoJoin)
+        || matches!(answer, Answer::State(_) | Answer::Areas(..) | Answer::Words(_))
+        || matches!(answer, Answer::Ran(Ran { turns: 0, stop: Stop::Refused(1..=7 | 12), .. }))
 }
 
 /// Whether the Rust went another way than SCOPE from here on: it knows no areas and no outputs, so it took what SCOPE refused.
@@ -219,12 +227,13 @@ fn rust_inside(rust: &Rust) -> Option<Inside> {
 /// Runs a script through both, and what they answered by the whole-table judge. An answer that differs comes before a
 /// difference inside, even a later one.
 fn run_both(calls: &[Call], ways: Ways, tally: &mut Tally) -> Result<(), Difference> {
-    let (mut rust, mut pulled) = (Rust::fed(ways), Pulled::new(ways.right_pipe));
+    let (mut rust, mut pulled) = (Rust::fed(ways), Pulled::new(ways));
     let (mut inside, mut answers) = (Ok(()), vec![]);
     for (i, call) in calls.iter().enumerate() {
         let state = pulled.rules.look().map_or(0, |l| l.state);
         let (said, ruled) = (rust.call(call), pulled.call(call));
         tally.calls += 1;
+        tally.unlisted += (ruled == Answer::Refused(12)) as u64;
         let known = !no_counterpart(&ruled);
         if known && !agrees(&said, &ruled) {
             return Err(Difference::Answer(format!(
@@ -245,9 +254,9 @@ fn run_both(calls: &[Call], ways: Ways, tally: &mut Tally) -> Result<(), Differe
             inside = Err(Difference::Inside(text));
         }
     }
-    tally.scripts += 1;
+    tally.script(calls);
     pulled.rules.fault().into_iter().for_each(|f| tally.fault(f));
-    if !ways.right_pipe {
+    if !ways.right_pipe && !ways.writes {
         let judged = whole_table::judge(calls, &answers);
         tally.judged.add(&judged.map_err(|why| Difference::Answer(format!("whole table: {why}")))?);
     }

@@ -1,6 +1,6 @@
-//! The list of edits of the Rust's text: reading it, and laying an edited copy of the source down.
+//! The list of edits of the Rust's text and of the oracle's own: reading it, and laying an edited copy of both down.
 use std::fs;
-use std::path::Path;
+use std::path::{Path, PathBuf};
 
 /// One edit, as edits.txt tells it.
 #[derive(Default, Debug)]
@@ -13,7 +13,7 @@ struct Edit {
     new: Vec<String>,
 }
 
-/// The files that the build reads.
+/// The files of the Rust that the build reads.
 const FILES: [&str; 6] = [
     "src/nodes/joins/asof_join.rs",
     "src/nodes/joins/range_join.rs",
@@ -59,26 +59,55 @@ pub fn print(list: &str) -> Result<(), String> {
     Ok(())
 }
 
-/// Lays a copy of the source down with one edit made, or with none where the name is `none`. The old text must stand in
-/// its file once.
-pub fn apply(list: &str, name: &str, from: &Path, to: &Path) -> Result<(), String> {
+/// The parts of the oracle that the build reads.
+const OWN: [&str; 8] =
+    ["Cargo.toml", "Cargo.lock", "driver", "judges", "polars_stream", "port", "portcompare", "standins"];
+
+/// All files at a path: itself, or those below it.
+fn files(path: PathBuf) -> Result<Vec<PathBuf>, String> {
+    if !path.is_dir() {
+        return Ok(vec![path]);
+    }
+    let entries = fs::read_dir(&path).map_err(|e| format!("{}: {e}", path.display()))?;
+    let below = entries.map(|entry| files(entry.map_err(|e| e.to_string())?.path()));
+    Ok(below.collect::<Result<Vec<_>, _>>()?.concat())
+}
+
+/// The edited text of a file. The old text must stand in it once.
+fn edited(edit: &Edit, text: String) -> Result<String, String> {
+    let old = edit.old.join("\n");
+    if text.matches(&old).count() != 1 {
+        return Err(format!("{}: the old text does not stand in {} once", edit.name, edit.file));
+    }
+    Ok(text.replacen(&old, &edit.new.join("\n"), 1))
+}
+
+/// Copies a file, edited where the edit is of this name. A copy that is as it should be stays: nothing is built anew for
+/// it.
+fn copy(from: &Path, to: &Path, name: &str, edit: Option<&Edit>) -> Result<(), String> {
+    let text = fs::read_to_string(from).map_err(|e| format!("{}: {e}", from.display()))?;
+    let text = edit.filter(|e| e.file == name).map_or(Ok(text.clone()), |e| edited(e, text))?;
+    if fs::read_to_string(to).is_ok_and(|there| there == text) {
+        return Ok(());
+    }
+    fs::create_dir_all(to.parent().unwrap()).map_err(|e| e.to_string())?;
+    fs::write(to, text).map_err(|e| format!("{}: {e}", to.display()))
+}
+
+/// Lays copies of the Rust's source (`rust`) and of the oracle (`oracle`) down with one edit made, or with none where the
+/// name is `none`. The name of a file of the oracle begins with `oracle/`.
+pub fn apply(list: &str, name: &str, [rust, own]: [&Path; 2], to: &Path) -> Result<(), String> {
     let edits = read(list)?;
     let edit = edits.iter().find(|e| e.name == name);
     if edit.is_none() && name != "none" {
         return Err(format!("no edit is named {name}"));
     }
     for file in FILES {
-        let mut text = fs::read_to_string(from.join(file)).map_err(|e| format!("{file}: {e}"))?;
-        if let Some(edit) = edit.filter(|e| e.file == file) {
-            let old = edit.old.join("\n");
-            if text.matches(&old).count() != 1 {
-                return Err(format!("{name}: the old text does not stand in {file} once"));
-            }
-            text = text.replacen(&old, &edit.new.join("\n"), 1);
-        }
-        let path = to.join(file);
-        fs::create_dir_all(path.parent().unwrap()).map_err(|e| e.to_string())?;
-        fs::write(&path, text).map_err(|e| format!("{}: {e}", path.display()))?;
+        copy(&rust.join(file), &to.join("rust").join(file), file, edit)?;
+    }
+    for file in OWN.map(|part| files(own.join(part))).into_iter().collect::<Result<Vec<_>, _>>()?.concat() {
+        let below = Path::new("oracle").join(file.strip_prefix(own).unwrap());
+        copy(&file, &to.join(&below), &below.to_string_lossy(), edit)?;
     }
     Ok(())
 }

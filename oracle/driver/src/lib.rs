@@ -6,6 +6,7 @@ pub mod frame;
 pub mod notice;
 pub mod pulled;
 pub mod range;
+pub mod ranks;
 pub mod rust;
 pub mod sample;
 pub mod selftest;

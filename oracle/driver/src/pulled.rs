@@ -1,9 +1,12 @@
-//! SCOPE's step rules behind a host that hands right frames over only where they are wanted, as the Rust pulls them from its
-//! pipe: a list of calls like any other, so that SCOPE fixes its answers on unsorted sides too.
+//! SCOPE's step rules behind a host that hands right frames over only where they are wanted, as the Rust pulls them from
+//! its pipe: a list of calls like any other, so that SCOPE fixes its answers on unsorted sides too. Or behind one that
+//! writes into held rows what no right call takes.
 use std::collections::VecDeque;
 
 use judges::rules::Rules;
-use judges::script::{Answer, Call, Judge, Open, Options, Ran, Stop};
+use judges::script::{Answer, Call, Judge, Open, Options, Place, Ran, Stop};
+
+use crate::rust::Ways;
 
 /// Words enough for all frames of a script, in an area or an output.
 pub const ROOM: usize = 1 << 13;
@@ -15,12 +18,14 @@ pub struct Pulled {
     waiting: VecDeque<Vec<i64>>,
     /// Whether right frames wait at all.
     pulls: bool,
+    /// Whether the host writes values that the list lacks into held rows.
+    writes: bool,
 }
 
 impl Pulled {
     /// The rules with right frames as they come, or as they are wanted.
-    pub fn new(pulls: bool) -> Self {
-        Pulled { pulls, ..Self::default() }
+    pub fn new(ways: Ways) -> Self {
+        Pulled { pulls: ways.right_pipe, writes: ways.writes, ..Self::default() }
     }
 
     /// How many right rows wait.
@@ -84,6 +89,7 @@ impl Judge for Pulled {
     /// The rules' answer; with areas for all frames where they come later than they were handed in.
     fn call(&mut self, call: &Call) -> Answer {
         match call {
+            Call::Right(words) if self.writes => return right_written(&mut self.rules, words),
             _ if !self.pulls => return self.rules.call(call),
             Call::Open(o) => {
                 return self.rules.call(&Call::Open(Open { left_words: ROOM, right_words: ROOM, ..o.clone() }));
@@ -103,10 +109,31 @@ impl Judge for Pulled {
     }
 }
 
+/// A right frame as if codes of the list had been handed in where it has others, and the host had then written into the
+/// held rows what the frame has there.
+fn right_written(rules: &mut Rules, words: &[i64]) -> Answer {
+    let Some(o) = rules.options().cloned() else { return Answer::NoJoin };
+    let (column, codes) = (o.ranks.column as usize, &o.ranks.codes[..o.ranks.count as usize]);
+    let (n, c) = (words[0] as usize, words[1] as usize);
+    let present = |i: &usize| words[2 + (n + i) * c + column] == 1;
+    let lacked = |i: &usize| present(i) && !codes.contains(&words[2 + i * c + column]);
+    let rows: Vec<usize> = (0..n).filter(lacked).collect();
+    let mut listed = words.to_vec();
+    rows.iter().for_each(|i| listed[2 + i * c + column] = codes[0]);
+    let answer = rules.call(&Call::Right(listed));
+    if answer == Answer::Ok {
+        let look = rules.look().expect("a join is open");
+        let first = look.base + look.held - n;
+        let put = |i: &usize| Call::Put(Place::Right, (first + i) * c + column, words[2 + i * c + column]);
+        rows.iter().map(put).for_each(|call| drop(rules.call(&call)));
+    }
+    answer
+}
+
 /// What the rules write where all left frames wait, right frames come as they are wanted, and right ends once there is no
 /// more; and the order fault that stopped it, if one did.
 pub fn all_at_once(options: &Options, left: &[Vec<i64>], right: &[Vec<i64>]) -> (Vec<Answer>, Option<u8>) {
-    let mut pulled = Pulled { waiting: right.to_vec().into(), ..Pulled::new(true) };
+    let mut pulled = Pulled { waiting: right.to_vec().into(), pulls: true, ..Pulled::default() };
     pulled.call(&Call::Options(options.clone()));
     pulled.call(&Call::Opens(ROOM, ROOM));
     left.iter().for_each(|frame| drop(pulled.rules.call(&Call::Left(frame.clone()))));

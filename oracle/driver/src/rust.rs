@@ -19,7 +19,7 @@ use judges::script::{Answer, Call, Judge, Options, Ran, Stop, Told};
 use crate::{frame, range};
 
 /// How the node is fed. No answer may depend on it, save `right_pipe` on rows that are not sorted as declared: there the
-/// answers are those of right frames that are handed in as they are wanted.
+/// answers are those of right frames that are handed in as they are wanted; and `writes`.
 #[derive(Clone, Copy)]
 pub struct Ways {
     /// How many compute tasks run side by side, with the real linearizing pipe behind them.
@@ -28,12 +28,14 @@ pub struct Ways {
     pub left_pipe: bool,
     /// Right frames come by the right pipe during a turn, only as many as the node asks for.
     pub right_pipe: bool,
+    /// Right frames with values that the list lacks are taken, as if the host had written these into held rows.
+    pub writes: bool,
 }
 
 impl Default for Ways {
     /// One compute task; frames wait in the node's queue and right frames are taken when they come.
     fn default() -> Self {
-        Ways { pipelines: 1, left_pipe: false, right_pipe: false }
+        Ways { pipelines: 1, left_pipe: false, right_pipe: false, writes: false }
     }
 }
 
@@ -81,6 +83,32 @@ const RIGHT: Names = Names {
     number: Some(NUMBER),
 };
 
+/// SCOPE 3.10: the list of a by-column.
+struct List {
+    column: usize,
+    codes: Arc<[i64]>,
+}
+
+impl List {
+    /// The list of these options, if they have one.
+    fn of(o: &Options) -> Option<List> {
+        let codes = || o.ranks.codes[..o.ranks.count as usize].into();
+        o.ranks.given.then(|| List { column: o.ranks.column as usize, codes: codes() })
+    }
+
+    /// Whether it lacks one of these values; a null is none.
+    fn lacks(&self, cells: &[Option<i64>]) -> bool {
+        cells.iter().flatten().any(|value| !self.codes.contains(value))
+    }
+}
+
+/// What a join's frames are made of.
+struct Shape {
+    b: usize,
+    carried: usize,
+    list: Option<List>,
+}
+
 impl Names {
     /// The columns of the side's frames: its by-columns, its key, and as much as it carries.
     fn columns(&self, b: usize, carried: usize) -> impl Iterator<Item = PlSmallStr> {
@@ -93,12 +121,20 @@ impl Names {
         Arc::new(Schema::of_names(self.columns(b, carried).chain(self.number)))
     }
 
-    /// A frame's words as the Rust's frame, or none where they break SCOPE's frame rule: no such frame can be made.
-    fn frame(&self, words: &[i64], b: usize, carried: usize, first_number: usize) -> Option<DataFrame> {
-        let cells = frame::columns(words, self.columns(b, carried).count())?;
+    /// A frame's words as the Rust's frame, the list with its column. None where they break SCOPE's frame rule, for no
+    /// such frame can be made; and, unless the host writes what it likes, where the list lacks a value.
+    fn frame(&self, words: &[i64], s: &Shape, first_number: usize, writes: bool) -> Option<DataFrame> {
+        let carried = s.carried.min(self.carried.len());
+        let cells = frame::columns(words, self.columns(s.b, carried).count())?;
         let n = cells[0].len();
-        let named = self.columns(b, carried).zip(cells);
+        if !writes && s.list.as_ref().is_some_and(|list| list.lacks(&cells[list.column])) {
+            return None;
+        }
+        let named = self.columns(s.b, carried).zip(cells);
         let mut columns: Vec<Column> = named.map(|(name, cells)| Column::new(name, cells)).collect();
+        if let Some(List { column, codes }) = &s.list {
+            columns[*column] = columns[*column].clone().with_list(codes.clone());
+        }
         let numbers = || (first_number..first_number + n).map(|i| Some(i as i64)).collect();
         columns.extend(self.number.map(|name| Column::new(name, numbers())));
         Some(DataFrame::new(n, columns))
@@ -130,8 +166,7 @@ pub struct Spoiled {
 
 /// An open join: the node and what the driver keeps beside it.
 pub struct Join {
-    b: usize,
-    carried: usize,
+    shape: Shape,
     ways: Ways,
     node: AsOfJoinNode,
     accepted: usize,
@@ -140,9 +175,20 @@ pub struct Join {
     spoiled: Option<Spoiled>,
 }
 
-/// Whether SCOPE refuses these options, by 1 or by 10: it gives them no meaning that a stand-in could have.
+/// Whether SCOPE refuses these options, by 1, 10 or 11: it gives them no meaning that a stand-in could have.
 fn refused(o: &Options) -> bool {
-    o.b > 4 || !(0..=2).contains(&o.strategy) || o.tolerance < -1 || (o.strategy == 2 && !o.eq) || o.carried > 8
+    let bad = o.b > 4 || !(0..=2).contains(&o.strategy) || o.tolerance < -1 || (o.strategy == 2 && !o.eq);
+    bad || o.carried > 8 || (o.ranks.given && bad_list(o))
+}
+
+/// Whether SCOPE refuses the list of these options by 11.
+fn bad_list(o: &Options) -> bool {
+    if o.ranks.count == 0 || o.ranks.count > 64 || o.ranks.column >= o.b as u64 {
+        return true;
+    }
+    let mut codes = o.ranks.codes[..o.ranks.count as usize].to_vec();
+    codes.sort();
+    codes.windows(2).any(|two| two[0] == two[1])
 }
 
 /// The node of these options.
@@ -193,18 +239,18 @@ impl Join {
 
     /// A fresh join of any options that the Rust takes.
     pub fn open_any(o: &Options, ways: Ways) -> Self {
-        let (b, carried) = (o.b, o.carried as usize);
-        Join { b, carried, ways, node: node(o), accepted: 0, right_waiting: vec![], ended: false, spoiled: None }
+        let shape = Shape { b: o.b, carried: o.carried as usize, list: List::of(o) };
+        Join { shape, ways, node: node(o), accepted: 0, right_waiting: vec![], ended: false, spoiled: None }
     }
 
     /// A left frame's words as the Rust's frame.
     fn left_frame(&self, words: &[i64]) -> Option<DataFrame> {
-        LEFT.frame(words, self.b, 0, 0)
+        LEFT.frame(words, &self.shape, 0, false)
     }
 
     /// A right frame's words as the Rust's frame; its rows are numbered from this number on.
     fn right_frame(&self, words: &[i64], first_number: usize) -> Option<DataFrame> {
-        RIGHT.frame(words, self.b, self.carried, first_number)
+        RIGHT.frame(words, &self.shape, first_number, self.ways.writes)
     }
 
     /// One phase: the node's real tasks between real pipes, with these frames in the left and right pipes; what the
@@ -266,7 +312,7 @@ impl Join {
         match (&sent[..], height, back) {
             ([], None, 0) => Answer::Idle,
             ([], Some(_), 1) if !self.ended => Answer::Wants,
-            ([(seq, df)], Some(n), 0) if df.height() == n => Answer::Wrote(*seq, written(df, self.carried)),
+            ([(seq, df)], Some(n), 0) if df.height() == n => Answer::Wrote(*seq, written(df, self.shape.carried)),
             _ => panic!("turn: {height:?} rows, {back} frames back, sent {sent:?}"),
         }
     }
@@ -377,7 +423,7 @@ impl Join {
             sent.extend(self.phase(vec![], vec![]));
             spoiled = take_spoiled(sent.len());
         }
-        let wrote = sent.iter().map(|(seq, df)| Answer::Wrote(*seq, written(df, self.carried))).collect();
+        let wrote = sent.iter().map(|(seq, df)| Answer::Wrote(*seq, written(df, self.shape.carried))).collect();
         Some((wrote, spoiled))
     }
 

@@ -4,7 +4,9 @@ use std::fmt;
 use std::time::Instant;
 
 use judges::exhaustive;
-use judges::generate::{COMPARED, Kind, script, script_with_runs, script_without_carried};
+use judges::generate::{
+    COMPARED, Kind, script, script_with_list, script_with_list_and_runs, script_with_runs, script_without_carried,
+};
 use judges::rules::{Rules, frame_rows};
 use judges::script::{Answer, Call, Judge, Options, opening, parse_script, written};
 use judges::whole_table::{self, Counts};
@@ -12,16 +14,39 @@ use judges::whole_table::{self, Counts};
 use crate::compare::{self, Difference, Tally};
 use crate::pulled::{ROOM, all_at_once};
 use crate::rust::{Rust, Spoiled, Ways};
-use crate::spans;
+use crate::{ranks, spans};
 
 /// How a step ends: what it counted, or what went wrong.
-type Step = Result<String, String>;
+pub type Step = Result<String, String>;
 
 /// A step's name, and what it does.
-type Named = (&'static str, Box<dyn FnOnce() -> Step>);
+pub type Named = (&'static str, Box<dyn FnOnce() -> Step>);
+
+/// How a script is made from its kind, seed and number.
+pub type Make = fn(Kind, u64, u64) -> Vec<Call>;
+
+/// What a step makes its scripts by: with turns, and with runs in their place.
+#[derive(Clone, Copy)]
+pub struct Makes {
+    pub turns: Make,
+    pub runs: Make,
+}
+
+/// Scripts without lists.
+pub const PLAIN: Makes = Makes { turns: script, runs: script_with_runs };
+
+/// Scripts with lists of codes.
+pub const LISTED: Makes = Makes { turns: script_with_list, runs: script_with_list_and_runs };
+
+impl Makes {
+    /// Every second script with runs.
+    fn both(self, kind: Kind, seed: u64, number: u64) -> Vec<Call> {
+        (if number % 2 == 0 { self.turns } else { self.runs })(kind, seed, number)
+    }
+}
 
 /// A failed script with what went wrong, for the reader to run again.
-fn failure(what: &str, calls: &[Call], why: &str) -> String {
+pub(crate) fn failure(what: &str, calls: &[Call], why: &str) -> String {
     let lines: Vec<String> = calls.iter().map(|c| c.to_string()).collect();
     format!("{what}: {why}\n{}", lines.join("\n"))
 }
@@ -31,8 +56,9 @@ fn expected_answers(text: &str) -> Vec<&str> {
     text.lines().filter_map(|l| l.strip_prefix("= ")).collect()
 }
 
-/// Calls with the answers that were read from SCOPE by hand, by the rules, and by the Rust where it has a counterpart.
-fn cases(text: &str) -> Step {
+/// Calls with the answers that were read from SCOPE by hand, by the rules, and by the Rust where it has a counterpart:
+/// not where the host has altered words.
+pub(crate) fn cases(text: &str) -> Step {
     let lines: Vec<&str> = text.lines().filter(|l| !l.starts_with('=')).collect();
     let calls = parse_script(&lines.join("\n"))?;
     let expected = expected_answers(text);
@@ -44,6 +70,7 @@ fn cases(text: &str) -> Step {
         parted &= !opens;
         // The Rust has no strict check: it opens no such join.
         parted |= opens && ruled == Answer::Ok && said == Answer::Nothing;
+        parted |= matches!(call, Call::Put(..));
         let known = !parted && !compare::no_counterpart(&ruled);
         if ruled.to_string() != *want || (known && !compare::agrees(&said, &ruled)) {
             return Err(format!("{call}: wanted {want}, the Rust says {said}, the rules say {ruled}"));
@@ -93,11 +120,12 @@ pub fn longest_frames() -> Step {
     Ok("4,096 rows match, 4,097 are refused".into())
 }
 
-/// Random scripts of sorted sides over random cuts, by the whole-table rule.
-pub fn whole(seed: u64, count: u64, ways: Ways) -> Step {
+/// Random scripts of sorted sides over random cuts, by the whole-table rule. Frames that SCOPE refuses are left out: the
+/// Rust says ok to them.
+pub fn whole(makes: Makes, seed: u64, count: u64, ways: Ways) -> Step {
     let mut counts = Counts::default();
     for i in 0..count {
-        let calls = script(Kind::Whole, seed, i);
+        let calls = ranks::taken((makes.turns)(Kind::Whole, seed, i));
         let judged = compare::with_whole_table(&calls, ways, &mut counts);
         judged.map_err(|why| failure(&format!("whole table, seed {seed}, script {i}"), &calls, &why))?;
     }
@@ -111,24 +139,25 @@ pub fn whole(seed: u64, count: u64, ways: Ways) -> Step {
 
 /// The two judges against each other: the rules' answers to all kinds of scripts, every second one with runs, by the
 /// whole-table judge. The Rust has no part in it.
-pub fn judges(seed: u64, count: u64) -> Step {
+pub fn judges(makes: Makes, seed: u64, count: u64) -> Step {
     let mut all = Counts::default();
-    for kind in COMPARED.into_iter().chain([Kind::Refusals]) {
-        (0..count).try_for_each(|i| rules_by_whole_table(kind, seed, i, &mut all))?;
+    for kind in COMPARED.into_iter().chain([Kind::Refusals, Kind::Strict]) {
+        (0..count).try_for_each(|i| rules_by_whole_table(makes, kind, seed, i, &mut all))?;
     }
-    let Counts { scripts, sorted, rows, whole, matched, carried, faults, .. } = all;
+    let Counts { scripts, sorted, rows, whole, matched, carried, faults, bad_lists, unlisted, .. } = all;
     if [sorted, whole, matched, carried, faults, rows - whole, scripts - sorted].contains(&0) {
         return Err("nothing was tested".into());
     }
     let said =
         format!("{scripts} scripts, {sorted} sorted; {rows} rows, {matched} matched, {whole} as the whole table gives");
-    Ok(format!("{said} and the others qualify; {carried} carried cells; {faults} order faults where they are due"))
+    let said =
+        format!("{said} and the others qualify; {carried} carried cells; {faults} order faults where they are due");
+    Ok(format!("{said}; {bad_lists} lists refused by 11, {unlisted} frames by 12"))
 }
 
 /// The rules' answers to one script, by the whole-table judge.
-fn rules_by_whole_table(kind: Kind, seed: u64, number: u64, all: &mut Counts) -> Result<(), String> {
-    let make = if number % 2 == 0 { script } else { script_with_runs };
-    let calls = make(kind, seed, number);
+fn rules_by_whole_table(makes: Makes, kind: Kind, seed: u64, number: u64, all: &mut Counts) -> Result<(), String> {
+    let calls = makes.both(kind, seed, number);
     let judge = if kind == Kind::Whole { whole_table::judge_whole } else { whole_table::judge };
     let judged = judge(&calls, &compare::answers(&mut Rules::default(), &calls));
     let what = || format!("rules by the whole table, {kind:?}, seed {seed}, script {number}");
@@ -137,14 +166,11 @@ fn rules_by_whole_table(kind: Kind, seed: u64, number: u64, all: &mut Counts) ->
 }
 
 /// The difference's text, whichever it is.
-fn text(d: Difference) -> String {
+pub(crate) fn text(d: Difference) -> String {
     match d {
         Difference::Answer(t) | Difference::Inside(t) => t,
     }
 }
-
-/// How a script is made from its kind, seed and number.
-type Make = fn(Kind, u64, u64) -> Vec<Call>;
 
 /// Random scripts of one kind, by the step rules.
 pub fn steps(make: Make, kind: Kind, seed: u64, count: u64, ways: Ways) -> Result<Tally, String> {
@@ -158,10 +184,10 @@ pub fn steps(make: Make, kind: Kind, seed: u64, count: u64, ways: Ways) -> Resul
 }
 
 /// Random scripts of all kinds, by the step rules; each kind must reach what it is made for.
-pub fn all_kinds(seed: u64, count: u64) -> Step {
+pub fn all_kinds(makes: Makes, seed: u64, count: u64) -> Step {
     let mut all = Tally::default();
     for kind in COMPARED {
-        let tally = steps(script, kind, seed, count, Ways::default())?;
+        let tally = steps(makes.turns, kind, seed, count, Ways::default())?;
         println!("  {kind:?}: {tally}");
         all.add(&tally);
     }
@@ -212,11 +238,10 @@ pub fn carried(seed: u64, count: u64) -> Step {
 
 /// Scripts with large tables, every second one with runs: by the step rules and by the whole-table judge. Longest frames must
 /// have come on both sides, and rows in sorted scripts.
-pub fn large(seed: u64, count: u64) -> Step {
+pub fn large(makes: Makes, seed: u64, count: u64) -> Step {
     let (mut tally, mut longest) = (Tally::default(), [0, 0]);
     for i in 0..count {
-        let make = if i % 2 == 0 { script } else { script_with_runs };
-        let calls = make(Kind::Large, seed, i);
+        let calls = makes.both(Kind::Large, seed, i);
         let compared = compare::with_rules(&calls, Ways::default(), &mut tally);
         compared.map_err(|d| format!("Large, seed {seed}, script {i}: {}", text(d)))?;
         let full = |pick: fn(&Call) -> bool| calls.iter().filter(|c| pick(c)).count();
@@ -234,18 +259,18 @@ pub fn large(seed: u64, count: u64) -> Step {
 /// Random scripts with runs in the place of turns: the Rust by the step rules, and both by the whole-table rule. Runs must
 /// have stopped in every way that the Rust knows, and for want of output, after turns that wrote. A fault of right rows alone
 /// comes in a run's first turn: no right row comes in during a run.
-pub fn runs(seed: u64, count: u64) -> Step {
+pub fn runs(makes: Makes, seed: u64, count: u64) -> Step {
     let mut all = Tally::default();
     for kind in COMPARED {
-        all.add(&steps(script_with_runs, kind, seed, count, Ways::default())?);
+        all.add(&steps(makes.runs, kind, seed, count, Ways::default())?);
     }
     for i in 0..count {
-        let calls = script_with_runs(Kind::Whole, seed, i);
+        let calls = ranks::taken((makes.runs)(Kind::Whole, seed, i));
         let rules = whole_table::judge_whole(&calls, &compare::answers(&mut Rules::default(), &calls)).map(|_| ());
         let both = rules.and_then(|_| compare::with_whole_table(&calls, Ways::default(), &mut Counts::default()));
         both.map_err(|why| failure("runs by the whole table", &calls, &why))?;
     }
-    let [used, wants, idle, .., short, _, left, right_after] = all.runs.after;
+    let [used, wants, idle, .., short, _, left, right_after, _] = all.runs.after;
     let right = all.runs.stops[11];
     if [all.runs.several, all.runs.matched, used, wants, idle, short, left, right].contains(&0) {
         return Err(format!("nothing was tested: {}", all.runs));
@@ -255,12 +280,15 @@ pub fn runs(seed: u64, count: u64) -> Step {
     Ok(format!("{} scripts, {count} of them by the whole-table rule too: {}", all.scripts, all.runs))
 }
 
-/// All short scripts, by the step rules.
-pub fn short_scripts() -> Step {
+/// What hands short scripts to who wants them, until that says stop.
+pub type Short = fn(&mut dyn FnMut(&[Call]) -> bool) -> bool;
+
+/// Short scripts, by the step rules.
+pub fn short_scripts(all: Short, ways: Ways) -> Step {
     let mut tally = Tally::default();
     let mut wrong = None;
-    exhaustive::all(&mut |calls| {
-        let compared = compare::with_rules(calls, Ways::default(), &mut tally);
+    all(&mut |calls| {
+        let compared = compare::with_rules(calls, ways, &mut tally);
         wrong = compared.err().map(|d| failure("short script", calls, &text(d)));
         wrong.is_none()
     });
@@ -270,9 +298,9 @@ pub fn short_scripts() -> Step {
 /// The same answers however the node is fed and its tasks are scheduled. Where right frames are pulled as the node asks for
 /// them, and where all frames come in one phase, the answers are the whole table's on sorted sides, and on all others those
 /// of the rules that are given right frames as they are wanted.
-pub fn ways(seed: u64, count: u64) -> Step {
-    let pushed = pushed(seed, count)?;
-    let (pulled, bursts) = pulled(seed, count)?;
+pub fn ways(makes: Makes, seed: u64, count: u64) -> Step {
+    let pushed = pushed(makes, seed, count)?;
+    let (pulled, bursts) = pulled(makes, seed, count)?;
     polars_async::executor::shuffle(0);
     let [between, frame, held, _] = pulled.faults;
     if [frame, held, pulled.matched, bursts.left, bursts.right, bursts.matched].contains(&0) {
@@ -284,26 +312,26 @@ pub fn ways(seed: u64, count: u64) -> Step {
 }
 
 /// Frames by the left pipe, several compute tasks, tasks in random order.
-fn pushed(seed: u64, count: u64) -> Result<Tally, String> {
-    let many = Ways { pipelines: 3, left_pipe: true, right_pipe: false };
+fn pushed(makes: Makes, seed: u64, count: u64) -> Result<Tally, String> {
+    let many = Ways { pipelines: 3, left_pipe: true, ..Ways::default() };
     let all = [(0, many), (seed, many), (seed, Ways::default())].into_iter();
     let mut tally = Tally::default();
     for (order, ways, kind) in all.flat_map(|(order, ways)| COMPARED.map(|kind| (order, ways, kind))) {
         polars_async::executor::shuffle(order);
-        tally.add(&steps(script, kind, seed, count, ways)?);
+        tally.add(&steps(makes.turns, kind, seed, count, ways)?);
     }
     Ok(tally)
 }
 
 /// Right frames as the node asks for them, and all frames in one phase.
-fn pulled(seed: u64, count: u64) -> Result<(Tally, Bursts), String> {
-    let ways = Ways { pipelines: 2, left_pipe: true, right_pipe: true };
+fn pulled(makes: Makes, seed: u64, count: u64) -> Result<(Tally, Bursts), String> {
+    let ways = Ways { pipelines: 2, left_pipe: true, right_pipe: true, ..Ways::default() };
     let (mut tally, mut bursts) = (Tally::default(), Bursts::default());
-    whole(seed, count, ways)?;
+    whole(makes, seed, count, ways)?;
     for kind in COMPARED {
-        tally.add(&steps(script, kind, seed, count, ways)?);
-        tally.add(&steps(script_with_runs, kind, seed, count, ways)?);
-        bursts.run(kind, seed, count)?;
+        tally.add(&steps(makes.turns, kind, seed, count, ways)?);
+        tally.add(&steps(makes.runs, kind, seed, count, ways)?);
+        bursts.run(makes.turns, kind, seed, count)?;
     }
     Ok((tally, bursts))
 }
@@ -322,9 +350,9 @@ struct Bursts {
 
 impl Bursts {
     /// Scripts of one kind.
-    fn run(&mut self, kind: Kind, seed: u64, count: u64) -> Result<(), String> {
+    fn run(&mut self, make: Make, kind: Kind, seed: u64, count: u64) -> Result<(), String> {
         for i in 0..count {
-            let calls = script(kind, seed, i);
+            let calls = make(kind, seed, i);
             self.script(&calls, kind == Kind::Whole).map_err(|why| failure("all frames in one phase", &calls, &why))?;
         }
         Ok(())
@@ -397,24 +425,25 @@ fn by_whole_table(o: Options, left: Vec<Vec<i64>>, right: Vec<Vec<i64>>, wrote: 
     whole_table::judge_whole(&calls, &[oks, wrote].concat()).map(|_| ())
 }
 
-/// SCOPE 15.12 and 16.1: the rules' own promises, over scripts full of refusals.
-pub fn refusals(seed: u64, count: u64) -> Step {
-    let mut refused = [0u64; 11];
+/// SCOPE 15.12 and 16.1: the rules' own promises, over scripts full of refusals. These must all have come, those of lists
+/// too where there are lists.
+pub fn refusals(makes: Makes, seed: u64, count: u64, due: &[usize]) -> Step {
+    let mut refused = [0u64; 13];
     for i in 0..count {
-        let calls = script(Kind::Refusals, seed, i);
+        let calls = (makes.turns)(Kind::Refusals, seed, i);
         let judged = keeps_count(&calls, &mut refused);
         let judged = judged
             .and_then(|_| whole_table::judge(&calls, &compare::answers(&mut Rules::default(), &calls)).map(|_| ()));
         judged.map_err(|why| failure(&format!("refusals, seed {seed}, script {i}"), &calls, &why))?;
     }
-    if [1, 3, 4, 5, 6, 8, 9, 10].iter().any(|n| refused[*n] == 0) {
+    if due.iter().any(|n| refused[*n] == 0) {
         return Err(format!("a refusal never came: {refused:?}"));
     }
-    Ok(format!("{count} scripts, refused by 1 to 10: {:?} (2 and 7 cannot be reached by scripts)", &refused[1..]))
+    Ok(format!("{count} scripts, refused by 1 to 12: {:?} (2 and 7 cannot be reached by scripts)", &refused[1..]))
 }
 
 /// Counts one script's accepted rows beside the rules.
-fn keeps_count(calls: &[Call], refused: &mut [u64; 11]) -> Result<(), String> {
+fn keeps_count(calls: &[Call], refused: &mut [u64; 13]) -> Result<(), String> {
     let mut rules = Rules::default();
     let (mut right, mut left, mut written, mut waiting) = (0, 0, 0, std::collections::VecDeque::new());
     for call in calls {
@@ -439,7 +468,7 @@ fn keeps_count(calls: &[Call], refused: &mut [u64; 11]) -> Result<(), String> {
             (_, Answer::Refused(n)) => {
                 refused[*n as usize] += 1;
                 let mut same = before.unwrap();
-                same.failed |= *n >= 8;
+                same.failed |= matches!(n, 8 | 9);
                 if same != *look {
                     return Err(format!("{call}: {answer} changed the join"));
                 }
@@ -466,28 +495,54 @@ pub fn run(steps: Vec<Named>) -> bool {
     well
 }
 
-/// The whole self-test with so many random scripts a kind.
+/// The refusals that scripts without lists reach, and those that scripts with lists do.
+const DUE: [usize; 8] = [1, 3, 4, 5, 6, 8, 9, 10];
+const DUE_LISTED: [usize; 10] = [1, 3, 4, 5, 6, 8, 9, 10, 11, 12];
+
+/// The whole self-test with so many random scripts a kind, and half as many with lists.
 pub fn all(seed: u64, count: u64) -> bool {
-    run(vec![
+    let mut steps: Vec<Named> = vec![
         ("worked cases", Box::new(counter_cases)),
         ("runs", Box::new(run_cases)),
         ("moves", Box::new(move_cases)),
         ("longest frames", Box::new(longest_frames)),
         ("findings", Box::new(crate::findings::all)),
-        ("all short scripts", Box::new(short_scripts)),
-        ("whole-table rule", Box::new(move || whole(seed, 2 * count, Ways::default()))),
-        ("the two judges", Box::new(move || judges(seed, count))),
-        ("step rules", Box::new(move || all_kinds(seed, count))),
+        ("all short scripts", Box::new(|| short_scripts(exhaustive::all, Ways::default()))),
+        ("whole-table rule", Box::new(move || whole(PLAIN, seed, 2 * count, Ways::default()))),
+        ("the two judges", Box::new(move || judges(PLAIN, seed, count))),
+        ("step rules", Box::new(move || all_kinds(PLAIN, seed, count))),
         ("carried columns", Box::new(move || carried(seed, count))),
-        ("runs", Box::new(move || runs(seed, count))),
-        ("large tables", Box::new(move || large(seed, 12.max(count / 200)))),
-        ("ways of feeding", Box::new(move || ways(seed, count / 8))),
-        ("refusals", Box::new(move || refusals(seed, count))),
+        ("runs", Box::new(move || runs(PLAIN, seed, count))),
+        ("large tables", Box::new(move || large(PLAIN, seed, 12.max(count / 200)))),
+        ("ways of feeding", Box::new(move || ways(PLAIN, seed, count / 8))),
+        ("refusals", Box::new(move || refusals(PLAIN, seed, count, &DUE))),
         ("spans, cases", Box::new(spans::cases)),
         ("spans, longest tables", Box::new(spans::longest)),
         ("spans, findings", Box::new(spans::findings)),
         ("spans, all short inputs", Box::new(spans::short_inputs)),
         ("spans, points in intervals", Box::new(move || spans::random(seed, 4 * count))),
         ("spans, ways of feeding", Box::new(move || spans::ways(seed, count))),
-    ])
+    ];
+    steps.extend(with_lists(seed, 250.max(count / 2)));
+    run(steps)
+}
+
+/// The steps over scripts with lists of codes.
+pub fn with_lists(seed: u64, count: u64) -> Vec<Named> {
+    let written = Ways { writes: true, ..Ways::default() };
+    vec![
+        ("lists, worked cases", Box::new(ranks::cases)),
+        ("lists, all short scripts", Box::new(|| short_scripts(exhaustive::listed, Ways::default()))),
+        ("lists, whole-table rule", Box::new(move || whole(LISTED, seed, count, Ways::default()))),
+        ("lists, the two judges", Box::new(move || judges(LISTED, seed, count))),
+        ("lists, step rules", Box::new(move || all_kinds(LISTED, seed, count))),
+        ("lists, runs", Box::new(move || runs(LISTED, seed, count))),
+        ("lists, large tables", Box::new(move || large(LISTED, seed, 12.max(count / 200)))),
+        ("lists, ways of feeding", Box::new(move || ways(ranks::TAKEN, seed, count / 8))),
+        ("lists, refusals", Box::new(move || refusals(LISTED, seed, count, &DUE_LISTED))),
+        ("lists, places for codes", Box::new(move || ranks::places(seed, count))),
+        ("lists, short scripts with lacked values", Box::new(move || short_scripts(exhaustive::lacked, written))),
+        ("lists, lacked values", Box::new(move || ranks::lacked(seed, count))),
+        ("lists, a host that writes", Box::new(move || ranks::handed(seed, 2000.max(count)))),
+    ]
 }

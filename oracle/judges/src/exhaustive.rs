@@ -1,17 +1,16 @@
 //! Short scripts, all of them: every small table under every option, and every pair of port calls.
-use crate::script::{Call, Open, Options};
+use crate::script::{Call, Open, Options, Ranks};
 
-/// A row of one or two cells.
+/// A row of one to three cells.
 type Row = Vec<Option<i64>>;
 
-/// All rows of b by-columns and a key over null and the numbers below `values`.
-fn all_rows(b: usize, values: i64) -> Vec<Row> {
-    let cells: Vec<Option<i64>> = [None].into_iter().chain((0..values).map(Some)).collect();
-    let mut rows = vec![vec![]];
-    for _ in 0..=b {
-        rows = rows.iter().flat_map(|r| cells.iter().map(|c| [r.as_slice(), &[*c]].concat())).collect();
-    }
-    rows
+/// All rows of b by-columns and a key over null and the numbers below these: by-values, keys.
+fn all_rows(b: usize, below: [i64; 2]) -> Vec<Row> {
+    let cells = |below: i64| [None].into_iter().chain((0..below).map(Some));
+    let with = |rows: Vec<Row>, below: i64| {
+        rows.iter().flat_map(|r| cells(below).map(|c| [r.as_slice(), &[c]].concat())).collect()
+    };
+    with((0..b).fold(vec![vec![]], |rows, _| with(rows, below[0])), below[1])
 }
 
 /// A cell that row i carries in column j: each row others, nulls among them.
@@ -41,22 +40,23 @@ fn all_frames(rows: &[Row], most: usize, carried: usize) -> Vec<Vec<i64>> {
     tables.iter().map(frame).collect()
 }
 
-/// All options with b by-columns, at most one, these tolerances and so many carried columns.
-fn all_options(b: usize, tolerances: &[i64], carried: u64) -> Vec<Options> {
+/// All options of this shape.
+fn all_options(s: &Small) -> Vec<Options> {
     let mut out = vec![];
-    for bits in 0..2 << (2 * b) {
+    for bits in 0..2 << (2 * s.b) {
         let on = |i: usize| bits >> i & 1 == 1;
         for (strategy, eq) in [(0, true), (0, false), (1, true), (1, false), (2, true)] {
-            for tolerance in tolerances {
-                let (descending, nulls_last) = ((0..b).map(|j| on(1 + 2 * j)), (0..b).map(|j| on(2 + 2 * j)));
+            for tolerance in s.tolerances {
+                let (descending, nulls_last) = ((0..s.b).map(|j| on(1 + 2 * j)), (0..s.b).map(|j| on(2 + 2 * j)));
                 out.push(Options {
-                    b,
+                    b: s.b,
                     strategy,
                     eq,
                     tolerance: *tolerance,
                     check: on(0),
                     strict: false,
-                    carried,
+                    carried: s.carried as u64,
+                    ranks: s.list.map_or(Ranks::none(), |(at, codes)| Ranks::of(at, codes.len() as u64, codes)),
                     descending: descending.collect(),
                     nulls_last: nulls_last.collect(),
                 });
@@ -69,7 +69,7 @@ fn all_options(b: usize, tolerances: &[i64], carried: u64) -> Vec<Options> {
 /// Opens with areas that are enough for one small frame a side.
 fn opens(options: &Options) -> Vec<Call> {
     let open = Open { options: options.clone(), left_words: 64, right_words: 64 };
-    open.calls(options.carried == 0)
+    open.calls(options.carried == 0 && !options.ranks.given)
 }
 
 /// One right frame, one left frame, a turn with right open and one with right ended.
@@ -80,21 +80,30 @@ fn one_frame_each(o: &Options, left: &[i64], right: &[i64]) -> Vec<Call> {
 }
 
 /// What the tables of short scripts are made of.
+#[derive(Clone, Copy)]
 struct Small<'a> {
     b: usize,
-    /// Cells are null or numbers below this.
-    values: i64,
+    /// By-values and keys are null or numbers below these.
+    below: [i64; 2],
     /// The most rows, left and right.
     most: [usize; 2],
     tolerances: &'a [i64],
     carried: usize,
+    /// The column of a list, and its codes.
+    list: Option<(u64, &'a [i64])>,
 }
+
+/// No by-columns; keys null, 0, 1, 2.
+const KEYS: Small = Small { b: 0, below: [0, 3], most: [2, 3], tolerances: &[-1, 0, 1], carried: 0, list: None };
+
+/// One by-column; groups and keys null, 0, 1.
+const GROUPS: Small = Small { b: 1, below: [2, 2], most: [1, 2], tolerances: &[-1], carried: 0, list: None };
 
 /// Hands every script of all small tables to `each`, until it says stop.
 fn tables(s: Small, each: &mut dyn FnMut(&[Call]) -> bool) -> bool {
-    let rows = all_rows(s.b, s.values);
+    let rows = all_rows(s.b, s.below);
     let (left, right) = (all_frames(&rows, s.most[0], 0), all_frames(&rows, s.most[1], s.carried));
-    let scripts = all_options(s.b, s.tolerances, s.carried as u64).into_iter().flat_map(|o| {
+    let scripts = all_options(&s).into_iter().flat_map(|o| {
         let right = &right;
         left.iter().flat_map(move |l| right.iter().map(move |r| (l, r))).map(move |(l, r)| one_frame_each(&o, l, r))
     });
@@ -104,7 +113,7 @@ fn tables(s: Small, each: &mut dyn FnMut(&[Call]) -> bool) -> bool {
 /// Every pair of port calls, with a frame waiting or none, and a turn after them.
 fn ports(each: &mut dyn FnMut(&[Call]) -> bool) -> bool {
     let all: Vec<[u8; 3]> = (0..27).map(|i| [i / 9, i / 3 % 3, i % 3]).collect();
-    let open = opens(&all_options(0, &[-1], 0)[0]);
+    let open = opens(&all_options(&Small { tolerances: &[-1], ..KEYS })[0]);
     let pairs = all.iter().flat_map(|p| all.iter().map(move |q| (p, q)));
     let mut scripts = pairs.flat_map(|(p, q)| [false, true].map(|waits| (p, q, waits)));
     scripts.all(|(p, q, waits)| {
@@ -115,12 +124,25 @@ fn ports(each: &mut dyn FnMut(&[Call]) -> bool) -> bool {
     })
 }
 
-/// All of it: without by-columns keys null, 0, 1, 2; with one by-column groups and keys null, 0, 1; the same with fewer rows
-/// and one or two carried columns.
+/// All of it without lists: tables without by-columns and with one; the same with fewer rows and one or two carried
+/// columns.
 pub fn all(each: &mut dyn FnMut(&[Call]) -> bool) -> bool {
-    let keys = Small { b: 0, values: 3, most: [2, 3], tolerances: &[-1, 0, 1], carried: 0 };
-    let groups = Small { b: 1, values: 2, most: [1, 2], tolerances: &[-1], carried: 0 };
-    let prices = Small { most: [2, 2], tolerances: &[-1, 0], carried: 2, ..keys };
-    let group_prices = Small { most: [1, 1], carried: 1, ..groups };
-    ports(each) && [keys, groups, prices, group_prices].into_iter().all(|small| tables(small, each))
+    let prices = Small { most: [2, 2], tolerances: &[-1, 0], carried: 2, ..KEYS };
+    let group_prices = Small { most: [1, 1], carried: 1, ..GROUPS };
+    ports(each) && [KEYS, GROUPS, prices, group_prices].into_iter().all(|small| tables(small, each))
+}
+
+/// The same with lists: one by-column whose list turns the numbers round, or lacks one of them; two by-columns, of which
+/// either has a list.
+pub fn listed(each: &mut dyn FnMut(&[Call]) -> bool) -> bool {
+    let round: [&[i64]; 2] = [&[1, 0], &[1]];
+    let one = round.map(|codes| Small { list: Some((0, codes)), ..GROUPS });
+    let two = [0, 1].map(|at| Small { b: 2, below: [2, 1], most: [1, 1], list: Some((at, &[1, 0])), ..GROUPS });
+    one.into_iter().chain(two).all(|small| tables(small, each))
+}
+
+/// Right tables with values that the list lacks, as only a host can write them: groups null, 0, 1, 2, of which the list
+/// has 1.
+pub fn lacked(each: &mut dyn FnMut(&[Call]) -> bool) -> bool {
+    tables(Small { below: [3, 1], list: Some((0, &[1])), most: [1, 3], ..GROUPS }, each)
 }

@@ -1,8 +1,9 @@
 //! Random scripts, made from a seed and a number alone, so that every one can be made again.
+use crate::generate_ranks::{self, Listed, Values};
 use crate::rules::Rules;
-use crate::script::{Answer, Call, Judge, Open, Options, Place, opening};
+use crate::script::{Answer, Call, Judge, Open, Options, Place, Ranks, opening};
 use crate::whole_table::{self, Row};
-use crate::words::{CARRIED, CHECK, COUNTERS, ENDED, PRUNED, QUEUE_START, ROWS, SEQUENCE, STATE};
+use crate::words::{CARRIED, CHECK, COUNTERS, ENDED, PRUNED, QUEUE_START, RANKS, ROWS, SEQUENCE, STATE};
 
 /// What a script is made to reach.
 #[derive(Clone, Copy, Debug, PartialEq)]
@@ -63,8 +64,13 @@ impl Random {
         Self::of_family(seed, kind as u64 + 65, number)
     }
 
+    /// The source of a script's list: another one too.
+    pub(crate) fn of_list(seed: u64, kind: Kind, number: u64) -> Self {
+        Self::of_family(seed, kind as u64 + 129, number)
+    }
+
     /// The source of a number among a seed's scripts of a family: kinds of scripts over joins have 1 to 11, what they carry
-    /// 65 to 75.
+    /// 65 to 75, their lists 129 to 139.
     pub(crate) fn of_family(seed: u64, family: u64, number: u64) -> Self {
         let mut out = Random(seed ^ (family << 56));
         out.0 = out.next() ^ number.wrapping_mul(0x9E37_79B9_7F4A_7C15);
@@ -99,7 +105,7 @@ impl Random {
 
 /// Where values come from.
 #[derive(Clone, Copy)]
-enum Pool {
+pub(crate) enum Pool {
     /// 0 to this less 1, so that equal values are common.
     Below(usize),
     /// Both ends of the 64-bit range, and around 0.
@@ -110,7 +116,7 @@ enum Pool {
 
 impl Pool {
     /// A value of the pool.
-    fn value(self, r: &mut Random) -> i64 {
+    pub(crate) fn value(self, r: &mut Random) -> i64 {
         const ENDS: [i64; 9] = [i64::MIN, i64::MIN + 1, i64::MIN + 2, -1, 0, 1, i64::MAX - 2, i64::MAX - 1, i64::MAX];
         match self {
             Pool::Below(n) => r.below(n) as i64,
@@ -136,6 +142,8 @@ struct Shape {
     groups: Pool,
     null_keys: usize,
     null_groups: usize,
+    /// What rows have in the column of the list.
+    listed: Option<Values>,
     /// The fewest and the most rows a side.
     least: usize,
     rows: usize,
@@ -152,7 +160,7 @@ fn tolerance(r: &mut Random, keys: Pool) -> i64 {
     }
 }
 
-/// Options with this many by-columns that carry nothing.
+/// Options with this many by-columns that carry nothing and have no list.
 fn options(r: &mut Random, b: usize, keys: Pool) -> Options {
     let strategy = r.below(3) as i64;
     Options {
@@ -163,15 +171,17 @@ fn options(r: &mut Random, b: usize, keys: Pool) -> Options {
         check: r.percent(50),
         strict: false,
         carried: 0,
+        ranks: Ranks::none(),
         descending: (0..b).map(|_| r.percent(50)).collect(),
         nulls_last: (0..b).map(|_| r.percent(50)).collect(),
     }
 }
 
-/// The shape of a kind's scripts.
-fn shape(r: &mut Random, kind: Kind) -> Shape {
+/// The shape of a kind's scripts; with a list there is a by-column.
+fn shape(r: &mut Random, kind: Kind, lists: bool) -> Shape {
     let b = match kind {
         Kind::NullsLast => 1,
+        _ if lists => r.pick(&[1, 1, 1, 2, 2, 3, 4]),
         _ => r.pick(&[0, 0, 0, 1, 1, 1, 2, 2, 3, 4]),
     };
     let small = [Pool::Below(3), Pool::Below(6), Pool::Below(12), Pool::Below(40), Pool::Ends];
@@ -200,25 +210,31 @@ fn shape(r: &mut Random, kind: Kind) -> Shape {
         _ if r.percent(2) => 60,
         _ => r.pick(&[3, 6, 10, 16, 24]),
     };
-    Shape { options, keys, groups, null_keys, null_groups, least: 0, rows }
+    Shape { options, keys, groups, null_keys, null_groups, listed: None, least: 0, rows }
 }
 
 /// The shape of a script with large tables: few groups or many, keys in long runs or seldom equal.
-fn large_shape(r: &mut Random) -> Shape {
-    let b = r.pick(&[0, 0, 1, 1, 2, 3, 4]);
+fn large_shape(r: &mut Random, lists: bool) -> Shape {
+    let b = if lists { r.pick(&[1, 1, 2, 3, 4]) } else { r.pick(&[0, 0, 1, 1, 2, 3, 4]) };
     let keys = [Pool::Below(1), Pool::Below(3), Pool::Below(40), Pool::Below(2000), Pool::Ends, Pool::Any, Pool::Any];
     let keys = r.pick(&keys);
     let groups = r.pick(&[Pool::Below(1), Pool::Below(2), Pool::Below(3), Pool::Below(60), Pool::Ends]);
     let (null_keys, null_groups) = (r.pick(&[0, 0, 1, 10, 60]), r.pick(&[0, 0, 1, 10]));
     let (options, rows) = (options(r, b, keys), r.pick(&[4000, 7000, 9000, 12_000]));
-    Shape { options, keys, groups, null_keys, null_groups, least: 1500, rows }
+    Shape { options, keys, groups, null_keys, null_groups, listed: None, least: 1500, rows }
+}
+
+/// A value of the shape's by-column j: of the list's, what belongs there.
+fn by_value(r: &mut Random, s: &Shape, j: usize) -> i64 {
+    let listed = s.listed.as_ref().and_then(|values| values.value(r, j));
+    listed.unwrap_or_else(|| s.groups.value(r))
 }
 
 /// A row of the shape.
 fn row(r: &mut Random, s: &Shape) -> Row {
     let mut out: Row = vec![];
-    for _ in 0..s.options.b {
-        out.push(if r.percent(s.null_groups) { None } else { Some(s.groups.value(r)) });
+    for j in 0..s.options.b {
+        out.push(if r.percent(s.null_groups) { None } else { Some(by_value(r, s, j)) });
     }
     out.push(if r.percent(s.null_keys) { None } else { Some(s.keys.value(r)) });
     out
@@ -532,7 +548,7 @@ fn bad_frame(r: &mut Random, [own, other]: [usize; 2]) -> Vec<i64> {
 }
 
 /// Other options than a draft began with: small areas, and now and then ones that SCOPE refuses. The frames stay as they are.
-fn small_open(r: &mut Random, d: &mut Draft, carried: &mut Carried) {
+fn small_open(r: &mut Random, d: &mut Draft, carried: &mut Carried, listed: &mut Listed) {
     let Open { options: o, left_words, right_words } = &mut d.open;
     (*left_words, *right_words) = (r.below(*left_words + 8), r.below(*right_words + 8));
     let change = r.below(40);
@@ -542,9 +558,12 @@ fn small_open(r: &mut Random, d: &mut Draft, carried: &mut Carried) {
         2 => (o.strategy, o.eq) = (2, false),
         _ => {},
     }
-    // Both refusals of an opening too: of two that apply the first counts.
+    // Several refusals of an opening too: of those that apply the first counts.
     if change == 3 || change == 4 || (change < 3 && carried.r.percent(30)) {
         (o.carried, d.one_line) = (carried.too_many(), false);
+    }
+    if listed.gives && listed.r.percent(if change < 5 { 40 } else { 12 }) {
+        listed.spoil(o.b, &mut o.ranks);
     }
 }
 
@@ -565,19 +584,19 @@ fn any_call(r: &mut Random, d: &mut Draft, columns: [usize; 2]) {
 }
 
 /// Opens a draft again, with small areas if so said, and keeps what SCOPE refuses; the columns of its frames.
-fn open_again(r: &mut Random, d: &mut Draft, small: bool, carried: &mut Carried) -> [usize; 2] {
+fn open_again(r: &mut Random, d: &mut Draft, small: bool, carried: &mut Carried, listed: &mut Listed) -> [usize; 2] {
     let columns = columns(&d.open.options);
     d.keep_refused = true;
     if small {
-        small_open(r, d, carried);
+        small_open(r, d, carried, listed);
     }
     d.open();
     columns
 }
 
 /// Small areas, short outputs, broken frames and calls at the wrong time.
-fn refusals(r: &mut Random, mut d: Draft, carried: &mut Carried) -> Vec<Call> {
-    let columns = open_again(r, &mut d, true, carried);
+fn refusals(r: &mut Random, mut d: Draft, carried: &mut Carried, listed: &mut Listed) -> Vec<Call> {
+    let columns = open_again(r, &mut d, true, carried, listed);
     for _ in 0..10 + r.below(30) {
         any_call(r, &mut d, columns);
     }
@@ -601,13 +620,18 @@ fn other_word(r: &mut Random, at: usize, old: i64) -> i64 {
 /// The host alters a word of the join; most words that make it refused in every call are set right after one call.
 fn alter_join(r: &mut Random, d: &mut Draft, columns: [usize; 2]) {
     let Some((words, ..)) = d.rules.all_words() else { return };
-    let at = match r.below(11) {
+    let at = match r.below(12) {
         0..=4 => COUNTERS + r.below(ROWS[0] - COUNTERS),
-        5 | 6 => r.below(COUNTERS),
+        5 | 6 => r.below(RANKS),
         7 => CARRIED,
+        8 => RANKS,
         _ => ROWS[0] + r.below(words.len() - ROWS[0]),
     };
-    d.push(Call::Put(Place::Join, at, other_word(r, at, words[at])));
+    let (at, word) = match at {
+        RANKS => generate_ranks::other_list_word(r, &words),
+        at => (at, other_word(r, at, words[at])),
+    };
+    d.push(Call::Put(Place::Join, at, word));
     if d.rules.broken() {
         any_call(r, d, columns);
         if r.percent(90) {
@@ -653,12 +677,37 @@ fn alter_carried(r: &mut Random, d: &mut Draft) {
     }
 }
 
+/// The host alters what the list has a say in: values of held, waiting and remembered rows, or the list itself; often a
+/// turn comes next.
+fn alter_listed(r: &mut Random, d: &mut Draft, columns: [usize; 2]) {
+    let puts = match r.below(8) {
+        0..=3 => generate_ranks::alter_held(r, &d.rules),
+        4 => generate_ranks::alter_remembered(r, &d.rules),
+        5 => generate_ranks::alter_list(r, &d.rules),
+        _ => {
+            let Some((put, back)) = generate_ranks::alter_waiting(r, &d.rules, false) else { return };
+            d.push(put);
+            if r.percent(60) {
+                d.turn(r)
+            } else {
+                any_call(r, d, columns)
+            }
+            if r.percent(70) { vec![back] } else { vec![] }
+        },
+    };
+    puts.into_iter().for_each(|put| d.push(put));
+    if r.percent(50) {
+        d.turn(r);
+    }
+}
+
 /// Calls on joins and areas that no call has left so.
-fn handed(r: &mut Random, mut d: Draft, carried: &mut Carried) -> Vec<Call> {
+fn handed(r: &mut Random, mut d: Draft, carried: &mut Carried, listed: &mut Listed) -> Vec<Call> {
     let small = r.percent(50);
-    let columns = open_again(r, &mut d, small, carried);
+    let columns = open_again(r, &mut d, small, carried, listed);
     for _ in 0..10 + r.below(30) {
         match r.below(24) {
+            _ if listed.gives && listed.r.percent(25) => alter_listed(r, &mut d, columns),
             0..=2 => alter_join(r, &mut d, columns),
             3 | 4 => alter_area(r, &mut d),
             5 => alter_row(r, &mut d),
@@ -722,11 +771,15 @@ fn run_output(r: &mut Random, rules: &Rules, k: usize, short: usize, spare: usiz
     }
 }
 
-/// What a host alters before a run, so that a later turn of it is refused: the numbers of turns are used up after some, or,
-/// where the first frame has no row, the remembered right row is greater than most and right has ended.
+/// What a host alters before a run, so that a later turn of it is refused: the numbers of turns are used up after some,
+/// or, where the first frame has no row, the remembered right row is greater than most and right has ended; with a list,
+/// a frame behind the front has a value that it lacks.
 fn alter_for_run(r: &mut Random, rules: &Rules) -> Vec<Call> {
     let Some((words, left, _)) = rules.all_words() else { return vec![] };
     let put = |at: usize, word: i64| Call::Put(Place::Join, at, word);
+    if words[RANKS] == 1 && r.percent(60) {
+        return generate_ranks::alter_waiting(r, rules, true).into_iter().map(|(put, _)| put).collect();
+    }
     if left.get(words[QUEUE_START] as usize) == Some(&0) && r.percent(70) {
         let row = (0..11).map(|j| put(ROWS[1] + j, if (1..=5).contains(&j) { i64::MAX } else { 1 }));
         return row.chain([put(CHECK, 1), put(ENDED, 1)]).collect();
@@ -758,7 +811,9 @@ impl Runs {
         let waits = self.rules.look().is_some_and(|l| l.queue_words > 0);
         if !waits && r.percent(70) {
             return;
-        } else if self.alters && r.percent(15) {
+        }
+        let lists = self.rules.options().is_some_and(|o| o.ranks.given);
+        if self.alters && r.percent(if lists { 40 } else { 15 }) {
             alter_for_run(r, &self.rules).into_iter().for_each(|call| self.push(call));
         }
         let k = run_turns(r);
@@ -833,23 +888,29 @@ fn with_moves(r: &mut Random, kind: Kind, calls: Vec<Call>) -> Vec<Call> {
 }
 
 /// The calls of a kind's script over areas that are large enough, save for kinds that are to find no room.
-fn calls(r: &mut Random, kind: Kind, carried: &mut Carried) -> Vec<Call> {
+fn calls(r: &mut Random, kind: Kind, carried: &mut Carried, listed: &mut Listed) -> Vec<Call> {
     let large = kind == Kind::Large;
-    let mut s = if large { large_shape(r) } else { shape(r, kind) };
-    let [left, mut right] = arrangements(r, kind).map(|how| table(r, &s, how));
+    let mut s = if large { large_shape(r, listed.gives) } else { shape(r, kind, listed.gives) };
+    s.listed = listed.give(&mut s.options, kind);
+    let hows = arrangements(r, kind);
+    let left = table(r, &s, hows[0]);
+    s.listed.iter_mut().for_each(|values| values.lacking = listed.lacking);
+    let mut right = table(r, &s, hows[1]);
     carried.carry(&mut right);
     s.options.carried = carried.p as u64;
-    let d = Draft::new(r, s.options, [&left, &right], if large { cut_large } else { cut }, carried.one_line);
-    match kind {
+    let (ranks, one_line) = (s.options.ranks.clone(), carried.one_line && !listed.gives);
+    let d = Draft::new(r, s.options, [&left, &right], if large { cut_large } else { cut }, one_line);
+    let calls = match kind {
         Kind::Whole => whole(r, d),
         Kind::Mixed | Kind::Ends => mixed(r, d),
         Kind::Flush => flush(r, d),
         Kind::NullsLast | Kind::Order | Kind::Equal | Kind::Strict => plain(r, d, 90),
         // What the rules refuse stays, so that a frame that they should take is missed.
         Kind::Large => plain(r, Draft { keep_refused: true, ..d }, 100),
-        Kind::Refusals => refusals(r, d, carried),
-        Kind::Handed => handed(r, d, carried),
-    }
+        Kind::Refusals => refusals(r, d, carried, listed),
+        Kind::Handed => handed(r, d, carried, listed),
+    };
+    if listed.gives { listed.with_lacking(&ranks, calls) } else { calls }
 }
 
 /// Whether a kind's scripts find room for all that they hand in.
@@ -857,11 +918,12 @@ fn with_room(kind: Kind) -> bool {
     kind == Kind::Large || COMPARED.contains(&kind)
 }
 
-/// The calls of a script without runs and moves.
-fn with_turns(kind: Kind, seed: u64, number: u64, carried: &mut Carried) -> Vec<Call> {
+/// The calls of a script without runs and moves. Areas stay long where the host is to write values that the list lacks:
+/// frames with these are refused here.
+fn with_turns(kind: Kind, seed: u64, number: u64, carried: &mut Carried, listed: &mut Listed) -> Vec<Call> {
     let r = &mut Random::new(seed, kind, number);
-    let mut calls = calls(r, kind, carried);
-    if with_room(kind) && r.percent(50) {
+    let mut calls = calls(r, kind, carried, listed);
+    if with_room(kind) && listed.lacking == 0 && r.percent(50) {
         tighten(r, &mut calls);
     }
     calls
@@ -869,26 +931,41 @@ fn with_turns(kind: Kind, seed: u64, number: u64, carried: &mut Carried) -> Vec<
 
 /// The script of this number among a seed's scripts of a kind.
 pub fn script(kind: Kind, seed: u64, number: u64) -> Vec<Call> {
-    with_turns(kind, seed, number, &mut Carried::at_least(0, seed, kind, number))
+    let listed = &mut Listed::nothing(seed, kind, number);
+    with_turns(kind, seed, number, &mut Carried::at_least(0, seed, kind, number), listed)
 }
 
 /// The same script with at least one carried column.
 pub fn script_with_carried(kind: Kind, seed: u64, number: u64) -> Vec<Call> {
-    with_turns(kind, seed, number, &mut Carried::at_least(1, seed, kind, number))
+    let listed = &mut Listed::nothing(seed, kind, number);
+    with_turns(kind, seed, number, &mut Carried::at_least(1, seed, kind, number), listed)
 }
 
 /// The same script with nothing carried. Where all that it hands in finds room, its calls are the same but for the right
 /// frames and the lengths of right area and outputs.
 pub fn script_without_carried(kind: Kind, seed: u64, number: u64) -> Vec<Call> {
-    with_turns(kind, seed, number, &mut Carried::nothing(seed, kind, number))
+    let listed = &mut Listed::nothing(seed, kind, number);
+    with_turns(kind, seed, number, &mut Carried::nothing(seed, kind, number), listed)
 }
 
-/// The same script with runs in the place of turns, and with moves in half of all. One for the whole-table rule has outputs
+/// Another script of the kind, in which a by-column has a list of codes, and frames that 12 refuses stand among the others.
+pub fn script_with_list(kind: Kind, seed: u64, number: u64) -> Vec<Call> {
+    let listed = &mut Listed::list(0, seed, kind, number);
+    with_turns(kind, seed, number, &mut Carried::at_least(0, seed, kind, number), listed)
+}
+
+/// The same with values among those of the right rows that the list lacks, as only a host can write them.
+pub fn script_with_lacked(kind: Kind, seed: u64, number: u64) -> Vec<Call> {
+    let listed = &mut Listed::list(20, seed, kind, number);
+    with_turns(kind, seed, number, &mut Carried::at_least(0, seed, kind, number), listed)
+}
+
+/// A script with runs in the place of turns, and with moves in half of all. One for the whole-table rule has outputs
 /// enough, and turns at its end what still waits; so does one with large tables.
-pub fn script_with_runs(kind: Kind, seed: u64, number: u64) -> Vec<Call> {
+fn with_runs_and_moves(kind: Kind, seed: u64, number: u64, listed: &mut Listed) -> Vec<Call> {
     let r = &mut Random::new(seed, kind, number);
     let carried = &mut Carried::at_least(0, seed, kind, number);
-    let calls = calls(r, kind, carried);
+    let calls = calls(r, kind, carried, listed);
     let mut calls = with_runs(r, kind, calls);
     if matches!(kind, Kind::Whole | Kind::Large) {
         calls.push(Call::Run(1 << 20, (1 + carried.p) << 16));
@@ -897,4 +974,14 @@ pub fn script_with_runs(kind: Kind, seed: u64, number: u64) -> Vec<Call> {
         tighten(r, &mut calls);
     }
     if r.percent(50) { with_moves(r, kind, calls) } else { calls }
+}
+
+/// The script of this number with runs and moves.
+pub fn script_with_runs(kind: Kind, seed: u64, number: u64) -> Vec<Call> {
+    with_runs_and_moves(kind, seed, number, &mut Listed::nothing(seed, kind, number))
+}
+
+/// The script with a list of this number with runs and moves.
+pub fn script_with_list_and_runs(kind: Kind, seed: u64, number: u64) -> Vec<Call> {
+    with_runs_and_moves(kind, seed, number, &mut Listed::list(0, seed, kind, number))
 }

@@ -3,6 +3,7 @@
 pub mod drive;
 pub mod exhaustive;
 pub mod generate;
+mod generate_ranks;
 pub mod generate_spans;
 pub mod rules;
 pub mod script;

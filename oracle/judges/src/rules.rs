@@ -3,9 +3,9 @@
 //! with the stand-ins or with the judge of the whole-table rule.
 use std::cmp::Ordering;
 
-use crate::script::{Answer, Call, JoinWords, Judge, Look, Open, Options, Place, Ran, Stop, Told};
+use crate::script::{Answer, Call, JoinWords, Judge, Look, MOST_CODES, Open, Options, Place, Ran, Ranks, Stop, Told};
 use crate::spans;
-use crate::words::{self, RowWords};
+use crate::words::{self, Rising, RowWords};
 
 /// A cell: null, or a number.
 pub type Cell = Option<i64>;
@@ -13,22 +13,47 @@ pub type Cell = Option<i64>;
 /// A row: b by-values, then the key, then, on the right, what it carries. Only writing looks at that.
 pub type Row = Vec<Cell>;
 
+/// How a column compares: both flags, and the codes of its list; none where it has no list.
+#[derive(Default)]
+struct Rule<'a> {
+    descending: bool,
+    nulls_last: bool,
+    codes: &'a [i64],
+}
+
+/// "Opening may give, for one by-column, a list of 1 to 64 codes": the codes of a list that opening takes.
+fn codes(o: &Options) -> &[i64] {
+    &o.ranks.codes[..o.ranks.count as usize]
+}
+
+/// How by-column j compares.
+fn rule(o: &Options, j: usize) -> Rule<'_> {
+    let codes = if o.ranks.given && o.ranks.column == j as u64 { codes(o) } else { &[] };
+    Rule { descending: o.descending[j], nulls_last: o.nulls_last[j], codes }
+}
+
+/// "that column then compares by place in the list"; "A … value that the list lacks … stands after the listed ones, by
+/// number". Without a list it lacks every value.
+fn rank(codes: &[i64], value: i64) -> (usize, i64) {
+    (codes.iter().position(|code| *code == value).unwrap_or(codes.len()), value)
+}
+
 /// "Null equals null; it stands before every value, or after where nulls last is set, whatever the direction. Values
-/// compare as numbers, reversed if descending."
-fn compare_cells(x: Cell, y: Cell, descending: bool, nulls_last: bool) -> Ordering {
+/// compare as numbers, reversed if descending"; with a list by place in it, "reversed if descending, nulls as before".
+fn compare_cells(x: Cell, y: Cell, rule: &Rule) -> Ordering {
     match (x, y) {
-        (Some(x), Some(y)) if descending => y.cmp(&x),
-        (Some(x), Some(y)) => x.cmp(&y),
+        (Some(x), Some(y)) if rule.descending => rank(rule.codes, y).cmp(&rank(rule.codes, x)),
+        (Some(x), Some(y)) => rank(rule.codes, x).cmp(&rank(rule.codes, y)),
         (None, None) => Ordering::Equal,
         (None, Some(_)) => {
-            if nulls_last {
+            if rule.nulls_last {
                 Ordering::Greater
             } else {
                 Ordering::Less
             }
         },
         (Some(_), None) => {
-            if nulls_last {
+            if rule.nulls_last {
                 Ordering::Less
             } else {
                 Ordering::Greater
@@ -40,7 +65,7 @@ fn compare_cells(x: Cell, y: Cell, descending: bool, nulls_last: bool) -> Orderi
 /// "Rows compare by by-columns in order": two rows' groups.
 fn compare_groups(o: &Options, x: &Row, y: &Row) -> Ordering {
     for j in 0..o.b {
-        let by = compare_cells(x[j], y[j], o.descending[j], o.nulls_last[j]);
+        let by = compare_cells(x[j], y[j], &rule(o, j));
         if by != Ordering::Equal {
             return by;
         }
@@ -50,7 +75,7 @@ fn compare_groups(o: &Options, x: &Row, y: &Row) -> Ordering {
 
 /// "The key is ascending, nulls first."
 fn compare_keys(x: Cell, y: Cell) -> Ordering {
-    compare_cells(x, y, false, false)
+    compare_cells(x, y, &Rule::default())
 }
 
 /// "Rows compare by by-columns in order, then key."
@@ -78,7 +103,7 @@ fn search(mut lower: usize, mut upper: usize, test: impl Fn(usize) -> bool) -> u
 fn narrow(o: &Options, held: &[Row], by: &Row) -> (usize, usize) {
     let (mut start, mut end) = (0, held.len());
     for j in 0..o.b {
-        let at = |i: usize| compare_cells(held[i][j], by[j], o.descending[j], o.nulls_last[j]);
+        let at = |i: usize| compare_cells(held[i][j], by[j], &rule(o, j));
         start = search(start, end, |i| at(i) != Ordering::Less);
         end = search(start, end, |i| at(i) == Ordering::Greater);
     }
@@ -227,6 +252,30 @@ fn many_carried(o: &Options) -> bool {
     o.carried > 8
 }
 
+/// 11: "a list empty or too long, with a code twice or for a column that is no by-column, at opening after 10".
+fn bad_ranks(o: &Options) -> bool {
+    let twice = |codes: &[i64]| codes.iter().enumerate().any(|(i, code)| codes[..i].contains(code));
+    o.ranks.given && (!(1..=64).contains(&o.ranks.count) || o.ranks.column >= o.b as u64 || twice(codes(o)))
+}
+
+/// The places of a list's codes in the order of the codes as numbers, and zeros behind them: an opened join keeps them
+/// beside its options.
+pub fn rising(ranks: &Ranks) -> Rising {
+    let mut out = [0; MOST_CODES];
+    if ranks.given {
+        let mut places: Vec<u8> = (0..ranks.count as u8).collect();
+        places.sort_by_key(|place| ranks.codes[*place as usize]);
+        out[..places.len()].copy_from_slice(&places);
+    }
+    out
+}
+
+/// 12: "a value that the list lacks in any frame 5 looks at, after 5 and like it". A null is no value.
+fn lacks(o: &Options, rows: &[Row]) -> bool {
+    let mut values = rows.iter().filter_map(|row| row[o.ranks.column as usize]);
+    o.ranks.given && values.any(|value| !codes(o).contains(&value))
+}
+
 /// "Mark 1 is present, 0 is null with value 0; no other mark. Its length is exactly 2 + 2nc words."
 fn frame_ok(c: usize, words: &[i64]) -> bool {
     if words.len() < 2 || words[0] < 0 || words[0] > 4096 || words[1] != c as i64 {
@@ -280,6 +329,8 @@ struct Written {
 #[derive(Clone)]
 pub struct Join {
     o: Options,
+    /// The places of the codes of the options' list.
+    rising: Rising,
     left_area: Vec<i64>,
     right_area: Vec<i64>,
     look: Look,
@@ -309,6 +360,8 @@ impl Join {
             return Err(1);
         } else if many_carried(&o) {
             return Err(10);
+        } else if bad_ranks(&o) {
+            return Err(11);
         }
         let look = Look {
             base: 0,
@@ -324,13 +377,13 @@ impl Join {
             right: None,
         };
         let (left_area, right_area) = (new_left(open.left_words), new_right(open.right_words));
-        let rows = [[0; 11]; 2];
-        Ok(Join { o, left_area, right_area, look, rows, strange: None, fault: None })
+        let (rising, rows) = (rising(&o.ranks), [[0; 11]; 2]);
+        Ok(Join { o, rising, left_area, right_area, look, rows, strange: None, fault: None })
     }
 
     /// The join's words, as the C interface lays them out.
     fn words(&self) -> JoinWords {
-        self.strange.unwrap_or_else(|| words::encode(&self.o, &self.look, &self.rows))
+        self.strange.unwrap_or_else(|| words::encode(&self.o, &self.rising, &self.look, &self.rows))
     }
 
     /// A word of the join is altered by the host.
@@ -338,7 +391,9 @@ impl Join {
         let mut all = self.words();
         all[at] = word;
         match words::decode(&all) {
-            Some((o, look, rows)) => (self.o, self.look, self.rows, self.strange) = (o, look, rows, None),
+            Some((o, rising, look, rows)) => {
+                (self.o, self.rising, self.look, self.rows, self.strange) = (o, rising, look, rows, None);
+            },
             None => self.strange = Some(all),
         }
     }
@@ -390,26 +445,37 @@ impl Join {
         rows_of(c, self.look.held, values, marks)
     }
 
-    /// 2: whether the fields cannot be those of a join; "a join holding such a p is 2". No call reaches it; a host that alters
-    /// its words can.
+    /// Whether the list's places are not those of its codes in rising order. Those behind the count are free, as its
+    /// words are.
+    fn bad_rising(&self) -> bool {
+        let count = self.o.ranks.count as usize;
+        self.o.ranks.given && self.rising[..count] != rising(&self.o.ranks)[..count]
+    }
+
+    /// 2: whether the fields cannot be those of a join; "a join holding such a p is 2", and so is one that holds a list
+    /// which is 11, or other places of its codes. No call reaches it; a host that alters its words can.
     fn broken(&self) -> bool {
         let l = &self.look;
         self.strange.is_some()
             || bad_options(&self.o)
             || many_carried(&self.o)
+            || bad_ranks(&self.o)
+            || self.bad_rising()
             || l.base as u128 + l.held as u128 > self.capacity() as u128
             || l.queue_start as u128 + l.queue_words as u128 > self.left_area.len() as u128
             || l.pruned as u128 + l.held as u128 > i64::MAX as u128
             || l.sequence % 2 == 1
     }
 
-    /// A left call: refusals 4, 5, 6, then "Waiting left frames stand back to back".
+    /// A left call: refusals 4, 5, 12, 6, then "Waiting left frames stand back to back".
     fn left(&mut self, words: &[i64]) -> Answer {
-        let (room, waiting) = (self.left_area.len(), self.look.queue_words);
+        let (c, room, waiting) = (self.left_columns(), self.left_area.len(), self.look.queue_words);
         if self.look.state != 0 {
             return Answer::Refused(4);
-        } else if !frame_ok(self.left_columns(), words) {
+        } else if !frame_ok(c, words) {
             return Answer::Refused(5);
+        } else if lacks(&self.o, &frame_rows(c, words)) {
+            return Answer::Refused(12);
         } else if waiting + words.len() > room {
             return Answer::Refused(6);
         }
@@ -424,12 +490,15 @@ impl Join {
         Answer::Ok
     }
 
-    /// A right call: refusals 4, 5, 6, 7, then its rows are held.
+    /// A right call: refusals 4, 5, 12, 6, 7, then its rows are held.
     fn right(&mut self, words: &[i64]) -> Answer {
+        let c = self.right_columns();
         if self.look.ended || self.look.state == 2 {
             return Answer::Refused(4);
-        } else if !frame_ok(self.right_columns(), words) {
+        } else if !frame_ok(c, words) {
             return Answer::Refused(5);
+        } else if lacks(&self.o, &frame_rows(c, words)) {
+            return Answer::Refused(12);
         }
         let n = words[0] as usize;
         if self.look.held + n > self.capacity() {
@@ -568,7 +637,7 @@ impl Join {
         Ok(Written { answer, dropped, left: last.filter(|_| o.check).cloned(), right })
     }
 
-    /// "Turn": refusals 4 to 9 in order, Idle, Wants right, or what it writes.
+    /// "Turn": refusals 4 to 9 in order, 12 after 5, Idle, Wants right, or what it writes.
     fn turn(&mut self, output: usize) -> Answer {
         if self.look.state == 2 {
             return Answer::Refused(4);
@@ -577,7 +646,9 @@ impl Join {
         }
         let Some(front) = self.front() else { return Answer::Refused(5) };
         let (length, left, held) = (front.len(), frame_rows(self.left_columns(), front), self.held_rows());
-        if !self.look.ended && need_more(&self.o, &left, &held) {
+        if lacks(&self.o, &left) {
+            return Answer::Refused(12);
+        } else if !self.look.ended && need_more(&self.o, &left, &held) {
             return Answer::Wants;
         } else if output < 2 + 2 * left.len() * (1 + self.o.carried as usize) {
             return Answer::Refused(6);
@@ -677,6 +748,11 @@ impl Rules {
     /// The open join's words and those of its areas, for a look at every word.
     pub fn all_words(&self) -> Option<(JoinWords, &[i64], &[i64])> {
         self.join.as_ref().map(|j| (j.words(), &j.left_area[..], &j.right_area[..]))
+    }
+
+    /// The open join's options.
+    pub fn options(&self) -> Option<&Options> {
+        self.join.as_ref().map(|j| &j.o)
     }
 
     /// Whether every call would be refused by 2.

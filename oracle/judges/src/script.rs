@@ -1,6 +1,45 @@
 //! Call scripts: the calls, their answers, and the text form of both.
 use std::fmt;
 
+/// The most codes of a list.
+pub const MOST_CODES: usize = 64;
+
+/// A list of codes, by whose places one by-column compares, as a line or a join's words give it: nothing is checked yet.
+#[derive(Clone, Debug, PartialEq)]
+pub struct Ranks {
+    /// Whether there is one at all.
+    pub given: bool,
+    pub column: u64,
+    /// How many codes it has.
+    pub count: u64,
+    /// Its codes; the words behind them are free.
+    pub codes: [i64; MOST_CODES],
+}
+
+impl Ranks {
+    /// No list.
+    pub fn none() -> Ranks {
+        Ranks { given: false, column: 0, count: 0, codes: [0; MOST_CODES] }
+    }
+
+    /// The list of these codes for a column. It may say that there are more than can be handed in.
+    pub fn of(column: u64, count: u64, codes: &[i64]) -> Ranks {
+        let mut out = Ranks { given: true, column, count, ..Ranks::none() };
+        out.codes[..codes.len()].copy_from_slice(codes);
+        out
+    }
+
+    /// The codes that a line writes: as many as it counts, or all that can be handed in.
+    fn line(&self) -> &[i64] {
+        &self.codes[..codes_in_line(self.count)]
+    }
+}
+
+/// How many codes a line writes for this count of them.
+fn codes_in_line(count: u64) -> usize {
+    count.min(MOST_CODES as u64) as usize
+}
+
 /// A join's options, as the line gives them: nothing is checked yet.
 #[derive(Clone, Debug, PartialEq)]
 pub struct Options {
@@ -13,6 +52,7 @@ pub struct Options {
     pub strict: bool,
     /// p, the columns that are carried.
     pub carried: u64,
+    pub ranks: Ranks,
     pub descending: Vec<bool>,
     pub nulls_last: Vec<bool>,
 }
@@ -26,10 +66,11 @@ pub struct Open {
 }
 
 impl Open {
-    /// The lines that open a join so: one, which says that nothing is carried, or the options and then the areas.
+    /// The lines that open a join so: one, which says that nothing is carried and no list given, or the options and then
+    /// the areas.
     pub fn calls(self, one_line: bool) -> Vec<Call> {
         if one_line {
-            assert_eq!(self.options.carried, 0);
+            assert!(self.options.carried == 0 && !self.options.ranks.given);
             return vec![Call::Open(self)];
         }
         vec![Call::Options(self.options), Call::Opens(self.left_words, self.right_words)]
@@ -85,7 +126,7 @@ pub struct Spans {
 /// One line of a script.
 #[derive(Clone, Debug, PartialEq)]
 pub enum Call {
-    /// Opens a join that carries nothing.
+    /// Opens a join that carries nothing and has no list.
     Open(Open),
     /// The options of all later lines that open.
     Options(Options),
@@ -119,9 +160,9 @@ pub enum Place {
     Right,
 }
 
-/// The words of a join as the C interface lays them out (include/rowkeeper.h): the layout's, 14 of options, 9 of counters
-/// and flags, and 11 for each remembered row.
-pub type JoinWords = [i64; 46];
+/// The words of a join as the C interface lays them out (include/rowkeeper.h): the layout's, 14 of options and 67 of their
+/// list, 8 of the places of its codes, 9 of counters and flags, and 11 for each remembered row.
+pub type JoinWords = [i64; 121];
 
 /// What `state` tells of a join.
 #[derive(Clone, Debug, PartialEq)]
@@ -284,7 +325,23 @@ impl Options {
 impl fmt::Display for Options {
     /// The first five words of the lines `open` and `options`.
     fn fmt(&self, f: &mut fmt::Formatter<'_>) -> fmt::Result {
-        write!(f, "{} {} {} {} {}", self.b, self.strategy, self.eq as u8, self.tolerance, self.check as u8 + self.strict as u8)
+        write!(
+            f,
+            "{} {} {} {} {}",
+            self.b,
+            self.strategy,
+            self.eq as u8,
+            self.tolerance,
+            self.check as u8 + self.strict as u8
+        )
+    }
+}
+
+impl fmt::Display for Ranks {
+    /// Its words in the line `options`: whether there is one, its column, its count, its codes.
+    fn fmt(&self, f: &mut fmt::Formatter<'_>) -> fmt::Result {
+        write!(f, "{} {} {}", self.given as u8, self.column as i64, self.count as i64)?;
+        words(f, self.line())
     }
 }
 
@@ -305,8 +362,11 @@ impl fmt::Display for Call {
                 options.flags(f)?;
                 write!(f, " {left_words} {right_words}")
             },
-            // Neither a distance nor a list of ranks.
-            Call::Options(o) => write!(f, "options {o} {} 0 0 0 0", o.carried as i64).and_then(|_| o.flags(f)),
+            // No distance.
+            Call::Options(o) => {
+                write!(f, "options {o} {} 0 {}", o.carried as i64, o.ranks)?;
+                o.flags(f)
+            },
             Call::Opens(left_words, right_words) => write!(f, "opens {left_words} {right_words}"),
             Call::Left(w) => write!(f, "left").and_then(|_| words(f, w)),
             Call::Right(w) => write!(f, "right").and_then(|_| words(f, w)),
@@ -345,8 +405,8 @@ fn setting(word: i64) -> Result<i64, String> {
     (0..=2).contains(&word).then_some(word).ok_or(format!("{word} is no setting of the order check"))
 }
 
-/// The first five words of a line with options, p, and both flags of each by-column.
-fn parse_options(a: &[i64], carried: u64, flags: &[i64]) -> Result<Options, String> {
+/// The first five words of a line with options, p, the list, and both flags of each by-column.
+fn parse_options(a: &[i64], carried: u64, ranks: Ranks, flags: &[i64]) -> Result<Options, String> {
     let every = |from: usize| flags.iter().skip(from).step_by(2).map(|w| flag(*w)).collect::<Result<Vec<_>, _>>();
     Ok(Options {
         b: count(a[0])?,
@@ -356,6 +416,7 @@ fn parse_options(a: &[i64], carried: u64, flags: &[i64]) -> Result<Options, Stri
         check: setting(a[4])? > 0,
         strict: setting(a[4])? == 2,
         carried,
+        ranks,
         descending: every(0)?,
         nulls_last: every(1)?,
     })
@@ -368,26 +429,29 @@ fn parse_open(a: &[i64]) -> Result<Open, String> {
         return Err(format!("open with {b} by-columns needs 7 + 2 × {b} words, not {}", a.len()));
     }
     let (options, areas) = a.split_at(5 + 2 * b);
-    let options = parse_options(options, 0, &options[5..])?;
+    let options = parse_options(options, 0, Ranks::none(), &options[5..])?;
     Ok(Open { options, left_words: count(areas[0])?, right_words: count(areas[1])? })
 }
 
-/// The words of an `options` line: ten, the codes of the list of ranks, the flags of the by-columns. The distance and
-/// the list have their places and are not there yet. A p above 2^63 − 1 is written as the negative word of
-/// the same bits.
+/// The words of an `options` line: ten, the codes of the list, the flags of the by-columns. The distance has its place
+/// and is not there yet. A p, a column or a count above 2^63 − 1 is written as the negative word of the same bits; of a
+/// count above 64, 64 codes follow.
 fn parse_options_line(a: &[i64]) -> Result<Options, String> {
     let [b, _, _, _, _, carried, distance, ranked, column, codes, rest @ ..] = a else {
         return Err(format!("options needs 10 words or more, not {}", a.len()));
     };
-    let (b, codes) = (count(*b)?, count(*codes)?);
-    if rest.len() != b.saturating_mul(2).saturating_add(codes) {
-        return Err(format!("options with {b} by-columns and {codes} codes does not take {} words", a.len()));
-    } else if flag(*distance)? || flag(*ranked)? {
-        return Err("options: the distance and the list of ranks are not supported yet".to_string());
-    } else if (*column, codes) != (0, 0) {
-        return Err("options: without a list of ranks COLUMN and K are 0".to_string());
+    let (b, column, codes) = (count(*b)?, *column as u64, *codes as u64);
+    let follow = codes_in_line(codes);
+    if rest.len() != b.saturating_mul(2).saturating_add(follow) {
+        return Err(format!("options with {b} by-columns and {follow} codes does not take {} words", a.len()));
+    } else if flag(*distance)? {
+        return Err("options: the distance is not supported yet".to_string());
+    } else if !flag(*ranked)? && (column, codes) != (0, 0) {
+        return Err("options: without a list of codes COLUMN and K are 0".to_string());
     }
-    parse_options(a, *carried as u64, rest)
+    let (list, flags) = rest.split_at(follow);
+    let ranks = if flag(*ranked)? { Ranks::of(column, codes, list) } else { Ranks::none() };
+    parse_options(a, *carried as u64, ranks, flags)
 }
 
 /// The words of a `ports` line.

@@ -2,10 +2,10 @@
 //! sorting and a matching of its own. It shares no function with the step rules, the stand-ins or the Rust's driver, and looks
 //! at no call's inside: only at what was handed in and what was answered.
 //!
-//! Up to the first accepted row that is out of order every match must be the whole table's; behind it a match must at least
-//! be a row that qualifies. Order faults and refusals 1 and 3 to 6 are judged everywhere. It takes from nowhere how many rows
-//! are held or when more are needed: a want is due wherever a frame waits and right is open, and a right frame may be refused
-//! by 6 where all rows accepted so far would not fit.
+//! Up to the first accepted row that is out of order every match must be the whole table's; behind it a match must at
+//! least be a row that qualifies. Order faults and refusals 1, 3 to 6 and 10 to 12 are judged everywhere. It takes from
+//! nowhere how many rows are held or when more are needed: a want is due wherever a frame waits and right is open, and a
+//! right frame may be refused by 6 where all rows accepted so far would not fit.
 use crate::script::{Answer, Call, Open, Options, Ran, Stop, opening};
 
 /// A row as handed in: b by-values, then the key, then, of a right row, what it carries; none is null.
@@ -28,6 +28,9 @@ pub struct Counts {
     pub faults: u64,
     /// Frames that were never turned.
     pub waiting: u64,
+    /// Lists that opening refused, and frames that were refused for a value that their list lacks.
+    pub bad_lists: u64,
+    pub unlisted: u64,
 }
 
 impl Counts {
@@ -42,21 +45,40 @@ impl Counts {
         self.wants += other.wants;
         self.faults += other.faults;
         self.waiting += other.waiting;
+        self.bad_lists += other.bad_lists;
+        self.unlisted += other.unlisted;
+    }
+}
+
+/// The list that the options give, if they give one: its column, and its codes in their order.
+fn list(o: &Options) -> Option<(usize, &[i64])> {
+    let many = o.ranks.count as usize;
+    o.ranks.given.then(|| (o.ranks.column as usize, &o.ranks.codes[..many]))
+}
+
+/// Where a value of column j stands: "as numbers", or, with a list, "by place in the list"; "a … value that the list
+/// lacks … stands after the listed ones, by number, before any reversal".
+fn standing(o: &Options, j: usize, value: i64) -> i128 {
+    const BEHIND_ALL_PLACES: i128 = 1 << 66;
+    let Some((_, codes)) = list(o).filter(|(column, _)| *column == j) else { return value as i128 };
+    match (0..).zip(codes).find(|(_, code)| **code == value) {
+        Some((place, _)) => place,
+        None => BEHIND_ALL_PLACES + value as i128,
     }
 }
 
 /// Where a cell stands on the line of whole numbers: "Null … stands before every value, or after where nulls last is set,
-/// whatever the direction. Values compare as numbers, reversed if descending."
-fn place(cell: Option<i64>, descending: bool, nulls_last: bool) -> i128 {
-    const BEYOND: i128 = 1 << 64;
+/// whatever the direction. Values compare …, reversed if descending."
+fn place(standing: Option<i128>, descending: bool, nulls_last: bool) -> i128 {
+    const BEYOND: i128 = 1 << 70;
     let sign = |reversed: bool| if reversed { -1 } else { 1 };
-    cell.map_or(-BEYOND * sign(nulls_last), |v| v as i128 * sign(descending))
+    standing.map_or(-BEYOND * sign(nulls_last), |at| at * sign(descending))
 }
 
 /// A row's places: "by-columns in order, then key", the key "ascending, nulls first".
 fn places<'a>(o: &'a Options, row: &'a Row) -> impl Iterator<Item = i128> + 'a {
-    let by = (0..o.b).map(|j| place(row[j], o.descending[j], o.nulls_last[j]));
-    by.chain([place(row[o.b], false, false)])
+    let by = move |j: usize| place(row[j].map(|v| standing(o, j, v)), o.descending[j], o.nulls_last[j]);
+    (0..o.b).map(by).chain([place(row[o.b].map(i128::from), false, false)])
 }
 
 /// Sorts rows as the options declare.
@@ -144,12 +166,30 @@ fn written(o: &Options, matches: &[Option<usize>], right: &[Row]) -> Vec<i64> {
     [values, marks].concat()
 }
 
-/// 1, then 10: what options are refused by at opening, or 0.
+/// "a list empty or too long, with a code twice or for a column that is no by-column".
+fn no_list(o: &Options) -> bool {
+    let (k, mut seen) = (&o.ranks, std::collections::BTreeSet::new());
+    let many = k.count as usize;
+    k.given
+        && (k.count == 0 || k.count > 64 || k.column as usize >= o.b || !k.codes[..many].iter().all(|c| seen.insert(c)))
+}
+
+/// 1, then 10, then 11: what options are refused by at opening, or 0.
 fn no_options(o: &Options) -> u8 {
-    if o.b > 4 || ![0, 1, 2].contains(&o.strategy) || o.tolerance < -1 || (!o.eq && o.strategy == 2) {
-        return 1;
+    match () {
+        _ if o.b > 4 || ![0, 1, 2].contains(&o.strategy) || o.tolerance < -1 || (!o.eq && o.strategy == 2) => 1,
+        _ if o.carried > 8 => 10,
+        _ if no_list(o) => 11,
+        _ => 0,
     }
-    if o.carried > 8 { 10 } else { 0 }
+}
+
+/// 12: whether a frame's row has "a value that the list lacks". A null is no value.
+fn has_unlisted(o: &Options, words: &[i64]) -> bool {
+    let unlisted = |(column, codes): (usize, &[i64])| {
+        rows(words).iter().any(|row| matches!(row[column], Some(value) if !codes.contains(&value)))
+    };
+    list(o).is_some_and(unlisted)
 }
 
 /// A side's accepted rows, and how many of them, from the first on, are sorted.
@@ -224,33 +264,41 @@ fn due(holds: bool, what: &str) -> Verdict {
 }
 
 impl<'a> Judged<'a> {
-    /// A left frame: 3, 4, 5, 6 or taken.
+    /// A frame for which this refusal is due.
+    fn refused(&mut self, number: u8, answer: &Answer) -> Verdict {
+        self.counts.unlisted += (number == 12) as u64;
+        due(*answer == Answer::Refused(number), &format!("{number} is due"))
+    }
+
+    /// A left frame: 3, 4, 5, 12, 6 or taken.
     fn left(&mut self, words: &'a [i64], answer: &Answer) -> Verdict {
         let refusal = match () {
             _ if self.failed => 3,
             _ if self.left_done || self.done => 4,
             _ if !keeps_rule(widths(self.o)[0], words) => 5,
+            _ if has_unlisted(self.o, words) => 12,
             _ if self.waiting_words + words.len() > self.left_words => 6,
             _ => 0,
         };
         if refusal > 0 {
-            return due(*answer == Answer::Refused(refusal), &format!("{refusal} is due"));
+            return self.refused(refusal, answer);
         }
         self.waiting.push_back(words);
         self.waiting_words += words.len();
         due(*answer == Answer::Ok, "the frame is to be taken")
     }
 
-    /// A right frame: 3, 4, 5, 6 or taken. How many rows are held is not known, only that it is no more than came in.
+    /// A right frame: 3, 4, 5, 12, 6 or taken. How many rows are held is not known, only that it is no more than came in.
     fn right(&mut self, words: &[i64], answer: &Answer) -> Verdict {
         let refusal = match () {
             _ if self.failed => 3,
             _ if self.ended || self.done => 4,
             _ if !keeps_rule(widths(self.o)[1], words) => 5,
+            _ if has_unlisted(self.o, words) => 12,
             _ => 0,
         };
         if refusal > 0 {
-            return due(*answer == Answer::Refused(refusal), &format!("{refusal} is due"));
+            return self.refused(refusal, answer);
         }
         let (n, room) = (words[0] as usize, self.right_words / (2 * widths(self.o)[1]));
         if *answer == Answer::Refused(6) {
@@ -434,7 +482,8 @@ pub fn judge(calls: &[Call], answers: &[Answer]) -> Result<Counts, String> {
     let (o, refusal, opened) = (&o, no_options(&o), &answers[lines - 1]);
     if refusal > 0 {
         let why = format!("open: {refusal} is due");
-        return due(*opened == Answer::Refused(refusal), &why).map(|_| Counts::default());
+        let counts = Counts { bad_lists: (refusal == 11) as u64, ..Counts::default() };
+        return due(*opened == Answer::Refused(refusal), &why).map(|_| counts);
     }
     due(*opened == Answer::Ok, "open: nothing is to be refused")?;
     let (rest, answers) = (&calls[lines..], &answers[lines..]);

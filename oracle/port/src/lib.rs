@@ -67,7 +67,7 @@ fn refused(number: u64) -> Answer {
 impl Host {
     /// A fresh join, or the refusal's number. The areas' words are those that scripts begin with.
     fn open(o: &Open) -> Result<Host, u64> {
-        let w = words::options(&o.options);
+        let (w, ranks) = (words::options(&o.options), &o.options.ranks);
         let flags = |at: usize| std::array::from_fn(|j| w[at + j] as u64);
         let options = raw::Options {
             by: w[0] as u64,
@@ -78,6 +78,12 @@ impl Host {
             descending: flags(5),
             nulls_last: flags(9),
             carried: w[13] as u64,
+            ranks: raw::Ranks {
+                given: ranks.given as u64,
+                column: ranks.column,
+                count: ranks.count,
+                codes: ranks.codes,
+            },
         };
         let took = raw::rowkeeper_open(options);
         let (left, right) = (new_left(o.left_words), new_right(o.right_words));
@@ -192,7 +198,9 @@ impl Host {
     fn host(&mut self, call: &Call) -> Option<Answer> {
         let mut words = self.join.to_words();
         Some(match *call {
-            Call::State => words::decode(&words).map_or(Answer::Nothing, |(_, look, _)| Answer::State(Box::new(look))),
+            Call::State => {
+                words::decode(&words).map_or(Answer::Nothing, |(_, _, look, _)| Answer::State(Box::new(look)))
+            },
             Call::Areas => Answer::Areas(self.left.get().to_vec(), self.right.get().to_vec()),
             Call::Words => Answer::Words(Box::new(words)),
             Call::Put(Place::Join, at, word) => {

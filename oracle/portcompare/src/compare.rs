@@ -21,7 +21,7 @@ const SPENT: Duration = Duration::from_secs(20);
 #[derive(Default, Clone)]
 pub struct Counts {
     pub tally: Tally,
-    pub refused: [u64; 11],
+    pub refused: [u64; 13],
     /// Moves that were made, refused by 2 and refused by 6.
     pub moves: [u64; 3],
     /// Calls that the host made on words that it altered itself.
@@ -34,7 +34,7 @@ impl Counts {
         self.tally.add(&other.tally);
         self.altered += other.altered;
         (0..3).for_each(|n| self.moves[n] += other.moves[n]);
-        (0..11).for_each(|n| self.refused[n] += other.refused[n]);
+        (0..13).for_each(|n| self.refused[n] += other.refused[n]);
     }
 
     /// Counts a call's answer, given in this node state.
@@ -48,7 +48,8 @@ impl Counts {
         self.tally.calls += 1;
         self.tally.count(answer, state);
         if let Answer::Refused(n) = answer {
-            self.refused[(*n as usize).min(10)] += 1;
+            self.refused[(*n as usize).min(12)] += 1;
+            self.tally.unlisted += (*n == 12) as u64;
         }
     }
 }
@@ -56,7 +57,7 @@ impl Counts {
 impl fmt::Display for Counts {
     /// The counts on one line.
     fn fmt(&self, f: &mut fmt::Formatter<'_>) -> fmt::Result {
-        write!(f, "{}; refused by 1 to 10: {:?}; ", self.tally, &self.refused[1..])?;
+        write!(f, "{}; refused by 1 to 12: {:?}; ", self.tally, &self.refused[1..])?;
         let [made, bad, short] = self.moves;
         write!(f, "{made} moves, {bad} refused by 2, {short} by 6; {} words altered", self.altered)
     }
@@ -128,7 +129,7 @@ fn run(calls: &[Call], kind: Kind, counts: &mut Counts) -> Result<(), String> {
         counts.count(call, &said, state);
         answers.push(said);
     }
-    counts.tally.scripts += 1;
+    counts.tally.script(calls);
     rules.fault().into_iter().for_each(|f| counts.tally.fault(f));
     counts.tally.judged.add(&whole_table::judge(calls, &answers).map_err(|why| format!("whole table: {why}"))?);
     Ok(())

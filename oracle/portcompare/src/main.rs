@@ -7,7 +7,7 @@ mod spans;
 
 use compare::Counts;
 use judges::drive::{exit, number};
-use judges::generate::{COMPARED, Kind, script, script_with_runs};
+use judges::generate::{COMPARED, Kind, script, script_with_list, script_with_list_and_runs, script_with_runs};
 use judges::script::Call;
 
 /// How many differences are told before a run ends.
@@ -22,10 +22,11 @@ const KINDS: [Kind; 11] = {
 /// The place of the kind that comes once in so many scripts.
 const LARGE: (usize, u64) = (10, 1000);
 
-/// The script of this number among a seed's scripts of a kind: every second one with runs.
+/// The script of this number among a seed's scripts of a kind: every second one with runs, and two of four with a list of
+/// codes.
 fn made(kind: Kind, seed: u64, number: u64) -> Vec<Call> {
-    let make = if number % 2 == 0 { script } else { script_with_runs };
-    make(kind, seed, number)
+    let makes = [script, script_with_runs, script_with_list, script_with_list_and_runs];
+    makes[number as usize % 4](kind, seed, number)
 }
 
 /// Prints a difference with its smallest script.
@@ -36,7 +37,7 @@ fn tell(kind: Kind, seed: u64, number: u64) {
 }
 
 /// What can stop a run, with its place among the counts.
-const STOPS: [(&str, usize); 11] = [
+const STOPS: [(&str, usize); 12] = [
     ("k", 0),
     ("wants", 1),
     ("idle", 2),
@@ -48,11 +49,12 @@ const STOPS: [(&str, usize); 11] = [
     ("7", 9),
     ("8", 10),
     ("9", 11),
+    ("12", 12),
 ];
 
 /// The places of those that must also have been met after a turn that wrote. 2, 3 and 4 come in the first turn, and 9 almost
 /// always does.
-const LATER: [usize; 7] = [0, 1, 2, 7, 8, 9, 10];
+const LATER: [usize; 8] = [0, 1, 2, 7, 8, 9, 10, 12];
 
 /// All scripts of a run, by the place of their kind and their number: one with large tables in a thousand, the first of them
 /// too, the other kinds in turn.
@@ -72,13 +74,14 @@ fn missing(all: &Counts) -> Option<String> {
         ("wants", tally.wants),
         ("idle turns", tally.idle),
         ("Flush", tally.in_flush),
+        ("scripts with a list", tally.lists),
     ];
     let none = met.iter().find(|(_, n)| *n == 0).map(|(what, _)| what.to_string());
     let runs = &tally.runs;
     let stopped = STOPS.iter().find(|(_, at)| runs.stops[*at] == 0).map(|(what, _)| format!("runs stopped by {what}"));
     let after = STOPS.iter().find(|(_, at)| LATER.contains(at) && runs.after[*at] == 0);
     let moves = ["moves", "moves refused by 2", "moves refused by 6"].iter().zip(all.moves).find(|(_, n)| *n == 0);
-    none.or_else(|| (1..11).find(|n| all.refused[*n] == 0).map(|n| format!("refusals by {n}")))
+    none.or_else(|| (1..13).find(|n| all.refused[*n] == 0).map(|n| format!("refusals by {n}")))
         .or(stopped)
         .or(after.map(|(what, _)| format!("runs stopped by {what} after a turn")))
         .or(moves.map(|(what, _)| what.to_string()))

@@ -1,3 +1,4 @@
+-- `consistency::bad_numbers` meets its contract. Assumes nothing.
 use mathlib.Core.Path.{_≡_, sym, _∙_}
 use mathlib.Core.Bool.{false}
 use native.Mathlib.Omega.{arith}
@@ -11,11 +12,6 @@ use Rattle.options.proofs.OptionLaws.{Allowed, allowed-parts}
 use borrow.Author.Needs.{needs}
 use Rattle.consistency.proofs.bad_numbers.Statement.{statement}
 use Rattle.consistency.proofs.bad_numbers.Tie as tie
-use Rattle.consistency.proofs.bad_numbers.Reads as reads
-use Rattle.consistency.proofs.bad_numbers.Lts as lts
-use Rattle.options.proofs.refused_options.Reads as refused-options-reads
-use Rattle.options.proofs.right_columns.Reads as right-columns-reads
-use Rattle.outcomes.proofs.above.Reads as above-reads
 
 refused-options-requires : tie.Need-refused-options-requires
 refused-options-requires c κs = search needs
@@ -36,10 +32,10 @@ rows : (c : tie.After-above) → let a = c .before .before .before .before .args
 rows c = rw (c .before .right-columns .ensures) at (c .above .ensures)
 
 right-columns-requires : tie.Need-right-columns-requires
-right-columns-requires c κs = (allowed c .few, allowed c .carried)
+right-columns-requires c κs = (allowed c .few .by, allowed c .carried)
 
 mul-above : tie.Need-mul-above
-mul-above c = omega (arith, c .right-columns .ensures, allowed (c .before))
+mul-above c = omega (arith, c .right-columns .ensures, allowed (c .before) .few .by, allowed (c .before) .carried)
 
 div-above : tie.Need-div-above
 div-above c = search needs

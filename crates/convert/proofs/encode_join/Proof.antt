@@ -5,7 +5,7 @@ use Rattle.convert.proofs.encode_join.Reads as reads
 use Rattle.convert.proofs.encode_join.Lts as lts
 use Rattle.codes.proofs.flag_code.Reads as flag-code-reads
 use Rattle.codes.proofs.state_code.Reads as state-code-reads
-use Rattle.convert.proofs.encode_options.Reads as encode-options-reads
+use Rattle.hostoptions.proofs.encode_options.Reads as encode-options-reads
 use Rattle.convert.proofs.encode_row.Reads as encode-row-reads
 
 encode-options-requires : tie.Need-encode-options-requires

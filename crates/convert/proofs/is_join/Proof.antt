@@ -7,7 +7,7 @@ use Rattle.convert.proofs.is_join.Lts as lts
 use Rattle.codes.proofs.both.Reads as both-reads
 use Rattle.codes.proofs.is_code.Reads as is-code-reads
 use Rattle.codes.proofs.is_flag.Reads as is-flag-reads
-use Rattle.convert.proofs.is_options.Reads as is-options-reads
+use Rattle.hostoptions.proofs.is_options.Reads as is-options-reads
 
 is-options-requires : tie.Need-is-options-requires
 is-options-requires c κs = search needs

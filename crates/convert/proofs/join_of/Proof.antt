@@ -6,11 +6,15 @@ use Rattle.convert.proofs.join_of.Reads as reads
 use Rattle.convert.proofs.join_of.Lts as lts
 use Rattle.codes.proofs.flag_of.Reads as flag-of-reads
 use Rattle.codes.proofs.state_of.Reads as state-of-reads
-use Rattle.convert.proofs.options_of.Reads as options-of-reads
+use Rattle.hostoptions.proofs.options_with.Reads as options-with-reads
+use Rattle.hostoptions.proofs.kept_ranks.Reads as kept-ranks-reads
 use Rattle.convert.proofs.row_of.Reads as row-of-reads
 
-options-of-requires : tie.Need-options-of-requires
-options-of-requires c κs = join-parts _ (c .pre) .options
+kept-ranks-requires : tie.Need-kept-ranks-requires
+kept-ranks-requires c κs = search needs
+
+options-with-requires : tie.Need-options-with-requires
+options-with-requires c κs = join-parts _ (c .before .before .pre) .options
 
 row-of-requires : tie.Need-row-of-requires
 row-of-requires c κs = search needs
@@ -30,13 +34,14 @@ flag-of-requires-2 c κs = search needs
 returns : tie.Need-returns
 returns c =
     let r = c .before .before .before in
-    rw (c .flag-of2 .ensures, c .before .flag-of .ensures, c .before .before .state-of .ensures, r .row-of2 .ensures, r .before .row-of .ensures, r .before .before .options-of .ensures)
+    rw (c .flag-of2 .ensures, c .before .flag-of .ensures, c .before .before .state-of .ensures, r .row-of2 .ensures, r .before .row-of .ensures, r .before .before .options-with .ensures, r .before .before .before .kept-ranks .ensures)
 
 pub join-of-spec : {M : Type 1} → statement M
 join-of-spec =
     tie.close
     (tie.spec
-    options-of-requires
+    kept-ranks-requires
+    options-with-requires
     row-of-requires
     row-of-requires-2
     state-of-requires

@@ -5,9 +5,11 @@ use native.Mathlib.Omega.{arith}
 use borrow.Author.Tests.{not-true, not-false}
 use denote.Ref.{now}
 use Rattle.frames.specs.Cells.{rowFrom}
+use Rattle.order.specs.Requires.{RowAt}
 use Rattle.order.proofs.RowLaws.{row-room}
 use Rattle.matching.specs.Groups.{sameRun}
 use Rattle.matching.specs.Stretches.{between, runOn, runLength}
+use Rattle.matching.proofs.ScanLaws.{same-yes}
 use Rattle.matching.proofs.WalkLaws.{run-past, on-first, on-more, on-stop, on-end}
 use Rattle.groups.proofs.run_end.Statement.{statement}
 use Rattle.groups.proofs.run_end.Tie as tie
@@ -28,14 +30,32 @@ low c = let l = c .if1 .left in omega arith
 room : (c : tie.In-loop Inv-loop μ-loop) → c .before .loop .e * c .before .before .before .args .w + c .before .before .before .args .w ≤ c .before .before .before .args .n * c .before .before .before .args .w
 room c = row-room (c .before .loop .e) (c .before .before .before .args .n) (c .before .before .before .args .w) (c .loop-test .taken)
 
+-- the two rows are there
+rows-at : (c : tie.In-loop Inv-loop μ-loop) → let l = c .before .loop in let a = c .before .before .before .args in
+    RowAt (a .o) (l .p) (now (a .values)) (now (a .marks)) × RowAt (a .o) (l .p + a .w) (now (a .values)) (now (a .marks))
+rows-at c =
+    let r = room c in
+    let p = c .before .before .before .pre .rows in
+    (record { few = p .few; values = omega arith; marks = omega arith }, record { few = p .few; values = omega arith; marks = omega arith })
+
+-- rows with the same by-values are of one run
+alike : (c : tie.Then2 Inv-loop μ-loop) →
+    let l = c .before .before .before .loop in
+    let a = c .before .before .before .before .before .args in
+    sameRun (a .o) (rowFrom (a .w) (l .p) (now (a .values)) (now (a .marks))) (rowFrom (a .w) (l .e * a .w) (now (a .values)) (now (a .marks))) ≡ true
+alike c =
+    let s = c .before .before .before .before .before in
+    let l = c .before .before .before .loop in
+    sym (same-yes (s .args .o) _ _ (rw (l .inv .2) at (c .before .same-values .ensures (c .if2 .taken) (s .args .w) (s .pre .rows .wide))))
+
 -- what `same_run` says is what row e says to the row before it
 told : (c : tie.After-same-run Inv-loop μ-loop) (t : Bool) → c .same-run .result ≡ t →
-    let l = c .before .before .loop in
-    let a = c .before .before .before .before .args in
+    let l = c .before .before .before .before .loop in
+    let a = c .before .before .before .before .before .before .args in
     sameRun (a .o) (rowFrom (a .w) (l .p) (now (a .values)) (now (a .marks))) (rowFrom (a .w) (l .e * a .w) (now (a .values)) (now (a .marks))) ≡ t
 told c t e =
-    let s = c .before .before .before .before in
-    let l = c .before .before .loop in
+    let s = c .before .before .before .before .before .before in
+    let l = c .before .before .before .before .loop in
     sym (rw (l .inv .2) at (c .same-run .ensures (s .args .w) (s .pre .rows .wide))) ∙ e
 
 returns : tie.Need-returns Inv-loop μ-loop
@@ -58,16 +78,8 @@ loop-holds c =
 add-q : tie.Need-add-q Inv-loop μ-loop
 add-q c = omega (arith, room c)
 
-same-run-requires : tie.Need-same-run-requires Inv-loop μ-loop
-same-run-requires c κs =
-    let r = room c in
-    let p = c .before .before .before .pre .rows in
-    (record { few = p .few; values = omega arith; marks = omega arith }, record { few = p .few; values = omega arith; marks = omega arith })
-
-returns-2 : tie.Need-returns-2 Inv-loop μ-loop
-returns-2 c =
-    let l = c .before .before .before .loop in
-    sym (l .inv .3 ∙ on-stop _ _ _ _ _ _ (l .e) (c .before .before .loop-test .taken) (told (c .before) false (not-true _ (c .if2 .taken))))
+same-values-requires : tie.Need-same-values-requires Inv-loop μ-loop
+same-values-requires c κs = rows-at c
 
 add-e-2 : tie.Need-add-e-2 Inv-loop μ-loop
 add-e-2 c = omega arith
@@ -78,8 +90,27 @@ loop-less c = omega arith
 loop-again : tie.Need-loop-again Inv-loop μ-loop
 loop-again c =
     let l = c .before .before .before .loop in
-    let a = c .before .before .before .before .before .args in
-    let m = on-more _ _ _ _ _ _ (l .e) (c .before .before .loop-test .taken) (told (c .before) true (not-false _ (c .if2 .left))) in
+    let m = on-more _ _ _ _ _ _ (l .e) (c .before .before .loop-test .taken) (alike c) in
+    (omega arith, omega arith, omega arith, l .inv .3 ∙ rw (l .inv .2) m)
+
+same-run-requires : tie.Need-same-run-requires Inv-loop μ-loop
+same-run-requires c κs = rows-at (c .before .before)
+
+returns-2 : tie.Need-returns-2 Inv-loop μ-loop
+returns-2 c =
+    let l = c .before .before .before .before .before .loop in
+    sym (l .inv .3 ∙ on-stop _ _ _ _ _ _ (l .e) (c .before .before .before .before .loop-test .taken) (told (c .before) false (not-true _ (c .if3 .taken))))
+
+add-e-3 : tie.Need-add-e-3 Inv-loop μ-loop
+add-e-3 c = omega arith
+
+loop-less-2 : tie.Need-loop-less-2 Inv-loop μ-loop
+loop-less-2 c = omega arith
+
+loop-again-2 : tie.Need-loop-again-2 Inv-loop μ-loop
+loop-again-2 c =
+    let l = c .before .before .before .before .before .loop in
+    let m = on-more _ _ _ _ _ _ (l .e) (c .before .before .before .before .loop-test .taken) (told (c .before) true (not-false _ (c .if3 .left))) in
     (omega arith, omega arith, omega arith, l .inv .3 ∙ rw (l .inv .2) m)
 
 returns-3 : tie.Need-returns-3 Inv-loop μ-loop
@@ -98,9 +129,13 @@ run-end-spec =
     add-e
     loop-holds
     add-q
-    same-run-requires
-    returns-2
+    same-values-requires
     add-e-2
     loop-less
     loop-again
+    same-run-requires
+    returns-2
+    add-e-3
+    loop-less-2
+    loop-again-2
     returns-3)

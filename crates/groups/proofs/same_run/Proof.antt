@@ -8,25 +8,15 @@ use borrow.Author.Needs.{needs}
 use Rattle.groups.proofs.same_run.Statement.{statement}
 use Rattle.groups.proofs.same_run.Tie as tie
 
-same-values-requires : tie.Need-same-values-requires
-same-values-requires c κs = search needs
-
-returns : tie.Need-returns
-returns c = λ w h.
-    let a = c .before .before .args in
-    let r = rowFrom w (a .p) (now (a .values)) (now (a .marks)) in
-    let s = rowFrom w (a .q) (now (a .values)) (now (a .marks)) in
-    same-yes (a .o) r s (c .before .same-values .ensures (c .if1 .taken) w h)
-
 cmp-group-requires : tie.Need-cmp-group-requires
 cmp-group-requires c κs = search needs
 
 enum-told : tie.Need-enum-told
 enum-told c = search needs
 
-returns-2 : tie.Need-returns-2
-returns-2 c = λ w h.
-    let a = c .before .before .before .before .before .args in
+returns : tie.Need-returns
+returns c = λ w h.
+    let a = c .before .before .before .args in
     let r = rowFrom w (a .p) (now (a .values)) (now (a .marks)) in
     let s = rowFrom w (a .q) (now (a .values)) (now (a .marks)) in
     same-yes (a .o) r s (sym (c .before .before .cmp-group .ensures w w h h) ∙ c .enum-told .given .1)
@@ -34,38 +24,36 @@ returns-2 c = λ w h.
 null-group-requires : tie.Need-null-group-requires
 null-group-requires c κs = search needs
 
-returns-3 : tie.Need-returns-3
-returns-3 c = λ w h.
-    let a = c .before .before .before .before .before .before .args in
+returns-2 : tie.Need-returns-2
+returns-2 c = λ w h.
+    let a = c .before .before .before .before .args in
     let r = rowFrom w (a .p) (now (a .values)) (now (a .marks)) in
     let s = rowFrom w (a .q) (now (a .values)) (now (a .marks)) in
     let e = not-equal-arm (c .before .before .before .cmp-group .result) (c .before .before .match .keys2) in
     let n = c .before .null-group .ensures w (now (a .values)) (omega arith) (omega arith) in
-    same-no (a .o) r s (rw (c .before .before .before .cmp-group .ensures w w h h) at e) (sym n ∙ not-true _ (c .if2 .taken))
+    same-no (a .o) r s (rw (c .before .before .before .cmp-group .ensures w w h h) at e) (sym n ∙ not-true _ (c .if1 .taken))
 
 null-group-requires-2 : tie.Need-null-group-requires-2
 null-group-requires-2 c κs = search needs
 
-returns-4 : tie.Need-returns-4
-returns-4 c = λ w h.
-    let a = c .before .before .before .before .before .before .before .args in
+returns-3 : tie.Need-returns-3
+returns-3 c = λ w h.
+    let a = c .before .before .before .before .before .args in
     let r = rowFrom w (a .p) (now (a .values)) (now (a .marks)) in
     let s = rowFrom w (a .q) (now (a .values)) (now (a .marks)) in
     let e = not-equal-arm (c .before .before .before .before .cmp-group .result) (c .before .before .before .match .keys2) in
     let n = c .before .before .null-group .ensures w (now (a .values)) (omega arith) (omega arith) in
     let m = c .null-group2 .ensures w (now (a .values)) (omega arith) (omega arith) in
-    m ∙ same-nulls (a .o) r s (rw (c .before .before .before .before .cmp-group .ensures w w h h) at e) (sym n ∙ not-false _ (c .before .if2 .left))
+    m ∙ same-nulls (a .o) r s (rw (c .before .before .before .before .cmp-group .ensures w w h h) at e) (sym n ∙ not-false _ (c .before .if1 .left))
 
 pub same-run-spec : {M : Type 1} → statement M
 same-run-spec =
     tie.close
     (tie.spec
-    same-values-requires
-    returns
     cmp-group-requires
     enum-told
-    returns-2
+    returns
     null-group-requires
-    returns-3
+    returns-2
     null-group-requires-2
-    returns-4)
+    returns-3)

@@ -7,8 +7,8 @@ use Rattle.hostfeed.proofs.host_open.Reads as reads
 use Rattle.hostfeed.proofs.host_open.Lts as lts
 use Rattle.results.proofs.fresh_host.Reads as fresh-host-reads
 use Rattle.results.proofs.took_host.Reads as took-host-reads
-use Rattle.convert.proofs.is_options.Reads as is-options-reads
-use Rattle.convert.proofs.options_of.Reads as options-of-reads
+use Rattle.hostoptions.proofs.is_options.Reads as is-options-reads
+use Rattle.hostoptions.proofs.options_of.Reads as options-of-reads
 use Rattle.node.proofs.Join.open.Reads as open-reads
 
 is-options-requires : tie.Need-is-options-requires

@@ -1,16 +1,11 @@
+-- `intake::feed_left` meets its contract. Assumes nothing.
 use mathlib.Core.Path.{sym, _∙_}
 use native.Mathlib.Omega.{arith}
-use Rattle.options.specs.Options.{columns}
 use denote.Ref.{now}
-use Rattle.callrules.specs.Judged.{LeftHolds}
 use Rattle.callrules.proofs.FeedLaws.{LeftTaken, left-taken, left-refused, left-accepted}
 use borrow.Author.Needs.{needs}
 use Rattle.intake.proofs.feed_left.Statement.{statement}
 use Rattle.intake.proofs.feed_left.Tie as tie
-use Rattle.intake.proofs.feed_left.Reads as reads
-use Rattle.intake.proofs.feed_left.Lts as lts
-use Rattle.area.proofs.append.Reads as append-reads
-use Rattle.judges.proofs.judge_left.Reads as judge-left-reads
 
 judge-left-requires : tie.Need-judge-left-requires
 judge-left-requires c κs = λ e. c .before .pre e .few
@@ -28,7 +23,7 @@ enum-told-2 : tie.Need-enum-told-2
 enum-told-2 c = search needs
 
 -- What an accepted frame has: the join holds together, and there is room for the words.
-taken : (c : tie.After-enum-told2) → let a = c .before .before .before .before .args in LeftTaken (a .bad) (a .failed) (a .state) (columns (a .o)) (a .words) (now (a .left)) (now (a .frame))
+taken : (c : tie.After-enum-told2) → let a = c .before .before .before .before .args in LeftTaken (a .bad) (a .failed) (a .state) (a .o) (a .words) (now (a .left)) (now (a .frame))
 taken c = left-taken _ _ _ _ _ _ _ (sym (c .before .before .judge-left .ensures) ∙ c .enum-told2 .given .1)
 
 append-requires : tie.Need-append-requires

@@ -1,18 +1,12 @@
+-- `intake::feed_right` meets its contract. Assumes nothing.
 use mathlib.Core.Path.{sym, _∙_}
 use native.Mathlib.Omega.{arith}
-use Rattle.options.specs.Options.{rightColumns}
 use denote.Ref.{now}
 use Rattle.callrules.specs.Judged.{RightHolds}
 use Rattle.callrules.proofs.FeedLaws.{RightTaken, right-taken, right-refused, right-accepted, has-count}
 use borrow.Author.Needs.{needs}
 use Rattle.intake.proofs.feed_right.Statement.{statement}
 use Rattle.intake.proofs.feed_right.Tie as tie
-use Rattle.intake.proofs.feed_right.Reads as reads
-use Rattle.intake.proofs.feed_right.Lts as lts
-use Rattle.options.proofs.right_columns.Reads as right-columns-reads
-use Rattle.area.proofs.push.Reads as push-reads
-use Rattle.framerule.proofs.row_count.Reads as row-count-reads
-use Rattle.judges.proofs.judge_right.Reads as judge-right-reads
 
 judge-right-requires : tie.Need-judge-right-requires
 judge-right-requires c κs = λ e. let h = c .before .pre e in (h .few, h .carried, h .rows)
@@ -30,20 +24,20 @@ enum-told-2 : tie.Need-enum-told-2
 enum-told-2 c = search needs
 
 -- What an accepted frame has: the join holds together, and there is room for the rows and numbers for them.
-taken : (c : tie.After-enum-told2) → let a = c .before .before .before .before .args in RightTaken (a .bad) (a .failed) (a .ended) (a .state) (rightColumns (a .o)) (a .held) (a .pruned) (now (a .right)) (now (a .frame))
+taken : (c : tie.After-enum-told2) → let a = c .before .before .before .before .args in RightTaken (a .bad) (a .failed) (a .ended) (a .state) (a .o) (a .held) (a .pruned) (now (a .right)) (now (a .frame))
 taken c = right-taken _ _ _ _ _ _ _ _ _ (sym (c .before .before .judge-right .ensures) ∙ c .enum-told2 .given .1)
 
 holds : (c : tie.After-enum-told2) → let a = c .before .before .before .before .args in RightHolds (a .o) (a .base) (a .held) (a .pruned) (now (a .right))
 holds c = c .before .before .before .before .pre (taken c .unbroken)
 
 right-columns-requires : tie.Need-right-columns-requires
-right-columns-requires c κs = (holds c .few, holds c .carried)
+right-columns-requires c κs = (holds c .few .by, holds c .carried)
 
 push-requires : tie.Need-push-requires
 push-requires c κs =
     let t = taken (c .before .before) in
     let h = holds (c .before .before) in
-    rw (c .before .right-columns .ensures) (record { columns = record { some = omega arith; few = omega (arith, h .few, h .carried) }; frame = t .frame; within = h .room; room = t .room })
+    rw (c .before .right-columns .ensures) (record { columns = record { some = omega arith; few = omega (arith, h .few .by, h .carried) }; frame = t .frame; within = h .room; room = t .room })
 
 row-count-requires : tie.Need-row-count-requires
 row-count-requires c κs = has-count _ _ (taken (c .before .before .before .before) .frame)

@@ -1,17 +1,15 @@
-use mathlib.Core.Path.{_≡_}
+-- `judges::judge_left` meets its contract. Assumes nothing.
+use mathlib.Core.Path.{_≡_, sym, _∙_}
+use native.Mathlib.Omega.{arith}
+use borrow.Author.Tests.{not-false}
 use denote.Ref.{now}
-use Rattle.frames.specs.Frame.{isFrame}
-use Rattle.options.specs.Options.{columns}
+use Rattle.frames.specs.Frame.{isFrame, frameRows}
+use Rattle.options.specs.Options.{columns, Few}
+use Rattle.order.specs.Listed.{lacksCode}
 use Rattle.callrules.specs.Judged.{leftJudged}
 use borrow.Author.Needs.{needs}
 use Rattle.judges.proofs.judge_left.Statement.{statement}
 use Rattle.judges.proofs.judge_left.Tie as tie
-use Rattle.judges.proofs.judge_left.Reads as reads
-use Rattle.judges.proofs.judge_left.Lts as lts
-use Rattle.framerule.proofs.is_frame.Reads as is-frame-reads
-use Rattle.options.proofs.left_columns.Reads as left-columns-reads
-use Rattle.outcomes.proofs.above.Reads as above-reads
-use Rattle.outcomes.proofs.is_running.Reads as is-running-reads
 
 returns : tie.Need-returns
 unfolding leftJudged
@@ -30,13 +28,17 @@ returns-3 c =
     let e = c .before .before in
     simp (e .before .if1 .left, e .if2 .left, ← c .before .is-running .ensures, c .if3 .taken)
 
+-- A join that is not bad compares rows.
+few : (c : tie.Else3) → Few (c .before .before .before .before .args .o)
+few c = let e = c .before .before in e .before .before .pre (e .before .if1 .left)
+
 left-columns-requires : tie.Need-left-columns-requires
-left-columns-requires c κs = let e = c .before .before in e .before .before .pre (e .before .if1 .left)
+left-columns-requires c κs = few c .by
 
 is-frame-requires : tie.Need-is-frame-requires
 is-frame-requires c κs = search needs
 
--- What the call says, by the definition's name.
+-- What the calls say, by the definitions' names.
 frame : (c : tie.After-is-frame) → let a = c .before .before .before .before .before .before .args in c .is-frame .result ≡ isFrame (columns (a .o)) (now (a .frame))
 frame c = rw (c .before .left-columns .ensures) at (c .is-frame .ensures)
 
@@ -47,8 +49,16 @@ returns-4 c =
     let e = r .before .before in
     simp (e .before .if1 .left, e .if2 .left, ← r .before .is-running .ensures, r .if3 .left, ← frame (c .before), c .if4 .taken)
 
-above-requires : tie.Need-above-requires
-above-requires c κs = search needs
+-- The words are a frame, so it can be asked for codes.
+lacks-code-requires : tie.Need-lacks-code-requires
+lacks-code-requires c κs =
+    let f = c .before in
+    let n = f .before .left-columns .ensures in
+    (few (f .before .before), omega arith, sym (f .is-frame .ensures) ∙ not-false (f .is-frame .result) (c .if4 .left))
+
+codes : (c : tie.After-lacks-code) →
+    let a = c .before .before .before .before .before .before .before .before .args in c .lacks-code .result ≡ lacksCode (a .o) (frameRows (columns (a .o)) (now (a .frame)))
+codes c = rw (c .before .before .before .left-columns .ensures) at (c .lacks-code .ensures)
 
 returns-5 : tie.Need-returns-5
 unfolding leftJudged
@@ -56,15 +66,50 @@ returns-5 c =
     let f = c .before .before in
     let r = f .before .before .before in
     let e = r .before .before in
-    simp (e .before .if1 .left, e .if2 .left, ← r .before .is-running .ensures, r .if3 .left, ← frame (f .before), f .if4 .left, ← c .before .above .ensures, c .if5 .taken)
+    simp (e .before .if1 .left, e .if2 .left, ← r .before .is-running .ensures, r .if3 .left, ← frame (f .before), f .if4 .left, ← codes (c .before), c .if5 .taken)
+
+above-requires : tie.Need-above-requires
+above-requires c κs = search needs
 
 returns-6 : tie.Need-returns-6
 unfolding leftJudged
 returns-6 c =
-    let f = c .before .before in
+    let k = c .before .before in
+    let f = k .before .before in
     let r = f .before .before .before in
     let e = r .before .before in
-    simp (e .before .if1 .left, e .if2 .left, ← r .before .is-running .ensures, r .if3 .left, ← frame (f .before), f .if4 .left, ← c .before .above .ensures, c .if5 .left)
+    simp (
+      e .before .if1 .left,
+      e .if2 .left,
+      ← r .before .is-running .ensures,
+      r .if3 .left,
+      ← frame (f .before),
+      f .if4 .left,
+      ← codes (k .before),
+      k .if5 .left,
+      ← c .before .above .ensures,
+      c .if6 .taken,
+    )
+
+returns-7 : tie.Need-returns-7
+unfolding leftJudged
+returns-7 c =
+    let k = c .before .before in
+    let f = k .before .before in
+    let r = f .before .before .before in
+    let e = r .before .before in
+    simp (
+      e .before .if1 .left,
+      e .if2 .left,
+      ← r .before .is-running .ensures,
+      r .if3 .left,
+      ← frame (f .before),
+      f .if4 .left,
+      ← codes (k .before),
+      k .if5 .left,
+      ← c .before .above .ensures,
+      c .if6 .left,
+    )
 
 pub judge-left-spec : {M : Type 1} → statement M
 judge-left-spec =
@@ -77,6 +122,8 @@ judge-left-spec =
     left-columns-requires
     is-frame-requires
     returns-4
-    above-requires
+    lacks-code-requires
     returns-5
-    returns-6)
+    above-requires
+    returns-6
+    returns-7)

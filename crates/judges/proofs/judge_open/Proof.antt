@@ -1,11 +1,8 @@
+-- `judges::judge_open` meets its contract. Assumes nothing.
 use Rattle.callrules.specs.Judged.{openAnswer}
 use borrow.Author.Needs.{needs}
 use Rattle.judges.proofs.judge_open.Statement.{statement}
 use Rattle.judges.proofs.judge_open.Tie as tie
-use Rattle.judges.proofs.judge_open.Reads as reads
-use Rattle.judges.proofs.judge_open.Lts as lts
-use Rattle.options.proofs.bad_options.Reads as bad-options-reads
-use Rattle.options.proofs.many_carried.Reads as many-carried-reads
 
 bad-options-requires : tie.Need-bad-options-requires
 bad-options-requires c κs = search needs
@@ -22,10 +19,43 @@ unfolding openAnswer
 returns-2 c =
     simp (← c .before .before .before .bad-options .ensures, c .before .before .if1 .left, ← c .before .many-carried .ensures, c .if2 .taken)
 
+bad-ranks-requires : tie.Need-bad-ranks-requires
+bad-ranks-requires c κs = search needs
+
 returns-3 : tie.Need-returns-3
 unfolding openAnswer
 returns-3 c =
-    simp (← c .before .before .before .bad-options .ensures, c .before .before .if1 .left, ← c .before .many-carried .ensures, c .if2 .left)
+    let m = c .before .before .before in
+    simp (
+      ← m .before .before .bad-options .ensures,
+      m .before .if1 .left,
+      ← m .many-carried .ensures,
+      c .before .before .if2 .left,
+      ← c .before .bad-ranks .ensures,
+      c .if3 .taken,
+    )
+
+returns-4 : tie.Need-returns-4
+unfolding openAnswer
+returns-4 c =
+    let m = c .before .before .before in
+    simp (
+      ← m .before .before .bad-options .ensures,
+      m .before .if1 .left,
+      ← m .many-carried .ensures,
+      c .before .before .if2 .left,
+      ← c .before .bad-ranks .ensures,
+      c .if3 .left,
+    )
 
 pub judge-open-spec : {M : Type 1} → statement M
-judge-open-spec = tie.close (tie.spec bad-options-requires returns many-carried-requires returns-2 returns-3)
+judge-open-spec =
+    tie.close
+    (tie.spec
+    bad-options-requires
+    returns
+    many-carried-requires
+    returns-2
+    bad-ranks-requires
+    returns-3
+    returns-4)

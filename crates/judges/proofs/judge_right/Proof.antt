@@ -1,11 +1,14 @@
+-- `judges::judge_right` meets its contract. Assumes nothing.
 use mathlib.Core.Path.{_≡_, sym, _∙_}
+use mathlib.Core.Bool.{true}
 use Prim.Native.Nat.{_+_, _≤_}
 use native.Mathlib.Omega.{arith}
 use borrow.Author.Tests.{not-false}
 use denote.Ref.{now}
 use lib.Dec.{ltb}
-use Rattle.frames.specs.Frame.{isFrame, rowCount}
-use Rattle.options.specs.Options.{rightColumns}
+use Rattle.frames.specs.Frame.{isFrame, rowCount, frameRows}
+use Rattle.options.specs.Options.{rightColumns, Few}
+use Rattle.order.specs.Listed.{lacksCode}
 use Rattle.area.specs.Area.{capacity}
 use Rattle.outcomes.specs.Answers.{mostRows}
 use Rattle.outcomes.specs.declared.Took.the-variants.{Accepted}
@@ -14,13 +17,6 @@ use Rattle.callrules.proofs.FeedLaws.{rightRest, end-taken, right-shut, right-o
 use borrow.Author.Needs.{needs}
 use Rattle.judges.proofs.judge_right.Statement.{statement}
 use Rattle.judges.proofs.judge_right.Tie as tie
-use Rattle.judges.proofs.judge_right.Reads as reads
-use Rattle.judges.proofs.judge_right.Lts as lts
-use Rattle.framerule.proofs.is_frame.Reads as is-frame-reads
-use Rattle.framerule.proofs.row_count.Reads as row-count-reads
-use Rattle.options.proofs.right_columns.Reads as right-columns-reads
-use Rattle.outcomes.proofs.above.Reads as above-reads
-use Rattle.judges.proofs.judge_end.Reads as judge-end-reads
 
 judge-end-requires : tie.Need-judge-end-requires
 judge-end-requires c κs = search needs
@@ -39,15 +35,15 @@ unended : (c : tie.After-enum-told2) → let a = c .before .before .before .args
 unended c = sym (c .before .before .judge-end .ensures) ∙ c .enum-told2 .given .1
 
 judged : (c : tie.After-enum-told2) → let a = c .before .before .before .args in
-    rightJudged (a .bad) (a .failed) (a .ended) (a .state) (rightColumns (a .o)) (a .held) (a .pruned) (now (a .right)) (now (a .frame)) ≡ rightRest (rightColumns (a .o)) (a .held) (a .pruned) (now (a .right)) (now (a .frame))
+    rightJudged (a .bad) (a .failed) (a .ended) (a .state) (a .o) (a .held) (a .pruned) (now (a .right)) (now (a .frame)) ≡ rightRest (a .o) (a .held) (a .pruned) (now (a .right)) (now (a .frame))
 judged c = right-open _ _ _ _ _ _ _ _ _ (unended c)
 
 -- The join is not bad.
-holds : (c : tie.After-enum-told2) → let a = c .before .before .before .args in (a .o .by ≤ 4) × (a .o .carried ≤ 8) × (a .pruned + a .held ≤ mostRows)
+holds : (c : tie.After-enum-told2) → let a = c .before .before .before .args in Few (a .o) × (a .o .carried ≤ 8) × (a .pruned + a .held ≤ mostRows)
 holds c = c .before .before .before .pre (end-taken _ _ _ _ (unended c) .unbroken)
 
 right-columns-requires : tie.Need-right-columns-requires
-right-columns-requires c κs = (holds c .0, holds c .1)
+right-columns-requires c κs = (holds c .0 .by, holds c .1)
 
 is-frame-requires : tie.Need-is-frame-requires
 is-frame-requires c κs = search needs
@@ -56,22 +52,35 @@ is-frame-requires c κs = search needs
 frame : (c : tie.After-is-frame) → let a = c .before .before .before .before .before .args in c .is-frame .result ≡ isFrame (rightColumns (a .o)) (now (a .frame))
 frame c = rw (c .before .right-columns .ensures) at (c .is-frame .ensures)
 
-room : (c : tie.After-above) → let a = c .before .before .before .before .before .before .before .before .args in
-    c .above .result ≡ ltb (capacity (rightColumns (a .o)) (now (a .right))) (a .held + rowCount (now (a .frame)))
-room c = rw (c .before .before .before .before .right-columns .ensures, c .before .row-count .ensures) at (c .above .ensures)
-
-numbers : (c : tie.After-above2) → let a = c .before .before .before .before .before .before .before .before .before .before .args in
-    c .above2 .result ≡ ltb mostRows (a .pruned + a .held + rowCount (now (a .frame)))
-numbers c = rw (c .before .before .before .row-count .ensures) at (c .above2 .ensures)
-
 returns-2 : tie.Need-returns-2
 returns-2 c = let o = c .before .before .before in simp (judged o, ← frame (c .before), c .if1 .taken)
 
+-- The words are a frame, so it can be asked for codes.
+framed : (c : tie.Else1) → let a = c .before .before .before .before .before .before .args in isFrame (c .before .before .right-columns .result) (now (a .frame)) ≡ true
+framed c = sym (c .before .is-frame .ensures) ∙ not-false (c .before .is-frame .result) (c .if1 .left)
+
+lacks-code-requires : tie.Need-lacks-code-requires
+lacks-code-requires c κs =
+    let w = c .before .before in
+    (holds (w .before) .0, omega (arith, w .right-columns .ensures), framed c)
+
+codes : (c : tie.After-lacks-code) →
+    let a = c .before .before .before .before .before .before .before .args in c .lacks-code .result ≡ lacksCode (a .o) (frameRows (rightColumns (a .o)) (now (a .frame)))
+codes c = rw (c .before .before .before .right-columns .ensures) at (c .lacks-code .ensures)
+
+returns-3 : tie.Need-returns-3
+returns-3 c =
+    let f = c .before .before in
+    let o = f .before .before .before in
+    simp (judged o, ← frame (f .before), f .if1 .left, ← codes (c .before), c .if2 .taken)
+
 row-count-requires : tie.Need-row-count-requires
-row-count-requires c κs = has-count _ _ (sym (frame (c .before)) ∙ not-false (c .before .is-frame .result) (c .if1 .left))
+row-count-requires c κs = has-count _ _ (framed (c .before .before))
 
 mul-above : tie.Need-mul-above
-mul-above c = omega (arith, c .before .before .before .right-columns .ensures, holds (c .before .before .before .before))
+mul-above c =
+    let w = c .before .before .before .before .before in
+    omega (arith, w .right-columns .ensures, holds (w .before) .0 .by, holds (w .before) .1)
 
 div-above : tie.Need-div-above
 div-above c = search needs
@@ -79,33 +88,44 @@ div-above c = search needs
 above-requires : tie.Need-above-requires
 above-requires c κs = search needs
 
-returns-3 : tie.Need-returns-3
-returns-3 c =
-    let f = c .before .before .before in
+room : (c : tie.After-above) → let a = c .before .before .before .before .before .before .before .before .before .before .args in
+    c .above .result ≡ ltb (capacity (rightColumns (a .o)) (now (a .right))) (a .held + rowCount (now (a .frame)))
+room c = rw (c .before .before .before .before .before .before .right-columns .ensures, c .before .row-count .ensures) at (c .above .ensures)
+
+numbers : (c : tie.After-above2) → let a = c .before .before .before .before .before .before .before .before .before .before .before .before .args in
+    c .above2 .result ≡ ltb mostRows (a .pruned + a .held + rowCount (now (a .frame)))
+numbers c = rw (c .before .before .before .row-count .ensures) at (c .above2 .ensures)
+
+returns-4 : tie.Need-returns-4
+returns-4 c =
+    let k = c .before .before .before in
+    let f = k .before .before in
     let o = f .before .before .before in
-    simp (judged o, ← frame (f .before), f .if1 .left, ← room (c .before), c .if2 .taken)
+    simp (judged o, ← frame (f .before), f .if1 .left, ← codes (k .before), k .if2 .left, ← room (c .before), c .if3 .taken)
 
 add-above : tie.Need-add-above
 add-above c =
-    let o = c .before .before .before .before .before .before in
+    let o = c .before .before .before .before .before .before .before .before in
     omega (arith, holds o .2)
 
 above-requires-2 : tie.Need-above-requires-2
 above-requires-2 c κs = search needs
 
-returns-4 : tie.Need-returns-4
-returns-4 c =
-    let r = c .before .before in
-    let f = r .before .before .before in
-    let o = f .before .before .before in
-    simp (judged o, ← frame (f .before), f .if1 .left, ← room (r .before), r .if2 .left, ← numbers (c .before), c .if3 .taken)
-
 returns-5 : tie.Need-returns-5
 returns-5 c =
     let r = c .before .before in
-    let f = r .before .before .before in
+    let k = r .before .before .before in
+    let f = k .before .before in
     let o = f .before .before .before in
-    simp (judged o, ← frame (f .before), f .if1 .left, ← room (r .before), r .if2 .left, ← numbers (c .before), c .if3 .left)
+    simp (judged o, ← frame (f .before), f .if1 .left, ← codes (k .before), k .if2 .left, ← room (r .before), r .if3 .left, ← numbers (c .before), c .if4 .taken)
+
+returns-6 : tie.Need-returns-6
+returns-6 c =
+    let r = c .before .before in
+    let k = r .before .before .before in
+    let f = k .before .before in
+    let o = f .before .before .before in
+    simp (judged o, ← frame (f .before), f .if1 .left, ← codes (k .before), k .if2 .left, ← room (r .before), r .if3 .left, ← numbers (c .before), c .if4 .left)
 
 pub judge-right-spec : {M : Type 1} → statement M
 judge-right-spec =
@@ -118,12 +138,14 @@ judge-right-spec =
     right-columns-requires
     is-frame-requires
     returns-2
+    lacks-code-requires
+    returns-3
     row-count-requires
     mul-above
     div-above
     above-requires
-    returns-3
+    returns-4
     add-above
     above-requires-2
-    returns-4
-    returns-5)
+    returns-5
+    returns-6)

@@ -21,7 +21,7 @@ returns : tie.Need-returns
 returns c = bad-move _ _ _ _ _ (sym (c .before .bad-join .ensures) ∙ c .if1 .taken)
 
 no-room-requires : tie.Need-no-room-requires
-no-room-requires c κs = let g = good _ _ _ (sym (c .before .before .before .bad-join .ensures) ∙ c .before .before .if1 .left) in (g .few, g .carried)
+no-room-requires c κs = let g = good _ _ _ (sym (c .before .before .before .bad-join .ensures) ∙ c .before .before .if1 .left) in (g .few .by, g .carried)
 
 same-length : tie.Need-same-length
 same-length c = search needs
@@ -44,7 +44,7 @@ copy-left-requires : tie.Need-copy-left-requires
 copy-left-requires c κs = let t = fine (c .before) in record { within = t .good .left-room; room = t .left-room }
 
 right-columns-requires : tie.Need-right-columns-requires
-right-columns-requires c κs = let g = fine (c .before .before .before) .good in (g .few, g .carried)
+right-columns-requires c κs = let g = fine (c .before .before .before) .good in (g .few .by, g .carried)
 
 copy-right-requires : tie.Need-copy-right-requires
 copy-right-requires c κs =

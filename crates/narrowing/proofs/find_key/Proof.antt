@@ -1,10 +1,21 @@
+-- `narrowing::find_key` meets its contract. Assumes nothing.
 use denote.Ref.{now}
 use lib.IntN.{pos}
 use lib.ListN.{getD}
 use Rattle.frames.proofs.Signed.{back}
+use Rattle.ranks.proofs.KeptLaws.{none-indexed}
 use borrow.Author.Needs.{needs}
 use Rattle.narrowing.proofs.find_key.Statement.{statement}
 use Rattle.narrowing.proofs.find_key.Tie as tie
+use Rattle.narrowing.proofs.find_key.Reads as reads
+use Rattle.narrowing.proofs.find_key.Lts as lts
+use Rattle.bisect.proofs.find.Reads as find-reads
+
+slice-aggregate-find : tie.Need-slice-aggregate-find
+slice-aggregate-find c = search needs
+
+slice-aggregate-find-2 : tie.Need-slice-aggregate-find-2
+slice-aggregate-find-2 c = search needs
 
 mul-find : tie.Need-mul-find
 mul-find c = search needs
@@ -19,14 +30,14 @@ shared-slice-copy-out-find-2 : tie.Need-shared-slice-copy-out-find-2
 shared-slice-copy-out-find-2 c = search needs
 
 find-requires : tie.Need-find-requires
-find-requires c κs = search needs
+find-requires c κs = (none-indexed, c .before .before .before .before .pre .1)
 
 returns : tie.Need-returns
 returns c = λ n h.
-    let a = c .before .before .before .args in
+    let a = c .before .before .before .before .before .args in
     rw (
-      back (getD (now (a .kv)) (a .k) (pos 0)) (c .before .before .find-arg .given),
-      back (getD (now (a .km)) (a .k) (pos 0)) (c .before .find-arg2 .given),
+      back (getD (now (a .kv)) (a .k) (pos 0)) (c .before .before .find-arg3 .given),
+      back (getD (now (a .km)) (a .k) (pos 0)) (c .before .find-arg4 .given),
     )
     at (c .find .ensures n h)
 
@@ -34,6 +45,8 @@ pub find-key-spec : {M : Type 1} → statement M
 find-key-spec =
     tie.close
     (tie.spec
+    slice-aggregate-find
+    slice-aggregate-find-2
     mul-find
     shared-slice-copy-out-find
     mul-find-2

@@ -19,7 +19,7 @@ use Rattle.options.proofs.left_columns.Reads as left-columns-reads
 use Rattle.framerule.proofs.front_words.Reads as front-words-reads
 use Rattle.judges.proofs.judge_ready.Reads as judge-ready-reads
 use Rattle.turncall.proofs.unturned.Reads as unturned-reads
-use Rattle.turnfront.proofs.turn_frame.Reads as turn-frame-reads
+use Rattle.turncall.proofs.turn_listed.Reads as turn-listed-reads
 
 judge-ready-requires : tie.Need-judge-ready-requires
 judge-ready-requires c κs = search needs
@@ -41,7 +41,7 @@ sound : (c : tie.Else1) → let a = c .before .before .before .args in QueueIn (
 sound c = let a = c .before .before .before .args in c .before .before .before .pre (unbroken (a .bad) (a .state) (a .j) (now (a .left)) (now (a .right)) (now (a .out)) (went c))
 
 left-columns-requires : tie.Need-left-columns-requires
-left-columns-requires c κs = sound c .few
+left-columns-requires c κs = sound c .few .by
 
 add-end : tie.Need-add-end
 add-end c = let i = c .before .before in let x = i .before .before .before in omega (arith, sound i .left-room, x .good .1 .1 .1 .0 .0)
@@ -92,20 +92,20 @@ within c =
 add-e : tie.Need-add-e
 add-e c = let i = c .before .before .before .before .before .before .before in let x = i .before .before .before in omega (arith, within c, sound i .left-room, x .good .1 .1 .1 .0 .0)
 
-mul-turn-frame : tie.Need-mul-turn-frame
-mul-turn-frame c = let i = c .before .before .before .before .before .before .before in let x = i .before .before .before in omega (arith, sound i .left-room, x .good .1 .1 .1 .0 .1)
+mul-turn-listed : tie.Need-mul-turn-listed
+mul-turn-listed c = let i = c .before .before .before .before .before .before .before in let x = i .before .before .before in omega (arith, sound i .left-room, x .good .1 .1 .1 .0 .1)
 
-sub-turn-frame : tie.Need-sub-turn-frame
-sub-turn-frame c = search needs
+sub-turn-listed : tie.Need-sub-turn-listed
+sub-turn-listed c = search needs
 
-part-turn-frame-start : tie.Need-part-turn-frame-start
-part-turn-frame-start c = search needs
+part-turn-listed-start : tie.Need-part-turn-listed-start
+part-turn-listed-start c = search needs
 
-part-turn-frame-end : tie.Need-part-turn-frame-end
-part-turn-frame-end c = let i = c .before .before .before .before .before .before .before in omega (arith, within c, sound i .left-room)
+part-turn-listed-end : tie.Need-part-turn-listed-end
+part-turn-listed-end c = let i = c .before .before .before .before .before .before .before in omega (arith, within c, sound i .left-room)
 
-turn-frame-requires : tie.Need-turn-frame-requires
-turn-frame-requires c κs =
+turn-listed-requires : tie.Need-turn-listed-requires
+turn-listed-requires c κs =
     let t = c .before .before in
     let q = t .before .before .before in
     let i = q .before .before .before .before in
@@ -126,7 +126,7 @@ returns-3 c =
     let x = i .before .before .before in
     let z : x .args .j .«queue_start» + t .before .front .given .0 .0 - x .args .j .«queue_start» ≡ t .before .front .given .0 .0 = omega arith in
     let a = x .args in
-    front-turns (a .bad) (a .state) (a .j) (now (a .left)) (now (a .right)) (now (a .out)) (went i) _ (sym (told q) ∙ t .before .front .given .1) _ _ (rw z at (c .before .turn-frame .ensures))
+    front-turns (a .bad) (a .state) (a .j) (now (a .left)) (now (a .right)) (now (a .out)) (went i) _ (sym (told q) ∙ t .before .front .given .1) _ _ (rw z at (c .before .turn-listed .ensures))
 
 pub turn-queue-spec : {M : Type 1} → statement M
 turn-queue-spec =
@@ -148,10 +148,10 @@ turn-queue-spec =
     unturned-requires-2
     returns-2
     add-e
-    mul-turn-frame
-    sub-turn-frame
-    part-turn-frame-start
-    part-turn-frame-end
-    turn-frame-requires
+    mul-turn-listed
+    sub-turn-listed
+    part-turn-listed-start
+    part-turn-listed-end
+    turn-listed-requires
     same-length
     returns-3)

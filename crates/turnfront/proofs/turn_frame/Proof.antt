@@ -16,10 +16,10 @@ use Rattle.framerule.proofs.row_count.Reads as row-count-reads
 use Rattle.turnfront.proofs.turn_rows.Reads as turn-rows-reads
 
 left-columns-requires : tie.Need-left-columns-requires
-left-columns-requires c κs = c .pre .few
+left-columns-requires c κs = c .pre .few .by
 
 right-columns-requires : tie.Need-right-columns-requires
-right-columns-requires c κs = (c .before .pre .few, c .before .pre .carried)
+right-columns-requires c κs = (c .before .pre .few .by, c .before .pre .carried)
 
 row-count-requires : tie.Need-row-count-requires
 row-count-requires c κs = has-count _ _ (c .before .before .pre .frame)

@@ -120,11 +120,17 @@ pub mod row_encode {
 
     use super::BinaryOffsetChunked;
     use crate::frame::Column;
+    use crate::value::AnyValue;
 
-    /// SCOPE 4.2: one value as bytes that compare like it.
-    fn encode_value(value: i64, descending: bool) -> [u8; 8] {
-        let word = (value as u64) ^ (1 << 63);
-        (if descending { !word } else { word }).to_be_bytes()
+    /// SCOPE 4.2 and 4.9: one value as bytes that compare like it: a number, or a place in a list and then the number.
+    fn encode_value(value: AnyValue<'_>, descending: bool) -> impl Iterator<Item = u8> {
+        let number = |value: i64| (value as u64) ^ (1 << 63);
+        let words = match value {
+            AnyValue::Int64(value) => vec![number(value)],
+            AnyValue::Ranked(place, value) => vec![place as u64, number(value)],
+            AnyValue::Null | AnyValue::Binary(_) => unreachable!("no number is encoded"),
+        };
+        words.into_iter().flat_map(move |word| (if descending { !word } else { word }).to_be_bytes())
     }
 
     /// SCOPE 4.6 and 4.7 (`broadcast_nulls`): each row of the by-columns as bytes that compare like it, or none for a null
@@ -139,14 +145,14 @@ pub mod row_encode {
         assert!(by.len() == descending.len() && by.len() == nulls_last.len());
         let height = by.first().map_or(0, |c| c.values().len());
         let row = |i: usize| {
-            let mut bytes = Vec::with_capacity(9 * by.len());
+            let mut bytes = Vec::with_capacity(17 * by.len());
             for ((col, desc), last) in by.iter().zip(descending).zip(nulls_last) {
-                match col.values()[i] {
-                    None if broadcast_nulls => return None,
-                    None => bytes.extend([if *last { 2 } else { 0 }; 9]),
-                    Some(x) => {
+                match unsafe { col.get_unchecked(i) } {
+                    AnyValue::Null if broadcast_nulls => return None,
+                    AnyValue::Null => bytes.extend([if *last { 2 } else { 0 }; 9]),
+                    value => {
                         bytes.push(1);
-                        bytes.extend(encode_value(x, *desc));
+                        bytes.extend(encode_value(value, *desc));
                     },
                 }
             }

@@ -34,6 +34,16 @@ impl Column {
         Self(Series::new(name, cells))
     }
 
+    /// The same cells, which compare by this list of codes.
+    pub fn with_list(self, codes: Arc<[i64]>) -> Self {
+        Self(self.0.with_list(codes))
+    }
+
+    /// Other cells of the same name, which compare as these do.
+    fn with_cells(&self, cells: Vec<Option<i64>>) -> Self {
+        Self(self.0.with_cells(cells))
+    }
+
     /// Its name.
     pub fn name(&self) -> &PlSmallStr {
         self.0.name()
@@ -183,7 +193,7 @@ impl DataFrame {
             *self = other;
             return Ok(self);
         }
-        let both = |(a, b): (&Column, &Column)| Column::new(*a.name(), [a.values(), b.values()].concat());
+        let both = |(a, b): (&Column, &Column)| a.with_cells([a.values(), b.values()].concat());
         let columns = self.columns.iter().zip(&other.columns).map(both).collect();
         *self = Self::with_schema(self.height + other.height, columns, self.schema.clone());
         Ok(self)
@@ -217,7 +227,7 @@ impl DataFrame {
             return Err(polars_err!(ShapeMismatch: "{} {}", self.height, mask.values().len()));
         }
         let kept: Vec<usize> = (0..self.height).filter(|i| mask.values()[*i] == Some(true)).collect();
-        let pick = |c: &Column| Column::new(*c.name(), kept.iter().map(|i| c.values()[*i]).collect());
+        let pick = |c: &Column| c.with_cells(kept.iter().map(|i| c.values()[*i]).collect());
         let columns = self.columns.iter().map(pick).collect();
         Ok(Self::with_schema(kept.len(), columns, self.schema.clone()))
     }
@@ -231,7 +241,7 @@ impl DataFrame {
     pub fn take(&self, idx: &IdxCa) -> PolarsResult<DataFrame> {
         let pick = |c: &Column| {
             let cell = |i: &Option<u32>| i.and_then(|i| c.values()[i as usize]);
-            Column::new(*c.name(), idx.values().iter().map(cell).collect())
+            c.with_cells(idx.values().iter().map(cell).collect())
         };
         let columns = self.columns.iter().map(pick).collect();
         Ok(Self::with_schema(idx.values().len(), columns, self.schema.clone()))

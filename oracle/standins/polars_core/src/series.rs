@@ -8,19 +8,31 @@ use polars_utils::pl_str::PlSmallStr;
 use crate::chunked_array::BinaryOffsetChunked;
 use crate::value::AnyValue;
 
-/// A name and a part of shared cells, so that a slice copies nothing.
+/// A name and a part of shared cells, so that a slice copies nothing. With a list its values compare by their places in
+/// it, and stay the numbers that they are: the list belongs to the column, as an enumeration's categories do.
 #[derive(Clone, Debug)]
 pub struct Series {
     name: PlSmallStr,
     cells: Arc<Vec<Option<i64>>>,
     part: Range<usize>,
+    list: Option<Arc<[i64]>>,
 }
 
 impl Series {
     /// The series of these cells.
     pub fn new(name: PlSmallStr, cells: Vec<Option<i64>>) -> Self {
         let part = 0..cells.len();
-        Self { name, cells: Arc::new(cells), part }
+        Self { name, cells: Arc::new(cells), part, list: None }
+    }
+
+    /// The same cells, which compare by this list of codes.
+    pub fn with_list(self, codes: Arc<[i64]>) -> Self {
+        Self { list: Some(codes), ..self }
+    }
+
+    /// Other cells of the same name, which compare as these do.
+    pub fn with_cells(&self, cells: Vec<Option<i64>>) -> Self {
+        Self { list: self.list.clone(), ..Self::new(self.name, cells) }
     }
 
     /// Its name.
@@ -51,12 +63,19 @@ impl Series {
         Self { part: start..start + len, ..self.clone() }
     }
 
+    /// SCOPE 4.9: a number as it compares here: with a list by its place there, the list's length where that lacks it.
+    fn any_value(&self, number: i64) -> AnyValue<'static> {
+        let Some(codes) = &self.list else { return AnyValue::Int64(number) };
+        let place = codes.iter().position(|code| *code == number);
+        AnyValue::Ranked(place.unwrap_or(codes.len()), number)
+    }
+
     /// The value at a place.
     ///
     /// # Safety
     /// Nothing is asked of the caller: the index is checked.
     pub unsafe fn get_unchecked(&self, idx: usize) -> AnyValue<'_> {
-        self.values()[idx].map_or(AnyValue::Null, AnyValue::Int64)
+        self.values()[idx].map_or(AnyValue::Null, |number| self.any_value(number))
     }
 
     /// The series as encoded rows, which it never is; the as-of join never asks for it.

@@ -3,11 +3,13 @@ use std::cmp::Ordering;
 
 use polars_utils::nulls::IsNull;
 
-/// A cell's value: null, a number, or the bytes of an encoded row.
+/// A cell's value: null, a number, a number of a column with a list, behind its place there, or the bytes of an encoded
+/// row.
 #[derive(Clone, Debug)]
 pub enum AnyValue<'a> {
     Null,
     Int64(i64),
+    Ranked(usize, i64),
     Binary(&'a [u8]),
 }
 
@@ -33,7 +35,8 @@ impl PartialEq for AnyValue<'_> {
 }
 
 impl PartialOrd for AnyValue<'_> {
-    /// SCOPE 4.3 and 7.7: keys ascend, nulls first.
+    /// SCOPE 4.3 and 7.7: keys ascend, nulls first. SCOPE 4.9: by place in a list; those that it lacks have one place,
+    /// and compare by number.
     fn partial_cmp(&self, other: &Self) -> Option<Ordering> {
         use AnyValue::*;
         match (self, other) {
@@ -41,6 +44,7 @@ impl PartialOrd for AnyValue<'_> {
             (Null, _) => Some(Ordering::Less),
             (_, Null) => Some(Ordering::Greater),
             (Int64(a), Int64(b)) => Some(a.cmp(b)),
+            (Ranked(p, a), Ranked(q, b)) => Some((p, a).cmp(&(q, b))),
             (Binary(a), Binary(b)) => Some(a.cmp(b)),
             _ => unreachable!("values of two types compared"),
         }

@@ -195,14 +195,20 @@ pub mod frame {
             fn is_sorted(&self, by: &[PlSmallStr], descending: &[bool], nulls_last: &[bool]) -> PolarsResult<bool>;
         }
 
+        /// A cell as it compares.
+        fn cell(column: &Column, row: usize) -> AnyValue<'_> {
+            // SAFETY: the index is checked all the same.
+            unsafe { column.get_unchecked(row) }
+        }
+
         impl DataFrameIsSorted for DataFrame {
-            /// SCOPE 4.4 and 4.5: whether rows are sorted.
+            /// SCOPE 4.4 and 4.5: whether rows are sorted; a column with a list is compared by it.
             fn is_sorted(&self, by: &[PlSmallStr], descending: &[bool], nulls_last: &[bool]) -> PolarsResult<bool> {
                 assert!(by.len() == descending.len() && by.len() == nulls_last.len());
                 let columns = by.iter().map(|n| self.column(n)).collect::<PolarsResult<Vec<_>>>()?;
                 let cmp = |i: usize, j: usize| {
                     let cells = columns.iter().zip(descending).zip(nulls_last);
-                    let ords = cells.map(|((c, d), l)| reorder_cmp(&c.values()[i], &c.values()[j], *d, *l));
+                    let ords = cells.map(|((c, d), l)| reorder_cmp(&cell(c, i), &cell(c, j), *d, *l));
                     ords.fold(Ordering::Equal, Ordering::then)
                 };
                 let sorted = (1..self.height()).all(|i| cmp(i - 1, i).is_le());

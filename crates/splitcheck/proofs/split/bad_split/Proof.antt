@@ -45,7 +45,7 @@ returns c =
     split-none (k .before .pre) (a .m) _ (found k) (sym (c .before .has-before .ensures) ∙ not-true _ (c .if1 .taken))
 
 left-columns-requires : tie.Need-left-columns-requires
-left-columns-requires c κs = c .before .before .before .before .before .pre .rows .few
+left-columns-requires c κs = c .before .before .before .before .before .pre .rows .few .by
 
 slice-aggregate-before-split : tie.Need-slice-aggregate-before-split
 slice-aggregate-before-split c = search needs

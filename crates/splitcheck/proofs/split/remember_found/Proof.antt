@@ -21,7 +21,7 @@ returns : tie.Need-returns
 returns c = λ n k. let a = c .before .before .args in remember-nothing (a .o) _ (rowsOf (a .w) n (now (a .values)) (now (a .marks))) (a .found) (c .enum-told .given .1)
 
 left-columns-requires : tie.Need-left-columns-requires
-left-columns-requires c κs = c .before .before .before .pre .few
+left-columns-requires c κs = c .before .before .before .pre .few .by
 
 mul-copy-row : tie.Need-mul-copy-row
 mul-copy-row c =

@@ -1,0 +1,137 @@
+// The options of a join in numbers, and back.
+use codes::are_flags;
+use codes::both;
+use codes::check_code;
+use codes::check_of;
+use codes::flag_code;
+use codes::flag_codes;
+use codes::flag_of;
+use codes::flags_of;
+use codes::is_code;
+use codes::is_flag;
+use options::Options;
+use ranking::ranks_of;
+use ranks::Ranks;
+ghost use mathlib.Core.Path.{_≡_};
+ghost use mathlib.Core.Bool.{true};
+ghost use Rattle.hostoptions.specs.HostOptions.{isOptions, keptRanks, encodeRanks, optionsWith, optionsOf, encodeOptions};
+
+// A list of codes for one by-column, where given is 1: the first count words of codes.
+#[repr(C)]
+pub struct HostRanks {
+    pub given: u64,
+    pub column: usize,
+    pub count: usize,
+    pub codes: [i64; 64],
+}
+
+// The options in numbers. A flag is 0 or 1; check is 0 off, 1 on, 2 strict.
+#[repr(C)]
+pub struct HostOptions {
+    pub by: usize,
+    pub strategy: u64,
+    pub allow_eq: u64,
+    pub tolerance: i64,
+    pub check: u64,
+    pub descending: [u64; 4],
+    pub nulls_last: [u64; 4],
+    pub carried: usize,
+    pub ranks: HostRanks,
+}
+
+// Whether the numbers tell options.
+pub fn is_options(h: HostOptions) -> bool
+    ensures { λ r. ⌜ r ≡ isOptions h ⌝ }
+{
+    let d = h.descending;
+    let n = h.nulls_last;
+    let strategy = h.strategy < 256;
+    let flags = both(is_flag(h.allow_eq), is_code(h.check));
+    let given = is_flag(h.ranks.given);
+    both(
+        both(strategy, flags),
+        both(both(are_flags(d), are_flags(n)), given),
+    )
+}
+
+// The list of ranks that the numbers tell, with these places in rising order.
+pub fn kept_ranks(h: HostRanks, rising: [u8; 64]) -> Ranks
+    ensures { λ r. ⌜ r ≡ keptRanks h rising ⌝ }
+{
+    let codes = h.codes;
+    Ranks {
+        given: flag_of(h.given),
+        column: h.column,
+        count: h.count,
+        codes: codes,
+        rising: rising,
+    }
+}
+
+// The options that the numbers tell, with this list of ranks.
+pub fn options_with(h: HostOptions, k: Ranks) -> Options
+    requires { ⌜ isOptions h ≡ true ⌝ }
+    ensures { λ r. ⌜ r ≡ optionsWith h k ⌝ }
+{
+    let d = h.descending;
+    let n = h.nulls_last;
+    let descending = flags_of(d);
+    let nulls_last = flags_of(n);
+    Options {
+        by: h.by,
+        strategy: h.strategy as u8,
+        allow_eq: flag_of(h.allow_eq),
+        tolerance: h.tolerance,
+        check: check_of(h.check),
+        descending: descending,
+        nulls_last: nulls_last,
+        carried: h.carried,
+        ranks: k,
+    }
+}
+
+// The options that a host gives: the places of its list in rising order are found.
+pub fn options_of(h: HostOptions) -> Options
+    requires { ⌜ isOptions h ≡ true ⌝ }
+    ensures { λ r. ⌜ r ≡ optionsOf h ⌝ }
+{
+    let codes = h.ranks.codes;
+    let k = ranks_of(flag_of(h.ranks.given), h.ranks.column, h.ranks.count, codes);
+    options_with(h, k)
+}
+
+// The numbers of a list of ranks.
+fn encode_ranks(k: Ranks) -> HostRanks
+    ensures { λ r. ⌜ r ≡ encodeRanks k ⌝ }
+{
+    let codes = k.codes;
+    HostRanks {
+        given: flag_code(k.given),
+        column: k.column,
+        count: k.count,
+        codes: codes,
+    }
+}
+
+// The numbers of options.
+pub fn encode_options(o: Options) -> HostOptions
+    ensures { λ r. ⌜ r ≡ encodeOptions o ⌝ }
+{
+    let c = o.check;
+    let d = o.descending;
+    let n = o.nulls_last;
+    let descending = flag_codes(d);
+    let nulls_last = flag_codes(n);
+    let ranks = encode_ranks(o.ranks);
+    HostOptions {
+        by: o.by,
+        strategy: o.strategy as u64,
+        allow_eq: flag_code(o.allow_eq),
+        tolerance: o.tolerance,
+        check: check_code(c),
+        descending: descending,
+        nulls_last: nulls_last,
+        carried: o.carried,
+        ranks: ranks,
+    }
+}

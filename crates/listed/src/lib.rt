@@ -1,0 +1,80 @@
+// Whether a frame has a value in the ranked column that the list lacks: refusal 12.
+use framerule::row_count;
+use options::Options;
+use ranking::place_of;
+ghost use mathlib.Core.Path.{_≡_};
+ghost use mathlib.Core.Bool.{true};
+ghost use Prim.Native.Nat.{_<_};
+ghost use lib.ListN.{length};
+ghost use Rattle.frames.specs.Cells.{rowsOf};
+ghost use Rattle.frames.specs.Frame.{frameRows, isFrame};
+ghost use Rattle.ranks.specs.Ranks.{listed, Indexed};
+ghost use Rattle.options.specs.Options.{Few};
+ghost use Rattle.order.specs.Listed.{unlistedIn, lacksCode};
+ghost use Rattle.searching.specs.Requires.{ColumnIn};
+
+// Whether the list has v. A value known to be in the list is not looked up again: most rows have the value of the row before.
+fn is_listed(v: i64, known: i64, codes: &[i64], rising: &[u8]) -> bool
+    requires { ⌜ Indexed (now codes) (now rising) × (listed (now codes) known ≡ true) ⌝ }
+    ensures { λ r. ⌜ r ≡ listed (now (codes .entry)) v ⌝ }
+{
+    if v == known {
+        return true;
+    }
+    place_of(codes, rising, v) < codes.len()
+}
+
+// Whether one of n rows, each w wide, has a value in column j that the list lacks.
+fn any_unlisted(
+    values: &[i64],
+    marks: &[i64],
+    n: usize,
+    w: usize,
+    j: usize,
+    codes: &[i64],
+    rising: &[u8],
+) -> bool
+    requires { ⌜ ColumnIn j w n (now values) (now marks) × Indexed (now codes) (now rising) × (0 < length (now codes)) ⌝ }
+    ensures { λ r. ⌜ r ≡ unlistedIn (now (codes .entry)) j (rowsOf w n (now (values .entry)) (now (marks .entry))) ⌝ }
+{
+    let mut known = codes[0];
+    let mut i = 0;
+    let mut k = j;
+    while i < n {
+        if marks[k] != 0 {
+            let v = values[k];
+            if !is_listed(v, known, codes, rising) {
+                return true;
+            }
+            known = v;
+        }
+        k += w;
+        i += 1;
+    }
+    false
+}
+
+// Whether a frame of c columns has a value in the ranked column that the list lacks.
+pub fn lacks_code(frame: &[i64], c: usize, o: Options) -> bool
+    requires { ⌜ Few o × (o .by < c) × (isFrame c (now frame) ≡ true) ⌝ }
+    ensures { λ r. ⌜ r ≡ lacksCode o (frameRows c (now (frame .entry))) ⌝ }
+{
+    if !o.ranks.given {
+        return false;
+    }
+    let n = row_count(frame);
+    let e = 2 + n * c;
+    let count = o.ranks.count;
+    let j = o.ranks.column;
+    let codes = o.ranks.codes;
+    let rising = o.ranks.rising;
+    any_unlisted(
+        &frame[2..e],
+        &frame[e..],
+        n,
+        c,
+        j,
+        &codes[..count],
+        &rising[..count],
+    )
+}

@@ -1,0 +1,4 @@
+pub mod RankLaws
+pub mod PlacedLaws
+pub mod ListingLaw
+pub mod KeptLaws

@@ -1,0 +1,63 @@
+-- `turncall::turn_listed` meets its contract. Assumes nothing.
+use mathlib.Core.Path.{_≡_, sym, _∙_}
+use native.Mathlib.Omega.{arith}
+use denote.Ref.{now}
+use Rattle.frames.specs.Frame.{frameRows}
+use Rattle.options.specs.Options.{columns}
+use Rattle.order.specs.Listed.{lacksCode}
+use Rattle.turncall.proofs.QueueLaws.{codes-stop, listed-turns}
+use borrow.Author.Needs.{needs}
+use Rattle.turncall.proofs.turn_listed.Statement.{statement}
+use Rattle.turncall.proofs.turn_listed.Tie as tie
+use Rattle.turncall.proofs.turn_listed.Reads as reads
+use Rattle.turncall.proofs.turn_listed.Lts as lts
+use Rattle.listed.proofs.lacks_code.Reads as lacks-code-reads
+use Rattle.options.proofs.left_columns.Reads as left-columns-reads
+use Rattle.turncall.proofs.unturned.Reads as unturned-reads
+use Rattle.turnfront.proofs.turn_frame.Reads as turn-frame-reads
+
+left-columns-requires : tie.Need-left-columns-requires
+left-columns-requires c κs = search needs
+
+lacks-code-requires : tie.Need-lacks-code-requires
+lacks-code-requires c κs =
+    let e = c .left-columns .ensures in
+    let p = c .before .pre in
+    (p .few, omega (arith, e), rw e (p .frame))
+
+-- What the call says, by the definition's name.
+told : (c : tie.After-lacks-code) → let a = c .before .before .args in c .lacks-code .result ≡ lacksCode (a .j .options) (frameRows (columns (a .j .options)) (now (a .frame)))
+told c = rw (c .before .left-columns .ensures) at (c .lacks-code .ensures)
+
+unturned-requires : tie.Need-unturned-requires
+unturned-requires c κs = search needs
+
+returns : tie.Need-returns
+returns c =
+    let t = c .before in
+    let a = t .before .before .before .args in
+    rw (c .unturned .ensures) (codes-stop (a .j) (now (a .frame)) (now (a .right)) (now (a .out)) (sym (told (t .before)) ∙ t .if1 .taken))
+
+turn-frame-requires : tie.Need-turn-frame-requires
+turn-frame-requires c κs = search needs
+
+same-length : tie.Need-same-length
+same-length c = search needs
+
+returns-2 : tie.Need-returns-2
+returns-2 c =
+    let t = c .before .before .before in
+    let a = t .before .before .before .args in
+    listed-turns (a .j) (now (a .frame)) (now (a .right)) (now (a .out)) (sym (told (t .before)) ∙ t .if1 .left) _ _ (c .before .turn-frame .ensures)
+
+pub turn-listed-spec : {M : Type 1} → statement M
+turn-listed-spec =
+    tie.close
+    (tie.spec
+    left-columns-requires
+    lacks-code-requires
+    unturned-requires
+    returns
+    turn-frame-requires
+    same-length
+    returns-2)
