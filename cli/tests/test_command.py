@@ -307,6 +307,11 @@ class Output(Case):
             self.refused(apart(['join', SALES, NOTICES, *ON], stdout=full), 'standard output: cannot be written')
 
 
+def heed_signals():
+    """A program that a shell starts in the background ignores SIGINT, and so do those that it starts: this one does not."""
+    signal.signal(signal.SIGINT, signal.SIG_DFL)
+
+
 class Ends(Case):
     """Runs that are ended from outside."""
 
@@ -328,7 +333,7 @@ class Ends(Case):
         long, out = self.long(), os.path.join(self.folder, 'out.csv')
         for number in (signal.SIGTERM, signal.SIGINT, signal.SIGHUP):
             run = subprocess.Popen([sys.executable, PROGRAM, 'join', long, NOTICES, *ON, '--output', out],
-                                   stdout=subprocess.DEVNULL, stderr=subprocess.PIPE)
+                                   stdout=subprocess.DEVNULL, stderr=subprocess.PIPE, preexec_fn=heed_signals)
             until = time.monotonic() + 30
             while len(os.listdir(self.folder)) < 2 and time.monotonic() < until:
                 time.sleep(0.005)
