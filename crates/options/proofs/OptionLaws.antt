@@ -28,7 +28,8 @@ few-columns o e =
 -- Options that opening does not refuse: SCOPE 3.6, 3.8 and 3.10 hold of them, so their columns are few.
 pub record Allowed (o : Options) : Type 0 where
   pub options : badOptions o ≡ false
-  pub few : Few o
+  pub by : o .by ≤ 4
+  pub list : badRanked o ≡ false
   pub carried : o .carried ≤ 8
 
 pub allowed-parts : (o : Options) → refusedOptions o ≡ false → Allowed o
@@ -36,7 +37,7 @@ unfolding refusedOptions
 allowed-parts o e =
     let p = or-both (badOptions o || manyCarried o) (badRanked o) e in
     let q = or-both (badOptions o) (manyCarried o) (p .0) in
-    record { options = q .0; few = record { by = few-columns o (q .0); list = p .1 }; carried = ltb-false 8 (o .carried) (q .1) }
+    record { options = q .0; by = few-columns o (q .0); list = p .1; carried = ltb-false 8 (o .carried) (q .1) }
 
 -- Invalid options are refused.
 pub bad-refused : (o : Options) → badOptions o ≡ true → refusedOptions o ≡ true
