@@ -9,6 +9,7 @@ use lib.Dec.{ltb, eqb}
 use lib.ListN.{getD}
 use lib.Signed.{ltZ}
 use Rattle.ranks.specs.Ranks.{codesOf}
+use Rattle.ranks.proofs.KeptLaws.{Kept, kept}
 use Rattle.options.specs.Options.{badOptions, manyCarried, badRanked, refusedOptions, Few, Rule, isRanked, byRule}
 use Rattle.options.specs.declared.Options.{Options}
 
@@ -57,6 +58,12 @@ ranked-given o j e = first (o .ranks .given) (eqb j (o .ranks .column)) e
     first : (a b : Bool) → (a && b) ≡ true → a ≡ true
     first true b e = refl
     first false b e = e
+
+-- So rows can be compared by its list.
+pub ranked-list : (o : Options) (j : ℕ) → isRanked o j ≡ true → Few o → Kept (o .ranks)
+ranked-list o j e few =
+    let g = ranked-given o j e in
+    kept (o .by) (o .ranks) g (few .list) (few .there g .0) (few .there g .1)
 
 -- Its rule has the list's codes; that of every other by-column has none.
 pub ranked-rule : (o : Options) (j : ℕ) → isRanked o j ≡ true
