@@ -16,7 +16,15 @@ ghost use Rattle.matching.specs.Stretches.{between, runLength, standing};
 ghost use Rattle.matching.specs.Loops.{Within, PassRoom, Stands, Passed, Serves};
 
 // Whether the rows at p and q, which stand one behind the other, are of one run.
-fn same_run(values: &[i64], marks: &[i64], p: usize, q: usize, o: Terms, codes: &[i64], rising: &[u8]) -> bool
+fn same_run(
+    values: &[i64],
+    marks: &[i64],
+    p: usize,
+    q: usize,
+    o: Terms,
+    codes: &[i64],
+    rising: &[u8],
+) -> bool
     requires { ⌜ RowAt (withList o (now codes) (now rising)) p (now values) (now marks) × RowAt (withList o (now codes) (now rising)) q (now values) (now marks) ⌝ }
     ensures { λ r. ⌜ ((w : ℕ) → o .by < w → r ≡ sameRun (withList o (now (codes .entry)) (now (rising .entry))) (rowFrom w p (now (values .entry)) (now (marks .entry))) (rowFrom w q (now (values .entry)) (now (marks .entry)))) ⌝ }
 {
@@ -32,7 +40,16 @@ fn same_run(values: &[i64], marks: &[i64], p: usize, q: usize, o: Terms, codes: 
 
 // The end of the run that starts at row i, of n rows that are each w wide; i itself behind the last of them. Most rows have the by-values of
 // the row before, word for word: these are not compared by the rules.
-pub fn run_end(values: &[i64], marks: &[i64], n: usize, w: usize, i: usize, o: Terms, codes: &[i64], rising: &[u8]) -> usize
+pub fn run_end(
+    values: &[i64],
+    marks: &[i64],
+    n: usize,
+    w: usize,
+    i: usize,
+    o: Terms,
+    codes: &[i64],
+    rising: &[u8],
+) -> usize
     requires { ⌜ Within (withList o (now codes) (now rising)) w n (now values) (now marks) i ⌝ }
     ensures { λ r. ⌜ r ≡ i + runLength (withList o (now (codes .entry)) (now (rising .entry))) (between w i n (now (values .entry)) (now (marks .entry))) ⌝ }
 {
@@ -65,7 +82,9 @@ fn stands_to(
     lv: &[i64],
     lm: &[i64],
     p: usize,
-    o: Terms, codes: &[i64], rising: &[u8],
+    o: Terms,
+    codes: &[i64],
+    rising: &[u8],
 ) -> Order
     requires { ⌜ RowAt (withList o (now codes) (now rising)) q (now rv) (now rm) × RowAt (withList o (now codes) (now rising)) p (now lv) (now lm) ⌝ }
     ensures { λ r. ⌜ ((wl wr : ℕ) → o .by < wl → o .by < wr → r ≡ standing (withList o (now (codes .entry)) (now (rising .entry))) (rowFrom wl p (now (lv .entry)) (now (lm .entry))) (rowFrom wr q (now (rv .entry)) (now (rm .entry)))) ⌝ }
@@ -87,7 +106,9 @@ fn pass_runs(
     lv: &[i64],
     lm: &[i64],
     p: usize,
-    o: Terms, codes: &[i64], rising: &[u8],
+    o: Terms,
+    codes: &[i64],
+    rising: &[u8],
 ) -> RunCursor
     requires { ⌜ PassRoom (withList o (now codes) (now rising)) p (now lv) (now lm) w n (now rv) (now rm) from to ⌝ }
     ensures { λ r. ⌜ Stands (withList o (now (codes .entry)) (now (rising .entry))) w n (now (rv .entry)) (now (rm .entry)) r × ((wl : ℕ) → o .by < wl → Passed (withList o (now (codes .entry)) (now (rising .entry))) w n (now (rv .entry)) (now (rm .entry)) from (rowFrom wl p (now (lv .entry)) (now (lm .entry))) r) ⌝ }
@@ -129,7 +150,9 @@ pub fn serve(
     lv: &[i64],
     lm: &[i64],
     p: usize,
-    o: Terms, codes: &[i64], rising: &[u8],
+    o: Terms,
+    codes: &[i64],
+    rising: &[u8],
 ) -> RunCursor
     requires { ⌜ PassRoom (withList o (now codes) (now rising)) p (now lv) (now lm) w n (now rv) (now rm) from to ⌝ }
     ensures { λ r. ⌜ Stands (withList o (now (codes .entry)) (now (rising .entry))) w n (now (rv .entry)) (now (rm .entry)) r × ((wl : ℕ) → o .by < wl → Serves (withList o (now (codes .entry)) (now (rising .entry))) w n (now (rv .entry)) (now (rm .entry)) from (rowFrom wl p (now (lv .entry)) (now (lm .entry))) r) ⌝ }

@@ -1,6 +1,6 @@
 // Whether a frame has a value in the ranked column that the list lacks: refusal 12.
 use framerule::row_count;
-use options::Options;
+use options::Terms;
 use ranking::place_of;
 ghost use mathlib.Core.Path.{_≡_};
 ghost use mathlib.Core.Bool.{true};
@@ -9,7 +9,7 @@ ghost use lib.ListN.{length};
 ghost use Rattle.frames.specs.Cells.{rowsOf};
 ghost use Rattle.frames.specs.Frame.{frameRows, isFrame};
 ghost use Rattle.ranks.specs.Ranks.{listed, Indexed};
-ghost use Rattle.options.specs.Options.{Few};
+ghost use Rattle.options.specs.Options.{withList, Few};
 ghost use Rattle.order.specs.Listed.{unlistedIn, lacksCode};
 ghost use Rattle.searching.specs.Requires.{ColumnIn};
 
@@ -55,19 +55,17 @@ fn any_unlisted(
 }
 
 // Whether a frame of c columns has a value in the ranked column that the list lacks.
-pub fn lacks_code(frame: &[i64], c: usize, o: Options) -> bool
-    requires { ⌜ Few o × (o .by < c) × (isFrame c (now frame) ≡ true) ⌝ }
-    ensures { λ r. ⌜ r ≡ lacksCode o (frameRows c (now (frame .entry))) ⌝ }
+pub fn lacks_code(frame: &[i64], c: usize, o: Terms, codes: &[i64], rising: &[u8]) -> bool
+    requires { ⌜ Few (withList o (now codes) (now rising)) × (o .by < c) × (isFrame c (now frame) ≡ true) ⌝ }
+    ensures { λ r. ⌜ r ≡ lacksCode (withList o (now (codes .entry)) (now (rising .entry))) (frameRows c (now (frame .entry))) ⌝ }
 {
-    if !o.ranks.given {
+    if !o.given {
         return false;
     }
     let n = row_count(frame);
     let e = 2 + n * c;
-    let count = o.ranks.count;
-    let j = o.ranks.column;
-    let codes = o.ranks.codes;
-    let rising = o.ranks.rising;
+    let count = o.count;
+    let j = o.column;
     any_unlisted(
         &frame[2..e],
         &frame[e..],

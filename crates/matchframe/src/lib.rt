@@ -27,7 +27,9 @@ fn match_groups(
     nr: usize,
     wr: usize,
     number: usize,
-    o: Terms, codes: &[i64], rising: &[u8],
+    o: Terms,
+    codes: &[i64],
+    rising: &[u8],
     m: usize,
     out: &mut [i64],
 )
@@ -73,7 +75,9 @@ fn match_rows(
     nr: usize,
     wr: usize,
     number: usize,
-    o: Terms, codes: &[i64], rising: &[u8],
+    o: Terms,
+    codes: &[i64],
+    rising: &[u8],
     m: usize,
     out: &mut [i64],
 )
@@ -83,7 +87,22 @@ fn match_rows(
     if o.by == 0 {
         match_run(lv, lm, m, wl, 0, nl, rv, rm, wr, 0, nr, number, o, out);
     } else {
-        match_groups(lv, lm, nl, wl, rv, rm, nr, wr, number, o, codes, rising, m, out);
+        match_groups(
+            lv,
+            lm,
+            nl,
+            wl,
+            rv,
+            rm,
+            nr,
+            wr,
+            number,
+            o,
+            codes,
+            rising,
+            m,
+            out,
+        );
     }
 }
 
@@ -98,14 +117,31 @@ pub fn answer_rows(
     nr: usize,
     wr: usize,
     number: usize,
-    o: Terms, codes: &[i64], rising: &[u8],
+    o: Terms,
+    codes: &[i64],
+    rising: &[u8],
     m: usize,
     out: &mut [i64],
 )
     requires { ⌜ AnswerRoom (withList o (now codes) (now rising)) wl nl (now lv) (now lm) wr nr (now rv) (now rm) number m (now out) ⌝ }
     ensures { λ _. ⌜ now (out .exit) ≡ layCells m 0 (flat (frameAnswer (withList o (now (codes .entry)) (now (rising .entry))) number (rowsOf wr nr (now (rv .entry)) (now (rm .entry))) (rowsOf wl nl (now (lv .entry)) (now (lm .entry))))) (now (out .entry)) ⌝ }
 {
-    match_rows(lv, lm, nl, wl, rv, rm, nr, wr, number, o, codes, rising, m, out);
+    match_rows(
+        lv,
+        lm,
+        nl,
+        wl,
+        rv,
+        rm,
+        nr,
+        wr,
+        number,
+        o,
+        codes,
+        rising,
+        m,
+        out,
+    );
     if o.carried == 0 {
         return;
     }
@@ -123,13 +159,30 @@ pub fn match_frame(
     nr: usize,
     wr: usize,
     number: usize,
-    o: Terms, codes: &[i64], rising: &[u8],
+    o: Terms,
+    codes: &[i64],
+    rising: &[u8],
     out: &mut [i64],
 )
     requires { ⌜ AnswerRoom (withList o (now codes) (now rising)) wl nl (now lv) (now lm) wr nr (now rv) (now rm) number (nl * answerColumns (withList o (now codes) (now rising))) (now out) ⌝ }
     ensures { λ _. ⌜ now (out .exit) ≡ answered (withList o (now (codes .entry)) (now (rising .entry))) (frameAnswer (withList o (now (codes .entry)) (now (rising .entry))) number (rowsOf wr nr (now (rv .entry)) (now (rm .entry))) (rowsOf wl nl (now (lv .entry)) (now (lm .entry)))) (now (out .entry)) ⌝ }
 {
     let c = answer_columns(o);
-    answer_rows(lv, lm, nl, wl, rv, rm, nr, wr, number, o, codes, rising, nl * c, out);
+    answer_rows(
+        lv,
+        lm,
+        nl,
+        wl,
+        rv,
+        rm,
+        nr,
+        wr,
+        number,
+        o,
+        codes,
+        rising,
+        nl * c,
+        out,
+    );
     put_head(out, nl, c);
 }

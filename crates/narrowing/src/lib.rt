@@ -77,7 +77,9 @@ fn narrow_by(
     w: usize,
     j: usize,
     s: Stretch,
-    o: Terms, codes: &[i64], rising: &[u8],
+    o: Terms,
+    codes: &[i64],
+    rising: &[u8],
 ) -> Stretch
     requires { ⌜ RowAt (withList o (now codes) (now rising)) p (now lv) (now lm) × ColumnIn j w (s .end) (now rv) (now rm) × (j < o .by) ⌝ }
     ensures { λ r. ⌜ ((n wl : ℕ) → s .end ≤ n → o .by < wl → rangeOf r ≡ narrowBy (withList o (now (codes .entry)) (now (rising .entry))) (rowsOf w n (now (rv .entry)) (now (rm .entry))) (rowFrom wl p (now (lv .entry)) (now (lm .entry))) j (rangeOf s)) ⌝ }
@@ -117,7 +119,9 @@ pub fn narrow(
     rm: &[i64],
     n: usize,
     w: usize,
-    o: Terms, codes: &[i64], rising: &[u8],
+    o: Terms,
+    codes: &[i64],
+    rising: &[u8],
 ) -> Stretch
     requires { ⌜ RowAt (withList o (now codes) (now rising)) p (now lv) (now lm) × RowsIn (withList o (now codes) (now rising)) w n (now rv) (now rm) ⌝ }
     ensures { λ r. ⌜ ((wl : ℕ) → o .by < wl → rangeOf r ≡ narrowed (withList o (now (codes .entry)) (now (rising .entry))) (rowsOf w n (now (rv .entry)) (now (rm .entry))) (rowFrom wl p (now (lv .entry)) (now (lm .entry)))) ⌝ }

@@ -61,7 +61,15 @@ fn key_falls(values: &[i64], marks: &[i64], p: usize, q: usize) -> bool
 }
 
 // Whether the row at p is greater than the one at q. If both have the same by-values their keys decide, and most neighbours have.
-fn row_falls(values: &[i64], marks: &[i64], p: usize, q: usize, o: Terms, codes: &[i64], rising: &[u8]) -> bool
+fn row_falls(
+    values: &[i64],
+    marks: &[i64],
+    p: usize,
+    q: usize,
+    o: Terms,
+    codes: &[i64],
+    rising: &[u8],
+) -> bool
     requires { ⌜ RowAt (withList o (now codes) (now rising)) p (now values) (now marks) × RowAt (withList o (now codes) (now rising)) q (now values) (now marks) ⌝ }
     ensures { λ r. ⌜ ((w : ℕ) → o .by < w → r ≡ isGreater (cmpRow (withList o (now (codes .entry)) (now (rising .entry))) (rowFrom w p (now (values .entry)) (now (marks .entry))) (rowFrom w q (now (values .entry)) (now (marks .entry))))) ⌝ }
 {
@@ -76,7 +84,15 @@ fn row_falls(values: &[i64], marks: &[i64], p: usize, q: usize, o: Terms, codes:
 }
 
 // Whether no row of n, each w wide, is greater than the next.
-pub fn is_sorted(values: &[i64], marks: &[i64], n: usize, w: usize, o: Terms, codes: &[i64], rising: &[u8]) -> bool
+pub fn is_sorted(
+    values: &[i64],
+    marks: &[i64],
+    n: usize,
+    w: usize,
+    o: Terms,
+    codes: &[i64],
+    rising: &[u8],
+) -> bool
     requires { ⌜ RowsIn (withList o (now codes) (now rising)) w n (now values) (now marks) ⌝ }
     ensures { λ r. ⌜ r ≡ sorted (withList o (now (codes .entry)) (now (rising .entry))) (rowsOf w n (now (values .entry)) (now (marks .entry))) ⌝ }
 {

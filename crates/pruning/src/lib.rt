@@ -1,8 +1,8 @@
 // How far the held rows serve a left row: whether more are needed, and how many of them a prune drops.
 use narrowing::find_key;
 use narrowing::narrow;
-use options::Terms;
 use options::Strategy;
+use options::Terms;
 use options::strategy_of;
 use searching::Seek;
 use searching::Stretch;
@@ -75,7 +75,9 @@ pub fn need_more(
     rm: &[i64],
     n: usize,
     w: usize,
-    o: Terms, codes: &[i64], rising: &[u8],
+    o: Terms,
+    codes: &[i64],
+    rising: &[u8],
 ) -> bool
     requires { ⌜ RowsIn (withList o (now codes) (now rising)) wl nl (now lv) (now lm) × RowsIn (withList o (now codes) (now rising)) w n (now rv) (now rm) ⌝ }
     ensures { λ r. ⌜ r ≡ needMore (withList o (now (codes .entry)) (now (rising .entry))) (rowsOf wl nl (now (lv .entry)) (now (lm .entry))) (rowsOf w n (now (rv .entry)) (now (rm .entry))) ⌝ }
@@ -127,7 +129,9 @@ fn split_at(
     rm: &[i64],
     n: usize,
     w: usize,
-    o: Terms, codes: &[i64], rising: &[u8],
+    o: Terms,
+    codes: &[i64],
+    rising: &[u8],
 ) -> usize
     requires { ⌜ RowAt (withList o (now codes) (now rising)) p (now lv) (now lm) × RowsIn (withList o (now codes) (now rising)) w n (now rv) (now rm) ⌝ }
     ensures { λ r. ⌜ ((wl : ℕ) → o .by < wl → r ≡ splitAt (withList o (now (codes .entry)) (now (rising .entry))) (rowFrom wl p (now (lv .entry)) (now (lm .entry))) (rowsOf w n (now (rv .entry)) (now (rm .entry)))) ⌝ }
@@ -159,7 +163,9 @@ pub fn prune_by(
     rm: &[i64],
     n: usize,
     w: usize,
-    o: Terms, codes: &[i64], rising: &[u8],
+    o: Terms,
+    codes: &[i64],
+    rising: &[u8],
 ) -> usize
     requires { ⌜ PlaceIn i nl × RowsIn (withList o (now codes) (now rising)) wl nl (now lv) (now lm) × RowsIn (withList o (now codes) (now rising)) w n (now rv) (now rm) ⌝ }
     ensures { λ r. ⌜ r ≡ pruneBy (withList o (now (codes .entry)) (now (rising .entry))) i (rowsOf wl nl (now (lv .entry)) (now (lm .entry))) (rowsOf w n (now (rv .entry)) (now (rm .entry))) ⌝ }

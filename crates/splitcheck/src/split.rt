@@ -67,7 +67,9 @@ fn above_found(
     values: &[i64],
     marks: &[i64],
     w: usize,
-    o: Terms, codes: &[i64], rising: &[u8],
+    o: Terms,
+    codes: &[i64],
+    rising: &[u8],
 ) -> bool
     requires { ⌜ RowAt (withList o (now codes) (now rising)) 0 (now pv) (now pm) × FoundIn (withList o (now codes) (now rising)) w found (now values) (now marks) ⌝ }
     ensures { λ r. ⌜ ((wp n : ℕ) → o .by < wp → FoundAmong found n → r ≡ outOfOrder (withList o (now (codes .entry)) (now (rising .entry))) (some (rowFrom wp 0 (now (pv .entry)) (now (pm .entry)))) (rowAt (rowsOf w n (now (values .entry)) (now (marks .entry))) found)) ⌝ }
@@ -86,7 +88,9 @@ fn above_first(
     marks: &[i64],
     n: usize,
     w: usize,
-    o: Terms, codes: &[i64], rising: &[u8],
+    o: Terms,
+    codes: &[i64],
+    rising: &[u8],
 ) -> bool
     requires { ⌜ RowAt (withList o (now codes) (now rising)) 0 (now pv) (now pm) × RowsIn (withList o (now codes) (now rising)) w n (now values) (now marks) ⌝ }
     ensures { λ r. ⌜ ((wp : ℕ) → o .by < wp → r ≡ outOfOrder (withList o (now (codes .entry)) (now (rising .entry))) (some (rowFrom wp 0 (now (pv .entry)) (now (pm .entry)))) (rowAt (rowsOf w n (now (values .entry)) (now (marks .entry))) (firstKeyed (withList o (now (codes .entry)) (now (rising .entry))) (rowsOf w n (now (values .entry)) (now (marks .entry)))))) ⌝ }
@@ -102,7 +106,9 @@ pub fn out_of_order(
     values: &[i64],
     marks: &[i64],
     w: usize,
-    o: Terms, codes: &[i64], rising: &[u8],
+    o: Terms,
+    codes: &[i64],
+    rising: &[u8],
 ) -> bool
     requires { ⌜ FoundIn (withList o (now codes) (now rising)) w found (now values) (now marks) ⌝ }
     ensures { λ r. ⌜ ((n : ℕ) → FoundAmong found n → r ≡ outOfOrder (withList o (now (codes .entry)) (now (rising .entry))) (recall (columns (withList o (now (codes .entry)) (now (rising .entry)))) m) (rowAt (rowsOf w n (now (values .entry)) (now (marks .entry))) found)) ⌝ }
@@ -116,7 +122,17 @@ pub fn out_of_order(
 }
 
 // Whether the row before the split s of n held rows is greater than the first row with a key after it.
-pub fn bad_split(m: Row, s: usize, rv: &[i64], rm: &[i64], n: usize, w: usize, o: Terms, codes: &[i64], rising: &[u8]) -> bool
+pub fn bad_split(
+    m: Row,
+    s: usize,
+    rv: &[i64],
+    rm: &[i64],
+    n: usize,
+    w: usize,
+    o: Terms,
+    codes: &[i64],
+    rising: &[u8],
+) -> bool
     requires { ⌜ SplitIn (withList o (now codes) (now rising)) s w n (now rv) (now rm) ⌝ }
     ensures { λ r. ⌜ r ≡ outOfOrderAt (withList o (now (codes .entry)) (now (rising .entry))) m s (rowsOf w n (now (rv .entry)) (now (rm .entry))) ⌝ }
 {
@@ -130,7 +146,17 @@ pub fn bad_split(m: Row, s: usize, rv: &[i64], rm: &[i64], n: usize, w: usize, o
     let values = before_split(rv, &lv, found, c, w);
     let marks = before_split(rm, &lm, found, c, w);
     let p = s * w;
-    above_first(values, marks, &rv[p..], &rm[p..], n - s, w, o, codes, rising)
+    above_first(
+        values,
+        marks,
+        &rv[p..],
+        &rm[p..],
+        n - s,
+        w,
+        o,
+        codes,
+        rising,
+    )
 }
 
 // What is remembered by the row found, of rows that are each w wide: that row, or the row m if none was found.

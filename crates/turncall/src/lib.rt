@@ -29,7 +29,15 @@ fn unturned(answer: Answer, j: Part) -> TurnedPart
 }
 
 // A turn over the frame at the front, unless it has a value that the list of ranks lacks.
-fn turn_listed(j: Part, o: Terms, codes: &[i64], rising: &[u8], frame: &[i64], right: &[i64], out: &mut [i64]) -> TurnedPart
+fn turn_listed(
+    j: Part,
+    o: Terms,
+    codes: &[i64],
+    rising: &[u8],
+    frame: &[i64],
+    right: &[i64],
+    out: &mut [i64],
+) -> TurnedPart
     requires { ⌜ FrameIn (withList o (now codes) (now rising)) j (now frame) (now right) ⌝ }
     ensures { λ r. ⌜ ListedTurned (withList o (now (codes .entry)) (now (rising .entry))) j (now (frame .entry)) (now (right .entry)) (now (out .entry)) r (now (out .exit)) ⌝ }
 {
@@ -44,7 +52,10 @@ fn turn_listed(j: Part, o: Terms, codes: &[i64], rising: &[u8], frame: &[i64], r
 pub fn turn_queue(
     bad: bool,
     state: NodeState,
-    j: Part, o: Terms, codes: &[i64], rising: &[u8],
+    j: Part,
+    o: Terms,
+    codes: &[i64],
+    rising: &[u8],
     left: &[i64],
     right: &[i64],
     out: &mut [i64],

@@ -43,7 +43,10 @@ fn unturned(answer: Answer, j: Part) -> TurnedPart
 
 // A turn that has what it needs: its prunes, its order, its answer. With the check on, the split of the prune by the last row is checked.
 fn turn_pruned(
-    j: Part, o: Terms, codes: &[i64], rising: &[u8],
+    j: Part,
+    o: Terms,
+    codes: &[i64],
+    rising: &[u8],
     c: usize,
     w: usize,
     n: usize,
@@ -66,13 +69,31 @@ fn turn_pruned(
     }
     TurnedPart {
         answer: order,
-        part: write_turn(j, o, codes, rising, c, w, n, lv, lm, first, last, kv, km, out),
+        part: write_turn(
+            j,
+            o,
+            codes,
+            rising,
+            c,
+            w,
+            n,
+            lv,
+            lm,
+            first,
+            last,
+            kv,
+            km,
+            out,
+        ),
     }
 }
 
 // A turn over n left rows and the held rows.
 fn turn_rows(
-    j: Part, o: Terms, codes: &[i64], rising: &[u8],
+    j: Part,
+    o: Terms,
+    codes: &[i64],
+    rising: &[u8],
     c: usize,
     w: usize,
     n: usize,
@@ -93,7 +114,15 @@ fn turn_rows(
 }
 
 // A turn over the frame at the front of the queue.
-pub fn turn_frame(j: Part, o: Terms, codes: &[i64], rising: &[u8], frame: &[i64], right: &[i64], out: &mut [i64]) -> TurnedPart
+pub fn turn_frame(
+    j: Part,
+    o: Terms,
+    codes: &[i64],
+    rising: &[u8],
+    frame: &[i64],
+    right: &[i64],
+    out: &mut [i64],
+) -> TurnedPart
     requires { ⌜ FrameIn (withList o (now codes) (now rising)) j (now frame) (now right) ⌝ }
     ensures { λ r. ⌜ RowsTurned (withList o (now (codes .entry)) (now (rising .entry))) j (frameRows (columns (withList o (now (codes .entry)) (now (rising .entry)))) (now (frame .entry))) (heldRows (rightColumns (withList o (now (codes .entry)) (now (rising .entry)))) (j .base) (j .held) (now (right .entry))) (length (now (frame .entry))) (now (out .entry)) r (now (out .exit)) ⌝ }
 {
@@ -103,5 +132,18 @@ pub fn turn_frame(j: Part, o: Terms, codes: &[i64], rising: &[u8], frame: &[i64]
     let e = 2 + n * c;
     let rv = held_values(right, j.base, w);
     let rm = held_marks(right, j.base, w);
-    turn_rows(j, o, codes, rising, c, w, n, &frame[2..e], &frame[e..], rv, rm, out)
+    turn_rows(
+        j,
+        o,
+        codes,
+        rising,
+        c,
+        w,
+        n,
+        &frame[2..e],
+        &frame[e..],
+        rv,
+        rm,
+        out,
+    )
 }

@@ -38,7 +38,10 @@ const LAST_SEQUENCE: u64 = 18446744073709551614;
 
 // Whether a turn with these n left rows waits for right rows: it never does once right has ended.
 fn wants_right(
-    j: Part, o: Terms, codes: &[i64], rising: &[u8],
+    j: Part,
+    o: Terms,
+    codes: &[i64],
+    rising: &[u8],
     c: usize,
     w: usize,
     n: usize,
@@ -58,7 +61,10 @@ fn wants_right(
 
 // Whether a turn with these n left rows has what it needs: right rows, room in the output, a sequence.
 pub fn judge_room(
-    j: Part, o: Terms, codes: &[i64], rising: &[u8],
+    j: Part,
+    o: Terms,
+    codes: &[i64],
+    rising: &[u8],
     c: usize,
     w: usize,
     n: usize,
@@ -85,7 +91,10 @@ pub fn judge_room(
 
 // Whether the order of the rows lets the turn go on; s is the split of the prune by the last row.
 pub fn judge_order(
-    j: Part, o: Terms, codes: &[i64], rising: &[u8],
+    j: Part,
+    o: Terms,
+    codes: &[i64],
+    rising: &[u8],
     c: usize,
     w: usize,
     n: usize,
@@ -133,7 +142,10 @@ pub fn fail(mut j: Part) -> Part
 
 // Writes the answer of n left rows over the kept rows, from which `last` are then dropped; `first` were dropped before.
 pub fn write_turn(
-    j: Part, o: Terms, codes: &[i64], rising: &[u8],
+    j: Part,
+    o: Terms,
+    codes: &[i64],
+    rising: &[u8],
     c: usize,
     w: usize,
     n: usize,

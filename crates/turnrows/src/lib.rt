@@ -61,7 +61,16 @@ fn last_left(marks: &[i64], n: usize, c: usize, o: Terms) -> Keyed
 }
 
 // Whether the left rows are out of order, with the check on: behind the remembered row, or among themselves.
-pub fn bad_left(m: Row, lv: &[i64], lm: &[i64], n: usize, c: usize, o: Terms, codes: &[i64], rising: &[u8]) -> bool
+pub fn bad_left(
+    m: Row,
+    lv: &[i64],
+    lm: &[i64],
+    n: usize,
+    c: usize,
+    o: Terms,
+    codes: &[i64],
+    rising: &[u8],
+) -> bool
     requires { ⌜ RowsIn (withList o (now codes) (now rising)) c n (now lv) (now lm) ⌝ }
     ensures { λ r. ⌜ r ≡ badLeft (withList o (now (codes .entry)) (now (rising .entry))) m (rowsOf c n (now (lv .entry)) (now (lm .entry))) ⌝ }
 {
@@ -84,7 +93,9 @@ pub fn bad_right(
     rm: &[i64],
     held: usize,
     w: usize,
-    o: Terms, codes: &[i64], rising: &[u8],
+    o: Terms,
+    codes: &[i64],
+    rising: &[u8],
 ) -> bool
     requires { ⌜ SplitIn (withList o (now codes) (now rising)) s w held (now rv) (now rm) ⌝ }
     ensures { λ r. ⌜ r ≡ badRightAt (withList o (now (codes .entry)) (now (rising .entry))) m n s (rowsOf w held (now (rv .entry)) (now (rm .entry))) ⌝ }
@@ -114,7 +125,9 @@ pub fn first_prune(
     held: usize,
     c: usize,
     w: usize,
-    o: Terms, codes: &[i64], rising: &[u8],
+    o: Terms,
+    codes: &[i64],
+    rising: &[u8],
 ) -> usize
     requires { ⌜ RowsIn (withList o (now codes) (now rising)) c n (now lv) (now lm) × RowsIn (withList o (now codes) (now rising)) w held (now rv) (now rm) ⌝ }
     ensures { λ r. ⌜ r ≡ firstPrune (withList o (now (codes .entry)) (now (rising .entry))) (rowsOf c n (now (lv .entry)) (now (lm .entry))) (rowsOf w held (now (rv .entry)) (now (rm .entry))) ⌝ }
@@ -135,7 +148,9 @@ pub fn last_prune(
     held: usize,
     c: usize,
     w: usize,
-    o: Terms, codes: &[i64], rising: &[u8],
+    o: Terms,
+    codes: &[i64],
+    rising: &[u8],
 ) -> usize
     requires { ⌜ RowsIn (withList o (now codes) (now rising)) c n (now lv) (now lm) × RowsIn (withList o (now codes) (now rising)) w held (now rv) (now rm) ⌝ }
     ensures { λ r. ⌜ r ≡ pruneBy (withList o (now (codes .entry)) (now (rising .entry))) (n - 1) (rowsOf c n (now (lv .entry)) (now (lm .entry))) (rowsOf w held (now (rv .entry)) (now (rm .entry))) ⌝ }
