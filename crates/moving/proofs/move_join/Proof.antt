@@ -21,7 +21,7 @@ returns : tie.Need-returns
 returns c = bad-move _ _ _ _ _ (sym (c .before .bad-join .ensures) ∙ c .if1 .taken)
 
 no-room-requires : tie.Need-no-room-requires
-no-room-requires c κs = let g = good _ _ _ (sym (c .before .before .before .bad-join .ensures) ∙ c .before .before .if1 .left) in (g .few .by, g .carried)
+no-room-requires c κs = let g = good _ _ _ (sym (c .before .before .before .bad-join .ensures) ∙ c .before .before .if1 .left) in (g .by, g .carried)
 
 same-length : tie.Need-same-length
 same-length c = search needs
@@ -44,12 +44,12 @@ copy-left-requires : tie.Need-copy-left-requires
 copy-left-requires c κs = let t = fine (c .before) in record { within = t .good .left-room; room = t .left-room }
 
 right-columns-requires : tie.Need-right-columns-requires
-right-columns-requires c κs = let g = fine (c .before .before .before) .good in (g .few .by, g .carried)
+right-columns-requires c κs = let g = fine (c .before .before .before) .good in (g .by, g .carried)
 
 copy-right-requires : tie.Need-copy-right-requires
 copy-right-requires c κs =
     let t = fine (c .before .before .before .before .before) in
-    rw (c .before .right-columns .ensures) (record { columns = record { some = omega arith; few = omega (arith, t .good .few, t .good .carried) }; within = t .good .right-room; room = t .right-room })
+    rw (c .before .right-columns .ensures) (record { columns = record { some = omega arith; few = omega (arith, t .good .by, t .good .carried) }; within = t .good .right-room; room = t .right-room })
 
 same-length-3 : tie.Need-same-length-3
 same-length-3 c = search needs
