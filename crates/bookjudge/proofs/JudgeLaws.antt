@@ -152,10 +152,10 @@ module _ (c : ℕ) (f : Words) (h : isTable c f ≡ true) where
   pub table-exact : length f ≡ frameWords (rowCount f) c
   table-exact = table-parts c f h .exact
 
-  table-values : length (valuesIn c f) ≡ rowCount f * c
+  pub table-values : length (valuesIn c f) ≡ rowCount f * c
   table-values = length-take-le (rowCount f * c) (drop 2 f) (rw (length-drop 2 f) (omega (arith, table-exact)))
 
-  table-marks : length (marksIn c f) ≡ rowCount f * c
+  pub table-marks : length (marksIn c f) ≡ rowCount f * c
   table-marks = length-drop (2 + rowCount f * c) f ∙ omega (arith, table-exact)
 
   -- The values and marks of a table are a book, where the order can compare its rows.
