@@ -1,6 +1,6 @@
 // All notices, from the last row back: on a sorted table the next row decides.
-use compare::cmp_row;
 use crate::row::put_notice;
+use compare::cmp_row;
 use options::Options;
 use order::Order;
 ghost use mathlib.Core.Path.{_≡_};
