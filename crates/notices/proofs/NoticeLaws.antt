@@ -15,7 +15,9 @@ use lib.Signed.{mag}
 use lib.ListN.{length, drop, set, getD}
 use Rattle.frames.specs.Cells.{Cell, null, value, cell, isNull, isZero, cellOf, valueWord, markWord, rowsOf, rowFrom, Rows, Words}
 use Rattle.order.specs.Requires.{cellAt}
-use Rattle.order.specs.Order.{cmpRow, isEqual, sorted}
+use Rattle.options.specs.Options.{keyRule}
+use Rattle.order.specs.Order.{cmpCell, cmpRow, isEqual, sorted}
+use Rattle.order.proofs.OrderLaws.{cmpCell-is, cell-equal}
 use Rattle.options.specs.declared.Options.{Options}
 use Rattle.order.specs.declared.Order.{Order}
 use Rattle.order.specs.declared.Order.the-variants.{Less, Equal, Greater}
@@ -208,3 +210,50 @@ module _ (o : Options) (q i last : ℕ) where
     pub notice-names : (eqb last i && not (isOne (cellAt (p + (o .by + 1 + q)) vs ms))) ≡ false → noticeBy o q i last (rowFrom w p vs ms) ≡ value (pos 0) ∷ value (pos last) ∷ []
     unfolding noticeBy
     notice-names d = rw (e, at-column, d)
+
+-- ---- keys that are equal
+keys-null : (x y : Cell) → isNull x ≡ true → isNull y ≡ isEqual (cmpCell keyRule x y)
+keys-null null null e = refl
+keys-null null (value b) e = refl
+keys-null (value a) null e = cc
+keys-null (value a) (value b) e = cc
+
+keys-apart : (x y : Cell) → isNull x ≡ false → isNull y ≡ true → isEqual (cmpCell keyRule x y) ≡ false
+keys-apart null y e f = cc
+keys-apart (value a) null e f = refl
+keys-apart (value a) (value b) e f = cc
+
+not-equal : (x : Order) → (x ≡ Equal → ⊥) → isEqual x ≡ false
+not-equal Less h = refl
+not-equal Equal h = absurd (h refl)
+not-equal Greater h = refl
+
+is-value : (v m : ℤ) → isNull (cellOf v m) ≡ false → cellOf v m ≡ value v
+is-value v m e = by (isZero m) e
+  where
+    by : (b : Bool) → isNull (cond b null (value v)) ≡ false → cond b null (value v) ≡ value v
+    by true h = cc
+    by false h = refl
+
+same-number : (a b : ℤ) → value a ≡ value b → a ≡ b
+same-number a b e = cc
+
+module _ (p q : ℕ) (vs ms : Words) where
+  pub key-null : isNull (cellAt p vs ms) ≡ true → isNull (cellAt q vs ms) ≡ isEqual (cmpCell keyRule (cellAt p vs ms) (cellAt q vs ms))
+  key-null e = keys-null (cellAt p vs ms) (cellAt q vs ms) e
+
+  module _ (e : isNull (cellAt p vs ms) ≡ false) where
+    pub key-apart : isNull (cellAt q vs ms) ≡ true → isEqual (cmpCell keyRule (cellAt p vs ms) (cellAt q vs ms)) ≡ false
+    key-apart f = keys-apart (cellAt p vs ms) (cellAt q vs ms) e f
+
+    module _ (f : isNull (cellAt q vs ms) ≡ false) where
+      as-values : cmpCell keyRule (cellAt p vs ms) (cellAt q vs ms) ≡ cmpCell keyRule (value (getD vs p (pos 0))) (value (getD vs q (pos 0)))
+      as-values = rw (is-value (getD vs p (pos 0)) (getD ms p (pos 0)) e, is-value (getD vs q (pos 0)) (getD ms q (pos 0)) f)
+
+      pub key-same : getD vs p (pos 0) ≡ getD vs q (pos 0) → isEqual (cmpCell keyRule (cellAt p vs ms) (cellAt q vs ms)) ≡ true
+      key-same h =
+          let d : cmpCell keyRule (value (getD vs p (pos 0))) (value (getD vs q (pos 0))) ≡ Equal = rw h (cmpCell-is keyRule .equal (value (getD vs q (pos 0)))) in
+          ap isEqual (as-values ∙ d)
+
+      pub key-other : (getD vs p (pos 0) ≡ getD vs q (pos 0) → ⊥) → isEqual (cmpCell keyRule (cellAt p vs ms) (cellAt q vs ms)) ≡ false
+      key-other h = ap isEqual as-values ∙ not-equal _ (λ d. h (same-number (getD vs p (pos 0)) (getD vs q (pos 0)) (cell-equal keyRule (value (getD vs p (pos 0))) (value (getD vs q (pos 0))) d)))

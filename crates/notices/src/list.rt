@@ -1,16 +1,52 @@
 // All notices, from the last row back: on a sorted table the next row decides.
 use crate::row::put_notice;
 use compare::cmp_row;
+use keyed::null_at;
+use neighbours::same_values;
 use options::Options;
 use order::Order;
 ghost use mathlib.Core.Path.{_≡_};
-ghost use Prim.Native.Nat.{_+_, _*_, _<_};
+ghost use Prim.Native.Nat.{ℕ, _+_, _*_, _<_};
 ghost use Rattle.frames.specs.Cells.{rowFrom, rowsOf};
-ghost use Rattle.order.specs.Requires.{RowsIn};
+ghost use Rattle.options.specs.Options.{keyRule};
+ghost use Rattle.order.specs.Order.{cmpCell, cmpRow, isEqual};
+ghost use Rattle.order.specs.Requires.{cellAt, CellIn, RowAt, RowsIn};
 ghost use Rattle.tables.specs.Requires.{rest};
 ghost use Rattle.tables.specs.Lay.{flat, layCells};
 ghost use Rattle.books.specs.Standing.{notices};
 ghost use Rattle.notices.specs.Requires.{lastBy, ListRoom};
+
+// Whether the keys at p and q are equal: both null, or the same number.
+fn same_key(values: &[i64], marks: &[i64], p: usize, q: usize) -> bool
+    requires { ⌜ CellIn p (now values) (now marks) × CellIn q (now values) (now marks) ⌝ }
+    ensures { λ r. ⌜ r ≡ isEqual (cmpCell keyRule (cellAt p (now (values .entry)) (now (marks .entry))) (cellAt q (now (values .entry)) (now (marks .entry)))) ⌝ }
+{
+    if null_at(marks, p) {
+        return null_at(marks, q);
+    }
+    if null_at(marks, q) {
+        return false;
+    }
+    if values[p] != values[q] {
+        return false;
+    }
+    true
+}
+
+// Whether the rows at p and q have the same group and key. If both have the same by-values their keys decide, and most neighbours have.
+fn same_row(values: &[i64], marks: &[i64], p: usize, q: usize, o: Options) -> bool
+    requires { ⌜ RowAt o p (now values) (now marks) × RowAt o q (now values) (now marks) ⌝ }
+    ensures { λ r. ⌜ ((w : ℕ) → o .by < w → r ≡ isEqual (cmpRow o (rowFrom w p (now (values .entry)) (now (marks .entry))) (rowFrom w q (now (values .entry)) (now (marks .entry))))) ⌝ }
+{
+    if same_values(values, marks, p, q, o) {
+        let by = o.by;
+        return same_key(values, marks, p + by, q + by);
+    }
+    match cmp_row(values, marks, p, values, marks, q, o) {
+        Order::Equal => true,
+        _ => false,
+    }
+}
 
 // The last row of row i's group and key, if `last` is that of the next row's.
 fn last_row(
@@ -29,10 +65,10 @@ fn last_row(
     if j == n {
         return i;
     }
-    match cmp_row(values, marks, j * w, values, marks, i * w, o) {
-        Order::Equal => last,
-        _ => i,
+    if same_row(values, marks, j * w, i * w, o) {
+        return last;
     }
+    i
 }
 
 // The notices of n sorted rows, as m cells.

@@ -1,4 +1,4 @@
-//! SCOPE 20 and 21, books of notices: the plain readings by cases that were read by hand. The Rust has no counterpart.
+//! SCOPE 19.8 to 19.16, books of notices: the plain readings by cases that were read by hand. The Rust has no counterpart.
 use judges::rules::Rules;
 use judges::script::{Answer, Call, Judge, parse_script};
 

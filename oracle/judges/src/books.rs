@@ -1,4 +1,4 @@
-//! SCOPE 20 and 21, books of notices, as plainly as they can be said. Two books merged: all rows of both, one behind the other,
+//! SCOPE 19.8 to 19.16, books of notices, as plainly as they can be said. Two books merged: all rows of both, one behind the other,
 //! sorted without moving equal rows past each other. Which notice stands: every row is compared with all others. The order is
 //! that of the whole-table judge. It shares no code with the port or with the step rules.
 use crate::script::{Answer, Merge, Options, Standing};

@@ -117,7 +117,7 @@ impl Told {
     }
 }
 
-/// SCOPE 19, points in intervals: whether the lower and the upper bound are inclusive, the length of the output in words, and
+/// SCOPE 19.1, points in intervals: whether the lower and the upper bound are inclusive, the length of the output in words, and
 /// the words of both tables. Nothing is checked yet: any words can stand in the place of a flag or of a table.
 #[derive(Clone, Debug, PartialEq)]
 pub struct Spans {
@@ -128,7 +128,7 @@ pub struct Spans {
     pub intervals: Vec<i64>,
 }
 
-/// SCOPE 20, two books merged: the length of the output in words, and the words of both books. Nothing is checked yet. The
+/// SCOPE 19.9, two books merged: the length of the output in words, and the words of both books. Nothing is checked yet. The
 /// options are those of the last `options` line.
 #[derive(Clone, Debug, PartialEq)]
 pub struct Merge {
@@ -137,7 +137,7 @@ pub struct Merge {
     pub festival: Vec<i64>,
 }
 
-/// SCOPE 21, which notice stands: the place of the withdrawal column among the carried ones, the length of the output in words,
+/// SCOPE 19.12, which notice stands: the place of the withdrawal column among the carried ones, the length of the output in words,
 /// and the words of the book. Nothing is checked yet. The options are those of the last `options` line.
 #[derive(Clone, Debug, PartialEq)]
 pub struct Standing {

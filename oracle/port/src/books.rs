@@ -1,4 +1,4 @@
-//! SCOPE 20 and 21, books of notices, by the port: calls over tables and an output, each between guard words.
+//! SCOPE 19.8 to 19.16, books of notices, by the port: calls over tables and an output, each between guard words.
 use judges::script::{Answer, Merge, Standing};
 use rowkeeper::raw::{self, safe};
 

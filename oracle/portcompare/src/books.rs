@@ -1,4 +1,4 @@
-//! SCOPE 20 and 21, books of notices: random inputs through the port and the plain readings.
+//! SCOPE 19.8 to 19.16, books of notices: random inputs through the port and the plain readings.
 use std::time::Instant;
 
 use judges::books::{self, MERGE_REFUSALS, STANDING_REFUSALS};
