@@ -7,7 +7,7 @@ use borrow.Author.Tests.{not-true, not-false}
 use denote.Ref.{now}
 use lib.ListN.{length}
 use lib.Seq.{length-take-le}
-use Rattle.frames.proofs.FrontLaws.{frame-count}
+use Rattle.frames.proofs.FrontLaws.{table-count}
 use Rattle.ranks.proofs.RankLaws.{Good}
 use Rattle.ranks.proofs.KeptLaws.{Kept}
 use Rattle.options.specs.Options.{withList}
@@ -23,14 +23,14 @@ whole s = withList (s .args .o) (now (s .args .codes)) (now (s .args .rising))
 returns : tie.Need-returns
 returns c =
     let s = c .before .before .before in
-    sym (unranked-lacks (whole s) (s .args .c) (now (s .args .frame)) (not-true (s .args .o .given) (c .if1 .taken)))
+    sym (unranked-lacks (whole s) (s .args .c) (now (s .args .table)) (not-true (s .args .o .given) (c .if1 .taken)))
 
 row-count-requires : tie.Need-row-count-requires
-row-count-requires c κs = let s = c .before .before .before in frame-count (s .args .c) (now (s .args .frame)) (s .pre .2)
+row-count-requires c κs = let s = c .before .before .before in table-count (s .args .c) (now (s .args .table)) (s .pre .2)
 
--- The frame's words, told by its rows.
-fit : (c : tie.After-row-count) → let a = c .before .before .before .before .args in 2 + 2 * (c .row-count .result * a .c) ≡ length (now (a .frame))
-fit c = let s = c .before .before .before .before in parts-fit (s .args .c) (now (s .args .frame)) (s .pre .2) (c .row-count .result) (c .row-count .ensures)
+-- The table's words, told by its rows.
+fit : (c : tie.After-row-count) → let a = c .before .before .before .before .args in 2 + 2 * (c .row-count .result * a .c) ≡ length (now (a .table))
+fit c = let s = c .before .before .before .before in parts-fit (s .args .c) (now (s .args .table)) (s .pre .2) (c .row-count .result) (c .row-count .ensures)
 
 mul-e : tie.Need-mul-e
 mul-e c = omega (arith, fit c)
@@ -82,7 +82,7 @@ any-unlisted-requires : tie.Need-any-unlisted-requires
 any-unlisted-requires c κs =
     let r = c .before .before .before .before in
     let s = r .before .before .before .before in (
-      column-there (whole s) (s .args .c) (now (s .args .frame)) (s .pre .1) (s .pre .2) (good r) (r .row-count .result) _ (r .row-count .ensures) refl,
+      column-there (whole s) (s .args .c) (now (s .args .table)) (s .pre .1) (s .pre .2) (good r) (r .row-count .result) _ (r .row-count .ensures) refl,
       list r .indexed,
       rw (length-take-le (s .args .o .count) (now (s .args .codes)) (list r .codes)) (good r .some),
     )
@@ -91,7 +91,7 @@ returns-2 : tie.Need-returns-2
 returns-2 c =
     let r = c .before .before .before .before .before in
     let s = r .before .before .before .before in
-    rw (ranked-lacks (whole s) (s .args .c) (now (s .args .frame)) (not-false (s .args .o .given) (r .before .if1 .left)) (r .row-count .result) _ (r .row-count .ensures) refl) (c .any-unlisted .ensures)
+    rw (ranked-lacks (whole s) (s .args .c) (now (s .args .table)) (not-false (s .args .o .given) (r .before .if1 .left)) (r .row-count .result) _ (r .row-count .ensures) refl) (c .any-unlisted .ensures)
 
 pub lacks-code-spec : {M : Type 1} → statement M
 lacks-code-spec =
