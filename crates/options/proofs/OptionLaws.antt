@@ -6,7 +6,7 @@ use Prim.Native.Nat.{ℕ, _≤_}
 use native.Mathlib.Omega.{arith}
 use borrow.Author.Tests.{ltb-false}
 use lib.Dec.{ltb, eqb}
-use lib.ListN.{getD}
+use lib.ListN.{length, getD}
 use lib.Signed.{ltZ}
 use Rattle.ranks.specs.Ranks.{codesOf}
 use Rattle.ranks.proofs.KeptLaws.{Kept, kept}
@@ -39,6 +39,10 @@ allowed-parts o e =
     let p = or-both (badOptions o || manyCarried o) (badRanked o) e in
     let q = or-both (badOptions o) (manyCarried o) (p .0) in
     record { options = q .0; by = few-columns o (q .0); list = p .1; carried = ltb-false 8 (o .carried) (q .1) }
+
+-- By them rows can be compared, if all words of the list are there.
+pub allowed-few : (o : Options) → Allowed o → 64 ≤ length (o .ranks .codes) → 64 ≤ length (o .ranks .rising) → Few o
+allowed-few o a codes rising = record { by = a .by; list = a .list; there = λ e. (codes, rising) }
 
 -- Invalid options are refused.
 pub bad-refused : (o : Options) → badOptions o ≡ true → refusedOptions o ≡ true
