@@ -1,4 +1,6 @@
 //! Books of the bench: their case, their rows, their words, their options.
+use std::cmp::Ordering;
+
 use crate::raw;
 
 /// The most codes of a list.
@@ -80,4 +82,16 @@ pub fn options<const C: usize>(case: &Case) -> raw::Options {
         carried: 1,
         ranks,
     }
+}
+
+/// Two rows in the declared order: the groups, by their list where there is one, then the keys.
+#[inline(always)]
+pub fn order<const C: usize>(ranked: bool, a: &Row<C>, b: &Row<C>) -> Ordering {
+    for column in 0..C - 2 {
+        let groups = a[column].cmp(&b[column]);
+        if groups != Ordering::Equal {
+            return if ranked { groups.reverse() } else { groups };
+        }
+    }
+    a[C - 2].cmp(&b[C - 2])
 }

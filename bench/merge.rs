@@ -9,8 +9,6 @@
 //! and of the port, which also judges both books. Every output is filled before the clock starts, since fresh memory would
 //! come page by page. The merged rows are compared in every run: where one differs the program says which and ends with
 //! status 1.
-use std::cmp::Ordering;
-
 mod books;
 mod clock;
 
@@ -18,7 +16,7 @@ mod clock;
 #[allow(dead_code)]
 mod raw;
 
-use books::{Case, Row, case_of, make_book, make_table, options};
+use books::{Case, Row, case_of, make_book, make_table, options, order};
 use clock::{median, timed};
 
 /// What an output holds before a call; no table has this word.
@@ -27,18 +25,6 @@ const BLANK: i64 = -9;
 fn die(status: i32, why: &str) -> ! {
     eprintln!("merge: {why}");
     std::process::exit(status)
-}
-
-/// Two rows in the declared order: the groups, by their list where there is one, then the keys.
-#[inline(always)]
-fn order<const C: usize>(ranked: bool, a: &Row<C>, b: &Row<C>) -> Ordering {
-    for column in 0..C - 2 {
-        let groups = a[column].cmp(&b[column]);
-        if groups != Ordering::Equal {
-            return if ranked { groups.reverse() } else { groups };
-        }
-    }
-    a[C - 2].cmp(&b[C - 2])
 }
 
 /// Rust's own merge, into a vector that has room.

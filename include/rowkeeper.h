@@ -64,6 +64,9 @@
  *
  *     2, 2,   7, 12,  7, 0,   1, 1,  1, 0
  *
+ * A table is words of the same form with any number of rows. rowkeeper_merge and rowkeeper_standing take tables of right rows,
+ * books of notices.
+ *
  * ORDER
  *
  * Both tables, each taken whole over all its frames, must be sorted by the by-columns in order, then by the key. Numbers
