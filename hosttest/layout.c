@@ -451,7 +451,47 @@ static void spans(void) {
     want(out[0] == -1 && out[1] == -1, "spans, the output of a refused call", NO_WORD);
 }
 
-/* Alters each word of a fresh join in turn, then looks at each kind of answer; at last at spans, which have no join. */
+/* Whether a merge answers so: the header's two books, under these options, with so much room; a refused call must leave the output. */
+static int merges(rowkeeper_options options, size_t room, uint64_t refusal) {
+    static const int64_t HOUSE[] = {2, 2, 10, 1800, 30, 2500, 1, 1, 1, 1}, FESTIVAL[] = {1, 2, 20, 2200, 1, 1};
+    static const int64_t SEASON[] = {3, 2, 10, 1800, 20, 2200, 30, 2500, 1, 1, 1, 1, 1, 1};
+    int64_t out[15];
+    rowkeeper_written written;
+    memset(out, -1, sizeof out);
+    written = rowkeeper_merge(options, HOUSE, 10, FESTIVAL, 6, out, room);
+    if (written.refusal != refusal || written.rows != (refusal == 0 ? 3u : 0u)) return 0;
+    if (refusal != 0) return out[0] == -1 && out[1] == -1;
+    return memcmp(out, SEASON, sizeof SEASON) == 0 && out[14] == -1;
+}
+
+/* What a merge brings at its place: the options, each book, an output that is full and one that is a word short. */
+static void merge(void) {
+    static const int64_t FALLS[] = {2, 2, 2, 0, 1, 0, 1, 1, 1, 1}, NONE[] = {0, 2};
+    rowkeeper_options options, other;
+    int64_t out[2] = {-1, -1};
+    memset(&options, 0, sizeof options);
+    options.tolerance = ROWKEEPER_NO_TOLERANCE;
+    options.carried = 1;
+    want(merges(options, 14, ROWKEEPER_ACCEPTED), "a merge, a full output", NO_WORD);
+    want(merges(options, 15, ROWKEEPER_ACCEPTED), "a merge, a word more", NO_WORD);
+    want(merges(options, 13, ROWKEEPER_NO_ROOM), "a merge, an output one word short", NO_WORD);
+    other = options;
+    other.strategy = 3;
+    want(merges(other, 14, ROWKEEPER_BAD_OPTIONS), "a merge, no strategy", NO_WORD);
+    other = options;
+    other.carried = 9;
+    want(merges(other, 14, ROWKEEPER_TOO_MANY_CARRIED), "a merge, nine carried columns", NO_WORD);
+    other = options;
+    other.ranks.given = 1;
+    want(merges(other, 14, ROWKEEPER_BAD_RANKS), "a merge, an empty list", NO_WORD);
+    other = options;
+    other.carried = 0;
+    want(merges(other, 14, ROWKEEPER_BAD_FRAME), "a merge, other columns", NO_WORD);
+    want(rowkeeper_merge(options, NONE, 2, FALLS, 10, out, 2).refusal == ROWKEEPER_UNSORTED, "a merge, out of order", NO_WORD);
+    want(out[0] == -1 && out[1] == -1, "a merge, the output of a refused call", NO_WORD);
+}
+
+/* Alters each word of a fresh join in turn, then looks at each kind of answer; at last at spans and a merge, which have no join. */
 int main(void) {
     rowkeeper_options options;
     rowkeeper_took took;
@@ -472,6 +512,7 @@ int main(void) {
     carried(options);
     ranked(options);
     spans();
+    merge();
     options.by = 5;
     took = rowkeeper_open(options);
     want(took.refusal == 1 && took.join.layout == ROWKEEPER_LAYOUT, "a refused opening", AT(rowkeeper_join, layout));

@@ -73,6 +73,7 @@ RIGHT_ORDER = 9
 TOO_MANY_CARRIED = 10
 BAD_RANKS = 11
 UNKNOWN_CODE = 12
+UNSORTED = 14
 BAD_POINTS = 16
 
 # What each refusal says.
@@ -81,7 +82,7 @@ REFUSALS = {
     2: 'the join is inconsistent, or does not fit its areas',
     3: 'an earlier turn found rows out of order',
     4: 'the call comes at the wrong time',
-    5: 'the words are not a frame with the columns that the call expects',
+    5: 'the words are not a frame or table with the columns that the call expects',
     6: 'there is no room in an area or in the output',
     7: 'the numbers of rows or turns are used up',
     8: 'left rows are out of order',
@@ -89,6 +90,7 @@ REFUSALS = {
     10: 'there are more than 8 carried columns',
     11: 'the list of ranks is empty or too long, has a code twice or is for no by-column',
     12: 'the by-column with a list of ranks has a value that is not on the list',
+    14: 'the table is not sorted',
     16: 'a point is null, or greater than the next',
 }
 
@@ -154,5 +156,6 @@ CALLS = {
     'rowkeeper_turn': ([Join, c_void_p, c_size_t, c_void_p, c_size_t, c_void_p, c_size_t], Turned),
     'rowkeeper_run': ([Join, c_size_t, c_void_p, c_size_t, c_void_p, c_size_t, c_void_p, c_size_t], Ran),
     'rowkeeper_spans': ([c_void_p, c_size_t, c_void_p, c_size_t, c_uint64, c_uint64, c_void_p, c_size_t], Written),
+    'rowkeeper_merge': ([Options, c_void_p, c_size_t, c_void_p, c_size_t, c_void_p, c_size_t], Written),
     'rowkeeper_version': ([], c_uint64),
 }

@@ -143,6 +143,14 @@ impl Frame {
         }
     }
 
+    /// The frame of these values and marks, row by row, as a table has them; not more rows than a frame can have.
+    pub(crate) fn of_words(columns: usize, values: &[i64], marks: &[i64]) -> Frame {
+        let mut words = vec![(values.len() / columns) as i64, columns as i64];
+        words.extend_from_slice(values);
+        words.extend_from_slice(marks);
+        Frame { words }
+    }
+
     /// The frame of these columns from one row up to another, which they all have; not more rows than a frame can have.
     fn of_part<'a>(columns: impl ExactSizeIterator<Item = Column<'a>>, from: usize, to: usize) -> Frame {
         let (rows, count) = (to - from, columns.len());

@@ -105,6 +105,23 @@
 //! # Ok::<(), Box<dyn std::error::Error>>(())
 //! ```
 //!
+//! Nor need [`merge()`] one: it makes one sorted book of two, of any length, and a join takes the frames of it.
+//!
+//! ```
+//! use rowkeeper::{Frame, Frames, Options, asof, book_words, merge};
+//!
+//! // A house's notices at minutes 10 and 30, its festival's at 20, each with a price.
+//! let options = Options { carried: 1, ..Options::default() };
+//! let house = Frame::of_columns(&[&[10, 30], &[1800, 2500]])?;
+//! let festival = Frame::of_columns(&[&[20], &[2200]])?;
+//! let mut output = vec![0; book_words(&options, 2 + 1).unwrap()];
+//! let season = merge(&options, &house, &festival, &mut output)?;
+//! let sales = vec![25];
+//! let matches: Vec<Option<u64>> = asof(&options, Frames::of_columns(&[&sales])?, season.frames())?.collect::<Result<_, _>>()?;
+//! assert_eq!(matches, [Some(1)]);
+//! # Ok::<(), Box<dyn std::error::Error>>(())
+//! ```
+//!
 //! A join cannot be lent its own area as a frame, and neither an output nor a driver can be altered while its matches are
 //! looked at:
 //!
@@ -136,7 +153,7 @@
 //! fn known(refusal: rowkeeper::Refusal) -> bool {
 //!     match refusal {
 //!         BadOptions | BadJoin | Failed | Closed | BadFrame | NoRoom | UsedUp | LeftOrder | RightOrder => true,
-//!         TooManyCarried | BadRanks | UnknownCode | BadPoints => true,
+//!         TooManyCarried | BadRanks | UnknownCode | Unsorted | BadPoints => true,
 //!     }
 //! }
 //! ```
@@ -149,6 +166,7 @@ use alloc::vec::Vec;
 use core::{array, fmt};
 
 mod asof;
+mod books;
 mod frame;
 mod join;
 mod numbers;
@@ -156,6 +174,7 @@ pub mod raw;
 mod spans;
 
 pub use asof::{AsOf, Carrying, asof};
+pub use books::{Book, book_words, merge};
 pub use frame::{Column, Frame, FrameError, Frames};
 pub use join::{Join, Match, Matches, Run, Stop, Turn, Written};
 pub use numbers::{Check, NodeState, Port, Refusal, Strategy};

@@ -97,7 +97,7 @@ impl Port {
 #[derive(Clone, Copy, Debug, PartialEq, Eq, PartialOrd, Ord)]
 #[non_exhaustive]
 pub enum Refusal {
-    /// At opening: more than four by-columns, a tolerance above 2^63 − 1, or Nearest without equality. Raw spans: a
+    /// Options with more than four by-columns, a tolerance above 2^63 − 1, or Nearest without equality. Raw spans: a
     /// flag that is neither 0 nor 1.
     BadOptions = 1,
     /// The join is inconsistent, or does not fit its areas.
@@ -106,7 +106,7 @@ pub enum Refusal {
     Failed = 3,
     /// The call comes at the wrong time.
     Closed = 4,
-    /// The words are not a frame with the columns that the call expects.
+    /// The words are not a frame or table with the columns that the call expects.
     BadFrame = 5,
     /// There is no room in an area or in the output.
     NoRoom = 6,
@@ -116,20 +116,22 @@ pub enum Refusal {
     LeftOrder = 8,
     /// Right rows are out of order. The join is marked failed.
     RightOrder = 9,
-    /// At opening: more than eight carried columns.
+    /// Options with more than eight carried columns.
     TooManyCarried = 10,
-    /// At opening: a list of ranks that is empty or has more than 64 codes, has a code twice, or is for a column that
+    /// Options with a list of ranks that is empty or has more than 64 codes, has a code twice, or is for a column that
     /// is no by-column.
     BadRanks = 11,
-    /// The by-column with a list of ranks has a value in the frame that is not on the list.
+    /// The by-column with a list of ranks has a value in the frame or table that is not on the list.
     UnknownCode = 12,
+    /// A table is not sorted as the options say.
+    Unsorted = 14,
     /// Spans: a point is null, or greater than the next.
     BadPoints = 16,
 }
 
 impl Refusal {
     /// All refusals, by number.
-    pub const ALL: [Refusal; 13] = [
+    pub const ALL: [Refusal; 14] = [
         Refusal::BadOptions,
         Refusal::BadJoin,
         Refusal::Failed,
@@ -142,6 +144,7 @@ impl Refusal {
         Refusal::TooManyCarried,
         Refusal::BadRanks,
         Refusal::UnknownCode,
+        Refusal::Unsorted,
         Refusal::BadPoints,
     ];
 
@@ -152,7 +155,7 @@ impl Refusal {
             Refusal::BadJoin => "the join is inconsistent, or does not fit its areas",
             Refusal::Failed => "an earlier turn found rows out of order",
             Refusal::Closed => "the call comes at the wrong time",
-            Refusal::BadFrame => "the words are not a frame with the columns that the call expects",
+            Refusal::BadFrame => "the words are not a frame or table with the columns that the call expects",
             Refusal::NoRoom => "there is no room in an area or in the output",
             Refusal::UsedUp => "the numbers of rows or turns are used up",
             Refusal::LeftOrder => "left rows are out of order",
@@ -160,6 +163,7 @@ impl Refusal {
             Refusal::TooManyCarried => "there are more than 8 carried columns",
             Refusal::BadRanks => "the list of ranks is empty or too long, has a code twice or is for no by-column",
             Refusal::UnknownCode => "the by-column with a list of ranks has a value that is not on the list",
+            Refusal::Unsorted => "the table is not sorted",
             Refusal::BadPoints => "a point is null, or greater than the next",
         }
     }

@@ -338,6 +338,17 @@ unsafe extern "C" {
         out: *mut i64,
         out_words: usize,
     ) -> Written;
+    /// Without a join: merges two sorted books of notices into one sorted book, the house's rows first where they
+    /// compare equal.
+    pub fn rowkeeper_merge(
+        options: Options,
+        house: *const i64,
+        house_words: usize,
+        festival: *const i64,
+        festival_words: usize,
+        out: *mut i64,
+        out_words: usize,
+    ) -> Written;
     /// The version of the library, to compare with VERSION_NUMBER. Safe: it is lent nothing.
     pub safe fn rowkeeper_version() -> u64;
 }
@@ -465,6 +476,23 @@ pub mod safe {
                 intervals.len(),
                 lower_inclusive,
                 upper_inclusive,
+                out.as_mut_ptr(),
+                out.len(),
+            )
+        }
+    }
+
+    /// Without a join: merges two sorted books of notices into one sorted book, the house's rows first where they
+    /// compare equal.
+    pub fn merge(options: Options, house: &[i64], festival: &[i64], out: &mut [i64]) -> Written {
+        // SAFETY: see the module.
+        unsafe {
+            rowkeeper_merge(
+                options,
+                house.as_ptr(),
+                house.len(),
+                festival.as_ptr(),
+                festival.len(),
                 out.as_mut_ptr(),
                 out.len(),
             )

@@ -23,7 +23,7 @@ use Rattle.options.specs.Options.{Few}
 use Rattle.options.specs.declared.Options.{Options}
 use Rattle.frames.proofs.Signed.{back}
 use Rattle.frames.proofs.FrameLaws.{frame-length, values-length, marks-length}
-use Rattle.frames.proofs.FrontLaws.{frame-parts}
+use Rattle.frames.proofs.FrontLaws.{frame-count}
 use Rattle.area.specs.Area.{capacity, moved, written, newBase, movedRows, pushed}
 use Rattle.area.specs.Requires.{Appended, BothIn, AppendedBoth, PushIn, Pushed}
 use Rattle.area.proofs.PushLaws.{capacity-room, newBase-room, moved-length, append-length}
@@ -230,7 +230,7 @@ module _ {c base held : ℕ} {f area : Words} (p : PushIn c base held f area) wh
   }
 
   pub push-counts : HasCount f
-  push-counts = let q = frame-parts c f (p .frame) in record { long = omega (arith, q .long); few = q .few }
+  push-counts = frame-count c f (p .frame)
 
   module _ (room n : ℕ) (e : room ≡ capacity c area) (g : n ≡ rowCount f) where
     -- The frame's values and marks, as parts of it.

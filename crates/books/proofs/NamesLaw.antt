@@ -51,6 +51,14 @@ module _ (o : Options) (r : List Cell) where
       by false e (none d q f) = none d (rw (e, q)) (all-false e f)
       by b e (some k d l q t f) = some (suc k) (d ∙ omega arith) (omega arith) (rw q (or-true (corrects o s r))) t (later k f)
 
+-- A row is corrected exactly where the last row of its group and key is another.
+pub corrected-last : (o : Options) (r : List Cell) (i : ℕ) (rs : Rows) → corrected o r rs ≡ not (eqb (lastOf o r i (suc i) rs) i)
+corrected-last o r i rs = by (lastOf o r i (suc i) rs) (find-last o r i (suc i) rs)
+  where
+    by : (m : ℕ) → Last o r i (suc i) rs m → corrected o r rs ≡ not (eqb m i)
+    by m (none d q f) = q ∙ ap not (sym (eq-eqb m i d))
+    by m (some k d l q t f) = q ∙ ap not (sym (ne-eqb m i (λ e. omega arith)))
+
 module _ (o : Options) (rows : Rows) (i : ℕ) (h : i < length rows) where
   abbrev head : List Cell
   head = getD rows i []

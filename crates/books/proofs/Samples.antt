@@ -1,19 +1,19 @@
 -- Small books, by computation. Assumes nothing.
 use mathlib.Core.Path.{_≡_, refl}
-use mathlib.Core.Bool.{Bool, true, false}
-use mathlib.Core.List.{List, [], _∷_}
+use mathlib.Core.Bool.{true, false}
+use mathlib.Core.List.{List, [], _∷_, map}
 use Prim.Native.Nat.{ℕ}
-use lib.Dec.{ltb}
 use lib.IntN.{pos, negsuc}
 use Rattle.frames.specs.Cells.{Cell, null, value, cell, Rows, Words, rowsOf, cellsOf}
 use Rattle.frames.specs.Frame.{frameRows, pairsFine, isTable}
+use Rattle.ranks.specs.Ranks.{badRanks, rises, risesBehind, below, placed, listed as inList}
 use Rattle.options.specs.Options.{badOptions}
 use Rattle.order.specs.Order.{cmpRow, cmpFirst, nullIn, sorted}
 use Rattle.options.specs.declared.Options.{Options}
-use Rattle.order.proofs.Samples.{options, row, frameOf}
+use Rattle.order.specs.Listed.{unlistedIn}
+use Rattle.order.proofs.Samples.{options, carrying, ranking, ranksBy, row, frameOf}
 use Rattle.matching.specs.Match.{wholeTable, matchTable, choose, tolerate, fits, takesOver}
 use Rattle.matching.specs.declared.Choice.the-variants.{Row, Nothing}
-use Rattle.tables.specs.Setting.{Setting, allKnown}
 use Rattle.refusals.specs.Refusals.{number}
 use Rattle.tables.specs.Table.{wordsOf, tableOf, laid, After}
 use Rattle.refusals.specs.declared.Refusal.the-variants.{BadOptions, TooManyCarried, BadRanks, BadFrame, UnknownCode, BadColumns, Unsorted, NoRoom}
@@ -23,17 +23,13 @@ use Rattle.books.specs.Merge.{merge}
 use Rattle.books.specs.Standing.{notices, noticeOf, stands, corrected, lastOf, standing, places, translated}
 use Rattle.books.specs.Calls.{mergeAnswer, mergeCall, standAnswer, standCall}
 
--- Groups of one by-column, Backward; one carried column; a list that knows groups below 8.
+-- Groups of one by-column, Backward.
 abbrev one : ℕ → Options
 one strategy = options 1 strategy true (negsuc 0) false [] []
 
-abbrev lower : Cell → Bool
-lower null = true
-lower (value (pos n)) = ltb n 8
-lower (value (negsuc n)) = false
-
-abbrev with : ℕ → Setting
-with p = record { options = one 0; carried = p; badRanks = false; known = λ r. lower (cell 0 r) }
+-- The same with p carried columns and a list that has the groups 1, 2, 3 and 7, in this order.
+abbrev with : ℕ → Options
+with p = carrying p (ranking (ranksBy 0 (map pos (1 ∷ 2 ∷ 3 ∷ 7 ∷ []))) (one 0))
 
 -- ---- two books: performance, minute, price. The house's 20 comes before the festival's 20 of the same group; equal rows of one book stay in their order.
 abbrev house : Rows
@@ -57,7 +53,7 @@ pub merge-words :
       answer = Wrote 2;
       out = pos 2 ∷ pos 2 ∷ pos 1 ∷ pos 0 ∷ pos 1 ∷ pos 9 ∷ pos 1 ∷ pos 0 ∷ pos 1 ∷ pos 1 ∷ pos 7 ∷ pos 8 ∷ [];
     }
-unfolding mergeCall mergeAnswer badOptions isTable pairsFine frameRows rowsOf cellsOf allKnown sorted merge cmpRow cmpFirst wordsOf tableOf laid
+unfolding mergeCall mergeAnswer badOptions isTable pairsFine frameRows rowsOf cellsOf badRanks rises risesBehind placed below inList unlistedIn sorted merge cmpRow cmpFirst wordsOf tableOf laid
 merge-words = refl
 
 -- The refusals of a merge, in checking order: 10, 5 (another c), 12 before 14, 14 before 6, 6.
@@ -74,7 +70,7 @@ answers =
     ∷ []
 
 pub merge-refusals : answers ≡ Refused TooManyCarried ∷ Refused BadFrame ∷ Refused UnknownCode ∷ Refused Unsorted ∷ Refused NoRoom ∷ []
-unfolding mergeAnswer badOptions isTable pairsFine frameRows rowsOf cellsOf allKnown sorted merge cmpRow cmpFirst
+unfolding mergeAnswer badOptions isTable pairsFine frameRows rowsOf cellsOf badRanks rises risesBehind placed below inList unlistedIn sorted merge cmpRow cmpFirst
 merge-refusals = refl
 
 -- ---- which notice stands: performance, minute, withdrawn. A correction; a correction that withdraws; a withdrawal that was corrected; null group and key.
@@ -122,5 +118,5 @@ pub stand-refusals :
     standAnswer (with 0) 0 (frameOf 2 []) none-out ∷ standAnswer (with 1) 1 (frameOf 3 (row (2 ∷ 1 ∷ 0 ∷ []) ∷ row (1 ∷ 1 ∷ 0 ∷ []) ∷ [])) none-out
     ∷ standAnswer (with 1) 0 (frameOf 3 (row (2 ∷ 1 ∷ 0 ∷ []) ∷ row (1 ∷ 1 ∷ 0 ∷ []) ∷ [])) none-out ∷ standAnswer (with 1) 0 (frameOf 3 (row (1 ∷ 1 ∷ 0 ∷ []) ∷ [])) none-out ∷ []
     ≡ Refused BadColumns ∷ Refused BadColumns ∷ Refused Unsorted ∷ Refused NoRoom ∷ []
-unfolding standAnswer badOptions isTable pairsFine frameRows rowsOf cellsOf allKnown sorted cmpRow cmpFirst
+unfolding standAnswer badOptions isTable pairsFine frameRows rowsOf cellsOf badRanks rises risesBehind placed below inList unlistedIn sorted cmpRow cmpFirst
 stand-refusals = refl

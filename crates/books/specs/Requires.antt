@@ -1,33 +1,20 @@
--- What the functions of this crate ask of what they are handed; the rows that a book has left. Assumes nothing.
+-- What the functions of this crate ask of what they are handed. Assumes nothing.
 use mathlib.Core.Path.{_≡_}
 use mathlib.Core.Bool.{Bool, true, false}
 use mathlib.Core.List.{[], _∷_}
-use Prim.Native.Nat.{ℕ, _+_, _-_, _*_, _^_, _≤_, _<_}
-use lib.ListN.{length, drop}
-use Rattle.frames.specs.Cells.{Rows, Words, rowsOf}
+use Prim.Native.Nat.{ℕ, _+_, _*_, _≤_}
+use lib.ListN.{length}
+use Rattle.frames.specs.Cells.{Rows, Words}
 use Rattle.frames.specs.Frame.{pairsFine, frameWords}
 use Rattle.order.specs.Order.{cmpRow, isLess}
 use Rattle.order.specs.Requires.{RowsIn}
 use Rattle.options.specs.declared.Options.{Options}
-
--- The rows from row i on, of n rows that are each w wide.
-abbrev pub rest : ℕ → ℕ → ℕ → Words → Words → Rows
-rest w i n vs ms = rowsOf w (n - i) (drop (i * w) vs) (drop (i * w) ms)
 
 -- The next row is the festival's where it is less than the house's next, and where the house has none.
 abbrev pub takesFestival : Options → Rows → Rows → Bool
 takesFestival o house [] = false
 takesFestival o [] (f ∷ festival) = true
 takesFestival o (h ∷ house) (f ∷ festival) = isLess (cmpRow o f h)
-
--- The row's w words are there, each mark fits its value, and the cells k to k + w of m have room.
-pub record CopyRoom (m k p w : ℕ) (vs ms out : Words) : Type 0 where
-  pub values : p + w ≤ length vs
-  pub marks : p + w ≤ length ms
-  pub paired : length vs ≤ length ms
-  pub fine : pairsFine vs ms ≡ true
-  pub there : k + w ≤ m
-  pub room : 2 + 2 * m ≤ length out
 
 -- n rows are there, and i is one of them or their end.
 pub record NextRoom (o : Options) (w n i : ℕ) (vs ms : Words) : Type 0 where

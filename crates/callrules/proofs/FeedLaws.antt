@@ -13,7 +13,7 @@ use Rattle.options.specs.Options.{columns, rightColumns}
 use Rattle.options.specs.declared.Options.{Options}
 use Rattle.order.specs.Listed.{lacksCode}
 pub use Rattle.options.proofs.OptionLaws.{or-both, few-columns}
-use Rattle.frames.proofs.FrontLaws.{frame-parts}
+use Rattle.frames.proofs.FrontLaws.{frame-count}
 use Rattle.area.specs.Area.{capacity, newBase, pushed, moved, written}
 use Rattle.outcomes.specs.Answers.{isRunning, isDone, mostRows}
 use Rattle.outcomes.specs.declared.NodeState.{NodeState}
@@ -28,9 +28,9 @@ pub passed : (b : Bool) (n : Refusal) (t : Took) → cond b (Refused n) t ≡ Ac
 passed true n t e = let z : _≡_ {A = ℕ} 0 1 = cc in absurd (omega arith)
 passed false n t e = (refl, e)
 
--- A frame's first word is there and is a number of rows, at most 4,096.
+-- A frame's first word is there and is a number of rows.
 pub has-count : (c : ℕ) (f : Words) → isFrame c f ≡ true → HasCount f
-has-count c f h = let p = frame-parts c f h in record { long = omega (arith, p .long); few = p .few }
+has-count c f h = frame-count c f h
 
 -- ---- a left frame
 module _ (bad failed : Bool) (state : NodeState) (o : Options) (words : ℕ) (left f : Words) where

@@ -1,10 +1,11 @@
-// The frame rule: rows n, columns c, then n * c values, then n * c marks; for any words of any length.
+// The rules of frames and tables: rows n, columns c, then n * c values, then n * c marks; for any words of any length.
 use frames::Front;
 ghost use mathlib.Core.Path.{_≡_};
 ghost use Prim.Native.Nat.{_≤_};
+ghost use lib.Dec.{leb};
 ghost use lib.IntN.{pos};
 ghost use lib.ListN.{length};
-ghost use Rattle.frames.specs.Frame.{isFrame, rowCount, sameZ, pairFine, pairsFine};
+ghost use Rattle.frames.specs.Frame.{isTable, isFrame, rowCount, frameWords, sameZ, pairFine, pairsFine};
 ghost use Rattle.frames.specs.Front.{HasCount, fewRows, frontOf, frontLength, fitting};
 
 // Whether a word is a number of rows, 0 to 4,096.
@@ -93,12 +94,18 @@ fn pairs_fine(values: &[i64], marks: &[i64]) -> bool
     true
 }
 
-// Whether the words are a frame of c columns.
-pub fn is_frame(words: &[i64], c: usize) -> bool
-    ensures { λ r. ⌜ r ≡ isFrame c (now (words .entry)) ⌝ }
+// Whether the words are a table of c columns, of any number of rows.
+pub fn is_table(words: &[i64], c: usize) -> bool
+    ensures { λ r. ⌜ r ≡ isTable c (now (words .entry)) ⌝ }
 {
     let len = words.len();
-    let Front::Words(k) = front_length(words, c) else {
+    if len < 2 {
+        return false;
+    }
+    if words[0] < 0 {
+        return false;
+    }
+    let Front::Words(k) = frame_words(row_count(words), c, len) else {
         return false;
     };
     if k != len {
@@ -109,6 +116,29 @@ pub fn is_frame(words: &[i64], c: usize) -> bool
     }
     let e = len / 2 + 1;
     pairs_fine(&words[2..e], &words[e..])
+}
+
+// Whether the words are a frame of c columns. Words that tell too many rows are not passed.
+pub fn is_frame(words: &[i64], c: usize) -> bool
+    ensures { λ r. ⌜ r ≡ isFrame c (now (words .entry)) ⌝ }
+{
+    if words.len() < 1 {
+        return false;
+    }
+    if !few_rows(words[0]) {
+        return false;
+    }
+    is_table(words, c)
+}
+
+// Whether so many words have room for a table of n rows and c columns.
+pub fn has_room(n: usize, c: usize, room: usize) -> bool
+    ensures { λ r. ⌜ r ≡ leb (frameWords n c) room ⌝ }
+{
+    match frame_words(n, c, room) {
+        Front::Words(_) => true,
+        Front::Nothing => false,
+    }
 }
 
 // The length of the frame of c columns at the front of words that wait, or nothing where these words are none.

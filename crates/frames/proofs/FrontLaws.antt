@@ -8,7 +8,7 @@ use native.Mathlib.Nat.{div-lt-iff-lt-mul, le-div-iff-mul-le, zero-mul}
 use borrow.Author.Tests.{ltb-true, leb-true, eqb-true, le-leb, lt-leb, eq-eqb, ne-eqb}
 use lib.Dec.{T, leb, eqb}
 use lib.IntN.{ℤ, pos, negsuc, natAbs}
-use lib.Signed.{ltZ, leZ, nonNeg}
+use lib.Signed.{ltZ, leZ, nonNeg, mag}
 use lib.ListN.{length, take, drop, getD, length-take, length-drop, drop-of-length-le}
 use lib.Seq.{drop-cons, length-take-le, getD-take, take-all}
 use mir.Syntax.{w64}
@@ -32,6 +32,22 @@ few-from-zero (negsuc n) h = cc
 pub few-count : (z : ℤ) → fewRows z ≡ true → T (nonNeg z) × (natAbs z ≤ 4096)
 few-count (pos n) h = (tt, leb-true n 4096 (and-true (leb 0 n) (leb n 4096) h .1))
 few-count (negsuc n) h = let e : _≡_ {A = ℕ} 0 1 = cc in absurd (omega arith)
+
+pub few-counted : (z : ℤ) → fewRows z ≡ true → leZ (pos 0) z ≡ true
+few-counted z h = and-true (leZ (pos 0) z) (leZ z (pos frameLimit)) h .0
+
+-- A word from 0 on, by its bits.
+pub from-zero-word : (z : ℤ) → leZ (pos 0) z ≡ true → mag z < 2 ^ 63 → T (nonNeg z) × (natAbs z < 2 ^ 64)
+from-zero-word (pos n) h l = let k : n < 2 ^ 63 = l in (tt, omega arith)
+from-zero-word (negsuc n) h l = let e : _≡_ {A = ℕ} 0 1 = cc in absurd (omega arith)
+
+pub not-below-zero : (z : ℤ) → ltZ z (pos 0) ≡ false → leZ (pos 0) z ≡ true
+not-below-zero (pos n) h = le-leb 0 n (omega arith)
+not-below-zero (negsuc n) h = cc
+
+below-zero : (z : ℤ) → ltZ z (pos 0) ≡ true → leZ (pos 0) z ≡ false
+below-zero (pos n) h = absurd (omega (arith, ltb-true n 0 h))
+below-zero (negsuc n) h = refl
 
 pub same-negative : (z : ℤ) (c : ℕ) → ltZ z (pos 0) ≡ true → sameZ z (pos c) ≡ false
 same-negative (pos n) c h = absurd (omega (arith, ltb-true n 0 h))
@@ -140,35 +156,78 @@ frame-parts c f h =
     let t = table-parts c f (p .0) in
     record { long = t .long; few = rw (t .counted, p .1) refl; columns = t .columns; exact = t .exact; fine = t .fine }
 
-module _ (c : ℕ) (ws : Words) where
-  frame-front : isFrame c ws ≡ true → frontLength c ws ≡ Long (length ws)
-  frame-front h =
-      let p = frame-parts c ws h in
-      rw (p .exact) (found-front c ws (p .long) (p .few) (omega (arith, p .exact)))
+-- ---- a table, as the code tests it
+fit-by : (b : Bool) (m k : ℕ) → cond b (Long m) Nothing ≡ Long k → (b ≡ true) × (m ≡ k)
+fit-by true m k e = (refl, (cc))
+fit-by false m k e = let z : _≡_ {A = ℕ} 0 1 = cc in absurd (omega arith)
 
-  pub no-front : frontLength c ws ≡ Nothing → isFrame c ws ≡ false
-  no-front e = not-true-false (isFrame c ws) (λ h. let g = frame-front h in let z : _≡_ {A = ℕ} 0 1 = cc in omega arith)
+fit-not : (b : Bool) (m : ℕ) → cond b (Long m) Nothing ≡ Nothing → b ≡ false
+fit-not true m e = cc
+fit-not false m e = refl
 
-  pub other-length : (k : ℕ) → frontLength c ws ≡ Long k → (k ≡ length ws → ⊥) → isFrame c ws ≡ false
-  other-length k e n = not-true-false (isFrame c ws) (λ h. let g = frame-front h in n (cc))
+module _ (n c room : ℕ) where
+  pub fitting-some : (k : ℕ) → fitting n c room ≡ Long k → leb (frameWords n c) room ≡ true
+  unfolding fitting
+  fitting-some k e = fit-by (leb (frameWords n c) room) (frameWords n c) k e .0
 
-  pub other-columns : sameZ (getD ws 1 (pos 0)) (pos c) ≡ false → isFrame c ws ≡ false
-  other-columns e = not-true-false (isFrame c ws) (λ h. let g = frame-parts c ws h .columns in let z : _≡_ {A = ℕ} 0 1 = cc in omega arith)
+  pub fitting-none : fitting n c room ≡ Nothing → leb (frameWords n c) room ≡ false
+  unfolding fitting
+  fitting-none e = fit-not (leb (frameWords n c) room) (frameWords n c) e
+
+  fitting-length : (k : ℕ) → fitting n c room ≡ Long k → frameWords n c ≡ k
+  unfolding fitting
+  fitting-length k e = fit-by (leb (frameWords n c) room) (frameWords n c) k e .1
+
+module _ (c : ℕ) (f : Words) where
+  pub table-short : length f < 2 → isTable c f ≡ false
+  table-short l = not-true-false (isTable c f) (λ h. omega (arith, table-parts c f h .long))
+
+  pub table-below-zero : ltZ (getD f 0 (pos 0)) (pos 0) ≡ true → isTable c f ≡ false
+  table-below-zero l =
+      not-true-false (isTable c f) (λ h. let g = table-parts c f h .counted in let k = below-zero (getD f 0 (pos 0)) l in let z : _≡_ {A = ℕ} 0 1 = cc in omega arith)
+
+  pub table-over : fitting (rowCount f) c (length f) ≡ Nothing → isTable c f ≡ false
+  table-over e =
+      not-true-false (isTable c f) (λ h.
+      let g = le-leb (frameWords (rowCount f) c) (length f) (omega (arith, table-parts c f h .exact)) in
+      let k = fitting-none (rowCount f) c (length f) e in
+      let z : _≡_ {A = ℕ} 0 1 = cc in omega arith)
+
+  pub table-other-length : (k : ℕ) → fitting (rowCount f) c (length f) ≡ Long k → (k ≡ length f → ⊥) → isTable c f ≡ false
+  table-other-length k e n =
+      not-true-false (isTable c f) (λ h. n (sym (fitting-length (rowCount f) c (length f) k e) ∙ sym (table-parts c f h .exact)))
+
+  pub table-other-columns : sameZ (getD f 1 (pos 0)) (pos c) ≡ false → isTable c f ≡ false
+  table-other-columns e = not-true-false (isTable c f) (λ h. let g = table-parts c f h .columns in let z : _≡_ {A = ℕ} 0 1 = cc in omega arith)
 
   -- The words behind the first two fall into two halves, values and marks.
-  pub frame-halves : (k : ℕ) → frontLength c ws ≡ Long k → k ≡ length ws → sameZ (getD ws 1 (pos 0)) (pos c) ≡ true →
-      isFrame c ws ≡ pairsFine (take (length ws / 2 + 1 - 2) (drop 2 ws)) (take (length ws - (length ws / 2 + 1)) (drop (length ws / 2 + 1) ws))
-  unfolding isFrame isTable
-  frame-halves k e n s =
-      let p = front-found c ws k e in
-      let x : length ws ≡ frameWords (rowCount ws) c = omega (arith, p .3) in
-      let a : length ws / 2 + 1 - 2 ≡ rowCount ws * c = omega arith in
-      let b : length ws / 2 + 1 ≡ 2 + rowCount ws * c = omega arith in
-      let d : take (length ws - (2 + rowCount ws * c)) (drop (2 + rowCount ws * c) ws) ≡ drop (2 + rowCount ws * c) ws = take-all (length ws - (2 + rowCount ws * c)) (drop (2 + rowCount ws * c) ws) (rw (length-drop (2 + rowCount ws * c) ws) (omega arith)) in
-      let few = and-true (leZ (pos 0) (getD ws 0 (pos 0))) (leZ (getD ws 0 (pos 0)) (pos frameLimit)) (p .1) in
-      rw (a, b, d, le-leb 2 (length ws) (p .0), few .0, few .1, s, eq-eqb (length ws) (frameWords (rowCount ws) c) x)
-      (and-true-right (pairsFine (take (rowCount ws * c) (drop 2 ws)) (drop (2 + rowCount ws * c) ws)))
+  pub table-halves : (k : ℕ) → leZ (pos 0) (getD f 0 (pos 0)) ≡ true → fitting (rowCount f) c (length f) ≡ Long k → k ≡ length f → sameZ (getD f 1 (pos 0)) (pos c) ≡ true →
+      isTable c f ≡ pairsFine (take (length f / 2 + 1 - 2) (drop 2 f)) (take (length f - (length f / 2 + 1)) (drop (length f / 2 + 1) f))
+  unfolding isTable
+  table-halves k g e n s =
+      let x : length f ≡ frameWords (rowCount f) c = omega (arith, fitting-length (rowCount f) c (length f) k e) in
+      let a : length f / 2 + 1 - 2 ≡ rowCount f * c = omega arith in
+      let b : length f / 2 + 1 ≡ 2 + rowCount f * c = omega arith in
+      let d : take (length f - (2 + rowCount f * c)) (drop (2 + rowCount f * c) f) ≡ drop (2 + rowCount f * c) f = take-all (length f - (2 + rowCount f * c)) (drop (2 + rowCount f * c) f) (rw (length-drop (2 + rowCount f * c) f) (omega arith)) in
+      rw (a, b, d, le-leb 2 (length f) (omega arith), g, s, eq-eqb (length f) (frameWords (rowCount f) c) x)
 
+-- ---- a frame is a table of few rows
+module _ (c : ℕ) (f : Words) where
+  pub frame-table : isFrame c f ≡ true → isTable c f ≡ true
+  unfolding isFrame
+  frame-table h = and-true (isTable c f) (leZ (getD f 0 (pos 0)) (pos frameLimit)) h .0
+
+  pub frame-empty : length f < 1 → isFrame c f ≡ false
+  frame-empty l = not-true-false (isFrame c f) (λ h. omega (arith, frame-parts c f h .long))
+
+  pub frame-many : fewRows (getD f 0 (pos 0)) ≡ false → isFrame c f ≡ false
+  frame-many e = not-true-false (isFrame c f) (λ h. let g = frame-parts c f h .few in let z : _≡_ {A = ℕ} 0 1 = cc in omega arith)
+
+  pub frame-is-table : fewRows (getD f 0 (pos 0)) ≡ true → isFrame c f ≡ isTable c f
+  unfolding isFrame
+  frame-is-table e = rw (and-true (leZ (pos 0) (getD f 0 (pos 0))) (leZ (getD f 0 (pos 0)) (pos frameLimit)) e .1) (and-true-right (isTable c f))
+
+module _ (c : ℕ) (ws : Words) where
   -- ---- the front of words that wait
   front-word : getD (front c ws) 0 (pos 0) ≡ getD ws 0 (pos 0)
   unfolding front
@@ -205,9 +264,12 @@ module _ (c : ℕ) (ws : Words) where
   front-no k e h = let p = front-is k e in rw (p .0, h)
 
 -- ---- what a caller has in hand
--- A frame's first word is a number of rows.
+-- The first word of a table is a number of rows, and so is a frame's.
+pub table-count : (c : ℕ) (f : Words) → isTable c f ≡ true → HasCount f
+table-count c f h = let p = table-parts c f h in record { long = omega (arith, p .long); counted = p .counted }
+
 pub frame-count : (c : ℕ) (f : Words) → isFrame c f ≡ true → HasCount f
-frame-count c f h = let p = frame-parts c f h in record { long = omega (arith, p .long); few = p .few }
+frame-count c f h = table-count c f (frame-table c f h)
 
 pub frame-few : (c : ℕ) (f : Words) → isFrame c f ≡ true → rowCount f ≤ 4096
 frame-few c f h = few-count (getD f 0 (pos 0)) (frame-parts c f h .few) .1
@@ -233,7 +295,7 @@ module _ (c : ℕ) (ws : Words) where
       let q = front-is c ws (frameWords (rowCount ws) c) l in
       let g = front-found c ws (frameWords (rowCount ws) c) l in
       let x : frameWords (rowCount ws) c ≡ k = sym (q .1) ∙ p .1 in
-      record { is = p .0; here = rw x at (q .0); within = omega (arith, g .2); exact = sym x; count = record { long = omega (arith, g .0); few = g .1 } }
+      record { is = p .0; here = rw x at (q .0); within = omega (arith, g .2); exact = sym x; count = record { long = omega (arith, g .0); counted = few-counted (getD ws 0 (pos 0)) (g .1) } }
 
 -- The parts that a caller lends of a frame, values and marks.
 pub values-part : (c : ℕ) (f : Words) (e : ℕ) → e ≡ 2 + rowCount f * c → take (e - 2) (drop 2 f) ≡ valuesIn c f

@@ -27,7 +27,7 @@ fitting n c room = cond (leb (frameWords n c) room) (Long (frameWords n c)) Noth
 unfoldable pub frontLength : ℕ → Words → Front
 frontLength c ws = cond (leb 2 (length ws) && fewRows (getD ws 0 (pos 0))) (fitting (rowCount ws) c (length ws)) Nothing
 
--- The first word is there and is a number of rows: so it is for a frame, and for words with a frame at their front.
+-- The first word is there and is not below 0: so it is for a table, for a frame, and for words with a frame at their front.
 pub record HasCount (ws : Words) : Type 0 where
   pub long : 1 ≤ length ws
-  pub few : fewRows (getD ws 0 (pos 0)) ≡ true
+  pub counted : leZ (pos 0) (getD ws 0 (pos 0)) ≡ true

@@ -1,4 +1,5 @@
-// The calls for hosts in C, over structs of numbers, all of 64 bits, and words that the host lends: the exported functions alone. What each does stands in hostfeed, hostmove, hostturn, spanhost and version.
+// The calls for hosts in C, over structs of numbers, all of 64 bits, and words that the host lends: the exported functions alone. What each does stands in hostfeed, hostmove, hostturn, bookhost, spanhost and version.
+use bookhost::merge_host;
 use hostfeed::host_end_right;
 use hostfeed::host_left;
 use hostfeed::host_open;
@@ -11,6 +12,7 @@ use spanhost::spans_host;
 use version::version_now;
 ghost use mathlib.Core.Path.{_≡_};
 ghost use Rattle.hostcalls.specs.Contracts.{HostOpenContract, HostLeftContract, HostRightContract, HostEndContract, HostMoveContract, HostPortsContract, HostTurnContract, HostRunContract};
+ghost use Rattle.bookhost.specs.Calls.{HostMergeContract};
 ghost use Rattle.spanhost.specs.Call.{HostSpanContract};
 ghost use Rattle.version.specs.Version.{versionNow};
 pub use convert::HostJoin;
@@ -141,4 +143,17 @@ pub extern "C" fn rowkeeper_spans(
     ensures { λ r. ⌜ HostSpanContract lower upper (now (points .entry)) (now (intervals .entry)) (now (out .entry)) r (now (out .exit)) ⌝ }
 {
     spans_host(points, intervals, lower, upper, out)
+}
+
+// Merges two sorted books into one sorted table: every row of both, and of rows that compare equal the house's first. No join has a part in it.
+#[no_mangle]
+pub extern "C" fn rowkeeper_merge(
+    h: HostOptions,
+    house: &[i64],
+    festival: &[i64],
+    out: &mut [i64],
+) -> HostWritten
+    ensures { λ r. ⌜ HostMergeContract h (now (house .entry)) (now (festival .entry)) (now (out .entry)) r (now (out .exit)) ⌝ }
+{
+    merge_host(h, house, festival, out)
 }

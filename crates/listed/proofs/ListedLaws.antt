@@ -1,4 +1,4 @@
--- Values that a list lacks, row by row: what a walk over the rows has left to do, and the parts of a frame that it is handed. Assumes nothing.
+-- Values that a list lacks, row by row: what a walk over the rows has left to do, and the parts of a table that it is handed. Assumes nothing.
 use mathlib.Core.Path.{_≡_, refl, sym}
 use mathlib.Core.Bool.{true, false}
 use mathlib.Core.List.{[]}
@@ -10,9 +10,10 @@ use lib.IntN.{pos}
 use lib.ListN.{length, take, drop, getD, drop-of-length-le, length-take, length-drop}
 use lib.Seq.{drop-cons}
 use Rattle.frames.specs.Cells.{isZero, cell, rowsOf, Rows, Words}
-use Rattle.frames.specs.Frame.{rowCount, isFrame, frameRows}
+use Rattle.frames.specs.Frame.{rowCount, isTable, frameRows}
+use Rattle.frames.proofs.FrameLaws.{table-parts}
 use Rattle.frames.proofs.WordLaws.{rows-length}
-use Rattle.frames.proofs.FrontLaws.{frame-parts, values-part, marks-part}
+use Rattle.frames.proofs.FrontLaws.{values-part, marks-part}
 use Rattle.ranks.specs.Ranks.{codesOf, codeAt, listed}
 use Rattle.ranks.proofs.RankLaws.{tell, none-listed, Good, good-ranks}
 use Rattle.options.specs.Options.{Few}
@@ -81,10 +82,10 @@ module _ (cs : Words) (j w n : ℕ) (vs ms : Words) (x : ColumnIn j w n vs ms) w
   pub all-passed : (i : ℕ) → n ≤ i → unlistedIn cs j (drop i rows) ≡ false
   all-passed i h = rows-done cs j rows i (omega (arith, rows-length w n vs ms))
 
--- ---- the parts of a frame
--- A frame's words, by its rows.
-pub parts-fit : (c : ℕ) (f : Words) → isFrame c f ≡ true → (n : ℕ) → n ≡ rowCount f → 2 + 2 * (n * c) ≡ length f
-parts-fit c f frame n count = rw count (sym (frame-parts c f frame .exact))
+-- ---- the parts of a table
+-- A table's words, by its rows.
+pub parts-fit : (c : ℕ) (f : Words) → isTable c f ≡ true → (n : ℕ) → n ≡ rowCount f → 2 + 2 * (n * c) ≡ length f
+parts-fit c f table n count = rw count (sym (table-parts c f table .exact))
 
 -- A list that is given is a good one.
 pub list-good : (o : Options) → Few o → o .ranks .given ≡ true → Good (o .by) (o .ranks)
@@ -96,17 +97,17 @@ module _ (o : Options) (c : ℕ) (f : Words) where
   unranked-lacks e = rw e
 
   -- Of values and marks as they are lent: they have the ranked column, since it is a by-column.
-  pub column-there : o .by < c → isFrame c f ≡ true → Good (o .by) (o .ranks) → (n e : ℕ) → n ≡ rowCount f → e ≡ 2 + n * c
+  pub column-there : o .by < c → isTable c f ≡ true → Good (o .by) (o .ranks) → (n e : ℕ) → n ≡ rowCount f → e ≡ 2 + n * c
       → ColumnIn (o .ranks .column) c n (take (e - 2) (drop 2 f)) (take (length f - e) (drop e f))
-  column-there wide frame good n e count at =
-      let l = parts-fit c f frame n count in
+  column-there wide table good n e count at =
+      let l = parts-fit c f table n count in
       record {
         wide = omega (arith, good .column);
         values = rw (length-take (e - 2) (drop 2 f), length-drop 2 f) (omega arith);
         marks = rw (length-take (length f - e) (drop e f), length-drop e f) (omega arith);
       }
 
-  -- The frame's rows are theirs.
+  -- The table's rows are theirs.
   pub ranked-lacks : o .ranks .given ≡ true → (n e : ℕ) → n ≡ rowCount f → e ≡ 2 + n * c
       → lacksCode o (frameRows c f) ≡ unlistedIn (codesOf (o .ranks)) (o .ranks .column) (rowsOf c n (take (e - 2) (drop 2 f)) (take (length f - e) (drop e f)))
   unfolding frameRows

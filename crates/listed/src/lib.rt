@@ -1,4 +1,4 @@
-// Whether a frame has a value in the ranked column that the list lacks: refusal 12.
+// Whether a frame or a table has a value in the ranked column that the list lacks: refusal 12.
 use framerule::row_count;
 use options::Options;
 use ranking::place_of;
@@ -7,7 +7,7 @@ ghost use mathlib.Core.Bool.{true};
 ghost use Prim.Native.Nat.{_<_};
 ghost use lib.ListN.{length};
 ghost use Rattle.frames.specs.Cells.{rowsOf};
-ghost use Rattle.frames.specs.Frame.{frameRows, isFrame};
+ghost use Rattle.frames.specs.Frame.{frameRows, isTable};
 ghost use Rattle.ranks.specs.Ranks.{listed, Indexed};
 ghost use Rattle.options.specs.Options.{Few};
 ghost use Rattle.order.specs.Listed.{unlistedIn, lacksCode};
@@ -54,23 +54,23 @@ fn any_unlisted(
     false
 }
 
-// Whether a frame of c columns has a value in the ranked column that the list lacks.
-pub fn lacks_code(frame: &[i64], c: usize, o: Options) -> bool
-    requires { ⌜ Few o × (o .by < c) × (isFrame c (now frame) ≡ true) ⌝ }
-    ensures { λ r. ⌜ r ≡ lacksCode o (frameRows c (now (frame .entry))) ⌝ }
+// Whether a table of c columns has a value in the ranked column that the list lacks.
+pub fn lacks_code(table: &[i64], c: usize, o: Options) -> bool
+    requires { ⌜ Few o × (o .by < c) × (isTable c (now table) ≡ true) ⌝ }
+    ensures { λ r. ⌜ r ≡ lacksCode o (frameRows c (now (table .entry))) ⌝ }
 {
     if !o.ranks.given {
         return false;
     }
-    let n = row_count(frame);
+    let n = row_count(table);
     let e = 2 + n * c;
     let count = o.ranks.count;
     let j = o.ranks.column;
     let codes = o.ranks.codes;
     let rising = o.ranks.rising;
     any_unlisted(
-        &frame[2..e],
-        &frame[e..],
+        &table[2..e],
+        &table[e..],
         n,
         c,
         j,

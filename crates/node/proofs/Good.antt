@@ -13,7 +13,7 @@ use Rattle.frames.specs.Frame.{rowCount, isFrame, frameRows}
 use Rattle.options.specs.Options.{refusedOptions, Few}
 use Rattle.frames.specs.Front.{HasCount}
 use Rattle.options.specs.declared.Options.{Options}
-use Rattle.frames.proofs.FrontLaws.{frame-parts}
+use Rattle.frames.proofs.FrontLaws.{frame-count}
 use Rattle.order.specs.Listed.{lacksCode}
 use Rattle.area.specs.Area.{capacity}
 use Rattle.options.proofs.OptionLaws.{or-both, allowed-parts}
@@ -67,9 +67,9 @@ unfolding badJoin
 opened-bad o left right e = rw e
 
 -- ---- a frame
--- Its first word is there and is a number of rows, at most 4,096.
+-- Its first word is there and is a number of rows.
 pub has-count : (c : ℕ) (f : Words) → isFrame c f ≡ true → HasCount f
-has-count c f h = let p = frame-parts c f h in record { long = omega (arith, p .long); few = p .few }
+has-count c f h = frame-count c f h
 
 -- ---- what is accepted
 module _ (j : Join) (left right : Words) where

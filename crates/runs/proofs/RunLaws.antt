@@ -9,7 +9,7 @@ use lib.Dec.{ltb, eqb}
 use lib.ListN.{length, take, drop, length-append, length-drop, take-append-drop, drop-of-length-le}
 use lib.Seq.{take-all, drop-at, length-take-le, take-append-add, drop-append-add}
 use Rattle.frames.specs.Cells.{Rows, Words}
-use Rattle.frames.specs.Frame.{frameWords, isFrame, frameRows, front}
+use Rattle.frames.specs.Frame.{rowCount, frameWords, isFrame, frameRows, front}
 use Rattle.frames.specs.Front.{HasCount}
 use Rattle.options.specs.Options.{answerColumns}
 use Rattle.options.specs.declared.Options.{Options}
@@ -46,12 +46,14 @@ use Rattle.node.specs.declared.TurnedJoin.{TurnedJoin}
 -- The words that were written are there, as many as the first of them gives for rows of c columns; the rest is as it was.
 pub record Fits (c : ℕ) (out out′ : Words) : Type 0 where
   pub count : HasCount out′
+  pub few : rowCount out′ ≤ 4096
   pub room : turnWords c out′ ≤ length out
   pub rest : drop (turnWords c out′) out′ ≡ drop (turnWords c out′) out
 
 answered-fits : (o : Options) (rs : Rows) (out : Words) → Wide (answerColumns o) rs → length rs ≤ 4096 → frameWords (length rs) (answerColumns o) ≤ length out → Fits (answerColumns o) out (answered o rs out)
 answered-fits o rs out wide few room = record {
-  count = rw (answered-is o rs out) (record { long = omega arith; few = rw (le-leb 0 (length rs) (omega arith), le-leb (length rs) 4096 few) });
+  count = rw (answered-is o rs out) (record { long = omega arith; counted = le-leb 0 (length rs) (omega arith) });
+  few = rw (answered-count o rs out) few;
   room = rw (answered-count o rs out) room;
   rest = rw (answered-count o rs out) (answered-rest o rs out wide);
 }
@@ -273,8 +275,8 @@ module _ (k : ℕ) (j₀ : Join) (left right out₀ : Words) where
         pub run-carried : x .join .options .carried ≤ 8
         run-carried = rw kept-options (turn-carried j left right (drop at out) writes)
 
-        pub run-count : HasCount (take (length put - at) (drop at put))
-        run-count = rw behind (fits .count)
+        pub run-count : HasCount (take (length put - at) (drop at put)) × (rowCount (take (length put - at) (drop at put)) ≤ 4096)
+        run-count = rw behind (fits .count, fits .few)
 
         module _ (c n : ℕ) (wide : c ≡ answerColumns (x .join .options)) (is : n ≡ turnWords c (take (length put - at) (drop at put))) where
           many : n ≡ turnWords (answerColumns (j .options)) (t .out)

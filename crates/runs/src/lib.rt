@@ -6,6 +6,7 @@ use outcomes::Answer;
 use outcomes::goes_on;
 ghost use mathlib.Core.Path.{_≡_};
 ghost use Prim.Native.Nat.{_≤_};
+ghost use Rattle.frames.specs.Frame.{rowCount};
 ghost use Rattle.frames.specs.Front.{HasCount};
 ghost use Rattle.runs.specs.Run.{stopOf, turnWords};
 ghost use Rattle.runs.specs.RunContract.{RunContract};
@@ -33,7 +34,7 @@ fn stop_of(answer: Answer) -> Stop
 
 // How many words a turn wrote, by the row count that it wrote first and by the answer's columns, at most nine.
 fn turn_words(out: &[i64], c: usize) -> usize
-    requires { ⌜ HasCount (now out) × (c ≤ 9) ⌝ }
+    requires { ⌜ HasCount (now out) × (rowCount (now out) ≤ 4096) × (c ≤ 9) ⌝ }
     ensures { λ r. ⌜ r ≡ turnWords c (now (out .entry)) ⌝ }
 {
     2 + 2 * (row_count(out) * c)

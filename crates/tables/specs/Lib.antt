@@ -1,3 +1,4 @@
-pub mod Setting
+pub mod Options
 pub mod Table
 pub mod Lay
+pub mod Requires

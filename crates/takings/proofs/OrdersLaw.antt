@@ -13,19 +13,20 @@ use lib.ListN.{length, take, getD, length-append, length-map, List·getD-append}
 use lib.Seq.{take-at, getD-at, getD-append-add, getD-take, length-take-le}
 use Rattle.frames.specs.Cells.{Cell, null, value, cell, isNull, Rows, Words}
 use Rattle.frames.specs.Frame.{rowCount, frameWords, isFrame, frameRows, isTable}
-use Rattle.options.specs.Options.{badOptions}
+use Rattle.options.specs.Options.{badOptions, manyCarried, badRanked, columns}
 use Rattle.options.specs.declared.Options.{Options}
 use Rattle.order.proofs.SortedLaws.{all-by}
 use Rattle.frames.proofs.BoolLaws.{and-true}
 use Rattle.frames.proofs.FrameLaws.{frame-rows, frame-wide}
-use Rattle.tables.specs.Setting.{Setting, leftWidth, allKnown}
+use Rattle.order.specs.Listed.{lacksCode}
+use Rattle.tables.specs.Options.{unless}
 use Rattle.tables.specs.Table.{tableOf, laid}
 use Rattle.tables.proofs.TableLaws.{Wide, table-rows, table-is, laid-take}
 use Rattle.refusals.specs.declared.Refusal.{Refusal}
 use Rattle.refusals.specs.declared.Refusal.the-variants.{BadOptions, TooManyCarried, BadRanks, BadFrame, UnknownCode, BadColumns, Unsorted, Beyond, NoRoom}
 use Rattle.takings.specs.Subtotals.{Subtotal, addAll, totalFor, countFor, rowOf, subtotalsOf, hasNull, anyNull, mostAmount, mostSales, beyondRow, beyondRows, salesIn, beyondNumber, Tells}
 use Rattle.takings.specs.Sales.{Sale, salesOf, withAmount, amountsOf, nullsOf, beyondAmounts, matched}
-use Rattle.takings.specs.Calls.{After, tableWidth, tableWords, columnsIn, anyFrame, answerColumns, rowsIn, subtotalsIn, fineSubtotals, salesBy, unless, result, leave, addAnswer, addCall, joinAnswer, joinCall}
+use Rattle.takings.specs.Calls.{After, tableWidth, tableWords, columnsIn, anyFrame, answerColumns, rowsIn, subtotalsIn, fineSubtotals, salesBy, result, leave, addAnswer, addCall, joinAnswer, joinCall}
 use Rattle.takings.specs.Orders.{Account, Calls, fresh, adding, joining, emptyAccount, tookBy, took, after, given, allSales, Permuted, empty, next, swap, then, Sums, HandedOn, AllOrders}
 use Rattle.takings.specs.declared.Taken.{Taken}
 use Rattle.takings.specs.declared.Taken.the-variants.{Table, Refused}
@@ -166,9 +167,9 @@ module _ (o : Options) where
 frame-rows-wide : (c : ℕ) (f : Words) → isFrame c f ≡ true → Wide c (frameRows c f)
 frame-rows-wide c f h = all-by (λ r. length r ≡ c) (frameRows c f) (λ i l. frame-wide c f h i (rw (frame-rows c f h) at l))
 
-by-fine : (s : Setting) (left answer : Words) → isFrame (leftWidth s) left ≡ true → Every (Unit-fine (s .options)) (amountsOf (salesBy s left answer))
+by-fine : (o : Options) (left answer : Words) → isFrame (columns o) left ≡ true → Every (Unit-fine o) (amountsOf (salesBy o left answer))
 unfolding salesBy
-by-fine s left answer h = sales-fine (s .options) (frameRows (leftWidth s) left) (frameRows (columnsIn answer) answer) (frame-rows-wide (leftWidth s) left h)
+by-fine o left answer h = sales-fine o (frameRows (columns o) left) (frameRows (columnsIn answer) answer) (frame-rows-wide (columns o) left h)
 
 -- Amounts within the bounds, and groups without a null.
 within : (o : Options) (us : List Subtotal) → Every (Unit-fine o) us → beyondAmounts us ≡ false → Every Bounded us
@@ -201,9 +202,9 @@ module _ (o : Options) where
           (take-null (o .by) (o .by) x (omega arith) ∙ not-true (nullIn (o .by) x) (and-true (not (isNull (cell 0 a))) (not (nullIn (o .by) x)) e .1)) h
       by false e h = h
 
-by-whole : (s : Setting) (left answer : Words) → Every (λ t. hasNull (s .options .by) (t .group) ≡ false) (amountsOf (salesBy s left answer))
+by-whole : (o : Options) (left answer : Words) → Every (λ t. hasNull (o .by) (t .group) ≡ false) (amountsOf (salesBy o left answer))
 unfolding salesBy
-by-whole s left answer = sales-whole (s .options) (frameRows (leftWidth s) left) (frameRows (columnsIn answer) answer)
+by-whole o left answer = sales-whole o (frameRows (columns o) left) (frameRows (columnsIn answer) answer)
 
 -- ---- the rows of such a table pass the tests of 14 and 15
 module _ (o : Options) where
@@ -246,138 +247,138 @@ not-false : (b : Bool) → not b ≡ false → b ≡ true
 not-false true e = refl
 not-false false e = cc
 
-module _ (s : Setting) where
-  past : (x : Taken) {n : ℕ} {k : ℤ} → unless s x ≡ Table n k → x ≡ Table n k
-  past x e = passed (s .badRanks) BadRanks x (passed (ltb 8 (s .carried)) TooManyCarried _ (passed (badOptions (s .options)) BadOptions _ e .1) .1) .1
+module _ (o : Options) where
+  past : (x : Taken) {n : ℕ} {k : ℤ} → unless Refused o x ≡ Table n k → x ≡ Table n k
+  past x e = passed (badRanked o) BadRanks x (passed (manyCarried o) TooManyCarried _ (passed (badOptions o) BadOptions _ e .1) .1) .1
 
   -- The result's rows have room, and its answer tells them.
   record Result (ts : List Subtotal) (k : ℕ) (out : Words) (n : ℕ) (m : ℤ) : Type 0 where
     rows : n ≡ length ts
     number : m ≡ pos k
     few : k ≤ mostSales
-    room : frameWords (length ts) (tableWidth s) ≤ length out
+    room : frameWords (length ts) (tableWidth o) ≤ length out
 
   told : {n n′ : ℕ} {k k′ : ℤ} → Table n k ≡ Table n′ k′ → (n′ ≡ n) × (k′ ≡ k)
   told e = ((cc), (cc))
 
-  result-told : (ts : List Subtotal) (k : ℕ) (out : Words) {n : ℕ} {m : ℤ} → result s ts k out ≡ Table n m → Result ts k out n m
+  result-told : (ts : List Subtotal) (k : ℕ) (out : Words) {n : ℕ} {m : ℤ} → result o ts k out ≡ Table n m → Result ts k out n m
   unfolding result
   result-told ts k out e =
       let a = passed (ltb mostSales (salesIn ts) || ltb mostSales k) Beyond _ e in
-      let b = passed (ltb (length out) (frameWords (length ts) (tableWidth s))) NoRoom _ (a .1) in
+      let b = passed (ltb (length out) (frameWords (length ts) (tableWidth o))) NoRoom _ (a .1) in
       let t = told (b .1) in
-      record { rows = t .0; number = t .1; few = ltb-false mostSales k (or-false (ltb mostSales (salesIn ts)) (ltb mostSales k) (a .0) .1); room = ltb-false (length out) (frameWords (length ts) (tableWidth s)) (b .0) }
+      record { rows = t .0; number = t .1; few = ltb-false mostSales k (or-false (ltb mostSales (salesIn ts)) (ltb mostSales k) (a .0) .1); room = ltb-false (length out) (frameWords (length ts) (tableWidth o)) (b .0) }
 
-  add-told : (table : Words) (k : ℤ) (left answer out : Words) {n : ℕ} {m : ℤ} → addAnswer s table k left answer out ≡ Table n m
-      → (isFrame (leftWidth s) left ≡ true) × (beyondAmounts (amountsOf (salesBy s left answer)) ≡ false) × Result (addAll (s .options) (subtotalsIn s table) (amountsOf (salesBy s left answer))) (natAbs k + nullsOf (salesBy s left answer)) out n m
+  add-told : (table : Words) (k : ℤ) (left answer out : Words) {n : ℕ} {m : ℤ} → addAnswer o table k left answer out ≡ Table n m
+      → (isFrame (columns o) left ≡ true) × (beyondAmounts (amountsOf (salesBy o left answer)) ≡ false) × Result (addAll o (subtotalsIn o table) (amountsOf (salesBy o left answer))) (natAbs k + nullsOf (salesBy o left answer)) out n m
   unfolding addAnswer
   add-told table k left answer out e =
-      let five = isTable (tableWidth s) table && isFrame (leftWidth s) left && anyFrame answer && eqb (rowCount left) (rowCount answer) in
+      let five = isTable (tableWidth o) table && isFrame (columns o) left && anyFrame answer && eqb (rowCount left) (rowCount answer) in
       let p = passed (not five) BadFrame _ (past _ e) in
-      let q = passed (not (allKnown s (rowsIn s table) && allKnown s (frameRows (leftWidth s) left))) UnknownCode _ (p .1) in
-      let r = passed (not (answerColumns s (columnsIn answer))) BadColumns _ (q .1) in
-      let u = passed (not (fineSubtotals s table)) Unsorted _ (r .1) in
-      let v = passed (beyondRows (s .options) (rowsIn s table) || beyondNumber k || beyondAmounts (amountsOf (salesBy s left answer))) Beyond _ (u .1) in
-      let a = and-true (isTable (tableWidth s) table && isFrame (leftWidth s) left && anyFrame answer) (eqb (rowCount left) (rowCount answer)) (not-false five (p .0)) in
-      let b = and-true (isTable (tableWidth s) table && isFrame (leftWidth s) left) (anyFrame answer) (a .0) in
-      let w = or-false (beyondRows (s .options) (rowsIn s table) || beyondNumber k) (beyondAmounts (amountsOf (salesBy s left answer))) (v .0) in
-      (and-true (isTable (tableWidth s) table) (isFrame (leftWidth s) left) (b .0) .1, w .1, result-told _ _ out (v .1))
+      let q = passed (lacksCode o (rowsIn o table) || lacksCode o (frameRows (columns o) left)) UnknownCode _ (p .1) in
+      let r = passed (not (answerColumns o (columnsIn answer))) BadColumns _ (q .1) in
+      let u = passed (not (fineSubtotals o table)) Unsorted _ (r .1) in
+      let v = passed (beyondRows o (rowsIn o table) || beyondNumber k || beyondAmounts (amountsOf (salesBy o left answer))) Beyond _ (u .1) in
+      let a = and-true (isTable (tableWidth o) table && isFrame (columns o) left && anyFrame answer) (eqb (rowCount left) (rowCount answer)) (not-false five (p .0)) in
+      let b = and-true (isTable (tableWidth o) table && isFrame (columns o) left) (anyFrame answer) (a .0) in
+      let w = or-false (beyondRows o (rowsIn o table) || beyondNumber k) (beyondAmounts (amountsOf (salesBy o left answer))) (v .0) in
+      (and-true (isTable (tableWidth o) table) (isFrame (columns o) left) (b .0) .1, w .1, result-told _ _ out (v .1))
 
-  join-told : (table : Words) (k : ℤ) (other : Words) (l : ℤ) (out : Words) {n : ℕ} {m : ℤ} → joinAnswer s table k other l out ≡ Table n m
-      → Result (addAll (s .options) (subtotalsIn s table) (subtotalsIn s other)) (natAbs k + natAbs l) out n m
+  join-told : (table : Words) (k : ℤ) (other : Words) (l : ℤ) (out : Words) {n : ℕ} {m : ℤ} → joinAnswer o table k other l out ≡ Table n m
+      → Result (addAll o (subtotalsIn o table) (subtotalsIn o other)) (natAbs k + natAbs l) out n m
   unfolding joinAnswer
   join-told table k other l out e =
-      let p = passed (not (isTable (tableWidth s) table && isTable (tableWidth s) other)) BadFrame _ (past _ e) in
-      let q = passed (not (allKnown s (rowsIn s table) && allKnown s (rowsIn s other))) UnknownCode _ (p .1) in
-      let r = passed (eqb (s .carried) 0) BadColumns _ (q .1) in
-      let u = passed (not (fineSubtotals s table && fineSubtotals s other)) Unsorted _ (r .1) in
-      let v = passed (beyondRows (s .options) (rowsIn s table) || beyondRows (s .options) (rowsIn s other) || beyondNumber k || beyondNumber l) Beyond _ (u .1) in
+      let p = passed (not (isTable (tableWidth o) table && isTable (tableWidth o) other)) BadFrame _ (past _ e) in
+      let q = passed (lacksCode o (rowsIn o table) || lacksCode o (rowsIn o other)) UnknownCode _ (p .1) in
+      let r = passed (eqb (o .carried) 0) BadColumns _ (q .1) in
+      let u = passed (not (fineSubtotals o table && fineSubtotals o other)) Unsorted _ (r .1) in
+      let v = passed (beyondRows o (rowsIn o table) || beyondRows o (rowsIn o other) || beyondNumber k || beyondNumber l) Beyond _ (u .1) in
       result-told _ _ out (v .1)
 
   -- ---- an account that tells the sums of sales
   record Good (sales : List Sale) (a : Account) : Type 0 where
     rows : List Subtotal
-    words : a .table ≡ tableWords s rows
-    fine : Fine (s .options) rows
-    counts : (g : List Cell) → countFor (s .options) g rows ≡ countFor (s .options) g (amountsOf sales)
-    totals : (g : List Cell) → totalFor (s .options) g rows ≡ totalFor (s .options) g (amountsOf sales)
+    words : a .table ≡ tableWords o rows
+    fine : Fine o rows
+    counts : (g : List Cell) → countFor o g rows ≡ countFor o g (amountsOf sales)
+    totals : (g : List Cell) → totalFor o g rows ≡ totalFor o g (amountsOf sales)
     number : a .number ≡ pos (nullsOf sales)
     bounded : Every Bounded rows
-    whole : Every (λ t. hasNull (s .options .by) (t .group) ≡ false) rows
+    whole : Every (λ t. hasNull (o .by) (t .group) ≡ false) rows
     few : nullsOf sales ≤ mostSales
 
-  read-back : (a : Account) (sales : List Sale) (g : Good sales a) → subtotalsIn s (a .table) ≡ g .rows
+  read-back : (a : Account) (sales : List Sale) (g : Good sales a) → subtotalsIn o (a .table) ≡ g .rows
   read-back a sales g =
-      rw (g .words, table-rows (tableWidth s) (map rowOf (g .rows)) (rows-wide (s .options) (g .rows) (g .fine .wide))) (subtotals-back (s .options) (g .rows) (g .fine .wide))
+      rw (g .words, table-rows (tableWidth o) (map rowOf (g .rows)) (rows-wide o (g .rows) (g .fine .wide))) (subtotals-back o (g .rows) (g .fine .wide))
 
   -- What was written is the words of the table.
-  account : (ts : List Subtotal) (k : ℕ) (out : Words) (n : ℕ) (m : ℤ) → Every (λ t. length (t .group) ≡ s .options .by) ts → Result ts k out n m
-      → take (frameWords n (tableWidth s)) (laid (tableWords s ts) out) ≡ tableWords s ts
+  account : (ts : List Subtotal) (k : ℕ) (out : Words) (n : ℕ) (m : ℤ) → Every (λ t. length (t .group) ≡ o .by) ts → Result ts k out n m
+      → take (frameWords n (tableWidth o)) (laid (tableWords o ts) out) ≡ tableWords o ts
   account ts k out n m w r =
       let l : length (map rowOf ts) ≡ length ts = length-map ts rowOf in
-      rw (r .rows, ← l) (laid-take (tableWidth s) (map rowOf ts) (rows-wide (s .options) ts w) out (rw l (r .room)))
+      rw (r .rows, ← l) (laid-take (tableWidth o) (map rowOf ts) (rows-wide o ts w) out (rw l (r .room)))
 
   some-only : {x y : Account} → _≡_ {A = Option Account} (some x) (some y) → x ≡ y
   some-only e = cc
 
   leaves : (P : Account → Type 0) (ts : List Subtotal) (t : Taken) (out : Words)
-      → ((n : ℕ) (m : ℤ) → t ≡ Table n m → P (record { table = take (frameWords n (tableWidth s)) (laid (tableWords s ts) out); number = m }))
-      → (a : Account) → took s (leave s ts t out) ≡ some a → P a
+      → ((n : ℕ) (m : ℤ) → t ≡ Table n m → P (record { table = take (frameWords n (tableWidth o)) (laid (tableWords o ts) out); number = m }))
+      → (a : Account) → took o (leave o ts t out) ≡ some a → P a
   leaves P ts (Table n m) out f a e = subst P (some-only e) (f n m refl)
   leaves P ts (Refused r) out f a e = let z : _≡_ {A = ℕ} 0 1 = cc in absurd (omega arith)
 
   -- Subtotals of more sales, added.
   more : (a : Account) (sales : List Sale) (g : Good sales a) (us : List Subtotal) (new : List Sale) (k : ℕ) (out : Words) (n : ℕ) (m : ℤ)
-      → Every (Unit-fine (s .options)) us
+      → Every (Unit-fine o) us
       → Every Bounded us
-      → Every (λ t. hasNull (s .options .by) (t .group) ≡ false) us
-      → ((h : List Cell) → countFor (s .options) h us ≡ countFor (s .options) h (amountsOf new))
-      → ((h : List Cell) → totalFor (s .options) h us ≡ totalFor (s .options) h (amountsOf new))
+      → Every (λ t. hasNull (o .by) (t .group) ≡ false) us
+      → ((h : List Cell) → countFor o h us ≡ countFor o h (amountsOf new))
+      → ((h : List Cell) → totalFor o h us ≡ totalFor o h (amountsOf new))
       → k ≡ natAbs (a .number) + nullsOf new
-      → Result (addAll (s .options) (g .rows) us) k out n m
-      → Good (sales ++ new) (record { table = take (frameWords n (tableWidth s)) (laid (tableWords s (addAll (s .options) (g .rows) us)) out); number = m })
+      → Result (addAll o (g .rows) us) k out n m
+      → Good (sales ++ new) (record { table = take (frameWords n (tableWidth o)) (laid (tableWords o (addAll o (g .rows) us)) out); number = m })
   more a sales g us new k out n m f bd wh c d e r =
-      let ts : List Subtotal = addAll (s .options) (g .rows) us in
+      let ts : List Subtotal = addAll o (g .rows) us in
       let total : k ≡ nullsOf (sales ++ new) = e ∙ rw (g .number) (sym (nulls-append sales new)) in
-      let fine : Fine (s .options) ts = fine-all (s .options) (g .rows) us f (g .fine) in
+      let fine : Fine o ts = fine-all o (g .rows) us f (g .fine) in
       record {
         rows = ts;
         words = account ts k out n m (fine .wide) r;
         fine = fine;
-        counts = λ h. count-all (s .options) h (g .rows) us ∙ omega (arith, g .counts h, c h, append-count (s .options) h sales new);
-        totals = λ h. total-all (s .options) h (g .rows) us ∙ rw (g .totals h, d h) (sym (append-total (s .options) h sales new));
+        counts = λ h. count-all o h (g .rows) us ∙ omega (arith, g .counts h, c h, append-count o h sales new);
+        totals = λ h. total-all o h (g .rows) us ∙ rw (g .totals h, d h) (sym (append-total o h sales new));
         number = r .number ∙ ap pos total;
-        bounded = bounded-all (s .options) (g .rows) us bd (g .bounded);
-        whole = every-all (s .options) (λ h. hasNull (s .options .by) h ≡ false) (g .rows) us wh (g .whole);
+        bounded = bounded-all o (g .rows) us bd (g .bounded);
+        whole = every-all o (λ h. hasNull (o .by) h ≡ false) (g .rows) us wh (g .whole);
         few = omega (arith, r .few, total);
       }
 
-  add-good : (a : Account) (sales : List Sale) → Good sales a → (left answer out : Words) (b : Account) → took s (addCall s (a .table) (a .number) left answer out) ≡ some b
-      → Good (sales ++ salesBy s left answer) b
+  add-good : (a : Account) (sales : List Sale) → Good sales a → (left answer out : Words) (b : Account) → took o (addCall o (a .table) (a .number) left answer out) ≡ some b
+      → Good (sales ++ salesBy o left answer) b
   unfolding addCall
   add-good a sales g left answer out b e =
-      leaves (Good (sales ++ salesBy s left answer)) (addAll (s .options) (subtotalsIn s (a .table)) (amountsOf (salesBy s left answer))) (addAnswer s (a .table) (a .number) left answer out) out
+      leaves (Good (sales ++ salesBy o left answer)) (addAll o (subtotalsIn o (a .table)) (amountsOf (salesBy o left answer))) (addAnswer o (a .table) (a .number) left answer out) out
       (λ n m t.
       let r = add-told (a .table) (a .number) left answer out t in
       rw (read-back a sales g)
-      (more a sales g (amountsOf (salesBy s left answer)) (salesBy s left answer) (natAbs (a .number) + nullsOf (salesBy s left answer)) out n m
-      (by-fine s left answer (r .0)) (within (s .options) (amountsOf (salesBy s left answer)) (by-fine s left answer (r .0)) (r .1)) (by-whole s left answer) (λ h. refl) (λ h. refl) refl (rw (read-back a sales g) at (r .2))))
+      (more a sales g (amountsOf (salesBy o left answer)) (salesBy o left answer) (natAbs (a .number) + nullsOf (salesBy o left answer)) out n m
+      (by-fine o left answer (r .0)) (within o (amountsOf (salesBy o left answer)) (by-fine o left answer (r .0)) (r .1)) (by-whole o left answer) (λ h. refl) (λ h. refl) refl (rw (read-back a sales g) at (r .2))))
       b e
 
-  join-good : (a c : Account) (xs ys : List Sale) → Good xs a → Good ys c → (out : Words) (b : Account) → took s (joinCall s (a .table) (a .number) (c .table) (c .number) out) ≡ some b
+  join-good : (a c : Account) (xs ys : List Sale) → Good xs a → Good ys c → (out : Words) (b : Account) → took o (joinCall o (a .table) (a .number) (c .table) (c .number) out) ≡ some b
       → Good (xs ++ ys) b
   unfolding joinCall
   join-good a c xs ys g h out b e =
-      leaves (Good (xs ++ ys)) (addAll (s .options) (subtotalsIn s (a .table)) (subtotalsIn s (c .table))) (joinAnswer s (a .table) (a .number) (c .table) (c .number) out) out
+      leaves (Good (xs ++ ys)) (addAll o (subtotalsIn o (a .table)) (subtotalsIn o (c .table))) (joinAnswer o (a .table) (a .number) (c .table) (c .number) out) out
       (λ n m t.
       let r = join-told (a .table) (a .number) (c .table) (c .number) out t in
       rw (read-back a xs g, read-back c ys h)
       (more a xs g (h .rows) ys (natAbs (a .number) + natAbs (c .number)) out n m
-      (fine-units (s .options) (h .rows) (h .fine)) (h .bounded) (h .whole) (h .counts) (h .totals) (rw (h .number)) (rw (read-back a xs g, read-back c ys h) at r)))
+      (fine-units o (h .rows) (h .fine)) (h .bounded) (h .whole) (h .counts) (h .totals) (rw (h .number)) (rw (read-back a xs g, read-back c ys h) at r)))
       b e
 
   -- ---- along the calls
-  nothing : Good [] (emptyAccount s)
+  nothing : Good [] (emptyAccount o)
   unfolding countFor totalFor amountsOf
   nothing = record {
     rows = [];
@@ -395,16 +396,16 @@ module _ (s : Setting) where
   after-some none f b e k = let z : _≡_ {A = ℕ} 0 1 = cc in absurd (omega arith)
   after-some (some a) f b e k = k a refl e
 
-  good : (c : Calls) (a : Account) → given s c ≡ some a → Good (allSales s c) a
+  good : (c : Calls) (a : Account) → given o c ≡ some a → Good (allSales o c) a
   unfolding given allSales
   good fresh a e = subst (Good []) (some-only e) nothing
   good (adding c left answer out) a e =
-      after-some (given s c) (λ x. took s (addCall s (x .table) (x .number) left answer out)) a e
-      (λ x p q. add-good x (allSales s c) (good c x p) left answer out a q)
+      after-some (given o c) (λ x. took o (addCall o (x .table) (x .number) left answer out)) a e
+      (λ x p q. add-good x (allSales o c) (good c x p) left answer out a q)
   good (joining c d out) a e =
-      after-some (given s c) (λ x. after (given s d) (λ y. took s (joinCall s (x .table) (x .number) (y .table) (y .number) out))) a e
-      (λ x p q. after-some (given s d) (λ y. took s (joinCall s (x .table) (x .number) (y .table) (y .number) out)) a q
-      (λ y u v. join-good x y (allSales s c) (allSales s d) (good c x p) (good d y u) out a v))
+      after-some (given o c) (λ x. after (given o d) (λ y. took o (joinCall o (x .table) (x .number) (y .table) (y .number) out))) a e
+      (λ x p q. after-some (given o d) (λ y. took o (joinCall o (x .table) (x .number) (y .table) (y .number) out)) a q
+      (λ y u v. join-good x y (allSales o c) (allSales o d) (good c x p) (good d y u) out a v))
 
   one-account : (a b : Account) → a .table ≡ b .table → a .number ≡ b .number → a ≡ b
   one-account a b p q = rw (← p, ← q)
@@ -412,31 +413,30 @@ module _ (s : Setting) where
   same : (xs ys : List Sale) (a b : Account) → Good xs a → Good ys b → Permuted xs ys → a ≡ b
   same xs ys a b g h p =
       let e : g .rows ≡ h .rows =
-      only-table (s .options) (g .rows) (h .rows) (g .fine) (h .fine)
-      (λ k. g .counts k ∙ same-count (s .options) k p ∙ sym (h .counts k))
-      (λ k. g .totals k ∙ same-total (s .options) k p ∙ sym (h .totals k)) in
-      one-account a b (g .words ∙ ap (tableWords s) e ∙ sym (h .words)) (g .number ∙ ap pos (same-nulls p) ∙ sym (h .number))
+      only-table o (g .rows) (h .rows) (g .fine) (h .fine)
+      (λ k. g .counts k ∙ same-count o k p ∙ sym (h .counts k))
+      (λ k. g .totals k ∙ same-total o k p ∙ sym (h .totals k)) in
+      one-account a b (g .words ∙ ap (tableWords o) e ∙ sym (h .words)) (g .number ∙ ap pos (same-nulls p) ∙ sym (h .number))
 
   number-within : (k : ℕ) → k ≤ mostSales → beyondNumber (pos k) ≡ false
   number-within k h = rw (le-ltb k 0 (omega arith), le-ltb mostSales k h)
 
-  handed-on : (sales : List Sale) (a : Account) → Good sales a → HandedOn s a
+  handed-on : (sales : List Sale) (a : Account) → Good sales a → HandedOn o a
   unfolding fineSubtotals
   handed-on sales a g =
-      let o = s .options in
       let w = rows-wide o (g .rows) (g .fine .wide) in
-      let t = table-rows (tableWidth s) (map rowOf (g .rows)) w in
-      let r : rowsIn s (a .table) ≡ map rowOf (g .rows) = ap (rowsIn s) (g .words) ∙ t in
+      let t = table-rows (tableWidth o) (map rowOf (g .rows)) w in
+      let r : rowsIn o (a .table) ≡ map rowOf (g .rows) = ap (rowsIn o) (g .words) ∙ t in
       record {
-        table = rw (g .words) (table-is (tableWidth s) (map rowOf (g .rows)) w);
+        table = rw (g .words) (table-is (tableWidth o) (map rowOf (g .rows)) w);
         subtotals = rw (r, rows-whole o (g .rows) (g .fine .wide) (g .whole), subtotals-back o (g .rows) (g .fine .wide)) (rising-ascending o (g .rows) (g .fine .order));
         rows = rw r (rows-within o (g .rows) (g .fine .wide) (g .fine .sold) (g .bounded));
         number = rw (g .number) (number-within (nullsOf sales) (g .few));
       }
 
-  pub all-orders : AllOrders s
+  pub all-orders : AllOrders o
   all-orders = record {
-    sums = λ c a e. let g = good c a e in record { rows = g .rows; words = g .words; tells = fine-tells (s .options) (g .rows) (amountsOf (allSales s c)) (g .fine) (g .counts) (g .totals); left-out = g .number };
-    handed-on = λ c a e. handed-on (allSales s c) a (good c a e);
-    same = λ c d a b e f p. same (allSales s c) (allSales s d) a b (good c a e) (good d b f) p;
+    sums = λ c a e. let g = good c a e in record { rows = g .rows; words = g .words; tells = fine-tells o (g .rows) (amountsOf (allSales o c)) (g .fine) (g .counts) (g .totals); left-out = g .number };
+    handed-on = λ c a e. handed-on (allSales o c) a (good c a e);
+    same = λ c d a b e f p. same (allSales o c) (allSales o d) a b (good c a e) (good d b f) p;
   }

@@ -1,18 +1,19 @@
 -- Takings of small frames, by computation. Assumes nothing.
 use mathlib.Core.Path.{_≡_, refl}
-use mathlib.Core.Bool.{Bool, true, false}
-use mathlib.Core.List.{List, [], _∷_}
+use mathlib.Core.Bool.{true, false}
+use mathlib.Core.List.{[], _∷_, map}
 use mathlib.Core.Option.{none, some}
 use Prim.Native.Nat.{ℕ}
-use lib.Dec.{ltb}
 use lib.IntN.{pos, negsuc}
 use lib.ListN.{replicate}
-use Rattle.frames.specs.Cells.{Cell, null, value, cell, Rows, Words, rowsOf, cellsOf}
+use Rattle.frames.specs.Cells.{null, value, Words, rowsOf, cellsOf}
 use Rattle.frames.specs.Frame.{isFrame, frameRows, pairsFine, isTable}
+use Rattle.ranks.specs.Ranks.{badRanks, rises, risesBehind, placed, below, listed}
 use Rattle.options.specs.Options.{badOptions}
+use Rattle.options.specs.declared.Options.{Options}
 use Rattle.order.specs.Order.{cmpFirst, nullIn}
-use Rattle.order.proofs.Samples.{options, row, frameOf}
-use Rattle.tables.specs.Setting.{Setting, allKnown}
+use Rattle.order.specs.Listed.{unlistedIn}
+use Rattle.order.proofs.Samples.{options, carrying, ranking, ranksBy, row, frameOf}
 use Rattle.tables.specs.Table.{wordsOf, tableOf, laid}
 use Rattle.refusals.specs.declared.Refusal.the-variants.{BadFrame, UnknownCode, BadColumns, Unsorted, Beyond, NoRoom}
 use Rattle.takings.specs.Subtotals.{insert, addAll, ascending, subtotalsOf, hasNull, anyNull, beyondRow, beyondRows, salesIn}
@@ -22,14 +23,9 @@ use Rattle.takings.specs.Orders.{Account, Calls, fresh, adding, joining,
 use Rattle.takings.specs.declared.Taken.{Taken}
 use Rattle.takings.specs.declared.Taken.the-variants.{Table, Refused}
 
--- One by-column, two carried columns; the list knows groups below 8.
-abbrev lower : Cell → Bool
-lower null = true
-lower (value (pos n)) = ltb n 8
-lower (value (negsuc n)) = false
-
-abbrev with : ℕ → Setting
-with p = record { options = options 1 0 true (negsuc 0) false [] []; carried = p; badRanks = false; known = λ r. lower (cell 0 r) }
+-- One by-column with a list that has the groups 1, 2 and 7, in this order; p carried columns.
+abbrev with : ℕ → Options
+with p = carrying p (ranking (ranksBy 0 (map pos (1 ∷ 2 ∷ 7 ∷ []))) (options 1 0 true (negsuc 0) false [] []))
 
 -- Sales of performances 2, 1, 2, null and 1 in one frame and of 2 in another; the answers have a right number, price and a second column. The sale of the
 -- null group counts as unmatched, the last of the first frame has no amount, the third of it has no match.
@@ -54,15 +50,15 @@ abbrev all : Account
 all = record { table = pos 2 ∷ pos 3 ∷ pos 1 ∷ pos 1200 ∷ pos 1 ∷ pos 2 ∷ pos 1700 ∷ pos 2 ∷ pos 1 ∷ pos 1 ∷ pos 1 ∷ pos 1 ∷ pos 1 ∷ pos 1 ∷ []; number = pos 1 }
 
 pub frame-by-frame : given (with 2) (adding (adding fresh left1 answer1 out) left2 answer2 out) ≡ some all
-unfolding given addCall addAnswer salesBy fineSubtotals result badOptions isTable isFrame pairsFine frameRows rowsOf cellsOf allKnown anyNull hasNull ascending subtotalsOf beyondRows beyondRow beyondAmounts salesIn salesOf amountsOf nullsOf addAll insert cmpFirst nullIn wordsOf tableOf laid
+unfolding given addCall addAnswer salesBy fineSubtotals result badOptions isTable isFrame pairsFine frameRows rowsOf cellsOf badRanks rises risesBehind placed below listed unlistedIn anyNull hasNull ascending subtotalsOf beyondRows beyondRow beyondAmounts salesIn salesOf amountsOf nullsOf addAll insert cmpFirst nullIn wordsOf tableOf laid
 frame-by-frame = refl
 
 pub other-way : given (with 2) (adding (adding fresh left2 answer2 out) left1 answer1 out) ≡ some all
-unfolding given addCall addAnswer salesBy fineSubtotals result badOptions isTable isFrame pairsFine frameRows rowsOf cellsOf allKnown anyNull hasNull ascending subtotalsOf beyondRows beyondRow beyondAmounts salesIn salesOf amountsOf nullsOf addAll insert cmpFirst nullIn wordsOf tableOf laid
+unfolding given addCall addAnswer salesBy fineSubtotals result badOptions isTable isFrame pairsFine frameRows rowsOf cellsOf badRanks rises risesBehind placed below listed unlistedIn anyNull hasNull ascending subtotalsOf beyondRows beyondRow beyondAmounts salesIn salesOf amountsOf nullsOf addAll insert cmpFirst nullIn wordsOf tableOf laid
 other-way = refl
 
 pub joined : given (with 2) (joining (adding fresh left2 answer2 out) (adding fresh left1 answer1 out) out) ≡ some all
-unfolding given addCall addAnswer joinCall joinAnswer salesBy fineSubtotals result badOptions isTable isFrame pairsFine frameRows rowsOf cellsOf allKnown anyNull hasNull ascending subtotalsOf beyondRows beyondRow beyondAmounts salesIn salesOf amountsOf nullsOf addAll insert cmpFirst nullIn wordsOf tableOf laid
+unfolding given addCall addAnswer joinCall joinAnswer salesBy fineSubtotals result badOptions isTable isFrame pairsFine frameRows rowsOf cellsOf badRanks rises risesBehind placed below listed unlistedIn anyNull hasNull ascending subtotalsOf beyondRows beyondRow beyondAmounts salesIn salesOf amountsOf nullsOf addAll insert cmpFirst nullIn wordsOf tableOf laid
 joined = refl
 
 -- The refusals of an addition, in checking order: unequal heights 5; a code that the list lacks 12; p = 0 13, an answer of p columns 13; a subtotal table
@@ -90,7 +86,7 @@ pub refusals :
     ∷ addAnswer (with 1) empty (negsuc 0) sale (price 5) [] ∷ add 1 (frameOf 3 (row (1 ∷ 1000000000 ∷ 1 ∷ []) ∷ [])) sale (price 1000000000) ∷ []
     ≡ Refused BadFrame ∷ Refused UnknownCode ∷ Refused BadColumns ∷ Refused BadColumns ∷ Refused Unsorted ∷ Refused Unsorted ∷ Refused Beyond ∷ Refused Beyond ∷ Refused Beyond
     ∷ Refused Beyond ∷ Refused NoRoom ∷ []
-unfolding addAnswer salesBy fineSubtotals result badOptions isTable isFrame pairsFine frameRows rowsOf cellsOf allKnown anyNull hasNull ascending subtotalsOf beyondRows beyondRow beyondAmounts salesIn salesOf amountsOf nullsOf addAll insert cmpFirst nullIn
+unfolding addAnswer salesBy fineSubtotals result badOptions isTable isFrame pairsFine frameRows rowsOf cellsOf badRanks rises risesBehind placed below listed unlistedIn anyNull hasNull ascending subtotalsOf beyondRows beyondRow beyondAmounts salesIn salesOf amountsOf nullsOf addAll insert cmpFirst nullIn
 refusals = refl
 
 -- The result's sum of sale counts: 2^31 sales pass, one more is 15; so is the number of sales without an amount.
@@ -101,5 +97,5 @@ pub most :
     joinAnswer (with 1) (many 2147483647) (pos 2147483647) (many 1) (pos 1) (replicate 8 (pos 0)) ∷ joinAnswer (with 1) (many 2147483647) (pos 0) (many 2) (pos 0) (replicate 8 (pos 0))
     ∷ joinAnswer (with 1) (many 1) (pos 2147483647) (many 1) (pos 2) (replicate 8 (pos 0)) ∷ joinAnswer (with 0) (many 1) (pos 0) (many 1) (pos 0) (replicate 8 (pos 0)) ∷ []
     ≡ Table 1 (pos 2147483648) ∷ Refused Beyond ∷ Refused Beyond ∷ Refused BadColumns ∷ []
-unfolding joinAnswer fineSubtotals result badOptions isTable pairsFine frameRows rowsOf cellsOf allKnown anyNull hasNull ascending subtotalsOf beyondRows beyondRow salesIn addAll insert cmpFirst
+unfolding joinAnswer fineSubtotals result badOptions isTable pairsFine frameRows rowsOf cellsOf badRanks rises risesBehind placed below listed unlistedIn anyNull hasNull ascending subtotalsOf beyondRows beyondRow salesIn addAll insert cmpFirst
 most = refl

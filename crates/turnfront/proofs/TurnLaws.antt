@@ -14,7 +14,7 @@ use Rattle.order.specs.Requires.{RowsIn}
 use Rattle.frames.specs.Front.{HasCount}
 use Rattle.options.specs.declared.Options.{Options}
 use Rattle.frames.proofs.WordLaws.{rows-length, rows-drop}
-use Rattle.frames.proofs.FrontLaws.{frame-parts, frame-few, values-part, marks-part}
+use Rattle.frames.proofs.FrontLaws.{frame-parts, frame-count, frame-few, values-part, marks-part}
 use Rattle.area.specs.Requires.{BaseIn}
 use Rattle.area.specs.Area.{capacity, heldRows}
 use Rattle.area.proofs.AreaLaws.{held-in}
@@ -36,9 +36,9 @@ use Rattle.turnfront.specs.declared.TurnedPart.{TurnedPart}
 next-sequence : (s : ℕ) → s % 2 ≡ 0 → (s ≡ lastSequence → ⊥) → s < 2 ^ 64 → s + 2 < 2 ^ 64
 next-sequence s e n h = omega arith
 
--- A frame's first word is there and is a number of rows, at most 4,096.
+-- A frame's first word is there and is a number of rows.
 pub has-count : (c : ℕ) (f : Words) → isFrame c f ≡ true → HasCount f
-has-count c f h = let p = frame-parts c f h in record { long = omega (arith, p .long); few = p .few }
+has-count c f h = frame-count c f h
 
 -- ---- the answers
 -- The join of a turn that does not write.

@@ -1,8 +1,10 @@
 //! What the Rust is judged by, and what it is judged on: call scripts, the two judges, and the scripts that are made
 //! for them. This crate depends on nothing, so neither judge can lean on the Rust or on a stand-in.
+pub mod books;
 pub mod drive;
 pub mod exhaustive;
 pub mod generate;
+pub mod generate_books;
 mod generate_ranks;
 pub mod generate_spans;
 pub mod rules;

@@ -4,7 +4,7 @@
 use std::cmp::Ordering;
 
 use crate::script::{Answer, Call, JoinWords, Judge, Look, MOST_CODES, Open, Options, Place, Ran, Ranks, Stop, Told};
-use crate::spans;
+use crate::{books, spans};
 use crate::words::{self, Rising, RowWords};
 
 /// A cell: null, or a number.
@@ -726,7 +726,7 @@ impl Join {
             Call::End => self.end(),
             Call::Ports(ports) => self.ports(*ports),
             Call::Turn(output) => self.turn(*output),
-            Call::Open(_) | Call::Options(_) | Call::Opens(..) | Call::Spans(_) => unreachable!(),
+            Call::Open(_) | Call::Options(_) | Call::Opens(..) | Call::Spans(_) | Call::Merge(_) => unreachable!(),
             Call::Run(..) | Call::Move(..) | Call::State | Call::Areas | Call::Words | Call::Put(..) => unreachable!(),
         }
     }
@@ -771,6 +771,7 @@ impl Judge for Rules {
     fn call(&mut self, call: &Call) -> Answer {
         match (call, self.told.opens(call), &mut self.join) {
             (Call::Spans(spans), ..) => spans::answer(spans),
+            (Call::Merge(merge), ..) => self.told.with(|o| books::merge(o, merge)),
             (_, Some(Ok(open)), join) => {
                 let opened = Join::open(open);
                 let answer = opened.as_ref().map_or_else(|number| Answer::Refused(*number), |_| Answer::Ok);

@@ -94,6 +94,11 @@ pub fn opening(calls: &[Call]) -> Option<(Open, usize)> {
 pub struct Told(Option<Options>);
 
 impl Told {
+    /// What a call over tables answers with these options; that none were told where none were.
+    pub fn with(&self, answer: impl FnOnce(&Options) -> Answer) -> Answer {
+        self.0.as_ref().map_or(Answer::NoOptions, answer)
+    }
+
     /// What a call opens a join with, or its answer where it tells options, or opens though none were told; none for all
     /// other calls.
     pub fn opens(&mut self, call: &Call) -> Option<Result<Open, Answer>> {
@@ -123,6 +128,15 @@ pub struct Spans {
     pub intervals: Vec<i64>,
 }
 
+/// SCOPE 20, two books merged: the length of the output in words, and the words of both books. Nothing is checked yet. The
+/// options are those of the last `options` line.
+#[derive(Clone, Debug, PartialEq)]
+pub struct Merge {
+    pub output: usize,
+    pub house: Vec<i64>,
+    pub festival: Vec<i64>,
+}
+
 /// One line of a script.
 #[derive(Clone, Debug, PartialEq)]
 pub enum Call {
@@ -144,6 +158,8 @@ pub enum Call {
     State,
     /// Needs no open join.
     Spans(Spans),
+    /// Needs no open join, and options that were told.
+    Merge(Merge),
     /// Not of the shared script form: the words of both areas, for tests of the definitions.
     Areas,
     /// Not of the shared script form: the words of the join, as the C interface lays them out.
@@ -345,11 +361,24 @@ impl fmt::Display for Ranks {
     }
 }
 
+/// Writes tables, each behind a `|`.
+fn tables(f: &mut fmt::Formatter<'_>, tables: &[&[i64]]) -> fmt::Result {
+    tables.iter().try_for_each(|table| write!(f, " |").and_then(|_| words(f, table)))
+}
+
 impl fmt::Display for Spans {
     /// The call's line.
     fn fmt(&self, f: &mut fmt::Formatter<'_>) -> fmt::Result {
         write!(f, "spans {} {} {}", self.lower, self.upper, self.output)?;
-        [&self.points, &self.intervals].into_iter().try_for_each(|table| write!(f, " |").and_then(|_| words(f, table)))
+        tables(f, &[&self.points, &self.intervals])
+    }
+}
+
+impl fmt::Display for Merge {
+    /// The call's line.
+    fn fmt(&self, f: &mut fmt::Formatter<'_>) -> fmt::Result {
+        write!(f, "merge {}", self.output)?;
+        tables(f, &[&self.house, &self.festival])
     }
 }
 
@@ -377,6 +406,7 @@ impl fmt::Display for Call {
             Call::Move(l, r) => write!(f, "move {l} {r}"),
             Call::State => write!(f, "state"),
             Call::Spans(s) => write!(f, "{s}"),
+            Call::Merge(m) => write!(f, "{m}"),
             Call::Areas => write!(f, "areas"),
             Call::Words => write!(f, "words"),
             Call::Put(Place::Join, at, word) => write!(f, "put {at} {word}"),
@@ -478,25 +508,37 @@ fn numbers(words: &[&str]) -> Result<Vec<i64>, String> {
     words.iter().map(|w| w.parse::<i64>().map_err(|_| format!("{w} is no 64-bit signed word"))).collect()
 }
 
-/// The words of a `spans` line: both flags and the output's length, the points, the intervals, each behind a `|`.
+/// The words of a line with tables: those before the first `|`, so many, and the tables, so many, each behind a `|`.
+fn parse_tables<const W: usize, const T: usize>(name: &str, words: &[&str]) -> Result<([i64; W], [Vec<i64>; T]), String> {
+    let mut parts = words.split(|w| *w == "|").map(numbers).collect::<Result<Vec<_>, _>>()?;
+    let first = parts.remove(0);
+    let many = parts.len();
+    let tables = parts.try_into().map_err(|_| format!("{name} needs {T} tables, each behind a |, not {many}"))?;
+    let many = first.len();
+    let first = first.try_into().map_err(|_| format!("{name} needs {W} words before its tables, not {many}"))?;
+    Ok((first, tables))
+}
+
+/// The words of a `spans` line: both flags and the output's length, the points, the intervals.
 fn parse_spans(words: &[&str]) -> Result<Call, String> {
-    let parts = words.split(|w| *w == "|").map(numbers).collect::<Result<Vec<_>, _>>()?;
-    let [first, points, intervals] = parts.as_slice() else {
-        return Err(format!("spans needs 2 tables, each behind a |, not {}", parts.len() - 1));
-    };
-    let [lower, upper, output] = *first.as_slice() else {
-        return Err(format!("spans needs 3 words before its tables, not {}", first.len()));
-    };
-    let (output, points, intervals) = (count(output)?, points.clone(), intervals.clone());
-    Ok(Call::Spans(Spans { lower, upper, output, points, intervals }))
+    let ([lower, upper, output], [points, intervals]) = parse_tables("spans", words)?;
+    Ok(Call::Spans(Spans { lower, upper, output: count(output)?, points, intervals }))
+}
+
+/// The words of a `merge` line: the output's length, the house's book, the festival's.
+fn parse_merge(words: &[&str]) -> Result<Call, String> {
+    let ([output], [house, festival]) = parse_tables("merge", words)?;
+    Ok(Call::Merge(Merge { output: count(output)?, house, festival }))
 }
 
 /// One line: none where it holds no call, an error where it is malformed.
 pub fn parse_line(line: &str) -> Result<Option<Call>, String> {
     let parts: Vec<&str> = line.split('#').next().unwrap_or("").split_ascii_whitespace().collect();
     let [name, words @ ..] = parts.as_slice() else { return Ok(None) };
-    if *name == "spans" {
-        return parse_spans(words).map(Some);
+    match *name {
+        "spans" => return parse_spans(words).map(Some),
+        "merge" => return parse_merge(words).map(Some),
+        _ => {},
     }
     let a = numbers(words)?;
     let call = match (*name, a.as_slice()) {

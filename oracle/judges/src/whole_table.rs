@@ -175,7 +175,7 @@ fn no_list(o: &Options) -> bool {
 }
 
 /// 1, then 10, then 11: what options are refused by at opening, or 0.
-fn no_options(o: &Options) -> u8 {
+pub fn no_options(o: &Options) -> u8 {
     match () {
         _ if o.b > 4 || ![0, 1, 2].contains(&o.strategy) || o.tolerance < -1 || (!o.eq && o.strategy == 2) => 1,
         _ if o.carried > 8 => 10,
@@ -184,12 +184,15 @@ fn no_options(o: &Options) -> u8 {
     }
 }
 
-/// 12: whether a frame's row has "a value that the list lacks". A null is no value.
-fn has_unlisted(o: &Options, words: &[i64]) -> bool {
-    let unlisted = |(column, codes): (usize, &[i64])| {
-        rows(words).iter().any(|row| matches!(row[column], Some(value) if !codes.contains(&value)))
-    };
+/// 12: whether a row has "a value that the list lacks". A null is no value.
+pub fn has_unlisted_row(o: &Options, row: &Row) -> bool {
+    let unlisted = |(column, codes): (usize, &[i64])| matches!(row[column], Some(value) if !codes.contains(&value));
     list(o).is_some_and(unlisted)
+}
+
+/// 12, of a frame's rows.
+fn has_unlisted(o: &Options, words: &[i64]) -> bool {
+    rows(words).iter().any(|row| has_unlisted_row(o, row))
 }
 
 /// A side's accepted rows, and how many of them, from the first on, are sorted.

@@ -1,9 +1,11 @@
 //! The port itself: calls over the archive, with areas, frames and outputs between guard words.
-use judges::script::{Answer, Call, JoinWords, Judge, Open, Place, Ran, Stop, Told};
+use judges::script::{Answer, Call, JoinWords, Judge, Open, Options, Place, Ran, Stop, Told};
 use judges::words;
 use rowkeeper::raw::{self, safe};
 
+mod books;
 mod spans;
+mod tables;
 
 /// The word that stands before and behind everything that is lent, and how often.
 const GUARD: i64 = 0x5A5A_C3C3_0F0F_9696;
@@ -64,28 +66,32 @@ fn refused(number: u64) -> Answer {
     Answer::Refused(u8::try_from(number).unwrap_or(u8::MAX))
 }
 
+/// The options as the interface has them.
+fn raw_options(o: &Options) -> raw::Options {
+    let (w, ranks) = (words::options(o), &o.ranks);
+    let flags = |at: usize| std::array::from_fn(|j| w[at + j] as u64);
+    raw::Options {
+        by: w[0] as u64,
+        strategy: w[1] as u64,
+        allow_eq: w[2] as u64,
+        tolerance: w[3],
+        check: w[4] as u64,
+        descending: flags(5),
+        nulls_last: flags(9),
+        carried: w[13] as u64,
+        ranks: raw::Ranks { given: ranks.given as u64, column: ranks.column, count: ranks.count, codes: ranks.codes },
+    }
+}
+
+/// The columns of right rows, as far as these options say so.
+fn right_columns(o: &Options) -> usize {
+    o.b.saturating_add(1).saturating_add(usize::try_from(o.carried).unwrap_or(usize::MAX))
+}
+
 impl Host {
     /// A fresh join, or the refusal's number. The areas' words are those that scripts begin with.
     fn open(o: &Open) -> Result<Host, u64> {
-        let (w, ranks) = (words::options(&o.options), &o.options.ranks);
-        let flags = |at: usize| std::array::from_fn(|j| w[at + j] as u64);
-        let options = raw::Options {
-            by: w[0] as u64,
-            strategy: w[1] as u64,
-            allow_eq: w[2] as u64,
-            tolerance: w[3],
-            check: w[4] as u64,
-            descending: flags(5),
-            nulls_last: flags(9),
-            carried: w[13] as u64,
-            ranks: raw::Ranks {
-                given: ranks.given as u64,
-                column: ranks.column,
-                count: ranks.count,
-                codes: ranks.codes,
-            },
-        };
-        let took = raw::rowkeeper_open(options);
+        let took = raw::rowkeeper_open(raw_options(&o.options));
         let (left, right) = (new_left(o.left_words), new_right(o.right_words));
         if took.refusal == 0 { Ok(Host { join: took.join, left, right, wrong: None }) } else { Err(took.refusal) }
     }
@@ -263,6 +269,16 @@ impl Judge for Port {
         match (call, self.told.opens(call), &mut self.host) {
             (Call::Spans(spans), ..) => {
                 let (answer, wrong) = spans::answer(spans);
+                self.wrong = self.wrong.or(wrong);
+                answer
+            },
+            (Call::Merge(merge), ..) => {
+                let mut wrong = None;
+                let answer = self.told.with(|o| {
+                    let (answer, did) = books::merge(raw_options(o), right_columns(o), merge);
+                    wrong = did;
+                    answer
+                });
                 self.wrong = self.wrong.or(wrong);
                 answer
             },

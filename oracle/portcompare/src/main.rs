@@ -2,6 +2,7 @@
 use std::process::ExitCode;
 use std::time::Instant;
 
+mod books;
 mod compare;
 mod spans;
 
@@ -119,9 +120,10 @@ fn run(args: &[&str]) -> Result<bool, String> {
     let (compare, seed, count): (fn(u64, u64) -> bool, _, _) = match *args {
         [seed, count] => (compare_all, number(seed)?, number(count)?),
         ["spans", seed, count] => (spans::compare_all, number(seed)?, number(count)?),
+        ["merge", seed, count] => (books::compare_merges, number(seed)?, number(count)?),
         _ => {
             return Err(
-                "compare: wants a seed and a count of scripts, or spans, a seed and a count of inputs".to_string()
+                "compare: wants a seed and a count of scripts, or spans or merge, a seed and a count of inputs".to_string()
             );
         },
     };

@@ -8,7 +8,7 @@ use lib.IntN.{pos}
 use lib.ListN.{getD}
 use Rattle.frames.specs.Front.{fewRows}
 use Rattle.frames.proofs.Signed.{back}
-use Rattle.frames.proofs.FrontLaws.{front-short, front-many, front-fits}
+use Rattle.frames.proofs.FrontLaws.{few-counted, front-short, front-many, front-fits}
 use borrow.Author.Needs.{needs}
 use Rattle.framerule.proofs.front_length.Statement.{statement}
 use Rattle.framerule.proofs.front_length.Tie as tie
@@ -36,7 +36,7 @@ few c =
     sym e ∙ not-false (c .before .few-rows .result) (c .if2 .left)
 
 row-count-requires : tie.Need-row-count-requires
-row-count-requires c κs = record { long = omega arith; few = few c }
+row-count-requires c κs = let z = getD (now (c .before .before .before .before .args .words)) 0 (pos 0) in record { long = omega arith; counted = few-counted z (few c) }
 
 frame-words-requires : tie.Need-frame-words-requires
 frame-words-requires c κs = search needs

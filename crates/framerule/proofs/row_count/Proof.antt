@@ -4,7 +4,7 @@ use lib.IntN.{pos}
 use lib.ListN.{getD}
 use denote.Ref.{now}
 use Rattle.frames.proofs.Signed.{back}
-use Rattle.frames.proofs.FrontLaws.{few-count}
+use Rattle.frames.proofs.FrontLaws.{from-zero-word}
 use borrow.Author.Needs.{needs}
 use Rattle.framerule.proofs.row_count.Statement.{statement}
 use Rattle.framerule.proofs.row_count.Tie as tie
@@ -15,7 +15,7 @@ shared-slice-copy-out-result c = search needs
 cast-result : tie.Need-cast-result
 cast-result c =
     let z = getD (now (c .before .args .words)) 0 (pos 0) in
-    let f = few-count z (c .before .pre .few) in
+    let f = from-zero-word z (c .before .pre .counted) (c .result .given) in
     rw (back z (c .result .given)) (f .0, omega (arith, f .1))
 
 returns : tie.Need-returns

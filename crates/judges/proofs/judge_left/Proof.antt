@@ -4,6 +4,7 @@ use native.Mathlib.Omega.{arith}
 use borrow.Author.Tests.{not-false}
 use denote.Ref.{now}
 use Rattle.frames.specs.Frame.{isFrame, frameRows}
+use Rattle.frames.proofs.FrontLaws.{frame-table}
 use Rattle.options.specs.Options.{columns, Few}
 use Rattle.order.specs.Listed.{lacksCode}
 use Rattle.callrules.specs.Judged.{leftJudged}
@@ -54,7 +55,7 @@ lacks-code-requires : tie.Need-lacks-code-requires
 lacks-code-requires c κs =
     let f = c .before in
     let n = f .before .left-columns .ensures in
-    (few (f .before .before), omega arith, sym (f .is-frame .ensures) ∙ not-false (f .is-frame .result) (c .if4 .left))
+    (few (f .before .before), omega arith, frame-table _ _ (sym (f .is-frame .ensures) ∙ not-false (f .is-frame .result) (c .if4 .left)))
 
 codes : (c : tie.After-lacks-code) →
     let a = c .before .before .before .before .before .before .before .before .args in c .lacks-code .result ≡ lacksCode (a .o) (frameRows (columns (a .o)) (now (a .frame)))

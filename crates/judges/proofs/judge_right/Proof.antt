@@ -7,6 +7,7 @@ use borrow.Author.Tests.{not-false}
 use denote.Ref.{now}
 use lib.Dec.{ltb}
 use Rattle.frames.specs.Frame.{isFrame, rowCount, frameRows}
+use Rattle.frames.proofs.FrontLaws.{frame-table}
 use Rattle.options.specs.Options.{rightColumns, Few}
 use Rattle.order.specs.Listed.{lacksCode}
 use Rattle.area.specs.Area.{capacity}
@@ -62,7 +63,7 @@ framed c = sym (c .before .is-frame .ensures) ∙ not-false (c .before .is-frame
 lacks-code-requires : tie.Need-lacks-code-requires
 lacks-code-requires c κs =
     let w = c .before .before in
-    (holds (w .before) .0, omega (arith, w .right-columns .ensures), framed c)
+    (holds (w .before) .0, omega (arith, w .right-columns .ensures), frame-table _ _ (framed c))
 
 codes : (c : tie.After-lacks-code) →
     let a = c .before .before .before .before .before .before .before .args in c .lacks-code .result ≡ lacksCode (a .o) (frameRows (rightColumns (a .o)) (now (a .frame)))

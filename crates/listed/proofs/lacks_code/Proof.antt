@@ -7,7 +7,7 @@ use borrow.Author.Tests.{not-true, not-false}
 use denote.Ref.{now}
 use lib.ListN.{length, length-map}
 use lib.Seq.{length-take-le}
-use Rattle.frames.proofs.FrontLaws.{frame-count}
+use Rattle.frames.proofs.FrontLaws.{table-count}
 use Rattle.ranks.proofs.RankLaws.{Good, good-indexed}
 use Rattle.listed.proofs.ListedLaws.{parts-fit, unranked-lacks, list-good, column-there, ranked-lacks}
 use Rattle.listed.proofs.lacks_code.Statement.{statement}
@@ -16,14 +16,14 @@ use Rattle.listed.proofs.lacks_code.Tie as tie
 returns : tie.Need-returns
 returns c =
     let s = c .before .before in
-    sym (unranked-lacks (s .args .o) (s .args .c) (now (s .args .frame)) (not-true (s .args .o .ranks .given) (c .if1 .taken)))
+    sym (unranked-lacks (s .args .o) (s .args .c) (now (s .args .table)) (not-true (s .args .o .ranks .given) (c .if1 .taken)))
 
 row-count-requires : tie.Need-row-count-requires
-row-count-requires c κs = let s = c .before .before in frame-count (s .args .c) (now (s .args .frame)) (s .pre .2)
+row-count-requires c κs = let s = c .before .before in table-count (s .args .c) (now (s .args .table)) (s .pre .2)
 
--- The frame's words, told by its rows.
-fit : (c : tie.After-row-count) → let a = c .before .before .before .args in 2 + 2 * (c .row-count .result * a .c) ≡ length (now (a .frame))
-fit c = let s = c .before .before .before in parts-fit (s .args .c) (now (s .args .frame)) (s .pre .2) (c .row-count .result) (c .row-count .ensures)
+-- The table's words, told by its rows.
+fit : (c : tie.After-row-count) → let a = c .before .before .before .args in 2 + 2 * (c .row-count .result * a .c) ≡ length (now (a .table))
+fit c = let s = c .before .before .before in parts-fit (s .args .c) (now (s .args .table)) (s .pre .2) (c .row-count .result) (c .row-count .ensures)
 
 mul-e : tie.Need-mul-e
 mul-e c = omega (arith, fit c)
@@ -90,7 +90,7 @@ any-unlisted-requires c κs =
     let r = c .before .before .before .before .before .before in
     let s = r .before .before .before in
     let k = s .args .o .ranks in (
-      column-there (s .args .o) (s .args .c) (now (s .args .frame)) (s .pre .1) (s .pre .2) (good r) (r .row-count .result) _ (r .row-count .ensures) refl,
+      column-there (s .args .o) (s .args .c) (now (s .args .table)) (s .pre .1) (s .pre .2) (good r) (r .row-count .result) _ (r .row-count .ensures) refl,
       good-indexed (s .args .o .by) k (good r) (codes-long s) (rising-long s),
       rw (length-take-le (k .count) (k .codes) (omega (arith, codes-long s, good r .few))) (good r .some),
     )
@@ -99,7 +99,7 @@ returns-2 : tie.Need-returns-2
 returns-2 c =
     let r = c .before .before .before .before .before .before .before in
     let s = r .before .before .before in
-    rw (ranked-lacks (s .args .o) (s .args .c) (now (s .args .frame)) (not-false (s .args .o .ranks .given) (r .before .if1 .left)) (r .row-count .result) _ (r .row-count .ensures) refl) (c .any-unlisted .ensures)
+    rw (ranked-lacks (s .args .o) (s .args .c) (now (s .args .table)) (not-false (s .args .o .ranks .given) (r .before .if1 .left)) (r .row-count .result) _ (r .row-count .ensures) refl) (c .any-unlisted .ensures)
 
 pub lacks-code-spec : {M : Type 1} → statement M
 lacks-code-spec =

@@ -89,7 +89,8 @@ turn-words-requires c κs =
     let i = a .before in
     let u = i .before .before .before .before in
     let l = u .before .before in
-    (run-count _ _ _ _ _ (l .before .loop .inv) (more l) _ _ (u .turn .ensures) (goes i), omega (arith, a .answer-columns .ensures, answer-columns-requires i))
+    let n = run-count _ _ _ _ _ (l .before .loop .inv) (more l) _ _ (u .turn .ensures) (goes i) in
+    (n .0, n .1, omega (arith, a .answer-columns .ensures, answer-columns-requires i))
 
 add-at : tie.Need-add-at Inv-loop μ-loop
 add-at c =

@@ -1,11 +1,7 @@
 use Prim.Native.Nat.{_*_, _≤_}
 use native.Mathlib.Nat.{mul-le-mul-right}
 use native.Mathlib.Omega.{arith}
-use lib.IntN.{pos}
-use lib.ListN.{getD}
-use denote.Ref.{now}
 use borrow.Author.Needs.{needs}
-use Rattle.frames.proofs.FrontLaws.{few-count}
 use Rattle.runs.proofs.turn_words.Statement.{statement}
 use Rattle.runs.proofs.turn_words.Tie as tie
 
@@ -16,9 +12,9 @@ row-count-requires c κs = search needs
 few : (c : tie.After-row-count) → c .row-count .result * c .before .args .c ≤ 36864
 few c =
     let a = c .before .args in
-    let n : c .row-count .result ≤ 4096 = omega (arith, c .row-count .ensures, few-count (getD (now (a .out)) 0 (pos 0)) (c .before .pre .0 .few) .1) in
+    let n : c .row-count .result ≤ 4096 = omega (arith, c .row-count .ensures, c .before .pre .1) in
     let m : c .row-count .result * a .c ≤ 4096 * a .c = mul-le-mul-right {m = c .row-count .result} {n = 4096} (a .c) n in
-    omega (arith, c .before .pre .1)
+    omega (arith, c .before .pre .2)
 
 mul-result : tie.Need-mul-result
 mul-result c = omega (arith, few c)

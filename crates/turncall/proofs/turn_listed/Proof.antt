@@ -3,6 +3,7 @@ use mathlib.Core.Path.{_≡_, sym, _∙_}
 use native.Mathlib.Omega.{arith}
 use denote.Ref.{now}
 use Rattle.frames.specs.Frame.{frameRows}
+use Rattle.frames.proofs.FrontLaws.{frame-table}
 use Rattle.options.specs.Options.{columns}
 use Rattle.order.specs.Listed.{lacksCode}
 use Rattle.turncall.proofs.QueueLaws.{codes-stop, listed-turns}
@@ -23,7 +24,7 @@ lacks-code-requires : tie.Need-lacks-code-requires
 lacks-code-requires c κs =
     let e = c .left-columns .ensures in
     let p = c .before .pre in
-    (p .few, omega (arith, e), rw e (p .frame))
+    (p .few, omega (arith, e), rw e (frame-table _ _ (p .frame)))
 
 -- What the call says, by the definition's name.
 told : (c : tie.After-lacks-code) → let a = c .before .before .args in c .lacks-code .result ≡ lacksCode (a .j .options) (frameRows (columns (a .j .options)) (now (a .frame)))

@@ -1,0 +1,51 @@
+-- The calls in numbers, from what their parts do; and that a refused one alters no word. Assumes nothing.
+use mathlib.Core.Path.{_≡_, refl, sym, ap, _∙_}
+use mathlib.Core.Bool.{Bool, true, false}
+use Rattle.frames.specs.Cells.{Words}
+use Rattle.options.specs.declared.Options.{Options}
+use Rattle.tables.specs.Table.{After}
+use Rattle.refusals.specs.declared.Refusal.the-variants.{BadOptions}
+use Rattle.tables.specs.declared.Written.{Written}
+use Rattle.tables.specs.declared.Written.the-variants.{Refused}
+use Rattle.hostoptions.specs.HostOptions.{isOptions, optionsOf}
+use Rattle.hostoptions.specs.declared.HostOptions.{HostOptions}
+use Rattle.books.specs.Calls.{mergeCall, MergeContract}
+use Rattle.bookmerge.proofs.PromiseLaws.{promises}
+use Rattle.tableresults.specs.Numbers.{writtenHost}
+use Rattle.tableresults.specs.declared.HostWritten.{HostWritten}
+use Rattle.bookhost.specs.Calls.{mergeHost, HostMergeContract, MergeKept}
+
+-- ---- two books merged
+module _ (h : HostOptions) (house festival out : Words) where
+  shut : isOptions h ≡ false → mergeHost h house festival out ≡ record { answer = Refused BadOptions; out = out }
+  unfolding mergeHost
+  shut e = rw e
+
+  through : isOptions h ≡ true → mergeHost h house festival out ≡ mergeCall (optionsOf h) house festival out
+  unfolding mergeHost
+  through e = rw e
+
+  pub merge-shut : isOptions h ≡ false → (r : HostWritten) → r ≡ writtenHost (Refused BadOptions) → HostMergeContract h house festival out r out
+  merge-shut e r k =
+      let g = shut e in
+      record { result = k ∙ ap (λ (a : After). writtenHost (a .answer)) (sym g); words = ap (λ (a : After). a .out) (sym g) }
+
+  pub merge-through : isOptions h ≡ true → (o : Options) → o ≡ optionsOf h → (w : Written) (r : HostWritten) (out′ : Words)
+      → MergeContract o house festival out w out′ → r ≡ writtenHost w → HostMergeContract h house festival out r out′
+  merge-through e o is w r out′ m k =
+      let g = through e in
+      let n : MergeContract (optionsOf h) house festival out w out′ = rw is at m in
+      record {
+        result = k ∙ ap writtenHost (n .answer) ∙ ap (λ (a : After). writtenHost (a .answer)) (sym g);
+        words = n .words ∙ ap (λ (a : After). a .out) (sym g);
+      }
+
+  -- A refused call alters no word.
+  pub merge-kept : MergeKept h house festival out
+  merge-kept n = by (isOptions h) refl
+    where
+      by : (t : Bool) → isOptions h ≡ t → mergeHost h house festival out .answer ≡ Refused n → mergeHost h house festival out .out ≡ out
+      by true e a =
+          let g = through e in
+          ap (λ (a : After). a .out) g ∙ promises (optionsOf h) house festival out .kept n (ap (λ (a : After). a .answer) (sym g) ∙ a)
+      by false e a = ap (λ (a : After). a .out) (shut e)

@@ -1,0 +1,25 @@
+// The calls over books, in numbers.
+use bookmerge::merge;
+use hostoptions::HostOptions;
+use hostoptions::is_options;
+use hostoptions::options_of;
+use refusals::Refusal;
+use tableresults::HostWritten;
+use tableresults::written_host;
+use tables::Written;
+ghost use Rattle.bookhost.specs.Calls.{HostMergeContract};
+
+// Merges two books. Numbers that tell no options are refused by 1, before any word is looked at.
+pub fn merge_host(
+    h: HostOptions,
+    house: &[i64],
+    festival: &[i64],
+    out: &mut [i64],
+) -> HostWritten
+    ensures { λ r. ⌜ HostMergeContract h (now (house .entry)) (now (festival .entry)) (now (out .entry)) r (now (out .exit)) ⌝ }
+{
+    if is_options(h) {
+        return written_host(merge(house, festival, options_of(h), out));
+    }
+    written_host(Written::Refused(Refusal::BadOptions))
+}

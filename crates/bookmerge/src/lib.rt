@@ -1,0 +1,68 @@
+// Two books, one season: the call that merges two sorted right tables into one.
+use bookjudge::judge_books;
+use books::merge_rows;
+use framerule::has_room;
+use framerule::row_count;
+use neighbours::is_sorted;
+use options::Options;
+use options::right_columns;
+use outcomes::Took;
+use refusals::Refusal;
+use tables::Written;
+ghost use Rattle.frames.specs.Cells.{rowsOf};
+ghost use Rattle.books.specs.Calls.{MergeContract};
+ghost use Rattle.bookmerge.specs.BookRows.{BooksIn, BooksContract};
+
+// Two books of nh and nf rows, each w wide, written as one table; refused by 14 where one is not sorted, by 6 where the output is too short.
+fn merge_books(
+    hv: &[i64],
+    hm: &[i64],
+    nh: usize,
+    fv: &[i64],
+    fm: &[i64],
+    nf: usize,
+    w: usize,
+    o: Options,
+    out: &mut [i64],
+) -> Written
+    requires { ⌜ BooksIn o w nh (now hv) (now hm) nf (now fv) (now fm) ⌝ }
+    ensures { λ r. ⌜ BooksContract o w (rowsOf w nh (now (hv .entry)) (now (hm .entry))) (rowsOf w nf (now (fv .entry)) (now (fm .entry))) (now (out .entry)) r (now (out .exit)) ⌝ }
+{
+    if !is_sorted(hv, hm, nh, w, o) {
+        return Written::Refused(Refusal::Unsorted);
+    }
+    if !is_sorted(fv, fm, nf, w, o) {
+        return Written::Refused(Refusal::Unsorted);
+    }
+    let n = nh + nf;
+    if !has_room(n, w, out.len()) {
+        return Written::Refused(Refusal::NoRoom);
+    }
+    merge_rows(hv, hm, nh, fv, fm, nf, w, o, out);
+    Written::Rows(n)
+}
+
+// Merges the house's book and the festival's, both sorted, into one sorted table: every row of both, and of rows that compare equal the house's first.
+pub fn merge(house: &[i64], festival: &[i64], o: Options, out: &mut [i64]) -> Written
+    ensures { λ r. ⌜ MergeContract o (now (house .entry)) (now (festival .entry)) (now (out .entry)) r (now (out .exit)) ⌝ }
+{
+    if let Took::Refused(r) = judge_books(house, festival, o) {
+        return Written::Refused(r);
+    }
+    let w = right_columns(o);
+    let nh = row_count(house);
+    let nf = row_count(festival);
+    let e = 2 + nh * w;
+    let f = 2 + nf * w;
+    merge_books(
+        &house[2..e],
+        &house[e..],
+        nh,
+        &festival[2..f],
+        &festival[f..],
+        nf,
+        w,
+        o,
+        out,
+    )
+}

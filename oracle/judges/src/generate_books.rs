@@ -1,0 +1,155 @@
+//! Random books, made from a seed and a number alone, so that every input can be made again.
+use crate::books;
+use crate::generate::{Pool, Random, words};
+use crate::rules::Row;
+use crate::script::{MOST_CODES, Merge, Options, Ranks};
+use crate::whole_table::sort;
+
+/// The family of these inputs among all random ones.
+const MERGES: u64 = 0x26;
+
+/// What books are made of: values, how many of a hundred are null, and the codes of the list where there is one.
+struct Shape {
+    keys: Pool,
+    groups: Pool,
+    carried: Pool,
+    nulls: usize,
+    codes: Vec<i64>,
+}
+
+/// Up to so many codes, no two of them equal, in any order.
+fn codes(r: &mut Random) -> Vec<i64> {
+    let (most, pool) = (r.pick(&[1, 2, 3, 3, 5, MOST_CODES]), r.pick(&[Pool::Below(5), Pool::Below(100), Pool::Ends, Pool::Any]));
+    let mut codes = vec![];
+    for _ in 0..4 * most {
+        let code = pool.value(r);
+        if codes.len() < most && !codes.contains(&code) {
+            codes.push(code);
+        }
+    }
+    codes
+}
+
+/// Options that no call refuses, and what books under them are made of.
+fn options(r: &mut Random) -> (Options, Shape) {
+    let b = r.pick(&[0, 0, 0, 1, 1, 1, 2, 2, 3, 4]);
+    let strategy = r.below(3) as i64;
+    let small = [Pool::Below(2), Pool::Below(3), Pool::Below(6), Pool::Below(40), Pool::Ends, Pool::Any];
+    let listed = b > 0 && r.percent(40);
+    let codes = if listed { codes(r) } else { vec![] };
+    let ranks = if listed { Ranks::of(r.below(b) as u64, codes.len() as u64, &codes) } else { Ranks::none() };
+    let options = Options {
+        b,
+        strategy,
+        eq: strategy == 2 || r.percent(60),
+        tolerance: r.pick(&[-1, 0, 3, i64::MAX]),
+        check: r.percent(50),
+        strict: false,
+        carried: r.pick(&[0, 0, 0, 1, 1, 2, 3, 8]),
+        ranks,
+        descending: (0..b).map(|_| r.percent(50)).collect(),
+        nulls_last: (0..b).map(|_| r.percent(50)).collect(),
+    };
+    let groups = if b > 2 { Pool::Below(2) } else { r.pick(&[Pool::Below(2), Pool::Below(3), Pool::Ends]) };
+    let shape = Shape { keys: r.pick(&small), groups, carried: r.pick(&small), nulls: r.pick(&[0, 0, 10, 30]), codes };
+    (options, shape)
+}
+
+/// The same options with something that opening refuses by 1, 10 or 11.
+fn refused(r: &mut Random, o: &mut Options) {
+    match r.below(9) {
+        0 => o.strategy = r.pick(&[3, 255]),
+        1 => o.tolerance = r.pick(&[-2, i64::MIN]),
+        2 => (o.strategy, o.eq) = (2, false),
+        3 => {
+            o.b = r.pick(&[5, 6]);
+            (o.descending, o.nulls_last) = (vec![false; o.b], vec![false; o.b]);
+        },
+        4 | 5 => o.carried = r.pick(&[9, 10, 1 << 32, 1 << 63, u64::MAX]),
+        6 => o.ranks = Ranks::of(r.below(5) as u64, r.pick(&[0, 65, 1 << 40, u64::MAX]), &[3; MOST_CODES]),
+        7 => o.ranks = Ranks::of(o.b as u64 + r.below(3) as u64, 2, &[3, 4]),
+        _ => o.ranks = Ranks::of(0, 3, &[3, 4, 3]),
+    }
+}
+
+/// A cell of the right rows' column j.
+fn cell(r: &mut Random, o: &Options, s: &Shape, j: usize) -> Option<i64> {
+    if r.percent(s.nulls) {
+        return None;
+    }
+    let listed = o.ranks.given && o.ranks.column == j as u64;
+    Some(match () {
+        _ if listed => r.pick(&s.codes),
+        _ if j < o.b => s.groups.value(r),
+        _ if j == o.b => s.keys.value(r),
+        _ => s.carried.value(r),
+    })
+}
+
+/// A book's rows: sorted; a few of them exchanged, or one with a value that the list lacks, if it is to be refused.
+fn book(r: &mut Random, o: &Options, s: &Shape, wrong: bool) -> Vec<Row> {
+    let long = 4090 + r.below(20);
+    let many = if r.percent(1) && r.percent(10) { long } else { r.pick(&[0, 1, 2, 3, 5, 8, 20]) };
+    let columns = o.b + 1 + o.carried as usize;
+    let mut rows: Vec<Row> = (0..many).map(|_| (0..columns).map(|j| cell(r, o, s, j)).collect()).collect();
+    sort(o, &mut rows);
+    if wrong && many > 0 {
+        let (i, j) = (r.below(many), r.below(many));
+        if o.ranks.given && r.percent(50) {
+            rows[i][o.ranks.column as usize] = Some(Pool::Any.value(r));
+        } else {
+            rows.swap(i, j);
+        }
+    }
+    rows
+}
+
+/// The same words with something in them that breaks the table rule, most of the time.
+fn broken(r: &mut Random, mut words: Vec<i64>) -> Vec<i64> {
+    let last = words.len() - 1;
+    let half = 2 + (words.len() - 2) / 2;
+    match r.below(9) {
+        0 => words.truncate(r.below(words.len())),
+        1 => words.push(r.pick(&[0, 1])),
+        2 => words[0] += r.pick(&[-1, 1]),
+        3 => words[0] = r.pick(&[-1, i64::MIN, i64::MAX, 1 << 62, 1 << 32]),
+        4 => words[1] = r.pick(&[0, 1, 2, 3, -1, i64::MIN, i64::MAX]),
+        5 => words[last] = r.pick(&[2, -1, i64::MIN, i64::MAX, 256]),
+        6 => words[half.min(last)] = r.pick(&[2, -1, 0]),
+        7 if half <= last => (words[2], words[half]) = (r.pick(&[1, -1, i64::MIN]), 0),
+        _ => words.clear(),
+    }
+    words
+}
+
+/// A book's words: one in sixteen broken.
+fn table(r: &mut Random, o: &Options, s: &Shape, wrong: bool) -> Vec<i64> {
+    let words = words(&book(r, o, s, wrong), o.b + 1 + o.carried as usize);
+    if r.below(16) == 0 { broken(r, words) } else { words }
+}
+
+/// The output's length: just enough, longer, one short, or any that is shorter.
+fn output(r: &mut Random, needed: usize) -> usize {
+    match r.below(20) {
+        0 | 1 => needed - 1,
+        2 => needed - 2,
+        3 => r.below(needed),
+        4..=9 => needed + 1 + r.below(9),
+        _ => needed,
+    }
+}
+
+/// The merge of this number among a seed's, and its options.
+pub fn merge(seed: u64, number: u64) -> (Options, Merge) {
+    let r = &mut Random::of_family(seed, MERGES, number);
+    let (mut o, s) = options(r);
+    let (wrong, both) = (r.percent(12), r.percent(60));
+    let (house, festival) = (table(r, &o, &s, wrong && both), table(r, &o, &s, wrong));
+    let mut call = Merge { output: 0, house, festival };
+    if r.percent(6) {
+        refused(r, &mut o);
+    }
+    let needed = books::merged(&o, &call).map_or_else(|_| 2 + 4 * r.below(5), |words| words.len());
+    call.output = output(r, needed);
+    (o, call)
+}

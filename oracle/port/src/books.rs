@@ -1,0 +1,12 @@
+//! SCOPE 20, two books merged, by the port: a call over tables and an output, each between guard words.
+use judges::script::{Answer, Merge};
+use rowkeeper::raw::{self, safe};
+
+use crate::tables::{answer, lent, output};
+
+/// The answer to a merge of books of so many columns, and what the call did that no answer tells and none may do.
+pub fn merge(options: raw::Options, columns: usize, merge: &Merge) -> (Answer, Option<&'static str>) {
+    let (house, festival, mut out) = (lent(&merge.house), lent(&merge.festival), output(merge.output));
+    let said = safe::merge(options, house.get(), festival.get(), out.get_mut());
+    answer(said, columns, &[(&house, &merge.house), (&festival, &merge.festival)], &out)
+}
