@@ -491,7 +491,43 @@ static void merge(void) {
     want(out[0] == -1 && out[1] == -1, "a merge, the output of a refused call", NO_WORD);
 }
 
-/* Alters each word of a fresh join in turn, then looks at each kind of answer; at last at spans and a merge, which have no join. */
+/* Whether standing answers so: the header's book, under these options, with this place and so much room. */
+static int stands(rowkeeper_options options, uint64_t place, size_t room, uint64_t refusal) {
+    static const int64_t BOOK[] = {3, 2, 10, 0, 10, 0, 20, 1, 1, 1, 1, 1, 1, 1};
+    static const int64_t NOTICES[] = {3, 2, 0, 1, 1, 0, 0, 2, 1, 1, 1, 0, 1, 1};
+    int64_t out[15];
+    rowkeeper_written written;
+    memset(out, -1, sizeof out);
+    written = rowkeeper_standing(options, BOOK, 14, place, out, room);
+    if (written.refusal != refusal || written.rows != (refusal == 0 ? 3u : 0u)) return 0;
+    if (refusal != 0) return out[0] == -1 && out[1] == -1;
+    return memcmp(out, NOTICES, sizeof NOTICES) == 0 && out[14] == -1;
+}
+
+/* What standing brings at its place: the options, the book, the column, an output that is full and one that is a word short. */
+static void standing(void) {
+    static const int64_t FALLS[] = {2, 2, 2, 0, 1, 0, 1, 1, 1, 1};
+    rowkeeper_options options, other;
+    int64_t out[2] = {-1, -1};
+    memset(&options, 0, sizeof options);
+    options.tolerance = ROWKEEPER_NO_TOLERANCE;
+    options.carried = 1;
+    want(stands(options, 0, 14, ROWKEEPER_ACCEPTED), "standing, a full output", NO_WORD);
+    want(stands(options, 0, 15, ROWKEEPER_ACCEPTED), "standing, a word more", NO_WORD);
+    want(stands(options, 0, 13, ROWKEEPER_NO_ROOM), "standing, an output one word short", NO_WORD);
+    want(stands(options, 1, 14, ROWKEEPER_BAD_COLUMNS), "standing, no such column", NO_WORD);
+    want(stands(options, UINT64_MAX, 14, ROWKEEPER_BAD_COLUMNS), "standing, no such column at all", NO_WORD);
+    other = options;
+    other.by = 5;
+    want(stands(other, 0, 14, ROWKEEPER_BAD_OPTIONS), "standing, five by-columns", NO_WORD);
+    other = options;
+    other.carried = 2;
+    want(stands(other, 0, 14, ROWKEEPER_BAD_FRAME), "standing, other columns", NO_WORD);
+    want(rowkeeper_standing(options, FALLS, 10, 0, out, 2).refusal == ROWKEEPER_UNSORTED, "standing, out of order", NO_WORD);
+    want(out[0] == -1 && out[1] == -1, "standing, the output of a refused call", NO_WORD);
+}
+
+/* Alters each word of a fresh join in turn, then looks at each kind of answer; at last at the calls that have no join. */
 int main(void) {
     rowkeeper_options options;
     rowkeeper_took took;
@@ -513,6 +549,7 @@ int main(void) {
     ranked(options);
     spans();
     merge();
+    standing();
     options.by = 5;
     took = rowkeeper_open(options);
     want(took.refusal == 1 && took.join.layout == ROWKEEPER_LAYOUT, "a refused opening", AT(rowkeeper_join, layout));

@@ -73,6 +73,7 @@ RIGHT_ORDER = 9
 TOO_MANY_CARRIED = 10
 BAD_RANKS = 11
 UNKNOWN_CODE = 12
+BAD_COLUMNS = 13
 UNSORTED = 14
 BAD_POINTS = 16
 
@@ -90,6 +91,7 @@ REFUSALS = {
     10: 'there are more than 8 carried columns',
     11: 'the list of ranks is empty or too long, has a code twice or is for no by-column',
     12: 'the by-column with a list of ranks has a value that is not on the list',
+    13: 'there is no such column',
     14: 'the table is not sorted',
     16: 'a point is null, or greater than the next',
 }
@@ -157,5 +159,6 @@ CALLS = {
     'rowkeeper_run': ([Join, c_size_t, c_void_p, c_size_t, c_void_p, c_size_t, c_void_p, c_size_t], Ran),
     'rowkeeper_spans': ([c_void_p, c_size_t, c_void_p, c_size_t, c_uint64, c_uint64, c_void_p, c_size_t], Written),
     'rowkeeper_merge': ([Options, c_void_p, c_size_t, c_void_p, c_size_t, c_void_p, c_size_t], Written),
+    'rowkeeper_standing': ([Options, c_void_p, c_size_t, c_uint64, c_void_p, c_size_t], Written),
     'rowkeeper_version': ([], c_uint64),
 }

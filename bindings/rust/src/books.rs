@@ -76,3 +76,62 @@ pub fn merge<'o>(
     Refusal::of(written.refusal)?;
     Ok(Book { words: &output[..2 + 2 * written.rows as usize * options.right_columns()] })
 }
+
+/// What is told of one row of a book.
+#[derive(Clone, Copy, Debug, PartialEq, Eq)]
+pub enum Notice {
+    /// It stands: no later row has its group and key, and it does not withdraw.
+    Stands,
+    /// It does not stand: the last row of its group and key has this number, its own if it withdraws itself.
+    LeftOut(u64),
+    /// Its key or a by-value is null: it neither stands nor is there another of its kind.
+    Nameless,
+}
+
+/// The notices of a book, one for each of its rows.
+#[derive(Clone, Copy, Debug, PartialEq, Eq)]
+pub struct Notices<'o> {
+    words: &'o [i64],
+}
+
+impl<'o> Notices<'o> {
+    /// How many there are.
+    pub fn len(&self) -> usize {
+        self.words.len() / 4
+    }
+
+    /// Whether there is none.
+    pub fn is_empty(&self) -> bool {
+        self.words.is_empty()
+    }
+
+    /// What is told of each row, in the book's order.
+    pub fn iter(&self) -> impl Iterator<Item = Notice> + use<'o> {
+        let (values, marks) = self.words.split_at(self.words.len() / 2);
+        values.chunks_exact(2).zip(marks.chunks_exact(2)).map(|(value, mark)| match (value[0], mark[1]) {
+            (1, _) => Notice::Stands,
+            (_, 1) => Notice::LeftOut(value[1] as u64),
+            _ => Notice::Nameless,
+        })
+    }
+}
+
+/// The words of output that the notices of so many rows take; `None` if there are more than can be lent.
+pub fn standing_words(rows: usize) -> Option<usize> {
+    rows.checked_mul(4)?.checked_add(2)
+}
+
+/// Tells which notices of a sorted book stand: of each group and key the last row, unless it withdraws, which it does if its
+/// carried column of this place, from 0, is 1. Refused by 1, 10 or 11 for options that opening would refuse, by 5 where the words
+/// are no table of these columns, by 12 where they have a value that the list of ranks lacks, by 13 for a place that is no
+/// carried column, by 14 where the book is not sorted, by 6 where the output is too short: then no word of it is altered.
+pub fn standing<'o>(
+    options: &Options,
+    book: &[i64],
+    place: usize,
+    output: &'o mut [i64],
+) -> Result<Notices<'o>, Refusal> {
+    let written = safe::standing(options.raw(), book, place as u64, output);
+    Refusal::of(written.refusal)?;
+    Ok(Notices { words: &output[2..2 + 4 * written.rows as usize] })
+}

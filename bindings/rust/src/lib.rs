@@ -122,6 +122,20 @@
 //! # Ok::<(), Box<dyn std::error::Error>>(())
 //! ```
 //!
+//! A later notice of the same group and key corrects an earlier one. [`standing()`] tells which notices of a book stand:
+//!
+//! ```
+//! use rowkeeper::{Frame, Notice, Options, standing, standing_words};
+//!
+//! // Two notices of minute 10 and one of minute 20, which is withdrawn: its carried column says 1.
+//! let options = Options { carried: 1, ..Options::default() };
+//! let book = Frame::of_columns(&[&[10, 10, 20], &[0, 0, 1]])?;
+//! let mut output = vec![0; standing_words(3).unwrap()];
+//! let notices: Vec<Notice> = standing(&options, &book, 0, &mut output)?.iter().collect();
+//! assert_eq!(notices, [Notice::LeftOut(1), Notice::Stands, Notice::LeftOut(2)]);
+//! # Ok::<(), Box<dyn std::error::Error>>(())
+//! ```
+//!
 //! A join cannot be lent its own area as a frame, and neither an output nor a driver can be altered while its matches are
 //! looked at:
 //!
@@ -153,7 +167,7 @@
 //! fn known(refusal: rowkeeper::Refusal) -> bool {
 //!     match refusal {
 //!         BadOptions | BadJoin | Failed | Closed | BadFrame | NoRoom | UsedUp | LeftOrder | RightOrder => true,
-//!         TooManyCarried | BadRanks | UnknownCode | Unsorted | BadPoints => true,
+//!         TooManyCarried | BadRanks | UnknownCode | BadColumns | Unsorted | BadPoints => true,
 //!     }
 //! }
 //! ```
@@ -174,7 +188,7 @@ pub mod raw;
 mod spans;
 
 pub use asof::{AsOf, Carrying, asof};
-pub use books::{Book, book_words, merge};
+pub use books::{Book, Notice, Notices, book_words, merge, standing, standing_words};
 pub use frame::{Column, Frame, FrameError, Frames};
 pub use join::{Join, Match, Matches, Run, Stop, Turn, Written};
 pub use numbers::{Check, NodeState, Port, Refusal, Strategy};

@@ -123,6 +123,8 @@ pub enum Refusal {
     BadRanks = 11,
     /// The by-column with a list of ranks has a value in the frame or table that is not on the list.
     UnknownCode = 12,
+    /// Standing: the place is none of the carried columns.
+    BadColumns = 13,
     /// A table is not sorted as the options say.
     Unsorted = 14,
     /// Spans: a point is null, or greater than the next.
@@ -131,7 +133,7 @@ pub enum Refusal {
 
 impl Refusal {
     /// All refusals, by number.
-    pub const ALL: [Refusal; 14] = [
+    pub const ALL: [Refusal; 15] = [
         Refusal::BadOptions,
         Refusal::BadJoin,
         Refusal::Failed,
@@ -144,6 +146,7 @@ impl Refusal {
         Refusal::TooManyCarried,
         Refusal::BadRanks,
         Refusal::UnknownCode,
+        Refusal::BadColumns,
         Refusal::Unsorted,
         Refusal::BadPoints,
     ];
@@ -163,6 +166,7 @@ impl Refusal {
             Refusal::TooManyCarried => "there are more than 8 carried columns",
             Refusal::BadRanks => "the list of ranks is empty or too long, has a code twice or is for no by-column",
             Refusal::UnknownCode => "the by-column with a list of ranks has a value that is not on the list",
+            Refusal::BadColumns => "there is no such column",
             Refusal::Unsorted => "the table is not sorted",
             Refusal::BadPoints => "a point is null, or greater than the next",
         }

@@ -349,6 +349,16 @@ unsafe extern "C" {
         out: *mut i64,
         out_words: usize,
     ) -> Written;
+    /// Without a join: tells which notices of a sorted book stand, and for those that do not which notice is the last
+    /// of its group and key.
+    pub fn rowkeeper_standing(
+        options: Options,
+        book: *const i64,
+        book_words: usize,
+        place: u64,
+        out: *mut i64,
+        out_words: usize,
+    ) -> Written;
     /// The version of the library, to compare with VERSION_NUMBER. Safe: it is lent nothing.
     pub safe fn rowkeeper_version() -> u64;
 }
@@ -497,6 +507,13 @@ pub mod safe {
                 out.len(),
             )
         }
+    }
+
+    /// Without a join: tells which notices of a sorted book stand, and for those that do not which notice is the last
+    /// of its group and key.
+    pub fn standing(options: Options, book: &[i64], place: u64, out: &mut [i64]) -> Written {
+        // SAFETY: see the module.
+        unsafe { rowkeeper_standing(options, book.as_ptr(), book.len(), place, out.as_mut_ptr(), out.len()) }
     }
     // ---- tools/interface: end of slices
 }

@@ -1,5 +1,9 @@
-//! Books over the archive: the merged rows, equal rows, long books, every refusal, and the join over what was merged.
-use rowkeeper::{Book, ByColumn, Frame, Frames, Options, Ranks, Refusal, asof, book_words, merge};
+//! Books over the archive: the merged rows, equal rows, long books, every refusal, and the join over what was merged; which
+//! notices stand, and that a join picks the same from those that do.
+use rowkeeper::Notice::{self, LeftOut, Nameless, Stands};
+use rowkeeper::{
+    Book, ByColumn, Frame, Frames, Options, Ranks, Refusal, Strategy, asof, book_words, merge, standing, standing_words,
+};
 
 type Row = [Option<i64>; 3];
 
@@ -120,4 +124,71 @@ fn frames_are_books() {
     let mut output = [0; 10];
     let book = merge(&Options::default(), &one, &one, &mut output).unwrap();
     assert_eq!((0..4).map(|i| book.cell(i, 0)).collect::<Vec<_>>(), [Some(1), Some(1), Some(5), Some(5)]);
+}
+
+/// What is told of each row, with an output that is just long enough, or the refusal.
+fn notices(options: &Options, book: &[Row]) -> Result<Vec<Notice>, Refusal> {
+    let mut output = vec![7; standing_words(book.len()).unwrap()];
+    standing(options, &table(book), 0, &mut output).map(|notices| notices.iter().collect())
+}
+
+/// Corrections, withdrawals, nulls.
+#[test]
+fn which_stand() {
+    let book = [
+        [None, Some(1), Some(0)],
+        [Some(1), None, Some(0)],
+        [Some(1), Some(10), Some(0)],
+        [Some(1), Some(10), Some(2)],
+        [Some(1), Some(20), Some(0)],
+        [Some(1), Some(20), Some(1)],
+        [Some(2), Some(20), Some(1)],
+        [Some(2), Some(20), None],
+    ];
+    let told = [Nameless, Nameless, LeftOut(3), Stands, LeftOut(5), LeftOut(5), LeftOut(7), Stands];
+    assert_eq!(notices(&options(), &book), Ok(told.to_vec()));
+    assert_eq!(notices(&options(), &[]), Ok(vec![]));
+}
+
+/// Every refusal of standing that a merge has not, and that none alters a word.
+#[test]
+fn standing_refusals() {
+    let said = |options: &Options, book: &[i64], place: usize| {
+        let mut output = [7; 5];
+        let refusal = standing(options, book, place, &mut output).unwrap_err();
+        assert_eq!(output, [7; 5]);
+        refusal
+    };
+    let (fine, fallen) = (table(&rows(&[[1, 2, 3]])), table(&rows(&[[1, 5, 0], [1, 4, 0]])));
+    assert_eq!(said(&options(), &fine[1..], 9), Refusal::BadFrame);
+    assert_eq!(said(&options(), &fallen, 1), Refusal::BadColumns);
+    assert_eq!(said(&options(), &fallen, usize::MAX), Refusal::BadColumns);
+    assert_eq!(said(&options(), &fallen, 0), Refusal::Unsorted);
+    assert_eq!(said(&options(), &fine, 0), Refusal::NoRoom);
+}
+
+/// Without withdrawals Backward and Nearest pick the same notices from the rows that stand as from all rows.
+#[test]
+fn same_picks() {
+    let minutes: Vec<i64> = (0..600).map(|i| i / 3 * 7 % 50 + i / 150 * 50).collect();
+    let mut minutes = minutes;
+    minutes.sort();
+    let (book, sales): (Vec<i64>, Vec<i64>) = (minutes, (0..250).collect());
+    let mut output = vec![0; standing_words(book.len()).unwrap()];
+    let withdrawn = vec![0; book.len()];
+    let words = Frame::of_columns(&[&book, &withdrawn]).unwrap();
+    let told = standing(&Options { carried: 1, ..Options::default() }, &words, 0, &mut output).unwrap();
+    let places: Vec<usize> = told.iter().enumerate().filter(|(_, notice)| *notice == Stands).map(|(i, _)| i).collect();
+    assert!(places.len() < book.len() && !places.is_empty());
+    let stand: Vec<i64> = places.iter().map(|i| book[*i]).collect();
+    for strategy in [Strategy::Backward, Strategy::Nearest] {
+        let options = Options { strategy, ..Options::default() };
+        let picks = |right: &Vec<i64>| -> Vec<Option<u64>> {
+            let joined = asof(&options, Frames::of_columns(&[&sales]).unwrap(), Frames::of_columns(&[right]).unwrap());
+            joined.unwrap().collect::<Result<_, _>>().unwrap()
+        };
+        let translated: Vec<Option<u64>> =
+            picks(&stand).into_iter().map(|found| found.map(|number| places[number as usize] as u64)).collect();
+        assert_eq!(picks(&book), translated);
+    }
 }

@@ -402,7 +402,7 @@ fn out_of_order() {
 /// Numbers, order and texts of refusals.
 #[test]
 fn numbers() {
-    let numbers = [1, 2, 3, 4, 5, 6, 7, 8, 9, 10, 11, 12, 14, 16];
+    let numbers = [1, 2, 3, 4, 5, 6, 7, 8, 9, 10, 11, 12, 13, 14, 16];
     assert_eq!(Refusal::ALL.len(), numbers.len());
     for (refusal, number) in Refusal::ALL.iter().zip(numbers) {
         assert_eq!(refusal.number(), number);

@@ -9,7 +9,7 @@ use Rattle.refusals.specs.declared.Refusal.the-variants.{BadFrame, UnknownCode}
 use Rattle.outcomes.specs.declared.Took.{Took}
 use Rattle.outcomes.specs.declared.Took.the-variants.{Accepted, Refused}
 
--- SCOPE 20.1: 1, 10, 11 by the options; 5 where the words are no book; 12 where it has a value that the list of ranks lacks.
+-- SCOPE 19.10, 19.16: 1, 10, 11 by the options; 5 where the words are no book; 12 where it has a value that the list of ranks lacks.
 unfoldable pub bookJudged : Options → Words → Took
 bookJudged o book =
     unless Refused o

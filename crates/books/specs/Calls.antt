@@ -18,7 +18,7 @@ use Rattle.tables.specs.declared.Written.the-variants.{Rows as Wrote, Refused}
 use Rattle.books.specs.Merge.{merge}
 use Rattle.books.specs.Standing.{notices}
 
--- SCOPE 20.1: a book is a table of the right rows' columns.
+-- SCOPE 19.8: a book is a table of the right rows' columns.
 abbrev pub isBook : Options → Words → Bool
 isBook o t = isTable (rightColumns o) t
 
@@ -26,7 +26,7 @@ abbrev pub rowsIn : Options → Words → Rows
 rowsIn o t = tableRows (rightColumns o) t
 
 -- ---- two books, one season
--- SCOPE 20.5: the refusals in their order. 1, 10, 11 by the options; 5 where one of the two is no book; 12 where one has a value that the list of ranks lacks; 14 where
+-- SCOPE 19.10: the refusals in their order. 1, 10, 11 by the options; 5 where one of the two is no book; 12 where one has a value that the list of ranks lacks; 14 where
 -- one is not sorted; 6 where the output has fewer words than the merged table. Else the number of rows of both.
 unfoldable pub mergeAnswer : Options → Words → Words → Words → Written
 mergeAnswer o house festival out =
@@ -47,7 +47,7 @@ pub record MergeContract (o : Options) (house festival out : Words) (r : Written
   pub words : out′ ≡ mergeCall o house festival out .out
 
 -- ---- which notice stands
--- SCOPE 21.7: the refusals in their order. 1, 10, 11 by the options; 5 where the words are no book; 12 where it has a value that the list of ranks lacks; 13 where q is
+-- SCOPE 19.16: the refusals in their order. 1, 10, 11 by the options; 5 where the words are no book; 12 where it has a value that the list of ranks lacks; 13 where q is
 -- no place among the p carried columns; 14 where the book is not sorted; 6 where the output has fewer words than a row of two cells for each row. Else the number of rows.
 unfoldable pub standAnswer : Options → ℕ → Words → Words → Written
 standAnswer o q book out =

@@ -1,5 +1,6 @@
 // The calls for hosts in C, over structs of numbers, all of 64 bits, and words that the host lends: the exported functions alone. What each does stands in hostfeed, hostmove, hostturn, bookhost, spanhost and version.
 use bookhost::merge_host;
+use bookhost::standing_host;
 use hostfeed::host_end_right;
 use hostfeed::host_left;
 use hostfeed::host_open;
@@ -12,7 +13,7 @@ use spanhost::spans_host;
 use version::version_now;
 ghost use mathlib.Core.Path.{_≡_};
 ghost use Rattle.hostcalls.specs.Contracts.{HostOpenContract, HostLeftContract, HostRightContract, HostEndContract, HostMoveContract, HostPortsContract, HostTurnContract, HostRunContract};
-ghost use Rattle.bookhost.specs.Calls.{HostMergeContract};
+ghost use Rattle.bookhost.specs.Calls.{HostMergeContract, HostStandContract};
 ghost use Rattle.spanhost.specs.Call.{HostSpanContract};
 ghost use Rattle.version.specs.Version.{versionNow};
 pub use convert::HostJoin;
@@ -156,4 +157,17 @@ pub extern "C" fn rowkeeper_merge(
     ensures { λ r. ⌜ HostMergeContract h (now (house .entry)) (now (festival .entry)) (now (out .entry)) r (now (out .exit)) ⌝ }
 {
     merge_host(h, house, festival, out)
+}
+
+// Says of each row of a sorted book: 1 if it stands, else 0, and the row that it names; the carried column of that place tells which notices withdraw. No join has a part in it.
+#[no_mangle]
+pub extern "C" fn rowkeeper_standing(
+    h: HostOptions,
+    book: &[i64],
+    place: usize,
+    out: &mut [i64],
+) -> HostWritten
+    ensures { λ r. ⌜ HostStandContract h place (now (book .entry)) (now (out .entry)) r (now (out .exit)) ⌝ }
+{
+    standing_host(h, book, place, out)
 }

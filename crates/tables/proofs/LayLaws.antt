@@ -40,27 +40,6 @@ module _ (m : ℕ) where
   lay-length k [] out = refl
   lay-length k (a ∷ A) out = lay-length (suc k) A (set (set out (2 + k) (valueWord a)) (2 + m + k) (markWord a)) ∙ simp length-set
 
-  -- A cell before those that were laid may be laid after them.
-  lay-one : (k d : ℕ) (v u : ℤ) (xs : List Cell) (out : Words) → k < d → d + length xs ≤ m
-      → set (set (layCells m d xs out) (2 + k) v) (2 + m + k) u ≡ layCells m d xs (set (set out (2 + k) v) (2 + m + k) u)
-  unfolding layCells
-  lay-one k d v u [] out a b = refl
-  lay-one k d v u (x ∷ xs) out a b =
-      let y = valueWord x in
-      let z = markWord x in
-      let e : set (set (set (set out (2 + d) y) (2 + m + d) z) (2 + k) v) (2 + m + k) u ≡ set (set (set (set out (2 + k) v) (2 + m + k) u) (2 + d) y) (2 + m + d) z =
-      ap (λ (l : Words). set l (2 + m + k) u) (set-comm (set out (2 + d) y) (2 + m + d) (2 + k) z v (λ e. omega arith) ∙ ap (λ (l : Words). set l (2 + m + d) z) (set-comm out (2 + d) (2 + k) y v (λ e. omega arith)))
-      ∙ set-comm (set (set out (2 + k) v) (2 + d) y) (2 + m + d) (2 + m + k) z u (λ e. omega arith)
-      ∙ ap (λ (l : Words). set l (2 + m + d) z) (set-comm (set out (2 + k) v) (2 + d) (2 + m + k) y u (λ e. omega arith)) in
-      lay-one k (suc d) v u xs (set (set out (2 + d) y) (2 + m + d) z) (omega arith) (omega arith) ∙ ap (layCells m (suc d) xs) e
-
-  pub lay-back : (k d : ℕ) (xs ys : List Cell) (out : Words) → k + length xs ≤ d → d + length ys ≤ m → layCells m k xs (layCells m d ys out) ≡ layCells m d ys (layCells m k xs out)
-  unfolding layCells
-  lay-back k d [] ys out a b = refl
-  lay-back k d (x ∷ xs) ys out a b =
-      ap (layCells m (suc k) xs) (lay-one k d (valueWord x) (markWord x) ys out (omega arith) b)
-      ∙ lay-back (suc k) d xs ys (set (set out (2 + k) (valueWord x)) (2 + m + k) (markWord x)) (omega arith) b
-
   -- Place p holds no word of n cells from cell k on.
   abbrev pub Apart : ℕ → ℕ → ℕ → Type 0
   Apart k n p = (i : ℕ) → k ≤ i → i < k + n → (p ≡ 2 + i → ⊥) × (p ≡ 2 + m + i → ⊥)

@@ -1,4 +1,5 @@
 //! Drives the Rust, compares it with the judges, records the sample.
+pub mod books;
 pub mod compare;
 pub mod edits;
 pub mod findings;

@@ -492,7 +492,7 @@ impl Judge for Rust {
     fn call(&mut self, call: &Call) -> Answer {
         match (call, self.told.opens(call), &mut self.join) {
             (Call::Spans(spans), ..) => range::answer(spans, range::Ways::default()),
-            (Call::Merge(_), ..) => self.told.with(|_| Answer::Nothing),
+            (Call::Merge(_) | Call::Standing(_), ..) => self.told.with(|_| Answer::Nothing),
             (_, Some(Ok(open)), join) => {
                 FAULTS.take();
                 *join = Join::open(&open.options, self.ways);

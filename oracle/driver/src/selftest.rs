@@ -14,7 +14,7 @@ use judges::whole_table::{self, Counts};
 use crate::compare::{self, Difference, Tally};
 use crate::pulled::{ROOM, all_at_once};
 use crate::rust::{Rust, Spoiled, Ways};
-use crate::{ranks, spans};
+use crate::{books, ranks, spans};
 
 /// How a step ends: what it counted, or what went wrong.
 pub type Step = Result<String, String>;
@@ -516,6 +516,7 @@ pub fn all(seed: u64, count: u64) -> bool {
         ("large tables", Box::new(move || large(PLAIN, seed, 12.max(count / 200)))),
         ("ways of feeding", Box::new(move || ways(PLAIN, seed, count / 8))),
         ("refusals", Box::new(move || refusals(PLAIN, seed, count, &DUE))),
+        ("books, cases", Box::new(books::cases)),
         ("spans, cases", Box::new(spans::cases)),
         ("spans, longest tables", Box::new(spans::longest)),
         ("spans, findings", Box::new(spans::findings)),

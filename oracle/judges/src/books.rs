@@ -1,10 +1,14 @@
-//! SCOPE 20, two books merged, as plainly as it can be said: all rows of both, one behind the other, sorted without moving equal
-//! rows past each other. The order is that of the whole-table judge. It shares no code with the port or with the step rules.
-use crate::script::{Answer, Merge, Options};
+//! SCOPE 19.8 to 19.16, books of notices, as plainly as they can be said. Two books merged: all rows of both, one behind the other,
+//! sorted without moving equal rows past each other. Which notice stands: every row is compared with all others. The order is
+//! that of the whole-table judge. It shares no code with the port or with the step rules.
+use crate::script::{Answer, Merge, Options, Standing};
 use crate::whole_table::{Row, has_unlisted_row, is_sorted, no_options, sort};
 
 /// The numbers of the refusals of a merge, in the order in which they are looked for.
 pub const MERGE_REFUSALS: [u8; 7] = [1, 10, 11, 5, 12, 14, 6];
+
+/// Those of standing.
+pub const STANDING_REFUSALS: [u8; 8] = [1, 10, 11, 5, 12, 13, 14, 6];
 
 /// A book's rows; none where its words break the frame rule "without its row limit", or have other columns than a right row.
 fn rows(o: &Options, words: &[i64]) -> Option<Vec<Row>> {
@@ -67,4 +71,35 @@ fn with_room(table: Result<Vec<i64>, u8>, output: usize) -> Answer {
 /// The answer to a merge.
 pub fn merge(o: &Options, call: &Merge) -> Answer {
     with_room(merged(o, call), call.output)
+}
+
+/// What is said of a row: "1 if it stands, else 0, and the row it names, null for none or where it stands". "of each group and key
+/// the last row, none if its carried withdrawal column is 1; null keys and null groups never stand"; "Each row left out names the
+/// last row of its group and key, a withdrawn last row thus itself; a null key or group names none."
+fn notice(o: &Options, column: usize, rows: &[Row], i: usize) -> Row {
+    let of = |row: usize| &rows[row][..=o.b];
+    if of(i).contains(&None) {
+        return vec![Some(0), None];
+    }
+    let last = (0..rows.len()).rev().find(|row| of(*row) == of(i)).unwrap_or(i);
+    if last == i && rows[i][column] != Some(1) { vec![Some(1), None] } else { vec![Some(0), Some(last as i64)] }
+}
+
+/// "The withdrawal column is given by its place among the p carried ones, from 0; any other place gives 13, then an unsorted
+/// table 14". Output is not looked at: the words that are to be written, or the number of the refusal.
+pub fn listed(o: &Options, call: &Standing) -> Result<Vec<i64>, u8> {
+    let rows = judged(o, &[&call.book])?.remove(0);
+    if call.place >= o.carried {
+        return Err(13);
+    } else if !is_sorted(o, &rows) {
+        return Err(14);
+    }
+    let column = o.b + 1 + call.place as usize;
+    let notices: Vec<Row> = (0..rows.len()).map(|i| notice(o, column, &rows, i)).collect();
+    Ok(words(&notices, 2))
+}
+
+/// The answer to standing.
+pub fn standing(o: &Options, call: &Standing) -> Answer {
+    with_room(listed(o, call), call.output)
 }

@@ -2,11 +2,12 @@
 use crate::books;
 use crate::generate::{Pool, Random, words};
 use crate::rules::Row;
-use crate::script::{MOST_CODES, Merge, Options, Ranks};
+use crate::script::{MOST_CODES, Merge, Options, Ranks, Standing};
 use crate::whole_table::sort;
 
-/// The family of these inputs among all random ones.
+/// The families of these inputs among all random ones.
 const MERGES: u64 = 0x26;
+const STANDINGS: u64 = 0x27;
 
 /// What books are made of: values, how many of a hundred are null, and the codes of the list where there is one.
 struct Shape {
@@ -19,7 +20,8 @@ struct Shape {
 
 /// Up to so many codes, no two of them equal, in any order.
 fn codes(r: &mut Random) -> Vec<i64> {
-    let (most, pool) = (r.pick(&[1, 2, 3, 3, 5, MOST_CODES]), r.pick(&[Pool::Below(5), Pool::Below(100), Pool::Ends, Pool::Any]));
+    let (most, pool) =
+        (r.pick(&[1, 2, 3, 3, 5, MOST_CODES]), r.pick(&[Pool::Below(5), Pool::Below(100), Pool::Ends, Pool::Any]));
     let mut codes = vec![];
     for _ in 0..4 * most {
         let code = pool.value(r);
@@ -150,6 +152,33 @@ pub fn merge(seed: u64, number: u64) -> (Options, Merge) {
         refused(r, &mut o);
     }
     let needed = books::merged(&o, &call).map_or_else(|_| 2 + 4 * r.below(5), |words| words.len());
+    call.output = output(r, needed);
+    (o, call)
+}
+
+/// A place among the carried columns, now and then none of them.
+fn place(r: &mut Random, carried: u64) -> u64 {
+    match r.below(12) {
+        0 => r.pick(&[carried, carried.wrapping_add(1), 8, 1 << 32, 1 << 63, u64::MAX]),
+        _ if carried == 0 => 0,
+        _ => r.below(carried as usize) as u64,
+    }
+}
+
+/// The question which notice stands of this number among a seed's, and its options. Keys are few, so that notices are corrected,
+/// and one carried cell in three withdraws.
+pub fn standing(seed: u64, number: u64) -> (Options, Standing) {
+    let r = &mut Random::of_family(seed, STANDINGS, number);
+    let (mut o, mut s) = options(r);
+    (s.keys, s.carried) = (r.pick(&[Pool::Below(2), Pool::Below(4), Pool::Below(9), Pool::Ends]), Pool::Below(3));
+    o.carried = if r.percent(90) { o.carried.max(1) } else { 0 };
+    let wrong = r.percent(12);
+    let book = table(r, &o, &s, wrong);
+    if r.percent(6) {
+        refused(r, &mut o);
+    }
+    let mut call = Standing { place: place(r, o.carried.min(8)), output: 0, book };
+    let needed = books::listed(&o, &call).map_or_else(|_| 2 + 4 * r.below(5), |words| words.len());
     call.output = output(r, needed);
     (o, call)
 }

@@ -4,8 +4,8 @@
 use std::cmp::Ordering;
 
 use crate::script::{Answer, Call, JoinWords, Judge, Look, MOST_CODES, Open, Options, Place, Ran, Ranks, Stop, Told};
-use crate::{books, spans};
 use crate::words::{self, Rising, RowWords};
+use crate::{books, spans};
 
 /// A cell: null, or a number.
 pub type Cell = Option<i64>;
@@ -726,7 +726,12 @@ impl Join {
             Call::End => self.end(),
             Call::Ports(ports) => self.ports(*ports),
             Call::Turn(output) => self.turn(*output),
-            Call::Open(_) | Call::Options(_) | Call::Opens(..) | Call::Spans(_) | Call::Merge(_) => unreachable!(),
+            Call::Open(_)
+            | Call::Options(_)
+            | Call::Opens(..)
+            | Call::Spans(_)
+            | Call::Merge(_)
+            | Call::Standing(_) => unreachable!(),
             Call::Run(..) | Call::Move(..) | Call::State | Call::Areas | Call::Words | Call::Put(..) => unreachable!(),
         }
     }
@@ -772,6 +777,7 @@ impl Judge for Rules {
         match (call, self.told.opens(call), &mut self.join) {
             (Call::Spans(spans), ..) => spans::answer(spans),
             (Call::Merge(merge), ..) => self.told.with(|o| books::merge(o, merge)),
+            (Call::Standing(standing), ..) => self.told.with(|o| books::standing(o, standing)),
             (_, Some(Ok(open)), join) => {
                 let opened = Join::open(open);
                 let answer = opened.as_ref().map_or_else(|number| Answer::Refused(*number), |_| Answer::Ok);

@@ -117,7 +117,7 @@ impl Told {
     }
 }
 
-/// SCOPE 19, points in intervals: whether the lower and the upper bound are inclusive, the length of the output in words, and
+/// SCOPE 19.1, points in intervals: whether the lower and the upper bound are inclusive, the length of the output in words, and
 /// the words of both tables. Nothing is checked yet: any words can stand in the place of a flag or of a table.
 #[derive(Clone, Debug, PartialEq)]
 pub struct Spans {
@@ -128,13 +128,22 @@ pub struct Spans {
     pub intervals: Vec<i64>,
 }
 
-/// SCOPE 20, two books merged: the length of the output in words, and the words of both books. Nothing is checked yet. The
+/// SCOPE 19.9, two books merged: the length of the output in words, and the words of both books. Nothing is checked yet. The
 /// options are those of the last `options` line.
 #[derive(Clone, Debug, PartialEq)]
 pub struct Merge {
     pub output: usize,
     pub house: Vec<i64>,
     pub festival: Vec<i64>,
+}
+
+/// SCOPE 19.12, which notice stands: the place of the withdrawal column among the carried ones, the length of the output in words,
+/// and the words of the book. Nothing is checked yet. The options are those of the last `options` line.
+#[derive(Clone, Debug, PartialEq)]
+pub struct Standing {
+    pub place: u64,
+    pub output: usize,
+    pub book: Vec<i64>,
 }
 
 /// One line of a script.
@@ -158,8 +167,9 @@ pub enum Call {
     State,
     /// Needs no open join.
     Spans(Spans),
-    /// Needs no open join, and options that were told.
+    /// Need no open join, and options that were told.
     Merge(Merge),
+    Standing(Standing),
     /// Not of the shared script form: the words of both areas, for tests of the definitions.
     Areas,
     /// Not of the shared script form: the words of the join, as the C interface lays them out.
@@ -382,6 +392,14 @@ impl fmt::Display for Merge {
     }
 }
 
+impl fmt::Display for Standing {
+    /// The call's line.
+    fn fmt(&self, f: &mut fmt::Formatter<'_>) -> fmt::Result {
+        write!(f, "standing {} {}", self.place as i64, self.output)?;
+        tables(f, &[&self.book])
+    }
+}
+
 impl fmt::Display for Call {
     /// The call's line.
     fn fmt(&self, f: &mut fmt::Formatter<'_>) -> fmt::Result {
@@ -407,6 +425,7 @@ impl fmt::Display for Call {
             Call::State => write!(f, "state"),
             Call::Spans(s) => write!(f, "{s}"),
             Call::Merge(m) => write!(f, "{m}"),
+            Call::Standing(s) => write!(f, "{s}"),
             Call::Areas => write!(f, "areas"),
             Call::Words => write!(f, "words"),
             Call::Put(Place::Join, at, word) => write!(f, "put {at} {word}"),
@@ -509,7 +528,10 @@ fn numbers(words: &[&str]) -> Result<Vec<i64>, String> {
 }
 
 /// The words of a line with tables: those before the first `|`, so many, and the tables, so many, each behind a `|`.
-fn parse_tables<const W: usize, const T: usize>(name: &str, words: &[&str]) -> Result<([i64; W], [Vec<i64>; T]), String> {
+fn parse_tables<const W: usize, const T: usize>(
+    name: &str,
+    words: &[&str],
+) -> Result<([i64; W], [Vec<i64>; T]), String> {
     let mut parts = words.split(|w| *w == "|").map(numbers).collect::<Result<Vec<_>, _>>()?;
     let first = parts.remove(0);
     let many = parts.len();
@@ -531,6 +553,13 @@ fn parse_merge(words: &[&str]) -> Result<Call, String> {
     Ok(Call::Merge(Merge { output: count(output)?, house, festival }))
 }
 
+/// The words of a `standing` line: the place, the output's length, the book. A place above 2^63 − 1 is written as the negative
+/// word of the same bits.
+fn parse_standing(words: &[&str]) -> Result<Call, String> {
+    let ([place, output], [book]) = parse_tables("standing", words)?;
+    Ok(Call::Standing(Standing { place: place as u64, output: count(output)?, book }))
+}
+
 /// One line: none where it holds no call, an error where it is malformed.
 pub fn parse_line(line: &str) -> Result<Option<Call>, String> {
     let parts: Vec<&str> = line.split('#').next().unwrap_or("").split_ascii_whitespace().collect();
@@ -538,6 +567,7 @@ pub fn parse_line(line: &str) -> Result<Option<Call>, String> {
     match *name {
         "spans" => return parse_spans(words).map(Some),
         "merge" => return parse_merge(words).map(Some),
+        "standing" => return parse_standing(words).map(Some),
         _ => {},
     }
     let a = numbers(words)?;

@@ -88,6 +88,15 @@ fn right_columns(o: &Options) -> usize {
     o.b.saturating_add(1).saturating_add(usize::try_from(o.carried).unwrap_or(usize::MAX))
 }
 
+/// The answer to a call over books under these options, and what it did that no answer tells and none may do.
+fn over_books(o: &Options, call: &Call) -> (Answer, Option<&'static str>) {
+    match call {
+        Call::Merge(merge) => books::merge(raw_options(o), right_columns(o), merge),
+        Call::Standing(standing) => books::standing(raw_options(o), standing),
+        _ => unreachable!(),
+    }
+}
+
 impl Host {
     /// A fresh join, or the refusal's number. The areas' words are those that scripts begin with.
     fn open(o: &Open) -> Result<Host, u64> {
@@ -272,10 +281,10 @@ impl Judge for Port {
                 self.wrong = self.wrong.or(wrong);
                 answer
             },
-            (Call::Merge(merge), ..) => {
+            (Call::Merge(_) | Call::Standing(_), ..) => {
                 let mut wrong = None;
                 let answer = self.told.with(|o| {
-                    let (answer, did) = books::merge(raw_options(o), right_columns(o), merge);
+                    let (answer, did) = over_books(o, call);
                     wrong = did;
                     answer
                 });

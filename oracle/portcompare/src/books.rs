@@ -1,7 +1,7 @@
-//! SCOPE 20, two books merged: random inputs through the port and the plain reading.
+//! SCOPE 19.8 to 19.16, books of notices: random inputs through the port and the plain readings.
 use std::time::Instant;
 
-use judges::books::{self, MERGE_REFUSALS};
+use judges::books::{self, MERGE_REFUSALS, STANDING_REFUSALS};
 use judges::generate_books;
 use judges::script::{Answer, Call, Judge, Options};
 use port::Port;
@@ -18,6 +18,8 @@ struct Tally {
     long: u64,
     lists: u64,
     carried: u64,
+    /// Rows that stand, that name another, that name themselves, and that name none.
+    notices: [u64; 4],
     /// How often each refusal came, in the order in which they are looked for.
     refused: Vec<(u8, u64)>,
 }
@@ -46,19 +48,39 @@ impl Tally {
         }
     }
 
+    /// Counts the notices of a table.
+    fn count_notices(&mut self, words: &[i64]) {
+        let n = words[0] as usize;
+        for (i, cells) in words[2..2 + 2 * n].chunks_exact(2).enumerate() {
+            let kind = match (cells, words[2 + 2 * n + 2 * i + 1]) {
+                ([1, _], _) => 0,
+                (_, 0) => 3,
+                ([_, named], _) => 1 + (*named == i as i64) as usize,
+                _ => unreachable!(),
+            };
+            self.notices[kind] += 1;
+        }
+    }
+
     /// What the run never met, though it is made to.
     fn missing(&self) -> Option<String> {
-        let met = [("rows", self.rows), ("long tables", self.long), ("lists", self.lists), ("carried columns", self.carried)];
+        let met =
+            [("rows", self.rows), ("long tables", self.long), ("lists", self.lists), ("carried columns", self.carried)];
         let none = met.iter().find(|(_, n)| *n == 0).map(|(what, _)| what.to_string());
         let refused = self.refused.iter().find(|(_, n)| *n == 0);
-        none.or(refused.map(|(number, _)| format!("refusals by {number}")))
+        let listed = self.notices != [0; 4] && self.notices.contains(&0);
+        none.or(listed.then(|| "kind of notice".to_string()))
+            .or(refused.map(|(number, _)| format!("refusals by {number}")))
     }
 
     /// The counts on one line.
     fn line(&self) -> String {
         let refused: Vec<String> = self.refused.iter().map(|(number, n)| format!("{number} {n}")).collect();
+        let [stand, named, themselves, none] = self.notices;
+        let listed = format!("; {stand} stand, {named} name another, {themselves} themselves, {none} none");
+        let listed = if self.notices == [0; 4] { String::new() } else { listed };
         format!(
-            "{} inputs, {} accepted with {} rows ({} with more than 4096, {} with a list, {} with carried columns); refused by {}",
+            "{} inputs, {} accepted with {} rows ({} with more than 4096, {} with a list, {} with carried columns){listed}; refused by {}",
             self.inputs,
             self.accepted,
             self.rows,
@@ -85,6 +107,9 @@ fn compare(name: &str, refusals: &[u8], seed: u64, count: u64, input: fn(u64, u6
     for number in 0..count {
         let (o, call, due) = input(seed, number);
         tally.count(&o, &due);
+        if let (Call::Standing(_), Answer::Table(words)) = (&call, &due) {
+            tally.count_notices(words);
+        }
         if let Some(why) = differs(&o, &call, &due) {
             println!("DIFFERENCE {name}, seed {seed}, input {number}: {why}\n    {}\n    {call}", Call::Options(o));
             told += 1;
@@ -111,4 +136,16 @@ fn merge(seed: u64, number: u64) -> (Options, Call, Answer) {
 /// Runs COUNT random merges.
 pub fn compare_merges(seed: u64, count: u64) -> bool {
     compare("merges", &MERGE_REFUSALS, seed, count, merge)
+}
+
+/// The question which notice stands of this number, and the answer that is due.
+fn standing(seed: u64, number: u64) -> (Options, Call, Answer) {
+    let (o, call) = generate_books::standing(seed, number);
+    let due = books::standing(&o, &call);
+    (o, Call::Standing(call), due)
+}
+
+/// Runs COUNT random questions which notice stands.
+pub fn compare_standings(seed: u64, count: u64) -> bool {
+    compare("standings", &STANDING_REFUSALS, seed, count, standing)
 }

@@ -121,10 +121,10 @@ fn run(args: &[&str]) -> Result<bool, String> {
         [seed, count] => (compare_all, number(seed)?, number(count)?),
         ["spans", seed, count] => (spans::compare_all, number(seed)?, number(count)?),
         ["merge", seed, count] => (books::compare_merges, number(seed)?, number(count)?),
+        ["standing", seed, count] => (books::compare_standings, number(seed)?, number(count)?),
         _ => {
-            return Err(
-                "compare: wants a seed and a count of scripts, or spans or merge, a seed and a count of inputs".to_string()
-            );
+            let wants = "a seed and a count of scripts, or spans, merge or standing, a seed and a count of inputs";
+            return Err(format!("compare: wants {wants}"));
         },
     };
     // A panic is told as a difference, so its own words need not be.

@@ -1,0 +1,55 @@
+// Which notice stands: the call that says of each row of a sorted book whether it stands, and which row it names.
+use bookjudge::judge_book;
+use framerule::has_room;
+use framerule::row_count;
+use neighbours::is_sorted;
+use notices::put_notices;
+use options::Options;
+use options::right_columns;
+use outcomes::Took;
+use refusals::Refusal;
+use tables::Written;
+use tables::put_head;
+ghost use Rattle.frames.specs.Cells.{rowsOf};
+ghost use Rattle.books.specs.Calls.{StandContract};
+ghost use Rattle.noticecall.specs.BookRows.{BookIn, ListContract};
+
+// The notices of n rows, each w wide, as a table of two columns; refused by 13 for a place that is no carried column, by 14 where the rows are not sorted, by 6 where the output is too short.
+fn list_notices(
+    values: &[i64],
+    marks: &[i64],
+    n: usize,
+    w: usize,
+    column: usize,
+    o: Options,
+    out: &mut [i64],
+) -> Written
+    requires { ⌜ BookIn o w n (now values) (now marks) ⌝ }
+    ensures { λ r. ⌜ ListContract o column (rowsOf w n (now (values .entry)) (now (marks .entry))) (now (out .entry)) r (now (out .exit)) ⌝ }
+{
+    if o.carried <= column {
+        return Written::Refused(Refusal::BadColumns);
+    }
+    if !is_sorted(values, marks, n, w, o) {
+        return Written::Refused(Refusal::Unsorted);
+    }
+    if !has_room(n, 2, out.len()) {
+        return Written::Refused(Refusal::NoRoom);
+    }
+    put_notices(values, marks, n, w, column, o, 2 * n, out);
+    put_head(out, n, 2);
+    Written::Rows(n)
+}
+
+// Says of each row of a sorted book: 1 if it stands, else 0, and the row that it names. The carried column of that place, from 0, tells which notices withdraw.
+pub fn standing(book: &[i64], column: usize, o: Options, out: &mut [i64]) -> Written
+    ensures { λ r. ⌜ StandContract o column (now (book .entry)) (now (out .entry)) r (now (out .exit)) ⌝ }
+{
+    if let Took::Refused(r) = judge_book(book, o) {
+        return Written::Refused(r);
+    }
+    let w = right_columns(o);
+    let n = row_count(book);
+    let e = 2 + n * w;
+    list_notices(&book[2..e], &book[e..], n, w, column, o, out)
+}

@@ -1,0 +1,60 @@
+-- `notices::list::same_row` meets its contract. Assumes nothing.
+use borrow.Author.Needs.{needs}
+use mathlib.Core.Path.{_≡_, sym, ap, _∙_}
+use native.Mathlib.Omega.{arith}
+use denote.Ref.{now}
+use Rattle.frames.specs.Cells.{rowFrom}
+use Rattle.order.specs.Order.{isEqual}
+use Rattle.order.proofs.RowLaws.{row-cell}
+use Rattle.neighbours.proofs.FallLaws.{keys-decide}
+use Rattle.notices.proofs.NoticeLaws.{not-equal-arm}
+use Rattle.notices.proofs.list.same_row.Statement.{statement}
+use Rattle.notices.proofs.list.same_row.Tie as tie
+
+same-values-requires : tie.Need-same-values-requires
+same-values-requires c κs = search needs
+
+add-same-key : tie.Need-add-same-key
+add-same-key c = search needs
+
+add-same-key-2 : tie.Need-add-same-key-2
+add-same-key-2 c = search needs
+
+same-key-requires : tie.Need-same-key-requires
+same-key-requires c κs = search needs
+
+returns : tie.Need-returns
+returns c = λ w h.
+    let s = c .before .before .before in
+    let a = s .args in
+    let vs = now (a .values) in
+    let ms = now (a .marks) in
+    let e = c .before .before .same-values .ensures (c .before .if1 .taken) w h in
+    c .same-key .ensures
+    ∙ sym (ap isEqual (keys-decide (a .o) (rowFrom w (a .p) vs ms) (rowFrom w (a .q) vs ms) e) ∙ rw (row-cell w (a .p) (a .o .by) vs ms h (s .pre .0 .values), row-cell w (a .q) (a .o .by) vs ms h (s .pre .1 .values)))
+
+cmp-row-requires : tie.Need-cmp-row-requires
+cmp-row-requires c κs = search needs
+
+enum-told : tie.Need-enum-told
+enum-told c = search needs
+
+returns-2 : tie.Need-returns-2
+returns-2 c = λ w h. rw (← (c .before .before .cmp-row .ensures w w h h), c .enum-told .given .1)
+
+returns-3 : tie.Need-returns-3
+returns-3 c = λ w h. rw (← (c .before .cmp-row .ensures w w h h), not-equal-arm (c .before .cmp-row .result) (c .match .keys2))
+
+pub same-row-spec : {M : Type 1} → statement M
+same-row-spec =
+    tie.close
+    (tie.spec
+    same-values-requires
+    add-same-key
+    add-same-key-2
+    same-key-requires
+    returns
+    cmp-row-requires
+    enum-told
+    returns-2
+    returns-3)
