@@ -10,7 +10,7 @@ use Rattle.lists.specs.Lists.{Call}
 use Rattle.lists.specs.WholeTables.{lefts, rights, turnedRows, matches, dueOver, Correct, Each}
 use Rattle.books.specs.Merge.{merge}
 
--- Any list of calls whose accepted right rows are the merged table, however it is cut in frames and whatever else the list has: what it writes are the
+-- SCOPE 19.11: any list of calls whose accepted right rows are the merged table, however it is cut in frames and whatever else the list has: what it writes are the
 -- matches of the whole-table rule over the merged table, and each is right as the whole-table theorem says.
 pub record SeasonOf (o : Options) (l r : Words) (calls : List Call) (house festival : Rows) : Type 0 where
   pub whole-table : matches o l r calls ≡ map (dueOver o (merge o house festival)) (turnedRows o l r calls)

@@ -22,11 +22,11 @@ abbrev pub isOne : Cell → Bool
 isOne null = false
 isOne (value v) = sameZ v (pos 1)
 
--- A notice is withdrawn where carried column q, counted from 0 behind the key, is 1.
+-- SCOPE 19.12: a notice is withdrawn where carried column q, counted from 0 behind the key, is 1.
 abbrev pub withdrawn : Options → ℕ → List Cell → Bool
 withdrawn o q r = isOne (cell (suc (o .by) + q) r)
 
--- One notice corrects another if it comes later and has the same group and key.
+-- SCOPE 19.12: one notice corrects another if it comes later and has the same group and key.
 abbrev pub corrects : Options → List Cell → List Cell → Bool
 corrects o s r = isEqual (cmpRow o s r)
 
@@ -44,11 +44,11 @@ lastOf o r n i (s ∷ rs) = lastOf o r (cond (corrects o s r) i n) (suc i) rs
 abbrev pub nameless : Options → List Cell → Bool
 nameless o r = nullKey o r || nullGroup o r
 
--- A row stands if no later one corrects it and it does not withdraw. The rows behind r are rs.
+-- SCOPE 19.13: a row stands if no later one corrects it and it does not withdraw. The rows behind r are rs.
 unfoldable pub stands : Options → ℕ → List Cell → Rows → Bool
 stands o q r rs = not (nameless o r) && not (corrected o r rs) && not (withdrawn o q r)
 
--- The output's row for row i. A row that stands: 1 and null. A row that does not: 0 and the number of the last row with its group and key, its own if it is that row
+-- SCOPE 19.14: the output's row for row i. A row that stands: 1 and null. A row that does not: 0 and the number of the last row with its group and key, its own if it is that row
 -- and withdraws; 0 and null if its key or group is null.
 unfoldable pub noticeOf : Options → ℕ → ℕ → List Cell → Rows → List Cell
 noticeOf o q i r rs =
@@ -61,7 +61,7 @@ unfoldable pub notices : Options → ℕ → ℕ → Rows → Rows
 notices o q i [] = []
 notices o q i (r ∷ rs) = noticeOf o q i r rs ∷ notices o q (suc i) rs
 
--- The rows that stand, as a table.
+-- SCOPE 19.15: the rows that stand, as a table.
 unfoldable pub standing : Options → ℕ → Rows → Rows
 standing o q [] = []
 standing o q (r ∷ rs) = cond (stands o q r rs) (r ∷ standing o q rs) (standing o q rs)
@@ -81,7 +81,7 @@ abbrev pub translated : List ℕ → Choice → Choice
 translated ns (Row k) = Row (getD ns k 0)
 translated ns Nothing = Nothing
 
--- The statement: if nothing is withdrawn, a left row has the same notice over the standing table as over all rows, by Backward and by Nearest; the numbers differ by the rows left out before it.
+-- SCOPE 19.15, the statement: if nothing is withdrawn, a left row has the same notice over the standing table as over all rows, by Backward and by Nearest; the numbers differ by the rows left out before it.
 abbrev pub SamePicks : Type 0
 SamePicks =
     (o : Options) (q : ℕ) (rows : Rows) → (strategyOf o ≡ Backward) ⊎ (strategyOf o ≡ Nearest) → noneWithdrawn o q rows ≡ true

@@ -1,4 +1,4 @@
-// Books: two sorted right tables merged into one; the notices of a sorted right table that stand (definitions, so far).
+// Books of notices, sorted tables of right rows: definitions and laws of two merged into one and of which notices stand; the rows of a merge, written.
 mod merge;
 
 pub use merge::merge_rows;
