@@ -2,18 +2,22 @@
 use framerule::is_table;
 use judges::judge_open;
 use listed::lacks_code;
-use options::Options;
+use options::Terms;
 use options::right_columns;
 use outcomes::Took;
 use refusals::Refusal;
 ghost use mathlib.Core.Path.{_≡_};
+ghost use Prim.Native.Nat.{_≤_};
+ghost use lib.ListN.{length};
+ghost use Rattle.options.specs.Options.{withList};
 ghost use Rattle.bookjudge.specs.Judged.{bookJudged, booksJudged};
 
 // One book, under these options.
-pub fn judge_book(book: &[i64], o: Options) -> Took
-    ensures { λ r. ⌜ r ≡ bookJudged o (now (book .entry)) ⌝ }
+pub fn judge_book(book: &[i64], o: Terms, codes: &[i64], rising: &[u8]) -> Took
+    requires { ⌜ (64 ≤ length (now codes)) × (64 ≤ length (now rising)) ⌝ }
+    ensures { λ r. ⌜ r ≡ bookJudged (withList o (now (codes .entry)) (now (rising .entry))) (now (book .entry)) ⌝ }
 {
-    let open = judge_open(o);
+    let open = judge_open(o, codes, rising);
     if let Took::Refused(_) = open {
         return open;
     }
@@ -21,17 +25,18 @@ pub fn judge_book(book: &[i64], o: Options) -> Took
     if !is_table(book, c) {
         return Took::Refused(Refusal::BadFrame);
     }
-    if lacks_code(book, c, o) {
+    if lacks_code(book, c, o, codes, rising) {
         return Took::Refused(Refusal::UnknownCode);
     }
     Took::Accepted
 }
 
 // Two books: both must be tables before the list of ranks is asked.
-pub fn judge_books(house: &[i64], festival: &[i64], o: Options) -> Took
-    ensures { λ r. ⌜ r ≡ booksJudged o (now (house .entry)) (now (festival .entry)) ⌝ }
+pub fn judge_books(house: &[i64], festival: &[i64], o: Terms, codes: &[i64], rising: &[u8]) -> Took
+    requires { ⌜ (64 ≤ length (now codes)) × (64 ≤ length (now rising)) ⌝ }
+    ensures { λ r. ⌜ r ≡ booksJudged (withList o (now (codes .entry)) (now (rising .entry))) (now (house .entry)) (now (festival .entry)) ⌝ }
 {
-    let open = judge_open(o);
+    let open = judge_open(o, codes, rising);
     if let Took::Refused(_) = open {
         return open;
     }
@@ -42,10 +47,10 @@ pub fn judge_books(house: &[i64], festival: &[i64], o: Options) -> Took
     if !is_table(festival, c) {
         return Took::Refused(Refusal::BadFrame);
     }
-    if lacks_code(house, c, o) {
+    if lacks_code(house, c, o, codes, rising) {
         return Took::Refused(Refusal::UnknownCode);
     }
-    if lacks_code(festival, c, o) {
+    if lacks_code(festival, c, o, codes, rising) {
         return Took::Refused(Refusal::UnknownCode);
     }
     Took::Accepted

@@ -5,10 +5,15 @@ use framerule::has_room;
 use framerule::row_count;
 use neighbours::is_sorted;
 use options::Options;
+use options::Terms;
 use options::right_columns;
+use options::terms_of;
 use outcomes::Took;
 use refusals::Refusal;
 use tables::Written;
+ghost use Prim.Native.Nat.{_≤_};
+ghost use lib.ListN.{length};
+ghost use Rattle.options.specs.Options.{withList};
 ghost use Rattle.frames.specs.Cells.{rowsOf};
 ghost use Rattle.books.specs.Calls.{MergeContract};
 ghost use Rattle.bookmerge.specs.BookRows.{BooksIn, BooksContract};
@@ -22,31 +27,41 @@ fn merge_books(
     fm: &[i64],
     nf: usize,
     w: usize,
-    o: Options,
+    o: Terms,
+    codes: &[i64],
+    rising: &[u8],
     out: &mut [i64],
 ) -> Written
-    requires { ⌜ BooksIn o w nh (now hv) (now hm) nf (now fv) (now fm) ⌝ }
-    ensures { λ r. ⌜ BooksContract o w (rowsOf w nh (now (hv .entry)) (now (hm .entry))) (rowsOf w nf (now (fv .entry)) (now (fm .entry))) (now (out .entry)) r (now (out .exit)) ⌝ }
+    requires { ⌜ BooksIn (withList o (now codes) (now rising)) w nh (now hv) (now hm) nf (now fv) (now fm) ⌝ }
+    ensures { λ r. ⌜ BooksContract (withList o (now (codes .entry)) (now (rising .entry))) w (rowsOf w nh (now (hv .entry)) (now (hm .entry))) (rowsOf w nf (now (fv .entry)) (now (fm .entry))) (now (out .entry)) r (now (out .exit)) ⌝ }
 {
-    if !is_sorted(hv, hm, nh, w, o) {
+    if !is_sorted(hv, hm, nh, w, o, codes, rising) {
         return Written::Refused(Refusal::Unsorted);
     }
-    if !is_sorted(fv, fm, nf, w, o) {
+    if !is_sorted(fv, fm, nf, w, o, codes, rising) {
         return Written::Refused(Refusal::Unsorted);
     }
     let n = nh + nf;
     if !has_room(n, w, out.len()) {
         return Written::Refused(Refusal::NoRoom);
     }
-    merge_rows(hv, hm, nh, fv, fm, nf, w, o, out);
+    merge_rows(hv, hm, nh, fv, fm, nf, w, o, codes, rising, out);
     Written::Rows(n)
 }
 
-// Merges the house's book and the festival's, both sorted, into one sorted table: every row of both, and of rows that compare equal the house's first.
-pub fn merge(house: &[i64], festival: &[i64], o: Options, out: &mut [i64]) -> Written
-    ensures { λ r. ⌜ MergeContract o (now (house .entry)) (now (festival .entry)) (now (out .entry)) r (now (out .exit)) ⌝ }
+// The same of two books that are handed in whole, under these options.
+fn merge_listed(
+    house: &[i64],
+    festival: &[i64],
+    o: Terms,
+    codes: &[i64],
+    rising: &[u8],
+    out: &mut [i64],
+) -> Written
+    requires { ⌜ (64 ≤ length (now codes)) × (64 ≤ length (now rising)) ⌝ }
+    ensures { λ r. ⌜ MergeContract (withList o (now (codes .entry)) (now (rising .entry))) (now (house .entry)) (now (festival .entry)) (now (out .entry)) r (now (out .exit)) ⌝ }
 {
-    if let Took::Refused(r) = judge_books(house, festival, o) {
+    if let Took::Refused(r) = judge_books(house, festival, o, codes, rising) {
         return Written::Refused(r);
     }
     let w = right_columns(o);
@@ -63,6 +78,17 @@ pub fn merge(house: &[i64], festival: &[i64], o: Options, out: &mut [i64]) -> Wr
         nf,
         w,
         o,
+        codes,
+        rising,
         out,
     )
+}
+
+// Merges the house's book and the festival's, both sorted, into one sorted table: every row of both, and of rows that compare equal the house's first.
+pub fn merge(house: &[i64], festival: &[i64], o: Options, out: &mut [i64]) -> Written
+    ensures { λ r. ⌜ MergeContract o (now (house .entry)) (now (festival .entry)) (now (out .entry)) r (now (out .exit)) ⌝ }
+{
+    let codes = o.ranks.codes;
+    let rising = o.ranks.rising;
+    merge_listed(house, festival, terms_of(o), &codes, &rising, out)
 }

@@ -2,12 +2,12 @@
 use cursor::first_key;
 use look::first_fit;
 use look::last_fit;
-use options::Options;
 use options::Strategy;
+use options::Terms;
 use options::strategy_of;
 ghost use mathlib.Core.Path.{_≡_};
 ghost use Prim.Native.Nat.{_≤_};
-ghost use Rattle.options.specs.Options.{strategyOf};
+ghost use Rattle.options.specs.Options.{withoutList, strategyOf};
 ghost use Rattle.order.specs.Requires.{RowsIn};
 ghost use Rattle.options.specs.declared.Strategy.the-variants.{Backward, Forward, Nearest};
 ghost use Rattle.candidates.specs.Part.{Cut, LeftRun, Candidates};
@@ -27,10 +27,10 @@ fn backward_part(
     w: usize,
     f: i64,
     l: i64,
-    o: Options,
+    o: Terms,
 ) -> Part
-    requires { ⌜ RowsIn o w end (now rv) (now rm) × (at ≤ end) × (strategyOf o ≡ Backward) ⌝ }
-    ensures { λ r. ⌜ Cut o w at end (now (rv .entry)) (now (rm .entry)) f l r ⌝ }
+    requires { ⌜ RowsIn (withoutList o) w end (now rv) (now rm) × (at ≤ end) × (strategyOf (withoutList o) ≡ Backward) ⌝ }
+    ensures { λ r. ⌜ Cut (withoutList o) w at end (now (rv .entry)) (now (rm .entry)) f l r ⌝ }
 {
     let to = last_fit(rv, rm, at, end, w, l, o.allow_eq, o);
     let from = last_fit(rv, rm, at, to, w, f, o.allow_eq, o);
@@ -52,10 +52,10 @@ fn forward_part(
     w: usize,
     f: i64,
     l: i64,
-    o: Options,
+    o: Terms,
 ) -> Part
-    requires { ⌜ RowsIn o w end (now rv) (now rm) × (at ≤ end) × (strategyOf o ≡ Forward) ⌝ }
-    ensures { λ r. ⌜ Cut o w at end (now (rv .entry)) (now (rm .entry)) f l r ⌝ }
+    requires { ⌜ RowsIn (withoutList o) w end (now rv) (now rm) × (at ≤ end) × (strategyOf (withoutList o) ≡ Forward) ⌝ }
+    ensures { λ r. ⌜ Cut (withoutList o) w at end (now (rv .entry)) (now (rm .entry)) f l r ⌝ }
 {
     let from = first_fit(rv, rm, at, end, w, f, o.allow_eq, o);
     let to = first_fit(rv, rm, from, end, w, l, o.allow_eq, o);
@@ -72,9 +72,9 @@ fn forward_part(
 }
 
 // Nearest, of one left key v: the last row with that key, if no row with a key below it stands behind it; else the whole run.
-fn nearest_part(rv: &[i64], rm: &[i64], at: usize, end: usize, w: usize, v: i64, o: Options) -> Part
-    requires { ⌜ RowsIn o w end (now rv) (now rm) × (at ≤ end) × (strategyOf o ≡ Nearest) ⌝ }
-    ensures { λ r. ⌜ Cut o w at end (now (rv .entry)) (now (rm .entry)) v v r ⌝ }
+fn nearest_part(rv: &[i64], rm: &[i64], at: usize, end: usize, w: usize, v: i64, o: Terms) -> Part
+    requires { ⌜ RowsIn (withoutList o) w end (now rv) (now rm) × (at ≤ end) × (strategyOf (withoutList o) ≡ Nearest) ⌝ }
+    ensures { λ r. ⌜ Cut (withoutList o) w at end (now (rv .entry)) (now (rm .entry)) v v r ⌝ }
 {
     let to = last_fit(rv, rm, at, end, w, v, true, o);
     if to == at {
@@ -100,10 +100,10 @@ fn part_of(
     w: usize,
     f: i64,
     l: i64,
-    o: Options,
+    o: Terms,
 ) -> Part
-    requires { ⌜ RowsIn o w end (now rv) (now rm) × (at ≤ end) ⌝ }
-    ensures { λ r. ⌜ Cut o w at end (now (rv .entry)) (now (rm .entry)) f l r ⌝ }
+    requires { ⌜ RowsIn (withoutList o) w end (now rv) (now rm) × (at ≤ end) ⌝ }
+    ensures { λ r. ⌜ Cut (withoutList o) w at end (now (rv .entry)) (now (rm .entry)) f l r ⌝ }
 {
     let s = strategy_of(o);
     match s {
@@ -130,10 +130,10 @@ pub fn candidates(
     at: usize,
     end: usize,
     wr: usize,
-    o: Options,
+    o: Terms,
 ) -> Part
-    requires { ⌜ LeftRun o wl from to (now lv) (now lm) × RowsIn o wr end (now rv) (now rm) × (at ≤ end) ⌝ }
-    ensures { λ r. ⌜ Candidates o wl from to (now (lv .entry)) (now (lm .entry)) wr at end (now (rv .entry)) (now (rm .entry)) r ⌝ }
+    requires { ⌜ LeftRun (withoutList o) wl from to (now lv) (now lm) × RowsIn (withoutList o) wr end (now rv) (now rm) × (at ≤ end) ⌝ }
+    ensures { λ r. ⌜ Candidates (withoutList o) wl from to (now (lv .entry)) (now (lm .entry)) wr at end (now (rv .entry)) (now (rm .entry)) r ⌝ }
 {
     let i = first_key(lm, from, to, wl, o);
     if i == to {

@@ -1,2 +1,3 @@
 pub mod SpreadLaws
 pub mod LaidLaws
+pub mod TermLaws

@@ -1,14 +1,14 @@
 // The carried columns of an answer: the cells that a chosen right row has behind its key, written behind its number.
 use keyed::null_at;
 use matching::Choice;
-use options::Options;
+use options::Terms;
 use options::answer_columns;
 use tables::put_cell;
 ghost use mathlib.Core.Path.{_≡_};
 ghost use Prim.Native.Nat.{_+_, _*_};
 ghost use lib.ListN.{set, replicate};
 ghost use Rattle.frames.specs.Cells.{null, valueWord, markWord, rowsOf};
-ghost use Rattle.options.specs.Options.{answerColumns};
+ghost use Rattle.options.specs.Options.{withoutList, answerColumns};
 ghost use Rattle.order.specs.Requires.{cellAt, CellIn};
 ghost use Rattle.tables.specs.Lay.{layCells, CellRoom};
 ghost use Rattle.carrying.specs.Loops.{cellsAt, rowWith, CellsIn, CellsRoom, ChoiceIn, RowSpread};
@@ -68,12 +68,12 @@ fn spread_row(
     rm: &[i64],
     wr: usize,
     number: usize,
-    o: Options,
+    o: Terms,
     m: usize,
     out: &mut [i64],
 )
-    requires { ⌜ RowSpread o i wr (now rv) (now rm) number m (now out) ⌝ }
-    ensures { λ _. ⌜ now (out .exit) ≡ layCells m (i * answerColumns o) (rowWith o number wr (now (rv .entry)) (now (rm .entry)) (choiceAt m (now (out .entry)) i)) (now (out .entry)) ⌝ }
+    requires { ⌜ RowSpread (withoutList o) i wr (now rv) (now rm) number m (now out) ⌝ }
+    ensures { λ _. ⌜ now (out .exit) ≡ layCells m (i * answerColumns (withoutList o)) (rowWith (withoutList o) number wr (now (rv .entry)) (now (rm .entry)) (choiceAt m (now (out .entry)) i)) (now (out .entry)) ⌝ }
 {
     let c = answer_columns(o);
     let k = i * c;
@@ -98,12 +98,12 @@ pub fn spread_rows(
     nr: usize,
     wr: usize,
     number: usize,
-    o: Options,
+    o: Terms,
     m: usize,
     out: &mut [i64],
 )
-    requires { ⌜ SpreadIn o n wr nr (now rv) (now rm) number m (now out) ⌝ }
-    ensures { λ _. ⌜ Spreads o number (rowsOf wr nr (now (rv .entry)) (now (rm .entry))) n m (now (out .entry)) (now (out .exit)) ⌝ }
+    requires { ⌜ SpreadIn (withoutList o) n wr nr (now rv) (now rm) number m (now out) ⌝ }
+    ensures { λ _. ⌜ Spreads (withoutList o) number (rowsOf wr nr (now (rv .entry)) (now (rm .entry))) n m (now (out .entry)) (now (out .exit)) ⌝ }
 {
     let mut i = n;
     while 0 < i {

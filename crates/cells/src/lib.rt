@@ -1,14 +1,13 @@
 // Cells compared, by number or by their places in a list; and the distance of two keys.
 use order::Order;
 use ranking::place_of;
-use ranks::Ranks;
 ghost use mathlib.Core.Path.{_≡_};
 ghost use mathlib.Core.List.{[]};
 ghost use lib.IntN.{natAbs, _-ℤ_};
 ghost use mir.Syntax.{w64};
 ghost use mir.Val.{ofZ};
 ghost use Rattle.frames.specs.Cells.{cellOf};
-ghost use Rattle.ranks.specs.Ranks.{codesOf, Indexed, Kept};
+ghost use Rattle.ranks.specs.Ranks.{Indexed};
 ghost use Rattle.order.specs.Order.{cmpZ, cmpValue, cmpCell};
 
 // Two values, as numbers.
@@ -92,34 +91,6 @@ pub fn cmp_listed(
         return cmp_place(vb, va, codes, rising);
     }
     cmp_place(va, vb, codes, rising)
-}
-
-// Two cells of the column that has the list.
-pub fn cmp_ranked(
-    va: i64,
-    ma: i64,
-    vb: i64,
-    mb: i64,
-    descending: bool,
-    nulls_last: bool,
-    k: Ranks,
-) -> Order
-    requires { ⌜ Kept k ⌝ }
-    ensures { λ r. ⌜ r ≡ cmpCell (record { descending = descending; nullsLast = «nulls_last»; codes = codesOf k }) (cellOf va ma) (cellOf vb mb) ⌝ }
-{
-    let count = k.count;
-    let codes = k.codes;
-    let rising = k.rising;
-    cmp_listed(
-        va,
-        ma,
-        vb,
-        mb,
-        descending,
-        nulls_last,
-        &codes[..count],
-        &rising[..count],
-    )
 }
 
 // The unsigned image of a: its bits as a number from 0 to 2^64 - 1.

@@ -1,20 +1,23 @@
 // Whether the numbers of a join hold together and fit its areas, for any numbers and any areas: refusal 2.
-use options::Options;
+use options::Terms;
 use options::bad_options;
 use options::many_carried;
 use options::right_columns;
 use outcomes::above;
 use ranking::bad_ranks;
 ghost use mathlib.Core.Path.{_≡_};
-ghost use Rattle.options.specs.Options.{refusedOptions};
+ghost use Prim.Native.Nat.{_≤_};
+ghost use lib.ListN.{length};
+ghost use Rattle.options.specs.Options.{withList, refusedOptions};
 ghost use Rattle.callrules.specs.Judged.{badNumbers};
 
 // The greatest number of right rows.
 const MOST_ROWS: usize = 9223372036854775807;
 
 // Whether opening refuses the options (SCOPE 3.9).
-fn refused_options(o: Options) -> bool
-    ensures { λ r. ⌜ r ≡ refusedOptions o ⌝ }
+fn refused_options(o: Terms, codes: &[i64], rising: &[u8]) -> bool
+    requires { ⌜ (64 ≤ length (now codes)) × (64 ≤ length (now rising)) ⌝ }
+    ensures { λ r. ⌜ r ≡ refusedOptions (withList o (now (codes .entry)) (now (rising .entry))) ⌝ }
 {
     if bad_options(o) {
         return true;
@@ -22,12 +25,14 @@ fn refused_options(o: Options) -> bool
     if many_carried(o) {
         return true;
     }
-    bad_ranks(o.by, o.ranks)
+    bad_ranks(o.by, o.given, o.column, o.count, codes, rising)
 }
 
 // Whether the numbers of a join, with these areas, meet refusal 2.
 pub fn bad_numbers(
-    o: Options,
+    o: Terms,
+    codes: &[i64],
+    rising: &[u8],
     base: usize,
     held: usize,
     pruned: usize,
@@ -37,9 +42,10 @@ pub fn bad_numbers(
     left: &[i64],
     right: &[i64],
 ) -> bool
-    ensures { λ r. ⌜ r ≡ badNumbers o base held pruned start words sequence (now (left .entry)) (now (right .entry)) ⌝ }
+    requires { ⌜ (64 ≤ length (now codes)) × (64 ≤ length (now rising)) ⌝ }
+    ensures { λ r. ⌜ r ≡ badNumbers (withList o (now (codes .entry)) (now (rising .entry))) base held pruned start words sequence (now (left .entry)) (now (right .entry)) ⌝ }
 {
-    if refused_options(o) {
+    if refused_options(o, codes, rising) {
         return true;
     }
     let c = right_columns(o);

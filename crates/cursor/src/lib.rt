@@ -2,13 +2,13 @@
 use fits::fits_key;
 use fits::nearer_key;
 use keyed::null_at;
-use options::Options;
 use options::Strategy;
+use options::Terms;
 ghost use mathlib.Core.Path.{_≡_};
 ghost use mathlib.Core.Bool.{false, not, _&&_, _||_};
 ghost use Prim.Native.Nat.{_<_, _≤_};
 ghost use Rattle.frames.specs.Cells.{value, isNull};
-ghost use Rattle.options.specs.Options.{keyRule};
+ghost use Rattle.options.specs.Options.{withoutList, keyRule};
 ghost use Rattle.order.specs.Order.{cmpCell};
 ghost use Rattle.order.specs.Requires.{cellAt, CellIn, KeysIn, RowsIn};
 ghost use Rattle.options.specs.declared.Strategy.the-variants.{Backward, Forward};
@@ -17,9 +17,9 @@ ghost use Rattle.matching.specs.Stretches.{between};
 ghost use Rattle.matching.specs.Moves.{keysSorted, FirstKey, keyAt, movesOn, fitsKey, knownFit};
 
 // The first row of from..to that has a key; `to` where none has.
-pub fn first_key(marks: &[i64], from: usize, to: usize, w: usize, o: Options) -> usize
-    requires { ⌜ KeysIn o w to (now marks) × (from ≤ to) ⌝ }
-    ensures { λ r. ⌜ FirstKey o w from to (now (marks .entry)) r ⌝ }
+pub fn first_key(marks: &[i64], from: usize, to: usize, w: usize, o: Terms) -> usize
+    requires { ⌜ KeysIn (withoutList o) w to (now marks) × (from ≤ to) ⌝ }
+    ensures { λ r. ⌜ FirstKey (withoutList o) w from to (now (marks .entry)) r ⌝ }
 {
     let by = o.by;
     let mut i = from;
@@ -34,9 +34,9 @@ pub fn first_key(marks: &[i64], from: usize, to: usize, w: usize, o: Options) ->
 }
 
 // Whether no key of rows from..to, each w wide, is greater than the next, where the first of them has a key: so each has one.
-fn keys_rise(values: &[i64], marks: &[i64], from: usize, to: usize, w: usize, o: Options) -> bool
-    requires { ⌜ RowsIn o w to (now values) (now marks) × (from < to) × (isNull (keyAt o w (now values) (now marks) from) ≡ false) ⌝ }
-    ensures { λ r. ⌜ r ≡ keysSorted o (between w from to (now (values .entry)) (now (marks .entry))) ⌝ }
+fn keys_rise(values: &[i64], marks: &[i64], from: usize, to: usize, w: usize, o: Terms) -> bool
+    requires { ⌜ RowsIn (withoutList o) w to (now values) (now marks) × (from < to) × (isNull (keyAt (withoutList o) w (now values) (now marks) from) ≡ false) ⌝ }
+    ensures { λ r. ⌜ r ≡ keysSorted (withoutList o) (between w from to (now (values .entry)) (now (marks .entry))) ⌝ }
 {
     let by = o.by;
     let mut i = from;
@@ -61,10 +61,10 @@ pub fn keys_sorted(
     from: usize,
     to: usize,
     w: usize,
-    o: Options,
+    o: Terms,
 ) -> bool
-    requires { ⌜ RowsIn o w to (now values) (now marks) × (from ≤ to) ⌝ }
-    ensures { λ r. ⌜ r ≡ keysSorted o (between w from to (now (values .entry)) (now (marks .entry))) ⌝ }
+    requires { ⌜ RowsIn (withoutList o) w to (now values) (now marks) × (from ≤ to) ⌝ }
+    ensures { λ r. ⌜ r ≡ keysSorted (withoutList o) (between w from to (now (values .entry)) (now (marks .entry))) ⌝ }
 {
     let start = first_key(marks, from, to, w, o);
     if start == to {

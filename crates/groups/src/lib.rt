@@ -3,11 +3,12 @@ use compare::cmp_group;
 use keyed::null_group;
 use matching::RunCursor;
 use neighbours::same_values;
-use options::Options;
+use options::Terms;
 use order::Order;
 ghost use mathlib.Core.Path.{_≡_};
 ghost use Prim.Native.Nat.{ℕ, _+_, _<_};
 ghost use Rattle.frames.specs.Cells.{rowFrom};
+ghost use Rattle.options.specs.Options.{withList};
 ghost use Rattle.order.specs.Order.{cmpGroup};
 ghost use Rattle.order.specs.Requires.{RowAt};
 ghost use Rattle.matching.specs.Groups.{sameRun};
@@ -15,11 +16,19 @@ ghost use Rattle.matching.specs.Stretches.{between, runLength, standing};
 ghost use Rattle.matching.specs.Loops.{Within, PassRoom, Stands, Passed, Serves};
 
 // Whether the rows at p and q, which stand one behind the other, are of one run.
-fn same_run(values: &[i64], marks: &[i64], p: usize, q: usize, o: Options) -> bool
-    requires { ⌜ RowAt o p (now values) (now marks) × RowAt o q (now values) (now marks) ⌝ }
-    ensures { λ r. ⌜ ((w : ℕ) → o .by < w → r ≡ sameRun o (rowFrom w p (now (values .entry)) (now (marks .entry))) (rowFrom w q (now (values .entry)) (now (marks .entry)))) ⌝ }
+fn same_run(
+    values: &[i64],
+    marks: &[i64],
+    p: usize,
+    q: usize,
+    o: Terms,
+    codes: &[i64],
+    rising: &[u8],
+) -> bool
+    requires { ⌜ RowAt (withList o (now codes) (now rising)) p (now values) (now marks) × RowAt (withList o (now codes) (now rising)) q (now values) (now marks) ⌝ }
+    ensures { λ r. ⌜ ((w : ℕ) → o .by < w → r ≡ sameRun (withList o (now (codes .entry)) (now (rising .entry))) (rowFrom w p (now (values .entry)) (now (marks .entry))) (rowFrom w q (now (values .entry)) (now (marks .entry)))) ⌝ }
 {
-    match cmp_group(values, marks, p, values, marks, q, o) {
+    match cmp_group(values, marks, p, values, marks, q, o, codes, rising) {
         Order::Equal => return true,
         _ => {}
     }
@@ -31,9 +40,18 @@ fn same_run(values: &[i64], marks: &[i64], p: usize, q: usize, o: Options) -> bo
 
 // The end of the run that starts at row i, of n rows that are each w wide; i itself behind the last of them. Most rows have the by-values of
 // the row before, word for word: these are not compared by the rules.
-pub fn run_end(values: &[i64], marks: &[i64], n: usize, w: usize, i: usize, o: Options) -> usize
-    requires { ⌜ Within o w n (now values) (now marks) i ⌝ }
-    ensures { λ r. ⌜ r ≡ i + runLength o (between w i n (now (values .entry)) (now (marks .entry))) ⌝ }
+pub fn run_end(
+    values: &[i64],
+    marks: &[i64],
+    n: usize,
+    w: usize,
+    i: usize,
+    o: Terms,
+    codes: &[i64],
+    rising: &[u8],
+) -> usize
+    requires { ⌜ Within (withList o (now codes) (now rising)) w n (now values) (now marks) i ⌝ }
+    ensures { λ r. ⌜ r ≡ i + runLength (withList o (now (codes .entry)) (now (rising .entry))) (between w i n (now (values .entry)) (now (marks .entry))) ⌝ }
 {
     if i == n {
         return i;
@@ -46,7 +64,7 @@ pub fn run_end(values: &[i64], marks: &[i64], n: usize, w: usize, i: usize, o: O
             p = q;
             e += 1;
         } else {
-            if !same_run(values, marks, p, q, o) {
+            if !same_run(values, marks, p, q, o, codes, rising) {
                 return e;
             }
             p = q;
@@ -64,15 +82,17 @@ fn stands_to(
     lv: &[i64],
     lm: &[i64],
     p: usize,
-    o: Options,
+    o: Terms,
+    codes: &[i64],
+    rising: &[u8],
 ) -> Order
-    requires { ⌜ RowAt o q (now rv) (now rm) × RowAt o p (now lv) (now lm) ⌝ }
-    ensures { λ r. ⌜ ((wl wr : ℕ) → o .by < wl → o .by < wr → r ≡ standing o (rowFrom wl p (now (lv .entry)) (now (lm .entry))) (rowFrom wr q (now (rv .entry)) (now (rm .entry)))) ⌝ }
+    requires { ⌜ RowAt (withList o (now codes) (now rising)) q (now rv) (now rm) × RowAt (withList o (now codes) (now rising)) p (now lv) (now lm) ⌝ }
+    ensures { λ r. ⌜ ((wl wr : ℕ) → o .by < wl → o .by < wr → r ≡ standing (withList o (now (codes .entry)) (now (rising .entry))) (rowFrom wl p (now (lv .entry)) (now (lm .entry))) (rowFrom wr q (now (rv .entry)) (now (rm .entry)))) ⌝ }
 {
     if null_group(rm, q, o) {
         return Order::Less;
     }
-    cmp_group(rv, rm, q, lv, lm, p, o)
+    cmp_group(rv, rm, q, lv, lm, p, o, codes, rising)
 }
 
 // From the right run from..to on, the cursor passes null runs and runs before the group of the left row at p.
@@ -86,15 +106,17 @@ fn pass_runs(
     lv: &[i64],
     lm: &[i64],
     p: usize,
-    o: Options,
+    o: Terms,
+    codes: &[i64],
+    rising: &[u8],
 ) -> RunCursor
-    requires { ⌜ PassRoom o p (now lv) (now lm) w n (now rv) (now rm) from to ⌝ }
-    ensures { λ r. ⌜ Stands o w n (now (rv .entry)) (now (rm .entry)) r × ((wl : ℕ) → o .by < wl → Passed o w n (now (rv .entry)) (now (rm .entry)) from (rowFrom wl p (now (lv .entry)) (now (lm .entry))) r) ⌝ }
+    requires { ⌜ PassRoom (withList o (now codes) (now rising)) p (now lv) (now lm) w n (now rv) (now rm) from to ⌝ }
+    ensures { λ r. ⌜ Stands (withList o (now (codes .entry)) (now (rising .entry))) w n (now (rv .entry)) (now (rm .entry)) r × ((wl : ℕ) → o .by < wl → Passed (withList o (now (codes .entry)) (now (rising .entry))) w n (now (rv .entry)) (now (rm .entry)) from (rowFrom wl p (now (lv .entry)) (now (lm .entry))) r) ⌝ }
 {
     let mut at = from;
     let mut end = to;
     while at < n {
-        match stands_to(rv, rm, at * w, lv, lm, p, o) {
+        match stands_to(rv, rm, at * w, lv, lm, p, o, codes, rising) {
             Order::Less => {}
             Order::Equal => return RunCursor {
                 at: at,
@@ -108,7 +130,7 @@ fn pass_runs(
             },
         }
         at = end;
-        end = run_end(rv, rm, n, w, at, o);
+        end = run_end(rv, rm, n, w, at, o, codes, rising);
     }
     RunCursor {
         at: at,
@@ -128,10 +150,12 @@ pub fn serve(
     lv: &[i64],
     lm: &[i64],
     p: usize,
-    o: Options,
+    o: Terms,
+    codes: &[i64],
+    rising: &[u8],
 ) -> RunCursor
-    requires { ⌜ PassRoom o p (now lv) (now lm) w n (now rv) (now rm) from to ⌝ }
-    ensures { λ r. ⌜ Stands o w n (now (rv .entry)) (now (rm .entry)) r × ((wl : ℕ) → o .by < wl → Serves o w n (now (rv .entry)) (now (rm .entry)) from (rowFrom wl p (now (lv .entry)) (now (lm .entry))) r) ⌝ }
+    requires { ⌜ PassRoom (withList o (now codes) (now rising)) p (now lv) (now lm) w n (now rv) (now rm) from to ⌝ }
+    ensures { λ r. ⌜ Stands (withList o (now (codes .entry)) (now (rising .entry))) w n (now (rv .entry)) (now (rm .entry)) r × ((wl : ℕ) → o .by < wl → Serves (withList o (now (codes .entry)) (now (rising .entry))) w n (now (rv .entry)) (now (rm .entry)) from (rowFrom wl p (now (lv .entry)) (now (lm .entry))) r) ⌝ }
 {
     if null_group(lm, p, o) {
         return RunCursor {
@@ -140,5 +164,5 @@ pub fn serve(
             used: from,
         };
     }
-    pass_runs(rv, rm, n, w, from, to, lv, lm, p, o)
+    pass_runs(rv, rm, n, w, from, to, lv, lm, p, o, codes, rising)
 }

@@ -8,12 +8,13 @@ use framerule::row_count;
 use judges::judge_end;
 use judges::judge_left;
 use judges::judge_right;
-use options::Options;
+use options::Terms;
 use options::right_columns;
 use outcomes::NodeState;
 use outcomes::Took;
 ghost use mathlib.Core.Path.{_≡_};
 ghost use mathlib.Core.Bool.{false};
+ghost use Rattle.options.specs.Options.{withList};
 ghost use Rattle.callrules.specs.Judged.{EndFed, LeftHolds, LeftFed, RightHolds, RightFed};
 
 // A left frame: where it would pass the end, those that wait move to the front first.
@@ -21,16 +22,18 @@ pub fn feed_left(
     bad: bool,
     failed: bool,
     state: NodeState,
-    o: Options,
+    o: Terms,
+    codes: &[i64],
+    rising: &[u8],
     start: usize,
     words: usize,
     left: &mut [i64],
     frame: &[i64],
 ) -> FedLeft
-    requires { ⌜ (bad ≡ false → LeftHolds o start words (now left)) ⌝ }
-    ensures { λ r. ⌜ LeftFed bad failed state o start words (now (left .entry)) (now (frame .entry)) r (now (left .exit)) ⌝ }
+    requires { ⌜ (bad ≡ false → LeftHolds (withList o (now codes) (now rising)) start words (now left)) ⌝ }
+    ensures { λ r. ⌜ LeftFed bad failed state (withList o (now (codes .entry)) (now (rising .entry))) start words (now (left .entry)) (now (frame .entry)) r (now (left .exit)) ⌝ }
 {
-    let answer = judge_left(bad, failed, state, o, words, left, frame);
+    let answer = judge_left(bad, failed, state, o, codes, rising, words, left, frame);
     if let Took::Refused(_) = answer {
         return FedLeft {
             answer: answer,
@@ -53,17 +56,31 @@ pub fn feed_right(
     failed: bool,
     ended: bool,
     state: NodeState,
-    o: Options,
+    o: Terms,
+    codes: &[i64],
+    rising: &[u8],
     base: usize,
     held: usize,
     pruned: usize,
     right: &mut [i64],
     frame: &[i64],
 ) -> FedRight
-    requires { ⌜ (bad ≡ false → RightHolds o base held pruned (now right)) ⌝ }
-    ensures { λ r. ⌜ RightFed bad failed ended state o base held pruned (now (right .entry)) (now (frame .entry)) r (now (right .exit)) ⌝ }
+    requires { ⌜ (bad ≡ false → RightHolds (withList o (now codes) (now rising)) base held pruned (now right)) ⌝ }
+    ensures { λ r. ⌜ RightFed bad failed ended state (withList o (now (codes .entry)) (now (rising .entry))) base held pruned (now (right .entry)) (now (frame .entry)) r (now (right .exit)) ⌝ }
 {
-    let answer = judge_right(bad, failed, ended, state, o, held, pruned, right, frame);
+    let answer = judge_right(
+        bad,
+        failed,
+        ended,
+        state,
+        o,
+        codes,
+        rising,
+        held,
+        pruned,
+        right,
+        frame,
+    );
     if let Took::Refused(_) = answer {
         return FedRight {
             answer: answer,

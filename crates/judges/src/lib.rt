@@ -2,7 +2,7 @@
 use framerule::is_frame;
 use framerule::row_count;
 use listed::lacks_code;
-use options::Options;
+use options::Terms;
 use options::bad_options;
 use options::left_columns;
 use options::many_carried;
@@ -18,7 +18,8 @@ use refusals::Refusal;
 ghost use mathlib.Core.Path.{_≡_};
 ghost use mathlib.Core.Bool.{false};
 ghost use Prim.Native.Nat.{_+_, _≤_};
-ghost use Rattle.options.specs.Options.{Few};
+ghost use lib.ListN.{length};
+ghost use Rattle.options.specs.Options.{withList, Few};
 ghost use Rattle.outcomes.specs.Answers.{mostRows};
 ghost use Rattle.callrules.specs.Judged.{openAnswer, leftJudged, endJudged, rightJudged, readyJudged};
 
@@ -26,8 +27,9 @@ ghost use Rattle.callrules.specs.Judged.{openAnswer, leftJudged, endJudged, rig
 const MOST_ROWS: usize = 9223372036854775807;
 
 // Opening: refused for its options, for the columns that they carry or for their list of ranks, or accepted.
-pub fn judge_open(o: Options) -> Took
-    ensures { λ r. ⌜ r ≡ openAnswer o ⌝ }
+pub fn judge_open(o: Terms, codes: &[i64], rising: &[u8]) -> Took
+    requires { ⌜ (64 ≤ length (now codes)) × (64 ≤ length (now rising)) ⌝ }
+    ensures { λ r. ⌜ r ≡ openAnswer (withList o (now (codes .entry)) (now (rising .entry))) ⌝ }
 {
     if bad_options(o) {
         return Took::Refused(Refusal::BadOptions);
@@ -35,7 +37,7 @@ pub fn judge_open(o: Options) -> Took
     if many_carried(o) {
         return Took::Refused(Refusal::TooManyCarried);
     }
-    if bad_ranks(o.by, o.ranks) {
+    if bad_ranks(o.by, o.given, o.column, o.count, codes, rising) {
         return Took::Refused(Refusal::BadRanks);
     }
     Took::Accepted
@@ -46,13 +48,15 @@ pub fn judge_left(
     bad: bool,
     failed: bool,
     state: NodeState,
-    o: Options,
+    o: Terms,
+    codes: &[i64],
+    rising: &[u8],
     words: usize,
     left: &[i64],
     frame: &[i64],
 ) -> Took
-    requires { ⌜ (bad ≡ false → Few o) ⌝ }
-    ensures { λ r. ⌜ r ≡ leftJudged bad failed state o words (now (left .entry)) (now (frame .entry)) ⌝ }
+    requires { ⌜ (bad ≡ false → Few (withList o (now codes) (now rising))) ⌝ }
+    ensures { λ r. ⌜ r ≡ leftJudged bad failed state (withList o (now (codes .entry)) (now (rising .entry))) words (now (left .entry)) (now (frame .entry)) ⌝ }
 {
     if bad {
         return Took::Refused(Refusal::BadJoin);
@@ -67,7 +71,7 @@ pub fn judge_left(
     if !is_frame(frame, c) {
         return Took::Refused(Refusal::BadFrame);
     }
-    if lacks_code(frame, c, o) {
+    if lacks_code(frame, c, o, codes, rising) {
         return Took::Refused(Refusal::UnknownCode);
     }
     if above(words, frame.len(), left.len()) {
@@ -101,14 +105,16 @@ pub fn judge_right(
     failed: bool,
     ended: bool,
     state: NodeState,
-    o: Options,
+    o: Terms,
+    codes: &[i64],
+    rising: &[u8],
     held: usize,
     pruned: usize,
     right: &[i64],
     frame: &[i64],
 ) -> Took
-    requires { ⌜ (bad ≡ false → Few o × (o .carried ≤ 8) × (pruned + held ≤ mostRows)) ⌝ }
-    ensures { λ r. ⌜ r ≡ rightJudged bad failed ended state o held pruned (now (right .entry)) (now (frame .entry)) ⌝ }
+    requires { ⌜ (bad ≡ false → Few (withList o (now codes) (now rising)) × (o .carried ≤ 8) × (pruned + held ≤ mostRows)) ⌝ }
+    ensures { λ r. ⌜ r ≡ rightJudged bad failed ended state (withList o (now (codes .entry)) (now (rising .entry))) held pruned (now (right .entry)) (now (frame .entry)) ⌝ }
 {
     let open = judge_end(bad, failed, ended, state);
     if let Took::Refused(_) = open {
@@ -118,7 +124,7 @@ pub fn judge_right(
     if !is_frame(frame, c) {
         return Took::Refused(Refusal::BadFrame);
     }
-    if lacks_code(frame, c, o) {
+    if lacks_code(frame, c, o, codes, rising) {
         return Took::Refused(Refusal::UnknownCode);
     }
     let n = row_count(frame);

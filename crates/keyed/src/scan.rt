@@ -1,10 +1,11 @@
 // Nulls by their marks: of a group, and of the keys of rows. The values beside the marks may be any.
-use options::Options;
+use options::Terms;
 use order::Keyed;
 ghost use mathlib.Core.Path.{_≡_};
 ghost use Prim.Native.Nat.{ℕ, _+_, _*_, _≤_, _<_};
 ghost use lib.ListN.{length};
 ghost use Rattle.frames.specs.Cells.{Words, isNull, rowFrom, rowsOf};
+ghost use Rattle.options.specs.Options.{withoutList};
 ghost use Rattle.order.specs.Order.{nullKey, nullGroup};
 ghost use Rattle.order.specs.Keyed.{firstKeyed, lastKeyed};
 ghost use Rattle.order.specs.Requires.{cellAt, MarkIn, MarksAt, KeysIn};
@@ -18,17 +19,17 @@ pub fn null_at(marks: &[i64], k: usize) -> bool
 }
 
 // Whether the key of the row at p is null, whatever the row's width.
-pub(crate) fn null_key(marks: &[i64], p: usize, o: Options) -> bool
-    requires { ⌜ MarksAt o p (now marks) ⌝ }
-    ensures { λ r. ⌜ ((w : ℕ) (vs : Words) → o .by < w → p + o .by < length vs → r ≡ nullKey o (rowFrom w p vs (now (marks .entry)))) ⌝ }
+pub(crate) fn null_key(marks: &[i64], p: usize, o: Terms) -> bool
+    requires { ⌜ MarksAt (withoutList o) p (now marks) ⌝ }
+    ensures { λ r. ⌜ ((w : ℕ) (vs : Words) → o .by < w → p + o .by < length vs → r ≡ nullKey (withoutList o) (rowFrom w p vs (now (marks .entry)))) ⌝ }
 {
     null_at(marks, p + o.by)
 }
 
 // Whether the group of the row at p is null, whatever the row's width.
-pub fn null_group(marks: &[i64], p: usize, o: Options) -> bool
-    requires { ⌜ MarksAt o p (now marks) ⌝ }
-    ensures { λ r. ⌜ ((w : ℕ) (vs : Words) → o .by < w → p + o .by < length vs → r ≡ nullGroup o (rowFrom w p vs (now (marks .entry)))) ⌝ }
+pub fn null_group(marks: &[i64], p: usize, o: Terms) -> bool
+    requires { ⌜ MarksAt (withoutList o) p (now marks) ⌝ }
+    ensures { λ r. ⌜ ((w : ℕ) (vs : Words) → o .by < w → p + o .by < length vs → r ≡ nullGroup (withoutList o) (rowFrom w p vs (now (marks .entry)))) ⌝ }
 {
     let by = o.by;
     let mut j = 0;
@@ -42,9 +43,9 @@ pub fn null_group(marks: &[i64], p: usize, o: Options) -> bool
 }
 
 // The first row with a key, of n rows that are each w wide.
-pub fn first_keyed(marks: &[i64], n: usize, w: usize, o: Options) -> Keyed
-    requires { ⌜ KeysIn o w n (now marks) ⌝ }
-    ensures { λ r. ⌜ ((vs : Words) → n * w ≤ length vs → r ≡ firstKeyed o (rowsOf w n vs (now (marks .entry)))) ⌝ }
+pub fn first_keyed(marks: &[i64], n: usize, w: usize, o: Terms) -> Keyed
+    requires { ⌜ KeysIn (withoutList o) w n (now marks) ⌝ }
+    ensures { λ r. ⌜ ((vs : Words) → n * w ≤ length vs → r ≡ firstKeyed (withoutList o) (rowsOf w n vs (now (marks .entry)))) ⌝ }
 {
     let mut p = 0;
     let mut i = 0;
@@ -59,9 +60,9 @@ pub fn first_keyed(marks: &[i64], n: usize, w: usize, o: Options) -> Keyed
 }
 
 // The last row with a key, of n rows that are each w wide.
-pub fn last_keyed(marks: &[i64], n: usize, w: usize, o: Options) -> Keyed
-    requires { ⌜ KeysIn o w n (now marks) ⌝ }
-    ensures { λ r. ⌜ ((vs : Words) → n * w ≤ length vs → r ≡ lastKeyed o (rowsOf w n vs (now (marks .entry)))) ⌝ }
+pub fn last_keyed(marks: &[i64], n: usize, w: usize, o: Terms) -> Keyed
+    requires { ⌜ KeysIn (withoutList o) w n (now marks) ⌝ }
+    ensures { λ r. ⌜ ((vs : Words) → n * w ≤ length vs → r ≡ lastKeyed (withoutList o) (rowsOf w n vs (now (marks .entry)))) ⌝ }
 {
     let mut p = n * w;
     let mut i = n;

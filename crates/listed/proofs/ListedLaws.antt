@@ -16,6 +16,7 @@ use Rattle.frames.proofs.WordLaws.{rows-length}
 use Rattle.frames.proofs.FrontLaws.{values-part, marks-part}
 use Rattle.ranks.specs.Ranks.{codesOf, codeAt, listed}
 use Rattle.ranks.proofs.RankLaws.{tell, none-listed, Good, good-ranks}
+use Rattle.ranks.proofs.KeptLaws.{Kept, kept}
 use Rattle.options.specs.Options.{Few}
 use Rattle.options.specs.declared.Options.{Options}
 use Rattle.order.specs.Listed.{lacks, unlistedIn, lacksCode}
@@ -90,6 +91,9 @@ parts-fit c f table n count = rw count (sym (table-parts c f table .exact))
 -- A list that is given is a good one.
 pub list-good : (o : Options) → Few o → o .ranks .given ≡ true → Good (o .by) (o .ranks)
 list-good o few given = good-ranks (o .by) (o .ranks) given (few .list)
+
+pub list-kept : (o : Options) → Few o → o .ranks .given ≡ true → Kept (o .ranks)
+list-kept o few given = kept (o .by) (o .ranks) given (few .list) (few .there given .0) (few .there given .1)
 
 module _ (o : Options) (c : ℕ) (f : Words) where
   -- Without a list nothing is lacked.

@@ -1,6 +1,6 @@
 // Whether a frame or a table has a value in the ranked column that the list lacks: refusal 12.
 use framerule::row_count;
-use options::Options;
+use options::Terms;
 use ranking::place_of;
 ghost use mathlib.Core.Path.{_≡_};
 ghost use mathlib.Core.Bool.{true};
@@ -9,7 +9,7 @@ ghost use lib.ListN.{length};
 ghost use Rattle.frames.specs.Cells.{rowsOf};
 ghost use Rattle.frames.specs.Frame.{frameRows, isTable};
 ghost use Rattle.ranks.specs.Ranks.{listed, Indexed};
-ghost use Rattle.options.specs.Options.{Few};
+ghost use Rattle.options.specs.Options.{withList, Few};
 ghost use Rattle.order.specs.Listed.{unlistedIn, lacksCode};
 ghost use Rattle.searching.specs.Requires.{ColumnIn};
 
@@ -55,19 +55,17 @@ fn any_unlisted(
 }
 
 // Whether a table of c columns has a value in the ranked column that the list lacks.
-pub fn lacks_code(table: &[i64], c: usize, o: Options) -> bool
-    requires { ⌜ Few o × (o .by < c) × (isTable c (now table) ≡ true) ⌝ }
-    ensures { λ r. ⌜ r ≡ lacksCode o (frameRows c (now (table .entry))) ⌝ }
+pub fn lacks_code(table: &[i64], c: usize, o: Terms, codes: &[i64], rising: &[u8]) -> bool
+    requires { ⌜ Few (withList o (now codes) (now rising)) × (o .by < c) × (isTable c (now table) ≡ true) ⌝ }
+    ensures { λ r. ⌜ r ≡ lacksCode (withList o (now (codes .entry)) (now (rising .entry))) (frameRows c (now (table .entry))) ⌝ }
 {
-    if !o.ranks.given {
+    if !o.given {
         return false;
     }
     let n = row_count(table);
     let e = 2 + n * c;
-    let count = o.ranks.count;
-    let j = o.ranks.column;
-    let codes = o.ranks.codes;
-    let rising = o.ranks.rising;
+    let count = o.count;
+    let j = o.column;
     any_unlisted(
         &table[2..e],
         &table[e..],

@@ -244,8 +244,8 @@ module _ (j : Join) (s b : ℕ) (l r l′ r′ : Words) (a : Live (placedAt j s 
         out = refl;
         live = record {
           bad =
-              unbroken (queueAt k n′ (qw + length f)) _ r′ (record { options = g′ .options; few = g′ .few; carried = g′ .carried; right-room = g′ .right-room; left-room = rw ll′ (omega arith); rows = g′ .rows; even = g′ .even })
-              ∙ sym (unbroken (queueAt j n (qw + length f)) _ r (record { options = g .options; few = g .few; carried = g .carried; right-room = g .right-room; left-room = rw ll (omega arith); rows = g .rows; even = g .even }));
+              unbroken (queueAt k n′ (qw + length f)) _ r′ (record { options = g′ .options; by = g′ .by; list = g′ .list; carried = g′ .carried; right-room = g′ .right-room; left-room = rw ll′ (omega arith); rows = g′ .rows; even = g′ .even })
+              ∙ sym (unbroken (queueAt j n (qw + length f)) _ r (record { options = g .options; by = g .by; list = g .list; carried = g .carried; right-room = g .right-room; left-room = rw ll (omega arith); rows = g .rows; even = g .even }));
           waits = append-part l′ s n′ qw f nb′ (g′ .left-room) ∙ ap (λ (z : Words). z ++ f) (a .waits) ∙ sym (append-part l qs n qw f nb (g .left-room));
           values = a .values;
           marks = a .marks;
@@ -306,8 +306,8 @@ module _ (j : Join) (s b : ℕ) (l r l′ r′ : Words) (a : Live (placedAt j s 
         out = refl;
         live = record {
           bad =
-              unbroken (heldAt k to′ (j .held + rowCount f) (j .pruned)) l′ _ (record { options = g′ .options; few = g′ .few; carried = g′ .carried; right-room = rw q′ (omega (arith, nb′)); left-room = g′ .left-room; rows = omega (arith, t′ .rows); even = g′ .even })
-              ∙ sym (unbroken (heldAt j to (j .held + rowCount f) (j .pruned)) l _ (record { options = g .options; few = g .few; carried = g .carried; right-room = rw q (omega (arith, nb)); left-room = g .left-room; rows = omega (arith, t .rows); even = g .even }));
+              unbroken (heldAt k to′ (j .held + rowCount f) (j .pruned)) l′ _ (record { options = g′ .options; by = g′ .by; list = g′ .list; carried = g′ .carried; right-room = rw q′ (omega (arith, nb′)); left-room = g′ .left-room; rows = omega (arith, t′ .rows); even = g′ .even })
+              ∙ sym (unbroken (heldAt j to (j .held + rowCount f) (j .pruned)) l _ (record { options = g .options; by = g .by; list = g .list; carried = g .carried; right-room = rw q (omega (arith, nb)); left-room = g .left-room; rows = omega (arith, t .rows); even = g .even }));
           waits = a .waits;
           values =
               pushed-values c b (j .held) f r′ (t′ .frame) (g′ .right-room) (t′ .room) ∙ ap (λ (z : Words). z ++ valuesIn c f) (a .values)

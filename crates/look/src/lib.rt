@@ -1,7 +1,7 @@
 // Looks over a right run in any order: the last row that fits a left key for Backward, the first one that fits it for Forward.
 use fits::fits_key;
-use options::Options;
 use options::Strategy;
+use options::Terms;
 ghost use mathlib.Core.Path.{_≡_};
 ghost use mathlib.Core.Bool.{true};
 ghost use Prim.Native.Nat.{ℕ, _+_, _*_, _≤_, _<_};
@@ -9,6 +9,7 @@ ghost use lib.IntN.{pos};
 ghost use lib.ListN.{length, getD};
 ghost use lib.Signed.{ltZ};
 ghost use Rattle.frames.specs.Cells.{value};
+ghost use Rattle.options.specs.Options.{withoutList};
 ghost use Rattle.order.specs.Requires.{cellAt, CellIn, RowsIn};
 ghost use Rattle.options.specs.declared.Strategy.the-variants.{Forward};
 ghost use Rattle.matching.specs.Moves.{fitsKey, keyAt};
@@ -66,10 +67,10 @@ pub fn last_fit(
     w: usize,
     v: i64,
     eq: bool,
-    o: Options,
+    o: Terms,
 ) -> usize
-    requires { ⌜ RowsIn o w end (now rv) (now rm) × (at ≤ end) ⌝ }
-    ensures { λ r. ⌜ LastFit eq (keyAt o w (now (rv .entry)) (now (rm .entry))) at end (value v) r ⌝ }
+    requires { ⌜ RowsIn (withoutList o) w end (now rv) (now rm) × (at ≤ end) ⌝ }
+    ensures { λ r. ⌜ LastFit eq (keyAt (withoutList o) w (now (rv .entry)) (now (rm .entry))) at end (value v) r ⌝ }
 {
     let by = o.by;
     let mut i = skip_above(rv, at, end, w, by, v);
@@ -103,10 +104,10 @@ pub fn first_fit(
     w: usize,
     v: i64,
     eq: bool,
-    o: Options,
+    o: Terms,
 ) -> usize
-    requires { ⌜ RowsIn o w end (now rv) (now rm) × (at ≤ end) ⌝ }
-    ensures { λ r. ⌜ FirstFit eq (keyAt o w (now (rv .entry)) (now (rm .entry))) at end (value v) r ⌝ }
+    requires { ⌜ RowsIn (withoutList o) w end (now rv) (now rm) × (at ≤ end) ⌝ }
+    ensures { λ r. ⌜ FirstFit eq (keyAt (withoutList o) w (now (rv .entry)) (now (rm .entry))) at end (value v) r ⌝ }
 {
     let by = o.by;
     let mut i = at;

@@ -3,13 +3,13 @@ use carrying::spread_rows;
 use groups::run_end;
 use groups::serve;
 use matchrun::match_run;
-use options::Options;
+use options::Terms;
 use options::answer_columns;
 use tables::put_head;
 ghost use mathlib.Core.Path.{_≡_};
 ghost use Prim.Native.Nat.{_*_};
 ghost use Rattle.frames.specs.Cells.{rowsOf};
-ghost use Rattle.options.specs.Options.{answerColumns};
+ghost use Rattle.options.specs.Options.{withList, answerColumns};
 ghost use Rattle.tables.specs.Lay.{flat, layCells};
 ghost use Rattle.matching.specs.Groups.{runs, byRuns, matchFrame};
 ghost use Rattle.matching.specs.Answer.{answered, frameAnswer};
@@ -27,19 +27,21 @@ fn match_groups(
     nr: usize,
     wr: usize,
     number: usize,
-    o: Options,
+    o: Terms,
+    codes: &[i64],
+    rising: &[u8],
     m: usize,
     out: &mut [i64],
 )
-    requires { ⌜ FrameRoom o wl nl (now lv) (now lm) wr nr (now rv) (now rm) number m (now out) ⌝ }
-    ensures { λ _. ⌜ now (out .exit) ≡ lay m 0 (byRuns o number (runs o (rowsOf wr nr (now (rv .entry)) (now (rm .entry)))) (runs o (rowsOf wl nl (now (lv .entry)) (now (lm .entry))))) (now (out .entry)) ⌝ }
+    requires { ⌜ FrameRoom (withList o (now codes) (now rising)) wl nl (now lv) (now lm) wr nr (now rv) (now rm) number m (now out) ⌝ }
+    ensures { λ _. ⌜ now (out .exit) ≡ lay m 0 (byRuns (withList o (now (codes .entry)) (now (rising .entry))) number (runs (withList o (now (codes .entry)) (now (rising .entry))) (rowsOf wr nr (now (rv .entry)) (now (rm .entry)))) (runs (withList o (now (codes .entry)) (now (rising .entry))) (rowsOf wl nl (now (lv .entry)) (now (lm .entry))))) (now (out .entry)) ⌝ }
 {
     let mut at = 0;
-    let mut end = run_end(rv, rm, nr, wr, at, o);
+    let mut end = run_end(rv, rm, nr, wr, at, o, codes, rising);
     let mut i = 0;
     while i < nl {
-        let e = run_end(lv, lm, nl, wl, i, o);
-        let r = serve(rv, rm, nr, wr, at, end, lv, lm, i * wl, o);
+        let e = run_end(lv, lm, nl, wl, i, o, codes, rising);
+        let r = serve(rv, rm, nr, wr, at, end, lv, lm, i * wl, o, codes, rising);
         match_run(
             lv,
             lm,
@@ -73,17 +75,34 @@ fn match_rows(
     nr: usize,
     wr: usize,
     number: usize,
-    o: Options,
+    o: Terms,
+    codes: &[i64],
+    rising: &[u8],
     m: usize,
     out: &mut [i64],
 )
-    requires { ⌜ FrameRoom o wl nl (now lv) (now lm) wr nr (now rv) (now rm) number m (now out) ⌝ }
-    ensures { λ _. ⌜ now (out .exit) ≡ lay m 0 (matchFrame o number (rowsOf wr nr (now (rv .entry)) (now (rm .entry))) (rowsOf wl nl (now (lv .entry)) (now (lm .entry)))) (now (out .entry)) ⌝ }
+    requires { ⌜ FrameRoom (withList o (now codes) (now rising)) wl nl (now lv) (now lm) wr nr (now rv) (now rm) number m (now out) ⌝ }
+    ensures { λ _. ⌜ now (out .exit) ≡ lay m 0 (matchFrame (withList o (now (codes .entry)) (now (rising .entry))) number (rowsOf wr nr (now (rv .entry)) (now (rm .entry))) (rowsOf wl nl (now (lv .entry)) (now (lm .entry)))) (now (out .entry)) ⌝ }
 {
     if o.by == 0 {
         match_run(lv, lm, m, wl, 0, nl, rv, rm, wr, 0, nr, number, o, out);
     } else {
-        match_groups(lv, lm, nl, wl, rv, rm, nr, wr, number, o, m, out);
+        match_groups(
+            lv,
+            lm,
+            nl,
+            wl,
+            rv,
+            rm,
+            nr,
+            wr,
+            number,
+            o,
+            codes,
+            rising,
+            m,
+            out,
+        );
     }
 }
 
@@ -98,14 +117,31 @@ pub fn answer_rows(
     nr: usize,
     wr: usize,
     number: usize,
-    o: Options,
+    o: Terms,
+    codes: &[i64],
+    rising: &[u8],
     m: usize,
     out: &mut [i64],
 )
-    requires { ⌜ AnswerRoom o wl nl (now lv) (now lm) wr nr (now rv) (now rm) number m (now out) ⌝ }
-    ensures { λ _. ⌜ now (out .exit) ≡ layCells m 0 (flat (frameAnswer o number (rowsOf wr nr (now (rv .entry)) (now (rm .entry))) (rowsOf wl nl (now (lv .entry)) (now (lm .entry))))) (now (out .entry)) ⌝ }
+    requires { ⌜ AnswerRoom (withList o (now codes) (now rising)) wl nl (now lv) (now lm) wr nr (now rv) (now rm) number m (now out) ⌝ }
+    ensures { λ _. ⌜ now (out .exit) ≡ layCells m 0 (flat (frameAnswer (withList o (now (codes .entry)) (now (rising .entry))) number (rowsOf wr nr (now (rv .entry)) (now (rm .entry))) (rowsOf wl nl (now (lv .entry)) (now (lm .entry))))) (now (out .entry)) ⌝ }
 {
-    match_rows(lv, lm, nl, wl, rv, rm, nr, wr, number, o, m, out);
+    match_rows(
+        lv,
+        lm,
+        nl,
+        wl,
+        rv,
+        rm,
+        nr,
+        wr,
+        number,
+        o,
+        codes,
+        rising,
+        m,
+        out,
+    );
     if o.carried == 0 {
         return;
     }
@@ -123,13 +159,30 @@ pub fn match_frame(
     nr: usize,
     wr: usize,
     number: usize,
-    o: Options,
+    o: Terms,
+    codes: &[i64],
+    rising: &[u8],
     out: &mut [i64],
 )
-    requires { ⌜ AnswerRoom o wl nl (now lv) (now lm) wr nr (now rv) (now rm) number (nl * answerColumns o) (now out) ⌝ }
-    ensures { λ _. ⌜ now (out .exit) ≡ answered o (frameAnswer o number (rowsOf wr nr (now (rv .entry)) (now (rm .entry))) (rowsOf wl nl (now (lv .entry)) (now (lm .entry)))) (now (out .entry)) ⌝ }
+    requires { ⌜ AnswerRoom (withList o (now codes) (now rising)) wl nl (now lv) (now lm) wr nr (now rv) (now rm) number (nl * answerColumns (withList o (now codes) (now rising))) (now out) ⌝ }
+    ensures { λ _. ⌜ now (out .exit) ≡ answered (withList o (now (codes .entry)) (now (rising .entry))) (frameAnswer (withList o (now (codes .entry)) (now (rising .entry))) number (rowsOf wr nr (now (rv .entry)) (now (rm .entry))) (rowsOf wl nl (now (lv .entry)) (now (lm .entry)))) (now (out .entry)) ⌝ }
 {
     let c = answer_columns(o);
-    answer_rows(lv, lm, nl, wl, rv, rm, nr, wr, number, o, nl * c, out);
+    answer_rows(
+        lv,
+        lm,
+        nl,
+        wl,
+        rv,
+        rm,
+        nr,
+        wr,
+        number,
+        o,
+        codes,
+        rising,
+        nl * c,
+        out,
+    );
     put_head(out, nl, c);
 }

@@ -14,3 +14,4 @@ pub mod BestLaws
 pub mod LayLaws
 pub mod CursorLaws
 pub mod RestLaws
+pub mod TermLaws

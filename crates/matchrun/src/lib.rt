@@ -2,7 +2,7 @@
 use candidates::candidates;
 use cursor::keys_sorted;
 use matching::Choice;
-use options::Options;
+use options::Terms;
 use options::strategy_of;
 use scan::match_row;
 use walk::walk_row;
@@ -10,6 +10,7 @@ ghost use mathlib.Core.Path.{_≡_};
 ghost use mathlib.Core.List.{map};
 ghost use Prim.Native.Nat.{_+_};
 ghost use lib.ListN.{set};
+ghost use Rattle.options.specs.Options.{withoutList};
 ghost use Rattle.matching.specs.Match.{matchIn};
 ghost use Rattle.matching.specs.Answer.{numberWord, choiceMark};
 ghost use Rattle.matching.specs.Stretches.{between, lay};
@@ -60,11 +61,11 @@ pub fn scan_run(
     at: usize,
     end: usize,
     number: usize,
-    o: Options,
+    o: Terms,
     out: &mut [i64],
 )
-    requires { ⌜ RunRoom o wl m (now lv) (now lm) from to wr (now rv) (now rm) at end number (now out) ⌝ }
-    ensures { λ _. ⌜ now (out .exit) ≡ lay m from (map (matchIn o (number + at) (between wr at end (now (rv .entry)) (now (rm .entry)))) (between wl from to (now (lv .entry)) (now (lm .entry)))) (now (out .entry)) ⌝ }
+    requires { ⌜ RunRoom (withoutList o) wl m (now lv) (now lm) from to wr (now rv) (now rm) at end number (now out) ⌝ }
+    ensures { λ _. ⌜ now (out .exit) ≡ lay m from (map (matchIn (withoutList o) (number + at) (between wr at end (now (rv .entry)) (now (rm .entry)))) (between wl from to (now (lv .entry)) (now (lm .entry)))) (now (out .entry)) ⌝ }
 {
     let mut i = from;
     while i < to {
@@ -88,11 +89,11 @@ pub fn walk_run(
     at: usize,
     end: usize,
     number: usize,
-    o: Options,
+    o: Terms,
     out: &mut [i64],
 ) -> usize
-    requires { ⌜ WalkRoom o wl m (now lv) (now lm) from to wr (now rv) (now rm) at end number (now out) ⌝ }
-    ensures { λ r. ⌜ Counted from to at end r × (now (out .exit) ≡ lay m from (map (matchIn o (number + at) (between wr at end (now (rv .entry)) (now (rm .entry)))) (between wl from to (now (lv .entry)) (now (lm .entry)))) (now (out .entry))) ⌝ }
+    requires { ⌜ WalkRoom (withoutList o) wl m (now lv) (now lm) from to wr (now rv) (now rm) at end number (now out) ⌝ }
+    ensures { λ r. ⌜ Counted from to at end r × (now (out .exit) ≡ lay m from (map (matchIn (withoutList o) (number + at) (between wr at end (now (rv .entry)) (now (rm .entry)))) (between wl from to (now (lv .entry)) (now (lm .entry)))) (now (out .entry))) ⌝ }
 {
     let s = strategy_of(o);
     let mut c = at;
@@ -124,11 +125,11 @@ pub fn match_run(
     at: usize,
     end: usize,
     number: usize,
-    o: Options,
+    o: Terms,
     out: &mut [i64],
 )
-    requires { ⌜ RunRoom o wl m (now lv) (now lm) from to wr (now rv) (now rm) at end number (now out) ⌝ }
-    ensures { λ _. ⌜ now (out .exit) ≡ lay m from (map (matchIn o (number + at) (between wr at end (now (rv .entry)) (now (rm .entry)))) (between wl from to (now (lv .entry)) (now (lm .entry)))) (now (out .entry)) ⌝ }
+    requires { ⌜ RunRoom (withoutList o) wl m (now lv) (now lm) from to wr (now rv) (now rm) at end number (now out) ⌝ }
+    ensures { λ _. ⌜ now (out .exit) ≡ lay m from (map (matchIn (withoutList o) (number + at) (between wr at end (now (rv .entry)) (now (rm .entry)))) (between wl from to (now (lv .entry)) (now (lm .entry)))) (now (out .entry)) ⌝ }
 {
     if !keys_sorted(lv, lm, from, to, wl, o) {
         scan_run(lv, lm, m, wl, from, to, rv, rm, wr, at, end, number, o, out);

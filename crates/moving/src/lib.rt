@@ -6,6 +6,7 @@ use node::Join;
 use node::TookJoin;
 use node::bad_join;
 use options::right_columns;
+use options::terms_of;
 use outcomes::Took;
 use refusals::Refusal;
 ghost use mathlib.Core.Path.{_≡_};
@@ -61,7 +62,7 @@ fn no_room(j: Join, left: &[i64], right: &[i64]) -> bool
     if left.len() < j.queue_words {
         return true;
     }
-    let c = right_columns(j.options);
+    let c = right_columns(terms_of(j.options));
     right.len() / (2 * c) < j.held
 }
 
@@ -89,7 +90,7 @@ pub fn move_join(
         };
     }
     copy_left(left, j.queue_start, j.queue_words, new_left);
-    let c = right_columns(j.options);
+    let c = right_columns(terms_of(j.options));
     copy_right(right, j.base, j.held, c, new_right);
     TookJoin {
         answer: Took::Accepted,

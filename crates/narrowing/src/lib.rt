@@ -1,14 +1,14 @@
 // The held rows narrowed to those that have a left row's by-values, and a search among them by key. A left row is told by the place of its first word.
 use bisect::find;
-use options::Options;
+use options::Terms;
 use options::is_ranked;
-use ranks::Ranks;
 use searching::Seek;
 use searching::Stretch;
 ghost use mathlib.Core.Path.{_≡_};
 ghost use Prim.Native.Nat.{ℕ, _≤_, _<_};
 ghost use Rattle.frames.specs.Cells.{cellOf, rowFrom, rowsOf};
-ghost use Rattle.ranks.specs.Ranks.{codesOf, Indexed, Kept};
+ghost use Rattle.ranks.specs.Ranks.{Indexed};
+ghost use Rattle.options.specs.Options.{withList, withoutList};
 ghost use Rattle.order.specs.Requires.{cellAt, CellIn, RowAt, RowsIn};
 ghost use Rattle.searching.specs.Reach.{narrowBy, narrowed, findKey};
 ghost use Rattle.searching.specs.Requires.{rangeOf, ColumnIn};
@@ -67,40 +67,6 @@ fn narrow_column(
     }
 }
 
-// The same by the column that has the list.
-fn narrow_ranked(
-    descending: bool,
-    nulls_last: bool,
-    k: Ranks,
-    value: i64,
-    mark: i64,
-    rv: &[i64],
-    rm: &[i64],
-    w: usize,
-    j: usize,
-    s: Stretch,
-) -> Stretch
-    requires { ⌜ Kept k × ColumnIn j w (s .end) (now rv) (now rm) ⌝ }
-    ensures { λ r. ⌜ ((n : ℕ) → s .end ≤ n → rangeOf r ≡ narrowTo (record { descending = descending; nullsLast = «nulls_last»; codes = codesOf k }) j (cellOf value mark) (rowsOf w n (now (rv .entry)) (now (rm .entry))) (rangeOf s)) ⌝ }
-{
-    let count = k.count;
-    let codes = k.codes;
-    let rising = k.rising;
-    narrow_column(
-        descending,
-        nulls_last,
-        &codes[..count],
-        &rising[..count],
-        value,
-        mark,
-        rv,
-        rm,
-        w,
-        j,
-        s,
-    )
-}
-
 // The stretch narrowed by the left row's by-value in column j.
 fn narrow_by(
     lv: &[i64],
@@ -111,10 +77,12 @@ fn narrow_by(
     w: usize,
     j: usize,
     s: Stretch,
-    o: Options,
+    o: Terms,
+    codes: &[i64],
+    rising: &[u8],
 ) -> Stretch
-    requires { ⌜ RowAt o p (now lv) (now lm) × ColumnIn j w (s .end) (now rv) (now rm) × (j < o .by) ⌝ }
-    ensures { λ r. ⌜ ((n wl : ℕ) → s .end ≤ n → o .by < wl → rangeOf r ≡ narrowBy o (rowsOf w n (now (rv .entry)) (now (rm .entry))) (rowFrom wl p (now (lv .entry)) (now (lm .entry))) j (rangeOf s)) ⌝ }
+    requires { ⌜ RowAt (withList o (now codes) (now rising)) p (now lv) (now lm) × ColumnIn j w (s .end) (now rv) (now rm) × (j < o .by) ⌝ }
+    ensures { λ r. ⌜ ((n wl : ℕ) → s .end ≤ n → o .by < wl → rangeOf r ≡ narrowBy (withList o (now (codes .entry)) (now (rising .entry))) (rowsOf w n (now (rv .entry)) (now (rm .entry))) (rowFrom wl p (now (lv .entry)) (now (lm .entry))) j (rangeOf s)) ⌝ }
 {
     let descending = o.descending;
     let last = o.nulls_last;
@@ -124,8 +92,20 @@ fn narrow_by(
     let value = lv[k];
     let mark = lm[k];
     if is_ranked(o, j) {
-        let list = o.ranks;
-        return narrow_ranked(down, late, list, value, mark, rv, rm, w, j, s);
+        let n = o.count;
+        return narrow_column(
+            down,
+            late,
+            &codes[..n],
+            &rising[..n],
+            value,
+            mark,
+            rv,
+            rm,
+            w,
+            j,
+            s,
+        );
     }
     narrow_column(down, late, &[], &[], value, mark, rv, rm, w, j, s)
 }
@@ -139,16 +119,18 @@ pub fn narrow(
     rm: &[i64],
     n: usize,
     w: usize,
-    o: Options,
+    o: Terms,
+    codes: &[i64],
+    rising: &[u8],
 ) -> Stretch
-    requires { ⌜ RowAt o p (now lv) (now lm) × RowsIn o w n (now rv) (now rm) ⌝ }
-    ensures { λ r. ⌜ ((wl : ℕ) → o .by < wl → rangeOf r ≡ narrowed o (rowsOf w n (now (rv .entry)) (now (rm .entry))) (rowFrom wl p (now (lv .entry)) (now (lm .entry)))) ⌝ }
+    requires { ⌜ RowAt (withList o (now codes) (now rising)) p (now lv) (now lm) × RowsIn (withList o (now codes) (now rising)) w n (now rv) (now rm) ⌝ }
+    ensures { λ r. ⌜ ((wl : ℕ) → o .by < wl → rangeOf r ≡ narrowed (withList o (now (codes .entry)) (now (rising .entry))) (rowsOf w n (now (rv .entry)) (now (rm .entry))) (rowFrom wl p (now (lv .entry)) (now (lm .entry)))) ⌝ }
 {
     let by = o.by;
     let mut r = Stretch { start: 0, end: n };
     let mut j = 0;
     while j < by {
-        r = narrow_by(lv, lm, p, rv, rm, w, j, r, o);
+        r = narrow_by(lv, lm, p, rv, rm, w, j, r, o, codes, rising);
         j += 1;
     }
     r
@@ -165,10 +147,10 @@ pub fn find_key(
     w: usize,
     lower: usize,
     upper: usize,
-    o: Options,
+    o: Terms,
 ) -> usize
     requires { ⌜ CellIn k (now kv) (now km) × ColumnIn (o .by) w upper (now rv) (now rm) ⌝ }
-    ensures { λ r. ⌜ ((n : ℕ) → upper ≤ n → r ≡ findKey o seek (cellAt k (now (kv .entry)) (now (km .entry))) (rowsOf w n (now (rv .entry)) (now (rm .entry))) lower upper) ⌝ }
+    ensures { λ r. ⌜ ((n : ℕ) → upper ≤ n → r ≡ findKey (withoutList o) seek (cellAt k (now (kv .entry)) (now (km .entry))) (rowsOf w n (now (rv .entry)) (now (rm .entry))) lower upper) ⌝ }
 {
     find(
         seek,

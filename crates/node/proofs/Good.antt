@@ -10,7 +10,9 @@ use lib.ListN.{length}
 use Rattle.callrules.specs.Judged.{leftJudged, endJudged, rightJudged}
 use Rattle.frames.specs.Cells.{Words}
 use Rattle.frames.specs.Frame.{rowCount, isFrame, frameRows}
-use Rattle.options.specs.Options.{refusedOptions, Few}
+use Rattle.options.specs.Options.{refusedOptions, badRanked, Few, termsOf, withList}
+use Rattle.options.specs.declared.Terms.{Terms}
+use Rattle.callrules.specs.Judged.{badNumbers}
 use Rattle.frames.specs.Front.{HasCount}
 use Rattle.options.specs.declared.Options.{Options}
 use Rattle.frames.proofs.FrontLaws.{frame-count}
@@ -35,7 +37,8 @@ passed false n t e = (refl, e)
 -- ---- a join that is not bad
 pub record Good (j : Join) (left right : Words) : Type 0 where
   pub options : refusedOptions (j .options) ≡ false
-  pub few : Few (j .options)
+  pub by : j .options .by ≤ 4
+  pub list : badRanked (j .options) ≡ false
   pub carried : j .options .carried ≤ 8
   pub right-room : j .base + j .held ≤ capacity (rightWidth j) right
   pub left-room : j .«queue_start» + j .«queue_words» ≤ length left
@@ -53,13 +56,24 @@ good j left right h =
     let t = allowed-parts (j .options) (s .0) in
     record {
       options = s .0;
-      few = t .few;
+      by = t .by;
+      list = t .list;
       carried = t .carried;
       right-room = ltb-false (capacity (rightWidth j) right) (j .base + j .held) (s .1);
       left-room = ltb-false (length left) (j .«queue_start» + j .«queue_words») (r .1);
       rows = ltb-false mostRows (j .pruned + j .held) (q .1);
       even = let n = eqb-false (j .sequence % 2) 1 (p .1) in omega (arith, n);
     }
+
+-- With arrays of 64 its rows can be compared by its options.
+pub few-told : (j : Join) (left right : Words) → Good j left right → length (j .options .ranks .codes) ≡ 64 → length (j .options .ranks .rising) ≡ 64 → Few (j .options)
+few-told j left right g a b = record { by = g .by; list = g .list; there = λ e. (omega arith, omega arith) }
+
+-- What is told by the numbers of the join and the parts of its options.
+pub bad-told : (j : Join) (left right : Words) (t : Terms) (b : Bool) → t ≡ termsOf (j .options)
+    → b ≡ badNumbers (withList t (j .options .ranks .codes) (j .options .ranks .rising)) (j .base) (j .held) (j .pruned) (j .«queue_start») (j .«queue_words») (j .sequence) left right → b ≡ badJoin j left right
+unfolding badJoin badNumbers
+bad-told j left right t b e h = rw e at h
 
 -- The join of a refused opening is bad, with any areas.
 pub opened-bad : (o : Options) (left right : Words) → refusedOptions o ≡ true → badJoin (fresh o) left right ≡ true

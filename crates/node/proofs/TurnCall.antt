@@ -10,6 +10,7 @@ use lib.Seq.{take-take}
 use Rattle.frames.specs.Cells.{Rows, Words}
 use Rattle.frames.specs.Frame.{frameWords, isFrame, frameRows, front}
 use Rattle.frames.specs.Front.{frontOf}
+use Rattle.options.specs.declared.Options.{Options}
 use Rattle.options.specs.Options.{answerColumns}
 use Rattle.frames.specs.declared.Front.{Front}
 use Rattle.frames.specs.declared.Front.the-variants.{Words as Long, Nothing}
@@ -77,13 +78,13 @@ then-order (t ∷ ts) s x h = by (then-order ts s x (h .1)) (t .says) (t .answer
     by rest true (Refused n) g = refl
     by rest false a g = rest
 
-by-rows : (j : Part) (rows held : Rows) (room : ℕ) → rowsAnswer j rows held room
-    ≡ firstOf (roomTests (j .options) (j .«right_ended») (j .sequence) rows held room ++ orderTests (badLeft (j .options) (j .«last_left») rows) (badRight (j .options) (j .«last_right») rows held)) (Wrote (j .sequence))
+by-rows : (o : Options) (j : Part) (rows held : Rows) (room : ℕ) → rowsAnswer o j rows held room
+    ≡ firstOf (roomTests o (j .«right_ended») (j .sequence) rows held room ++ orderTests (badLeft o (j .«last_left») rows) (badRight o (j .«last_right») rows held)) (Wrote (j .sequence))
 unfolding rowsAnswer roomAnswer orderAnswer
-by-rows j rows held room =
-    let ts = roomTests (j .options) (j .«right_ended») (j .sequence) rows held room in
-    rw (first-append ts (orderTests (badLeft (j .options) (j .«last_left») rows) (badRight (j .options) (j .«last_right») rows held)) (Wrote (j .sequence)), ← split-known (j .options) (j .«last_right») rows held)
-    (then-order ts (j .sequence) (orderAnswer j rows held (lastPrune (j .options) rows held)) (refl, (refl, (refl, tt))))
+by-rows o j rows held room =
+    let ts = roomTests o (j .«right_ended») (j .sequence) rows held room in
+    rw (first-append ts (orderTests (badLeft o (j .«last_left») rows) (badRight o (j .«last_right») rows held)) (Wrote (j .sequence)), ← split-known o (j .«last_right») rows held)
+    (then-order ts (j .sequence) (orderAnswer o j rows held (lastPrune o rows held)) (refl, (refl, (refl, tt))))
 
 -- The tests before and at the front, passed.
 ready-past : (bad failed : Bool) (state : NodeState) (words : ℕ) (x : Answer) → bad ≡ false → failed ≡ false → isDone state ≡ false → eqb words 0 ≡ false → firstOf (readyTests bad failed state words) x ≡ x
@@ -196,7 +197,7 @@ module _ (j : Join) (left right out : Words) where
       unfolding turnAnswer
       codes-answer e u = rw (r .unbroken, fronted, r .unfailed, r .undone, r .some, e, u)
 
-      answer-rows : isFrame (leftWidth j) f ≡ true → lacksCode (j .options) (frameRows (leftWidth j) f) ≡ false → turnAnswer j left right out ≡ rowsAnswer (partOf j) (frameRows (leftWidth j) f) (heldOf j right) (length out)
+      answer-rows : isFrame (leftWidth j) f ≡ true → lacksCode (j .options) (frameRows (leftWidth j) f) ≡ false → turnAnswer j left right out ≡ rowsAnswer (j .options) (partOf j) (frameRows (leftWidth j) f) (heldOf j right) (length out)
       unfolding turnAnswer
       answer-rows e u =
           rw fronted
@@ -204,16 +205,16 @@ module _ (j : Join) (left right out : Words) where
           ∙ ready-past (badJoin j left right) (j .failed) (j .state) (j .«queue_words») (firstOf (behind f) (Wrote (j .sequence))) (r .unbroken) (r .unfailed) (r .undone) (r .some)
           ∙ frame-past (isFrame (leftWidth j) f) _ e
           ∙ codes-past (lacksCode (j .options) (frameRows (leftWidth j) f)) _ u
-          ∙ sym (by-rows (partOf j) (frameRows (leftWidth j) f) (heldOf j right) (length out)))
+          ∙ sym (by-rows (j .options) (partOf j) (frameRows (leftWidth j) f) (heldOf j right) (length out)))
 
       turned-rows : turned j left right out ≡ after (Wrote (j .sequence))
-          (joinWith j (leftPart (partOf j) (frameRows (leftWidth j) f) (keptRows (j .options) (frameRows (leftWidth j) f) (heldOf j right)) (firstPrune (j .options) (frameRows (leftWidth j) f) (heldOf j right)) (lastPrune (j .options) (frameRows (leftWidth j) f) (heldOf j right)) (length f)))
+          (joinWith j (leftPart (j .options) (partOf j) (frameRows (leftWidth j) f) (keptRows (j .options) (frameRows (leftWidth j) f) (heldOf j right)) (firstPrune (j .options) (frameRows (leftWidth j) f) (heldOf j right)) (lastPrune (j .options) (frameRows (leftWidth j) f) (heldOf j right)) (length f)))
           left right (answered (j .options) (frameAnswer (j .options) (j .pruned + firstPrune (j .options) (frameRows (leftWidth j) f) (heldOf j right)) (keptRows (j .options) (frameRows (leftWidth j) f) (heldOf j right)) (frameRows (leftWidth j) f)) out)
       unfolding turned dropped dequeued leftPart keptRows lastPrune
       turned-rows = rw fronted
 
-      turns : isFrame (leftWidth j) f ≡ true → lacksCode (j .options) (frameRows (leftWidth j) f) ≡ false → (a : Answer) → rowsAnswer (partOf j) (frameRows (leftWidth j) f) (heldOf j right) (length out) ≡ a → (x : TurnedPart) (out′ : Words)
-          → RowsTurned (partOf j) (frameRows (leftWidth j) f) (heldOf j right) (length f) out x out′ → TurnContract j left right out (record { answer = x .answer; join = joinWith j (x .part) }) out′
+      turns : isFrame (leftWidth j) f ≡ true → lacksCode (j .options) (frameRows (leftWidth j) f) ≡ false → (a : Answer) → rowsAnswer (j .options) (partOf j) (frameRows (leftWidth j) f) (heldOf j right) (length out) ≡ a → (x : TurnedPart) (out′ : Words)
+          → RowsTurned (j .options) (partOf j) (frameRows (leftWidth j) f) (heldOf j right) (length f) out x out′ → TurnContract j left right out (record { answer = x .answer; join = joinWith j (x .part) }) out′
       unfolding turnCall rowsTurn
       turns frame codes (Wrote q) e x out′ h =
           let t = answer-rows frame codes ∙ e in
@@ -235,25 +236,25 @@ module _ (j : Join) (left right out : Words) where
         → TurnContract j left right out (record { answer = Refused UnknownCode; join = j }) out
     unfolding waiting
     codes-stop k told u =
-        stops (Refused UnknownCode) (codes-answer (take k (drop (j .«queue_start») left)) (front-here (partOf j) left right k told) (front-frame (partOf j) left right k told) u) refl
+        stops (Refused UnknownCode) (codes-answer (take k (drop (j .«queue_start») left)) (front-here (j .options) (partOf j) left right k told) (front-frame (j .options) (partOf j) left right k told) u) refl
 
     frame-turns : (k : ℕ) → frontOf (leftWidth j) (waiting j left) ≡ Long k → lacksCode (j .options) (frameRows (leftWidth j) (take k (drop (j .«queue_start») left))) ≡ false → (x : TurnedPart) (out′ : Words)
-        → RowsTurned (partOf j) (frameRows (leftWidth j) (take k (drop (j .«queue_start») left))) (heldRows (rightWidth j) (j .base) (j .held) right) (length (take k (drop (j .«queue_start») left))) out x out′
+        → RowsTurned (j .options) (partOf j) (frameRows (leftWidth j) (take k (drop (j .«queue_start») left))) (heldRows (rightWidth j) (j .base) (j .held) right) (length (take k (drop (j .«queue_start») left))) out x out′
         → TurnContract j left right out (record { answer = x .answer; join = joinWith j (x .part) }) out′
     unfolding heldOf waiting
     frame-turns k told u x out′ h =
-        turns (take k (drop (j .«queue_start») left)) (front-here (partOf j) left right k told) (front-frame (partOf j) left right k told) u _ refl x out′ h
+        turns (take k (drop (j .«queue_start») left)) (front-here (j .options) (partOf j) left right k told) (front-frame (j .options) (partOf j) left right k told) u _ refl x out′ h
 
   -- What the function under the call leaves is what the call leaves.
-  module _ (b : Bool) (is : b ≡ badJoin j left right) (x : TurnedPart) (out′ : Words) (h : QueueTurned b (j .state) (partOf j) left right out x out′) where
-    known : QueueTurned (badJoin j left right) (j .state) (partOf j) left right out x out′
+  module _ (b : Bool) (is : b ≡ badJoin j left right) (x : TurnedPart) (out′ : Words) (h : QueueTurned (j .options) b (j .state) (partOf j) left right out x out′) where
+    known : QueueTurned (j .options) (badJoin j left right) (j .state) (partOf j) left right out x out′
     known = rw is at h
 
     abbrev Goal : Type 0
     Goal = TurnContract j left right out (record { answer = x .answer; join = joinWith j (x .part) }) out′
 
     -- A turn that changes nothing.
-    unchanged : (a : Answer) → queueTurn (badJoin j left right) (j .state) (partOf j) left right out ≡ unmoved a (partOf j) out → TurnContract j left right out (record { answer = a; join = j }) out → Goal
+    unchanged : (a : Answer) → queueTurn (j .options) (badJoin j left right) (j .state) (partOf j) left right out ≡ unmoved a (partOf j) out → TurnContract j left right out (record { answer = a; join = j }) out → Goal
     unchanged a e z = record { answer = rw e at (known .answer) ∙ z .answer; join = ap (joinWith j) (rw e at (known .part)) ∙ z .join; words = rw e at (known .words) ∙ z .words }
 
     fronted : Ready → (s : ℕ) → readyAnswer j left right ≡ Wrote s → (f : Front) → frontOf (leftWidth j) (waiting j left) ≡ f → Goal

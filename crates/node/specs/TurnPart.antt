@@ -1,4 +1,4 @@
--- What the functions inside the calls answer: whether a turn may look at its queue, and the join without its state, on which a turn works. Assumes nothing.
+-- What the functions inside the calls answer: whether a turn may look at its queue, and the join without its options and its state, on which a turn works. Assumes nothing.
 use Rattle.frames.specs.Cells.{Words}
 use Rattle.outcomes.specs.declared.Answer.{Answer}
 use Rattle.callrules.specs.Judged.{readyJudged}
@@ -10,10 +10,9 @@ use Rattle.node.specs.declared.Join.{Join}
 abbrev pub readyAnswer : Join → Words → Words → Answer
 readyAnswer j left right = readyJudged (badJoin j left right) (j .failed) (j .state) (j .«queue_words») (j .sequence)
 
--- The join without its state.
+-- The join without its options and its state.
 abbrev pub partOf : Join → Part
 partOf j = record {
-  options = j .options;
   base = j .base;
   held = j .held;
   pruned = j .pruned;
@@ -26,7 +25,7 @@ partOf j = record {
   «last_right» = j .«last_right»;
 }
 
--- The join's state, and the rest after a turn.
+-- The join's options and state, and the rest after a turn.
 abbrev pub joinWith : Join → Part → Join
 joinWith j p =
-    joinOf (p .options) (p .base) (p .held) (p .pruned) (p .«queue_start») (p .«queue_words») (j .state) (p .«right_ended») (p .failed) (p .sequence) (p .«last_left») (p .«last_right»)
+    joinOf (j .options) (p .base) (p .held) (p .pruned) (p .«queue_start») (p .«queue_words») (j .state) (p .«right_ended») (p .failed) (p .sequence) (p .«last_left») (p .«last_right»)

@@ -1,6 +1,7 @@
 // Whether a join and its areas hold together, for any field values and any areas.
 use crate::Join;
 use consistency::bad_numbers;
+use options::terms_of;
 ghost use mathlib.Core.Path.{_≡_};
 ghost use Rattle.node.specs.State.{badJoin};
 
@@ -9,8 +10,12 @@ pub fn bad_join(j: Join, left: &[i64], right: &[i64]) -> bool
     ensures { λ r. ⌜ r ≡ badJoin j (now (left .entry)) (now (right .entry)) ⌝ }
 {
     let o = j.options;
+    let codes = o.ranks.codes;
+    let rising = o.ranks.rising;
     bad_numbers(
-        o,
+        terms_of(o),
+        &codes,
+        &rising,
         j.base,
         j.held,
         j.pruned,

@@ -15,15 +15,13 @@ pub(crate) fn at_state(j: Join, state: NodeState) -> Join
     Join { state: state, ..j }
 }
 
-// The join without its state.
+// The join without its options and its state.
 pub(crate) fn part_of(j: Join) -> Part
     ensures { λ r. ⌜ r ≡ partOf j ⌝ }
 {
-    let o = j.options;
     let l = j.last_left;
     let r = j.last_right;
     Part {
-        options: o,
         base: j.base,
         held: j.held,
         pruned: j.pruned,
@@ -43,7 +41,7 @@ pub(crate) fn turned(j: Join, t: TurnedPart) -> TurnedJoin
 {
     let p = t.part;
     let answer = t.answer;
-    let o = p.options;
+    let o = j.options;
     let state = j.state;
     let l = p.last_left;
     let r = p.last_right;

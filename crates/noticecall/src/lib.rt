@@ -5,11 +5,16 @@ use framerule::row_count;
 use neighbours::is_sorted;
 use notices::put_notices;
 use options::Options;
+use options::Terms;
 use options::right_columns;
+use options::terms_of;
 use outcomes::Took;
 use refusals::Refusal;
 use tables::Written;
 use tables::put_head;
+ghost use Prim.Native.Nat.{_≤_};
+ghost use lib.ListN.{length};
+ghost use Rattle.options.specs.Options.{withList};
 ghost use Rattle.frames.specs.Cells.{rowsOf};
 ghost use Rattle.books.specs.Calls.{StandContract};
 ghost use Rattle.noticecall.specs.BookRows.{BookIn, ListContract};
@@ -21,35 +26,54 @@ fn list_notices(
     n: usize,
     w: usize,
     column: usize,
-    o: Options,
+    o: Terms,
+    codes: &[i64],
+    rising: &[u8],
     out: &mut [i64],
 ) -> Written
-    requires { ⌜ BookIn o w n (now values) (now marks) ⌝ }
-    ensures { λ r. ⌜ ListContract o column (rowsOf w n (now (values .entry)) (now (marks .entry))) (now (out .entry)) r (now (out .exit)) ⌝ }
+    requires { ⌜ BookIn (withList o (now codes) (now rising)) w n (now values) (now marks) ⌝ }
+    ensures { λ r. ⌜ ListContract (withList o (now (codes .entry)) (now (rising .entry))) column (rowsOf w n (now (values .entry)) (now (marks .entry))) (now (out .entry)) r (now (out .exit)) ⌝ }
 {
     if o.carried <= column {
         return Written::Refused(Refusal::BadColumns);
     }
-    if !is_sorted(values, marks, n, w, o) {
+    if !is_sorted(values, marks, n, w, o, codes, rising) {
         return Written::Refused(Refusal::Unsorted);
     }
     if !has_room(n, 2, out.len()) {
         return Written::Refused(Refusal::NoRoom);
     }
-    put_notices(values, marks, n, w, column, o, 2 * n, out);
+    put_notices(values, marks, n, w, column, o, codes, rising, 2 * n, out);
     put_head(out, n, 2);
     Written::Rows(n)
+}
+
+// The same of a book that is handed in whole, under these options.
+fn stand_listed(
+    book: &[i64],
+    column: usize,
+    o: Terms,
+    codes: &[i64],
+    rising: &[u8],
+    out: &mut [i64],
+) -> Written
+    requires { ⌜ (64 ≤ length (now codes)) × (64 ≤ length (now rising)) ⌝ }
+    ensures { λ r. ⌜ StandContract (withList o (now (codes .entry)) (now (rising .entry))) column (now (book .entry)) (now (out .entry)) r (now (out .exit)) ⌝ }
+{
+    if let Took::Refused(r) = judge_book(book, o, codes, rising) {
+        return Written::Refused(r);
+    }
+    let w = right_columns(o);
+    let n = row_count(book);
+    let e = 2 + n * w;
+    list_notices(&book[2..e], &book[e..], n, w, column, o, codes, rising, out)
 }
 
 // Says of each row of a sorted book: 1 if it stands, else 0, and the row that it names. The carried column of that place, from 0, tells which notices withdraw.
 pub fn standing(book: &[i64], column: usize, o: Options, out: &mut [i64]) -> Written
     ensures { λ r. ⌜ StandContract o column (now (book .entry)) (now (out .entry)) r (now (out .exit)) ⌝ }
 {
-    if let Took::Refused(r) = judge_book(book, o) {
-        return Written::Refused(r);
-    }
-    let w = right_columns(o);
-    let n = row_count(book);
-    let e = 2 + n * w;
-    list_notices(&book[2..e], &book[e..], n, w, column, o, out)
+    let codes = o.ranks.codes;
+    let rising = o.ranks.rising;
+    stand_listed(book, column, terms_of(o), &codes, &rising, out)
 }

@@ -15,7 +15,8 @@ use lib.Signed.{mag}
 use lib.ListN.{length, drop, set, getD}
 use Rattle.frames.specs.Cells.{Cell, null, value, cell, isNull, isZero, cellOf, valueWord, markWord, rowsOf, rowFrom, Rows, Words}
 use Rattle.order.specs.Requires.{cellAt}
-use Rattle.options.specs.Options.{keyRule}
+use Rattle.options.specs.Options.{withList, withoutList, keyRule}
+use Rattle.options.specs.declared.Terms.{Terms}
 use Rattle.order.specs.Order.{cmpCell, cmpRow, isEqual, sorted}
 use Rattle.order.proofs.OrderLaws.{cmpCell-is, cell-equal}
 use Rattle.options.specs.declared.Options.{Options}
@@ -37,6 +38,11 @@ use Rattle.books.proofs.RunLaw.{last-next}
 use Rattle.notices.specs.Requires.{noticeBy, lastBy}
 
 -- ---- what a notice says
+-- It does not depend on the list.
+pub notice-terms : (t : Terms) (codes : Words) (rising : List ℕ) (q i last : ℕ) (r : List Cell) → noticeBy (withoutList t) q i last r ≡ noticeBy (withList t codes rising) q i last r
+unfolding noticeBy
+notice-terms t codes rising q i last r = refl
+
 by-tests : (a b d : Bool) (x y z : List Cell) → cond (not a && not (not b) && not d) x (cond a y z) ≡ cond a y (cond (b && not d) x z)
 by-tests true b d x y z = refl
 by-tests false true d x y z = refl

@@ -3,12 +3,12 @@ use crate::row::put_notice;
 use compare::cmp_row;
 use keyed::null_at;
 use neighbours::same_values;
-use options::Options;
+use options::Terms;
 use order::Order;
 ghost use mathlib.Core.Path.{_≡_};
 ghost use Prim.Native.Nat.{ℕ, _+_, _*_, _<_};
 ghost use Rattle.frames.specs.Cells.{rowFrom, rowsOf};
-ghost use Rattle.options.specs.Options.{keyRule};
+ghost use Rattle.options.specs.Options.{withList, keyRule};
 ghost use Rattle.order.specs.Order.{cmpCell, cmpRow, isEqual};
 ghost use Rattle.order.specs.Requires.{cellAt, CellIn, RowAt, RowsIn};
 ghost use Rattle.tables.specs.Requires.{rest};
@@ -34,15 +34,23 @@ fn same_key(values: &[i64], marks: &[i64], p: usize, q: usize) -> bool
 }
 
 // Whether the rows at p and q have the same group and key. If both have the same by-values their keys decide, and most neighbours have.
-fn same_row(values: &[i64], marks: &[i64], p: usize, q: usize, o: Options) -> bool
-    requires { ⌜ RowAt o p (now values) (now marks) × RowAt o q (now values) (now marks) ⌝ }
-    ensures { λ r. ⌜ ((w : ℕ) → o .by < w → r ≡ isEqual (cmpRow o (rowFrom w p (now (values .entry)) (now (marks .entry))) (rowFrom w q (now (values .entry)) (now (marks .entry))))) ⌝ }
+fn same_row(
+    values: &[i64],
+    marks: &[i64],
+    p: usize,
+    q: usize,
+    o: Terms,
+    codes: &[i64],
+    rising: &[u8],
+) -> bool
+    requires { ⌜ RowAt (withList o (now codes) (now rising)) p (now values) (now marks) × RowAt (withList o (now codes) (now rising)) q (now values) (now marks) ⌝ }
+    ensures { λ r. ⌜ ((w : ℕ) → o .by < w → r ≡ isEqual (cmpRow (withList o (now (codes .entry)) (now (rising .entry))) (rowFrom w p (now (values .entry)) (now (marks .entry))) (rowFrom w q (now (values .entry)) (now (marks .entry))))) ⌝ }
 {
     if same_values(values, marks, p, q, o) {
         let by = o.by;
         return same_key(values, marks, p + by, q + by);
     }
-    match cmp_row(values, marks, p, values, marks, q, o) {
+    match cmp_row(values, marks, p, values, marks, q, o, codes, rising) {
         Order::Equal => true,
         _ => false,
     }
@@ -56,16 +64,18 @@ fn last_row(
     w: usize,
     i: usize,
     last: usize,
-    o: Options,
+    o: Terms,
+    codes: &[i64],
+    rising: &[u8],
 ) -> usize
-    requires { ⌜ RowsIn o w n (now values) (now marks) × (i < n) ⌝ }
-    ensures { λ r. ⌜ r ≡ lastBy o (rowFrom w (i * w) (now (values .entry)) (now (marks .entry))) i last (rest w (i + 1) n (now (values .entry)) (now (marks .entry))) ⌝ }
+    requires { ⌜ RowsIn (withList o (now codes) (now rising)) w n (now values) (now marks) × (i < n) ⌝ }
+    ensures { λ r. ⌜ r ≡ lastBy (withList o (now (codes .entry)) (now (rising .entry))) (rowFrom w (i * w) (now (values .entry)) (now (marks .entry))) i last (rest w (i + 1) n (now (values .entry)) (now (marks .entry))) ⌝ }
 {
     let j = i + 1;
     if j == n {
         return i;
     }
-    if same_row(values, marks, j * w, i * w, o) {
+    if same_row(values, marks, j * w, i * w, o, codes, rising) {
         return last;
     }
     i
@@ -78,18 +88,20 @@ pub fn put_notices(
     n: usize,
     w: usize,
     column: usize,
-    o: Options,
+    o: Terms,
+    codes: &[i64],
+    rising: &[u8],
     m: usize,
     out: &mut [i64],
 )
-    requires { ⌜ ListRoom o w n column m (now values) (now marks) (now out) ⌝ }
-    ensures { λ _. ⌜ now (out .exit) ≡ layCells m 0 (flat (notices o column 0 (rowsOf w n (now (values .entry)) (now (marks .entry))))) (now (out .entry)) ⌝ }
+    requires { ⌜ ListRoom (withList o (now codes) (now rising)) w n column m (now values) (now marks) (now out) ⌝ }
+    ensures { λ _. ⌜ now (out .exit) ≡ layCells m 0 (flat (notices (withList o (now (codes .entry)) (now (rising .entry))) column 0 (rowsOf w n (now (values .entry)) (now (marks .entry))))) (now (out .entry)) ⌝ }
 {
     let mut i = n;
     let mut last = n;
     while 0 < i {
         i -= 1;
-        last = last_row(values, marks, n, w, i, last, o);
+        last = last_row(values, marks, n, w, i, last, o, codes, rising);
         put_notice(values, marks, w, i, column, last, o, m, out);
     }
 }

@@ -1,7 +1,7 @@
 // One notice: what it says, and how that is written.
 use keyed::null_at;
 use keyed::null_group;
-use options::Options;
+use options::Terms;
 use tables::put_cell;
 ghost use mathlib.Core.Path.{_≡_};
 ghost use mathlib.Core.Bool.{not, _&&_};
@@ -10,15 +10,16 @@ ghost use Prim.Native.Nat.{ℕ, _+_, _*_, _<_, _≤_};
 ghost use lib.Dec.{eqb};
 ghost use lib.ListN.{length};
 ghost use Rattle.frames.specs.Cells.{Cell, value, valueWord, markWord, Words, rowFrom};
+ghost use Rattle.options.specs.Options.{withoutList};
 ghost use Rattle.order.specs.Requires.{cellAt, CellIn, MarksAt};
 ghost use Rattle.tables.specs.Lay.{CellRoom, layCells};
 ghost use Rattle.books.specs.Standing.{isOne, nameless};
 ghost use Rattle.notices.specs.Requires.{noticeBy, NoticeRoom};
 
 // Whether the key or the group of the row at p is null, whatever the row's width.
-fn is_nameless(marks: &[i64], p: usize, o: Options) -> bool
-    requires { ⌜ MarksAt o p (now marks) ⌝ }
-    ensures { λ r. ⌜ ((w : ℕ) (vs : Words) → o .by < w → p + o .by < length vs → r ≡ nameless o (rowFrom w p vs (now (marks .entry)))) ⌝ }
+fn is_nameless(marks: &[i64], p: usize, o: Terms) -> bool
+    requires { ⌜ MarksAt (withoutList o) p (now marks) ⌝ }
+    ensures { λ r. ⌜ ((w : ℕ) (vs : Words) → o .by < w → p + o .by < length vs → r ≡ nameless (withoutList o) (rowFrom w p vs (now (marks .entry)))) ⌝ }
 {
     if null_at(marks, p + o.by) {
         return true;
@@ -57,12 +58,12 @@ pub(crate) fn put_notice(
     i: usize,
     column: usize,
     last: usize,
-    o: Options,
+    o: Terms,
     m: usize,
     out: &mut [i64],
 )
-    requires { ⌜ NoticeRoom o w i column last m (now values) (now marks) (now out) ⌝ }
-    ensures { λ _. ⌜ now (out .exit) ≡ layCells m (2 * i) (noticeBy o column i last (rowFrom w (i * w) (now (values .entry)) (now (marks .entry)))) (now (out .entry)) ⌝ }
+    requires { ⌜ NoticeRoom (withoutList o) w i column last m (now values) (now marks) (now out) ⌝ }
+    ensures { λ _. ⌜ now (out .exit) ≡ layCells m (2 * i) (noticeBy (withoutList o) column i last (rowFrom w (i * w) (now (values .entry)) (now (marks .entry)))) (now (out .entry)) ⌝ }
 {
     let p = i * w;
     let k = 2 * i;

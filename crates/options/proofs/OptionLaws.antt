@@ -6,9 +6,10 @@ use Prim.Native.Nat.{ℕ, _≤_}
 use native.Mathlib.Omega.{arith}
 use borrow.Author.Tests.{ltb-false}
 use lib.Dec.{ltb, eqb}
-use lib.ListN.{getD}
+use lib.ListN.{length, getD}
 use lib.Signed.{ltZ}
 use Rattle.ranks.specs.Ranks.{codesOf}
+use Rattle.ranks.proofs.KeptLaws.{Kept, kept}
 use Rattle.options.specs.Options.{badOptions, manyCarried, badRanked, refusedOptions, Few, Rule, isRanked, byRule}
 use Rattle.options.specs.declared.Options.{Options}
 
@@ -28,7 +29,8 @@ few-columns o e =
 -- Options that opening does not refuse: SCOPE 3.6, 3.8 and 3.10 hold of them, so their columns are few.
 pub record Allowed (o : Options) : Type 0 where
   pub options : badOptions o ≡ false
-  pub few : Few o
+  pub by : o .by ≤ 4
+  pub list : badRanked o ≡ false
   pub carried : o .carried ≤ 8
 
 pub allowed-parts : (o : Options) → refusedOptions o ≡ false → Allowed o
@@ -36,7 +38,11 @@ unfolding refusedOptions
 allowed-parts o e =
     let p = or-both (badOptions o || manyCarried o) (badRanked o) e in
     let q = or-both (badOptions o) (manyCarried o) (p .0) in
-    record { options = q .0; few = record { by = few-columns o (q .0); list = p .1 }; carried = ltb-false 8 (o .carried) (q .1) }
+    record { options = q .0; by = few-columns o (q .0); list = p .1; carried = ltb-false 8 (o .carried) (q .1) }
+
+-- By them rows can be compared, if all words of the list are there.
+pub allowed-few : (o : Options) → Allowed o → 64 ≤ length (o .ranks .codes) → 64 ≤ length (o .ranks .rising) → Few o
+allowed-few o a codes rising = record { by = a .by; list = a .list; there = λ e. (codes, rising) }
 
 -- Invalid options are refused.
 pub bad-refused : (o : Options) → badOptions o ≡ true → refusedOptions o ≡ true
@@ -56,6 +62,12 @@ ranked-given o j e = first (o .ranks .given) (eqb j (o .ranks .column)) e
     first : (a b : Bool) → (a && b) ≡ true → a ≡ true
     first true b e = refl
     first false b e = e
+
+-- So rows can be compared by its list.
+pub ranked-list : (o : Options) (j : ℕ) → isRanked o j ≡ true → Few o → Kept (o .ranks)
+ranked-list o j e few =
+    let g = ranked-given o j e in
+    kept (o .by) (o .ranks) g (few .list) (few .there g .0) (few .there g .1)
 
 -- Its rule has the list's codes; that of every other by-column has none.
 pub ranked-rule : (o : Options) (j : ℕ) → isRanked o j ≡ true

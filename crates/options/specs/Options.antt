@@ -1,20 +1,67 @@
 -- The options that a join is opened with. Assumes nothing.
 use mathlib.Core.Path.{_≡_}
 use mathlib.Core.Bool.{Bool, true, false, cond, not, _&&_, _||_}
-use mathlib.Core.List.{[]}
+use mathlib.Core.List.{List, []}
 use Prim.Native.Nat.{ℕ, suc, _+_, _≤_}
 use lib.Dec.{ltb, eqb}
 use lib.IntN.{negsuc}
 use lib.Signed.{ltZ}
-use lib.ListN.{getD}
+use lib.ListN.{length, getD}
 use Rattle.frames.specs.Cells.{Words}
 use Rattle.ranks.specs.Ranks.{codesOf, badRanks}
 use Rattle.options.specs.declared.Options.{Options}
+use Rattle.options.specs.declared.Terms.{Terms}
 use Rattle.options.specs.declared.Strategy.{Strategy}
 use Rattle.options.specs.declared.Strategy.the-variants.{Backward, Forward, Nearest}
 use Rattle.options.specs.declared.Check.{Check}
 use Rattle.options.specs.declared.Check.the-variants.{Off, On, Strict}
 
+-- ---- options in parts
+-- The options without the codes of the list.
+abbrev pub termsOf : Options → Terms
+termsOf o = record {
+  by = o .by;
+  strategy = o .strategy;
+  «allow_eq» = o .«allow_eq»;
+  tolerance = o .tolerance;
+  check = o .check;
+  descending = o .descending;
+  «nulls_last» = o .«nulls_last»;
+  carried = o .carried;
+  given = o .ranks .given;
+  column = o .ranks .column;
+  count = o .ranks .count;
+}
+
+-- The options that have these terms and, for their list, these words of codes and these places.
+abbrev pub withList : Terms → Words → List ℕ → Options
+withList t codes rising = record {
+  by = t .by;
+  strategy = t .strategy;
+  «allow_eq» = t .«allow_eq»;
+  tolerance = t .tolerance;
+  check = t .check;
+  descending = t .descending;
+  «nulls_last» = t .«nulls_last»;
+  carried = t .carried;
+  ranks = record { given = t .given; column = t .column; count = t .count; codes = codes; rising = rising };
+}
+
+-- The options that have these terms and no list: what looks at keys alone is the same with them.
+abbrev pub withoutList : Terms → Options
+withoutList t = record {
+  by = t .by;
+  strategy = t .strategy;
+  «allow_eq» = t .«allow_eq»;
+  tolerance = t .tolerance;
+  check = t .check;
+  descending = t .descending;
+  «nulls_last» = t .«nulls_last»;
+  carried = t .carried;
+  ranks = record { given = false; column = 0; count = 0; codes = []; rising = [] };
+}
+
+-- ---- what the options say
 -- SCOPE 3.1: the strategy by its number.
 abbrev pub strategyOf : Options → Strategy
 strategyOf o = cond (eqb (o .strategy) 0) Backward (cond (eqb (o .strategy) 1) Forward Nearest)
@@ -60,10 +107,11 @@ badRanked o = badRanks (o .by) (o .ranks)
 unfoldable pub refusedOptions : Options → Bool
 refusedOptions o = badOptions o || manyCarried o || badRanked o
 
--- What comparing rows needs of the options: few by-columns, and no list of ranks or one that opening takes.
+-- What comparing rows needs of the options: few by-columns, and no list of ranks or one that opening takes, with all its words there.
 pub record Few (o : Options) : Type 0 where
   pub by : o .by ≤ 4
   pub list : badRanked o ≡ false
+  pub there : o .ranks .given ≡ true → (64 ≤ length (o .ranks .codes)) × (64 ≤ length (o .ranks .rising))
 
 -- How a column is ordered: its flags, and the codes by whose places it compares; without codes it compares by number.
 pub record Rule : Type 0 where
@@ -74,6 +122,10 @@ pub record Rule : Type 0 where
 -- SCOPE 3.10: whether by-column j has the list.
 abbrev pub isRanked : Options → ℕ → Bool
 isRanked o j = o .ranks .given && eqb j (o .ranks .column)
+
+-- The same of terms.
+abbrev pub hasList : Terms → ℕ → Bool
+hasList t j = t .given && eqb j (t .column)
 
 -- SCOPE 3.5, 3.10: the flags of by-column j, and the codes of its list.
 abbrev pub byRule : Options → ℕ → Rule

@@ -2,7 +2,7 @@
 use ranks::Ranks;
 ghost use mathlib.Core.Path.{_≡_};
 ghost use Prim.Native.Nat.{_≤_};
-ghost use Rattle.options.specs.Options.{badOptions, manyCarried, isRanked, strategyOf, isOn, isStrict, columns, rightColumns, answerColumns};
+ghost use Rattle.options.specs.Options.{termsOf, withoutList, hasList, badOptions, manyCarried, strategyOf, isOn, isStrict, columns, rightColumns, answerColumns};
 
 // The strategies of a match. In the options a strategy is its number, since a host may hand in any.
 pub enum Strategy {
@@ -31,9 +31,46 @@ pub struct Options {
     pub ranks: Ranks,
 }
 
+// The options without the codes of the list, which functions take beside them as two slices: a list is 576 bytes, and most joins have none.
+pub struct Terms {
+    pub by: usize,
+    pub strategy: u8,
+    pub allow_eq: bool,
+    pub tolerance: i64,
+    pub check: Check,
+    pub descending: [bool; 4],
+    pub nulls_last: [bool; 4],
+    pub carried: usize,
+    pub given: bool,
+    pub column: usize,
+    pub count: usize,
+}
+
+// The options without the codes of the list.
+pub fn terms_of(o: Options) -> Terms
+    ensures { λ r. ⌜ r ≡ termsOf o ⌝ }
+{
+    let check = o.check;
+    let descending = o.descending;
+    let nulls_last = o.nulls_last;
+    Terms {
+        by: o.by,
+        strategy: o.strategy,
+        allow_eq: o.allow_eq,
+        tolerance: o.tolerance,
+        check: check,
+        descending: descending,
+        nulls_last: nulls_last,
+        carried: o.carried,
+        given: o.ranks.given,
+        column: o.ranks.column,
+        count: o.ranks.count,
+    }
+}
+
 // Whether the options are invalid (SCOPE 3.6).
-pub fn bad_options(o: Options) -> bool
-    ensures { λ r. ⌜ r ≡ badOptions o ⌝ }
+pub fn bad_options(o: Terms) -> bool
+    ensures { λ r. ⌜ r ≡ badOptions (withoutList o) ⌝ }
 {
     if 4 < o.by {
         return true;
@@ -51,25 +88,25 @@ pub fn bad_options(o: Options) -> bool
 }
 
 // Whether more columns are carried than may be (SCOPE 3.8).
-pub fn many_carried(o: Options) -> bool
-    ensures { λ r. ⌜ r ≡ manyCarried o ⌝ }
+pub fn many_carried(o: Terms) -> bool
+    ensures { λ r. ⌜ r ≡ manyCarried (withoutList o) ⌝ }
 {
     8 < o.carried
 }
 
 // Whether by-column j has the list of ranks (SCOPE 3.10).
-pub fn is_ranked(o: Options, j: usize) -> bool
-    ensures { λ r. ⌜ r ≡ isRanked o j ⌝ }
+pub fn is_ranked(o: Terms, j: usize) -> bool
+    ensures { λ r. ⌜ r ≡ hasList o j ⌝ }
 {
-    if o.ranks.given {
-        return j == o.ranks.column;
+    if o.given {
+        return j == o.column;
     }
     false
 }
 
 // The strategy by its number: 0 Backward, 1 Forward, 2 Nearest.
-pub fn strategy_of(o: Options) -> Strategy
-    ensures { λ r. ⌜ r ≡ strategyOf o ⌝ }
+pub fn strategy_of(o: Terms) -> Strategy
+    ensures { λ r. ⌜ r ≡ strategyOf (withoutList o) ⌝ }
 {
     if o.strategy == 0 {
         return Strategy::Backward;
@@ -103,25 +140,25 @@ pub fn is_strict(check: Check) -> bool
 }
 
 // The columns of a left frame: by-columns and key.
-pub fn left_columns(o: Options) -> usize
+pub fn left_columns(o: Terms) -> usize
     requires { ⌜ o .by ≤ 4 ⌝ }
-    ensures { λ r. ⌜ r ≡ columns o ⌝ }
+    ensures { λ r. ⌜ r ≡ columns (withoutList o) ⌝ }
 {
     o.by + 1
 }
 
 // The columns of a right frame, and of a held row: behind the key stands what is carried.
-pub fn right_columns(o: Options) -> usize
+pub fn right_columns(o: Terms) -> usize
     requires { ⌜ (o .by ≤ 4) × (o .carried ≤ 8) ⌝ }
-    ensures { λ r. ⌜ r ≡ rightColumns o ⌝ }
+    ensures { λ r. ⌜ r ≡ rightColumns (withoutList o) ⌝ }
 {
     o.by + 1 + o.carried
 }
 
 // The columns of an answer: the right number, and what is carried.
-pub fn answer_columns(o: Options) -> usize
+pub fn answer_columns(o: Terms) -> usize
     requires { ⌜ o .carried ≤ 8 ⌝ }
-    ensures { λ r. ⌜ r ≡ answerColumns o ⌝ }
+    ensures { λ r. ⌜ r ≡ answerColumns (withoutList o) ⌝ }
 {
     o.carried + 1
 }

@@ -7,3 +7,4 @@ pub mod SeamLaws
 pub mod Apart
 pub mod RowLaws
 pub mod ListedLaws
+pub mod TermLaws

@@ -1,15 +1,15 @@
 // How far the held rows serve a left row: whether more are needed, and how many of them a prune drops.
 use narrowing::find_key;
 use narrowing::narrow;
-use options::Options;
 use options::Strategy;
+use options::Terms;
 use options::strategy_of;
 use searching::Seek;
 use searching::Stretch;
 ghost use mathlib.Core.Path.{_≡_};
 ghost use Prim.Native.Nat.{ℕ, _-_, _≤_, _<_, max};
 ghost use Rattle.frames.specs.Cells.{rowFrom, rowsOf};
-ghost use Rattle.options.specs.Options.{strategyOf};
+ghost use Rattle.options.specs.Options.{withList, withoutList, strategyOf};
 ghost use Rattle.order.specs.Requires.{cellAt, CellIn, RowAt, RowsIn};
 ghost use Rattle.searching.specs.Reach.{seekOf, keyNeedsMore, needMore, stepBack, splitAt, pruneBy};
 ghost use Rattle.searching.specs.Requires.{rangeOf, PlaceIn};
@@ -45,10 +45,10 @@ fn key_needs_more(
     n: usize,
     w: usize,
     s: Stretch,
-    o: Options,
+    o: Terms,
 ) -> bool
-    requires { ⌜ CellIn k (now lv) (now lm) × RowsIn o w n (now rv) (now rm) × (s .end ≤ n) ⌝ }
-    ensures { λ r. ⌜ r ≡ keyNeedsMore o (strategyOf o) (cellAt k (now (lv .entry)) (now (lm .entry))) (rowsOf w n (now (rv .entry)) (now (rm .entry))) (rangeOf s) ⌝ }
+    requires { ⌜ CellIn k (now lv) (now lm) × RowsIn (withoutList o) w n (now rv) (now rm) × (s .end ≤ n) ⌝ }
+    ensures { λ r. ⌜ r ≡ keyNeedsMore (withoutList o) (strategyOf (withoutList o)) (cellAt k (now (lv .entry)) (now (lm .entry))) (rowsOf w n (now (rv .entry)) (now (rm .entry))) (rangeOf s) ⌝ }
 {
     let strategy = strategy_of(o);
     let seek = seek_of(strategy, o.allow_eq);
@@ -75,10 +75,12 @@ pub fn need_more(
     rm: &[i64],
     n: usize,
     w: usize,
-    o: Options,
+    o: Terms,
+    codes: &[i64],
+    rising: &[u8],
 ) -> bool
-    requires { ⌜ RowsIn o wl nl (now lv) (now lm) × RowsIn o w n (now rv) (now rm) ⌝ }
-    ensures { λ r. ⌜ r ≡ needMore o (rowsOf wl nl (now (lv .entry)) (now (lm .entry))) (rowsOf w n (now (rv .entry)) (now (rm .entry))) ⌝ }
+    requires { ⌜ RowsIn (withList o (now codes) (now rising)) wl nl (now lv) (now lm) × RowsIn (withList o (now codes) (now rising)) w n (now rv) (now rm) ⌝ }
+    ensures { λ r. ⌜ r ≡ needMore (withList o (now (codes .entry)) (now (rising .entry))) (rowsOf wl nl (now (lv .entry)) (now (lm .entry))) (rowsOf w n (now (rv .entry)) (now (rm .entry))) ⌝ }
 {
     if nl == 0 {
         return false;
@@ -87,7 +89,7 @@ pub fn need_more(
         return true;
     }
     let p = (nl - 1) * wl;
-    let s = narrow(lv, lm, p, rv, rm, n, w, o);
+    let s = narrow(lv, lm, p, rv, rm, n, w, o, codes, rising);
     if s.start == n {
         return true;
     }
@@ -127,12 +129,14 @@ fn split_at(
     rm: &[i64],
     n: usize,
     w: usize,
-    o: Options,
+    o: Terms,
+    codes: &[i64],
+    rising: &[u8],
 ) -> usize
-    requires { ⌜ RowAt o p (now lv) (now lm) × RowsIn o w n (now rv) (now rm) ⌝ }
-    ensures { λ r. ⌜ ((wl : ℕ) → o .by < wl → r ≡ splitAt o (rowFrom wl p (now (lv .entry)) (now (lm .entry))) (rowsOf w n (now (rv .entry)) (now (rm .entry)))) ⌝ }
+    requires { ⌜ RowAt (withList o (now codes) (now rising)) p (now lv) (now lm) × RowsIn (withList o (now codes) (now rising)) w n (now rv) (now rm) ⌝ }
+    ensures { λ r. ⌜ ((wl : ℕ) → o .by < wl → r ≡ splitAt (withList o (now (codes .entry)) (now (rising .entry))) (rowFrom wl p (now (lv .entry)) (now (lm .entry))) (rowsOf w n (now (rv .entry)) (now (rm .entry)))) ⌝ }
 {
-    let s = narrow(lv, lm, p, rv, rm, n, w, o);
+    let s = narrow(lv, lm, p, rv, rm, n, w, o, codes, rising);
     let at = find_key(
         Seek::AtLeast,
         lv,
@@ -159,10 +163,12 @@ pub fn prune_by(
     rm: &[i64],
     n: usize,
     w: usize,
-    o: Options,
+    o: Terms,
+    codes: &[i64],
+    rising: &[u8],
 ) -> usize
-    requires { ⌜ PlaceIn i nl × RowsIn o wl nl (now lv) (now lm) × RowsIn o w n (now rv) (now rm) ⌝ }
-    ensures { λ r. ⌜ r ≡ pruneBy o i (rowsOf wl nl (now (lv .entry)) (now (lm .entry))) (rowsOf w n (now (rv .entry)) (now (rm .entry))) ⌝ }
+    requires { ⌜ PlaceIn i nl × RowsIn (withList o (now codes) (now rising)) wl nl (now lv) (now lm) × RowsIn (withList o (now codes) (now rising)) w n (now rv) (now rm) ⌝ }
+    ensures { λ r. ⌜ r ≡ pruneBy (withList o (now (codes .entry)) (now (rising .entry))) i (rowsOf wl nl (now (lv .entry)) (now (lm .entry))) (rowsOf w n (now (rv .entry)) (now (rm .entry))) ⌝ }
 {
     if nl == 0 {
         return 0;
@@ -170,5 +176,5 @@ pub fn prune_by(
     if n == 0 {
         return 0;
     }
-    split_at(lv, lm, i * wl, rv, rm, n, w, o)
+    split_at(lv, lm, i * wl, rv, rm, n, w, o, codes, rising)
 }

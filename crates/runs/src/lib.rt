@@ -2,6 +2,7 @@
 use framerule::row_count;
 use node::Join;
 use options::answer_columns;
+use options::terms_of;
 use outcomes::Answer;
 use outcomes::goes_on;
 ghost use mathlib.Core.Path.{_≡_};
@@ -58,7 +59,7 @@ pub fn run(mut join: Join, k: usize, left: &[i64], right: &[i64], out: &mut [i64
                 join: join,
             };
         }
-        let c = answer_columns(join.options);
+        let c = answer_columns(terms_of(join.options));
         at += turn_words(&out[at..], c);
         made += 1;
     }

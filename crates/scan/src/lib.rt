@@ -4,14 +4,14 @@ use fits::takes_over;
 use fits::too_far;
 use keyed::null_at;
 use matching::Choice;
-use options::Options;
 use options::Strategy;
+use options::Terms;
 use options::strategy_of;
 ghost use mathlib.Core.Path.{_≡_};
 ghost use mathlib.Core.List.{List};
 ghost use Prim.Native.Nat.{ℕ, _+_, _<_, _≤_};
 ghost use Rattle.frames.specs.Cells.{Cell, value, rowFrom};
-ghost use Rattle.options.specs.Options.{strategyOf};
+ghost use Rattle.options.specs.Options.{withoutList, strategyOf};
 ghost use Rattle.order.specs.Order.{keyOf};
 ghost use Rattle.order.specs.Requires.{RowsIn};
 ghost use Rattle.matching.specs.Match.{nobody, fits, choose, matchIn};
@@ -29,10 +29,10 @@ fn meet_row(
     w: usize,
     v: i64,
     s: Strategy,
-    o: Options,
+    o: Terms,
 ) -> usize
-    requires { ⌜ Meets o s w to (now rv) (now rm) best j ⌝ }
-    ensures { λ r. ⌜ Met o w to (now (rv .entry)) (now (rm .entry)) best j v r ⌝ }
+    requires { ⌜ Meets (withoutList o) s w to (now rv) (now rm) best j ⌝ }
+    ensures { λ r. ⌜ Met (withoutList o) w to (now (rv .entry)) (now (rm .entry)) best j v r ⌝ }
 {
     let by = o.by;
     let k = j * w + by;
@@ -58,10 +58,10 @@ fn best_row(
     w: usize,
     v: i64,
     s: Strategy,
-    o: Options,
+    o: Terms,
 ) -> usize
-    requires { ⌜ RowsIn o w to (now rv) (now rm) × (from ≤ to) × (s ≡ strategyOf o) ⌝ }
-    ensures { λ r. ⌜ BestIn o w to (now (rv .entry)) (now (rm .entry)) r × ((first : ℕ) (x : List Cell) → keyOf o x ≡ value v → hitAt first w to (now (rv .entry)) (now (rm .entry)) r ≡ choose o x (fits o x) nobody (first + from) (between w from to (now (rv .entry)) (now (rm .entry)))) ⌝ }
+    requires { ⌜ RowsIn (withoutList o) w to (now rv) (now rm) × (from ≤ to) × (s ≡ strategyOf (withoutList o)) ⌝ }
+    ensures { λ r. ⌜ BestIn (withoutList o) w to (now (rv .entry)) (now (rm .entry)) r × ((first : ℕ) (x : List Cell) → keyOf (withoutList o) x ≡ value v → hitAt first w to (now (rv .entry)) (now (rm .entry)) r ≡ choose (withoutList o) x (fits (withoutList o) x) nobody (first + from) (between w from to (now (rv .entry)) (now (rm .entry)))) ⌝ }
 {
     let mut best = to;
     let mut j = from;
@@ -73,9 +73,9 @@ fn best_row(
 }
 
 // The best row of from..to for the left key v, by its index; `to` where there is none. The strategies stand in the order of the join_asof documentation, each headed by its sentence.
-fn choose_row(rv: &[i64], rm: &[i64], from: usize, to: usize, w: usize, v: i64, o: Options) -> usize
-    requires { ⌜ RowsIn o w to (now rv) (now rm) × (from ≤ to) ⌝ }
-    ensures { λ r. ⌜ BestIn o w to (now (rv .entry)) (now (rm .entry)) r × ((first : ℕ) (x : List Cell) → keyOf o x ≡ value v → hitAt first w to (now (rv .entry)) (now (rm .entry)) r ≡ choose o x (fits o x) nobody (first + from) (between w from to (now (rv .entry)) (now (rm .entry)))) ⌝ }
+fn choose_row(rv: &[i64], rm: &[i64], from: usize, to: usize, w: usize, v: i64, o: Terms) -> usize
+    requires { ⌜ RowsIn (withoutList o) w to (now rv) (now rm) × (from ≤ to) ⌝ }
+    ensures { λ r. ⌜ BestIn (withoutList o) w to (now (rv .entry)) (now (rm .entry)) r × ((first : ℕ) (x : List Cell) → keyOf (withoutList o) x ≡ value v → hitAt first w to (now (rv .entry)) (now (rm .entry)) r ≡ choose (withoutList o) x (fits (withoutList o) x) nobody (first + from) (between w from to (now (rv .entry)) (now (rm .entry)))) ⌝ }
 {
     let s = strategy_of(o);
     match s {
@@ -99,10 +99,10 @@ pub fn match_row(
     to: usize,
     w: usize,
     number: usize,
-    o: Options,
+    o: Terms,
 ) -> Choice
-    requires { ⌜ RowRoom o p (now lv) (now lm) w from to (now rv) (now rm) number ⌝ }
-    ensures { λ r. ⌜ ((wl : ℕ) → o .by < wl → r ≡ matchIn o (number + from) (between w from to (now (rv .entry)) (now (rm .entry))) (rowFrom wl p (now (lv .entry)) (now (lm .entry)))) ⌝ }
+    requires { ⌜ RowRoom (withoutList o) p (now lv) (now lm) w from to (now rv) (now rm) number ⌝ }
+    ensures { λ r. ⌜ ((wl : ℕ) → o .by < wl → r ≡ matchIn (withoutList o) (number + from) (between w from to (now (rv .entry)) (now (rm .entry))) (rowFrom wl p (now (lv .entry)) (now (lm .entry)))) ⌝ }
 {
     let by = o.by;
     let k = p + by;

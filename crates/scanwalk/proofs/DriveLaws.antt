@@ -9,8 +9,9 @@ use lib.Dec.{ltb, eqb}
 use lib.ListN.{length}
 use Rattle.frames.specs.Cells.{Rows, Words, rowsOf}
 use Rattle.frames.specs.Frame.{isFrame, rowCount, frameRows, valuesIn, marksIn}
-use Rattle.ranks.specs.Ranks.{badRanks}
-use Rattle.options.specs.Options.{badRanked}
+use Rattle.options.specs.Options.{termsOf, withoutList}
+use Rattle.options.specs.declared.Options.{Options}
+use Rattle.options.proofs.TermLaws.{few-terms}
 use Rattle.order.specs.Requires.{RowsIn}
 use Rattle.frames.proofs.FrameLaws.{values-length, marks-length}
 use Rattle.frames.proofs.FrontLaws.{frame-few}
@@ -20,6 +21,7 @@ use Rattle.matching.specs.Stretches.{between, lay}
 use Rattle.matching.specs.Loops.{RunRoom}
 use Rattle.matching.specs.Moves.{keysSorted, Counted}
 use Rattle.matching.proofs.WalkLaws.{between-all}
+use Rattle.matching.proofs.TermLaws.{sorted-terms, lay-terms}
 use Rattle.scanwalk.specs.Drive.{keyOptions, judged, unsorted, refusalOf, Drives, PartsIn}
 use Rattle.scanwalk.specs.declared.Driven.{Driven}
 
@@ -45,25 +47,25 @@ module _ (s n : ℕ) (lv lm : Words) (m : ℕ) (rv rm out : Words) where
   abbrev rs : Rows
   rs = rowsOf 1 m rv rm
 
-  no-list : (s : ℕ) → badRanked (keyOptions s) ≡ false
-  unfolding badRanks
-  no-list s = refl
+  -- the options as the code has them, without the words of a list
+  abbrev pub plain : Options
+  plain = withoutList (termsOf (keyOptions s))
 
-  pub left-in : PartsIn n lv lm m rv rm out → RowsIn (keyOptions s) 1 n lv lm
-  left-in p = record { few = record { by = omega arith; list = no-list s }; wide = omega arith; values = omega (arith, p .leftValues); marks = omega (arith, p .leftMarks) }
+  pub left-in : PartsIn n lv lm m rv rm out → RowsIn plain 1 n lv lm
+  left-in p = record { few = few-terms (termsOf (keyOptions s)) (omega arith); wide = omega arith; values = omega (arith, p .leftValues); marks = omega (arith, p .leftMarks) }
 
-  pub right-in : PartsIn n lv lm m rv rm out → RowsIn (keyOptions s) 1 m rv rm
-  right-in p = record { few = record { by = omega arith; list = no-list s }; wide = omega arith; values = omega (arith, p .rightValues); marks = omega (arith, p .rightMarks) }
+  pub right-in : PartsIn n lv lm m rv rm out → RowsIn plain 1 m rv rm
+  right-in p = record { few = few-terms (termsOf (keyOptions s)) (omega arith); wide = omega arith; values = omega (arith, p .rightValues); marks = omega (arith, p .rightMarks) }
 
-  pub run-room : PartsIn n lv lm m rv rm out → RunRoom (keyOptions s) 1 n lv lm 0 n 1 rv rm 0 m 0 out
+  pub run-room : PartsIn n lv lm m rv rm out → RunRoom plain 1 n lv lm 0 n 1 rv rm 0 m 0 out
   run-room p = record { left = left-in p; upward = omega arith; within = omega arith; right = right-in p; run = omega arith; numbers = omega (arith, p .few); room = p .room }
 
   -- the words that both write
   abbrev Laid : Words → Type 0
-  Laid out′ = out′ ≡ lay n 0 (map (matchIn (keyOptions s) (0 + 0) (between 1 0 m rv rm)) (between 1 0 n lv lm)) out
+  Laid out′ = out′ ≡ lay n 0 (map (matchIn plain (0 + 0) (between 1 0 m rv rm)) (between 1 0 n lv lm)) out
 
   laid : (out′ : Words) → Laid out′ → out′ ≡ lay (length ls) 0 (map (matchIn (keyOptions s) 0 rs) ls) out
-  laid out′ e = rw (rows-length 1 n lv lm, ← between-all 1 lv lm n, ← between-all 1 rv rm m) e
+  laid out′ e = rw (rows-length 1 n lv lm, ← between-all 1 lv lm n, ← between-all 1 rv rm m) (e ∙ lay-terms (termsOf (keyOptions s)) (keyOptions s .ranks .codes) (keyOptions s .ranks .rising) n 0 0 (between 1 0 m rv rm) (between 1 0 n lv lm) out)
 
   pub scanned : (walked : Bool) → walked ≡ false → (out′ : Words) → Laid out′ → Drives walked s ls rs (unsorted walked s ls rs) out (record { refusal = 0; moves = 0 }) out′
   scanned true e out′ l = let z : _≡_ {A = ℕ} 0 1 = cc in absurd (omega arith)
@@ -71,10 +73,13 @@ module _ (s n : ℕ) (lv lm : Words) (m : ℕ) (rv rm out : Words) where
 
   -- whether both are sorted, as the code asks it
   abbrev both : Bool
-  both = keysSorted (keyOptions s) (between 1 0 n lv lm) && keysSorted (keyOptions s) (between 1 0 m rv rm)
+  both = keysSorted plain (between 1 0 n lv lm) && keysSorted plain (between 1 0 m rv rm)
 
   sorts : both ≡ (keysSorted (keyOptions s) ls && keysSorted (keyOptions s) rs)
-  sorts = rw (between-all 1 lv lm n, between-all 1 rv rm m)
+  sorts = rw (between-all 1 lv lm n, between-all 1 rv rm m, same ls, same rs)
+    where
+      same : (rows : Rows) → keysSorted plain rows ≡ keysSorted (keyOptions s) rows
+      same = sorted-terms (termsOf (keyOptions s)) (keyOptions s .ranks .codes) (keyOptions s .ranks .rising)
 
   pub unwalked : (walked : Bool) → walked ≡ true → both ≡ false → Drives walked s ls rs (unsorted walked s ls rs) out (record { refusal = 14; moves = 0 }) out
   unwalked false e f = let z : _≡_ {A = ℕ} 0 1 = cc in absurd (omega arith)

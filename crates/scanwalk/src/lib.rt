@@ -5,14 +5,14 @@ use framerule::row_count;
 use matchrun::scan_run;
 use matchrun::walk_run;
 use options::Check;
-use options::Options;
-use ranking::ranks_of;
+use options::Terms;
 ghost use mathlib.Core.Path.{_≡_};
 ghost use mathlib.Core.Bool.{true, false, _&&_};
 ghost use Prim.Native.Nat.{_≤_};
 ghost use lib.ListN.{length};
 ghost use Rattle.frames.specs.Cells.{rowsOf};
 ghost use Rattle.frames.specs.Frame.{frameRows};
+ghost use Rattle.options.specs.Options.{termsOf, withoutList};
 ghost use Rattle.order.specs.Requires.{RowsIn};
 ghost use Rattle.matching.specs.Stretches.{between};
 ghost use Rattle.matching.specs.Moves.{keysSorted};
@@ -26,11 +26,10 @@ pub struct Driven {
 }
 
 // The options of a strategy: no by-columns and no list of ranks, equal keys match, any distance will do.
-fn key_options(strategy: u8) -> Options
-    ensures { λ r. ⌜ r ≡ keyOptions strategy ⌝ }
+fn key_options(strategy: u8) -> Terms
+    ensures { λ r. ⌜ r ≡ termsOf (keyOptions strategy) ⌝ }
 {
-    let none = [0; 64];
-    Options {
+    Terms {
         by: 0,
         strategy: strategy,
         allow_eq: true,
@@ -39,7 +38,9 @@ fn key_options(strategy: u8) -> Options
         descending: [false; 4],
         nulls_last: [false; 4],
         carried: 0,
-        ranks: ranks_of(false, 0, 0, none),
+        given: false,
+        column: 0,
+        count: 0,
     }
 }
 
@@ -74,10 +75,10 @@ fn both_sorted(
     at: usize,
     end: usize,
     wr: usize,
-    o: Options,
+    o: Terms,
 ) -> bool
-    requires { ⌜ RowsIn o wl to (now lv) (now lm) × (from ≤ to) × RowsIn o wr end (now rv) (now rm) × (at ≤ end) ⌝ }
-    ensures { λ r. ⌜ r ≡ (keysSorted o (between wl from to (now (lv .entry)) (now (lm .entry))) && keysSorted o (between wr at end (now (rv .entry)) (now (rm .entry)))) ⌝ }
+    requires { ⌜ RowsIn (withoutList o) wl to (now lv) (now lm) × (from ≤ to) × RowsIn (withoutList o) wr end (now rv) (now rm) × (at ≤ end) ⌝ }
+    ensures { λ r. ⌜ r ≡ (keysSorted (withoutList o) (between wl from to (now (lv .entry)) (now (lm .entry))) && keysSorted (withoutList o) (between wr at end (now (rv .entry)) (now (rm .entry)))) ⌝ }
 {
     if !keys_sorted(lv, lm, from, to, wl, o) {
         return false;

@@ -7,3 +7,4 @@ pub mod EnoughLaw
 pub mod CheckLaw
 pub mod FindLaws
 pub mod ReachLaws
+pub mod TermLaws

@@ -3,7 +3,7 @@ use compare::cmp_row;
 use keyed::copy_row;
 use keyed::first_keyed;
 use keyed::last_keyed;
-use options::Options;
+use options::Terms;
 use options::left_columns;
 use order::Keyed;
 use order::Order;
@@ -12,7 +12,7 @@ ghost use mathlib.Core.Path.{_≡_};
 ghost use mathlib.Core.Option.{some};
 ghost use Prim.Native.Nat.{ℕ, _<_};
 ghost use Rattle.frames.specs.Cells.{rowFrom, rowsOf};
-ghost use Rattle.options.specs.Options.{columns};
+ghost use Rattle.options.specs.Options.{withList, withoutList, columns};
 ghost use Rattle.order.specs.Order.{isGreater};
 ghost use Rattle.order.specs.Keyed.{firstKeyed, rowAt, recall, rememberAt, outOfOrder};
 ghost use Rattle.order.specs.Requires.{RowAt, RowsIn};
@@ -67,15 +67,17 @@ fn above_found(
     values: &[i64],
     marks: &[i64],
     w: usize,
-    o: Options,
+    o: Terms,
+    codes: &[i64],
+    rising: &[u8],
 ) -> bool
-    requires { ⌜ RowAt o 0 (now pv) (now pm) × FoundIn o w found (now values) (now marks) ⌝ }
-    ensures { λ r. ⌜ ((wp n : ℕ) → o .by < wp → FoundAmong found n → r ≡ outOfOrder o (some (rowFrom wp 0 (now (pv .entry)) (now (pm .entry)))) (rowAt (rowsOf w n (now (values .entry)) (now (marks .entry))) found)) ⌝ }
+    requires { ⌜ RowAt (withList o (now codes) (now rising)) 0 (now pv) (now pm) × FoundIn (withList o (now codes) (now rising)) w found (now values) (now marks) ⌝ }
+    ensures { λ r. ⌜ ((wp n : ℕ) → o .by < wp → FoundAmong found n → r ≡ outOfOrder (withList o (now (codes .entry)) (now (rising .entry))) (some (rowFrom wp 0 (now (pv .entry)) (now (pm .entry)))) (rowAt (rowsOf w n (now (values .entry)) (now (marks .entry))) found)) ⌝ }
 {
     let Keyed::At(i) = found else {
         return false;
     };
-    is_greater(cmp_row(pv, pm, 0, values, marks, i * w, o))
+    is_greater(cmp_row(pv, pm, 0, values, marks, i * w, o, codes, rising))
 }
 
 // Whether the row at the front of pv and pm is greater than the first row with a key, of n rows that are each w wide.
@@ -86,13 +88,15 @@ fn above_first(
     marks: &[i64],
     n: usize,
     w: usize,
-    o: Options,
+    o: Terms,
+    codes: &[i64],
+    rising: &[u8],
 ) -> bool
-    requires { ⌜ RowAt o 0 (now pv) (now pm) × RowsIn o w n (now values) (now marks) ⌝ }
-    ensures { λ r. ⌜ ((wp : ℕ) → o .by < wp → r ≡ outOfOrder o (some (rowFrom wp 0 (now (pv .entry)) (now (pm .entry)))) (rowAt (rowsOf w n (now (values .entry)) (now (marks .entry))) (firstKeyed o (rowsOf w n (now (values .entry)) (now (marks .entry)))))) ⌝ }
+    requires { ⌜ RowAt (withList o (now codes) (now rising)) 0 (now pv) (now pm) × RowsIn (withList o (now codes) (now rising)) w n (now values) (now marks) ⌝ }
+    ensures { λ r. ⌜ ((wp : ℕ) → o .by < wp → r ≡ outOfOrder (withList o (now (codes .entry)) (now (rising .entry))) (some (rowFrom wp 0 (now (pv .entry)) (now (pm .entry)))) (rowAt (rowsOf w n (now (values .entry)) (now (marks .entry))) (firstKeyed (withList o (now (codes .entry)) (now (rising .entry))) (rowsOf w n (now (values .entry)) (now (marks .entry)))))) ⌝ }
 {
     let first = first_keyed(marks, n, w, o);
-    above_found(pv, pm, first, values, marks, w, o)
+    above_found(pv, pm, first, values, marks, w, o, codes, rising)
 }
 
 // Whether the remembered row is greater than the row found, of rows that are each w wide.
@@ -102,23 +106,35 @@ pub fn out_of_order(
     values: &[i64],
     marks: &[i64],
     w: usize,
-    o: Options,
+    o: Terms,
+    codes: &[i64],
+    rising: &[u8],
 ) -> bool
-    requires { ⌜ FoundIn o w found (now values) (now marks) ⌝ }
-    ensures { λ r. ⌜ ((n : ℕ) → FoundAmong found n → r ≡ outOfOrder o (recall (columns o) m) (rowAt (rowsOf w n (now (values .entry)) (now (marks .entry))) found)) ⌝ }
+    requires { ⌜ FoundIn (withList o (now codes) (now rising)) w found (now values) (now marks) ⌝ }
+    ensures { λ r. ⌜ ((n : ℕ) → FoundAmong found n → r ≡ outOfOrder (withList o (now (codes .entry)) (now (rising .entry))) (recall (columns (withList o (now (codes .entry)) (now (rising .entry)))) m) (rowAt (rowsOf w n (now (values .entry)) (now (marks .entry))) found)) ⌝ }
 {
     if !m.some {
         return false;
     }
     let lv = m.values;
     let lm = m.marks;
-    above_found(&lv, &lm, found, values, marks, w, o)
+    above_found(&lv, &lm, found, values, marks, w, o, codes, rising)
 }
 
 // Whether the row before the split s of n held rows is greater than the first row with a key after it.
-pub fn bad_split(m: Row, s: usize, rv: &[i64], rm: &[i64], n: usize, w: usize, o: Options) -> bool
-    requires { ⌜ SplitIn o s w n (now rv) (now rm) ⌝ }
-    ensures { λ r. ⌜ r ≡ outOfOrderAt o m s (rowsOf w n (now (rv .entry)) (now (rm .entry))) ⌝ }
+pub fn bad_split(
+    m: Row,
+    s: usize,
+    rv: &[i64],
+    rm: &[i64],
+    n: usize,
+    w: usize,
+    o: Terms,
+    codes: &[i64],
+    rising: &[u8],
+) -> bool
+    requires { ⌜ SplitIn (withList o (now codes) (now rising)) s w n (now rv) (now rm) ⌝ }
+    ensures { λ r. ⌜ r ≡ outOfOrderAt (withList o (now (codes .entry)) (now (rising .entry))) m s (rowsOf w n (now (rv .entry)) (now (rm .entry))) ⌝ }
 {
     let found = last_keyed(rm, s, w, o);
     if !has_before(found, m.some) {
@@ -130,7 +146,17 @@ pub fn bad_split(m: Row, s: usize, rv: &[i64], rm: &[i64], n: usize, w: usize, o
     let values = before_split(rv, &lv, found, c, w);
     let marks = before_split(rm, &lm, found, c, w);
     let p = s * w;
-    above_first(values, marks, &rv[p..], &rm[p..], n - s, w, o)
+    above_first(
+        values,
+        marks,
+        &rv[p..],
+        &rm[p..],
+        n - s,
+        w,
+        o,
+        codes,
+        rising,
+    )
 }
 
 // What is remembered by the row found, of rows that are each w wide: that row, or the row m if none was found.
@@ -140,10 +166,10 @@ pub fn remember_found(
     values: &[i64],
     marks: &[i64],
     w: usize,
-    o: Options,
+    o: Terms,
 ) -> Row
-    requires { ⌜ FoundIn o w found (now values) (now marks) ⌝ }
-    ensures { λ r. ⌜ ((n : ℕ) → FoundAmong found n → r ≡ rememberAt o m (rowsOf w n (now (values .entry)) (now (marks .entry))) found) ⌝ }
+    requires { ⌜ FoundIn (withoutList o) w found (now values) (now marks) ⌝ }
+    ensures { λ r. ⌜ ((n : ℕ) → FoundAmong found n → r ≡ rememberAt (withoutList o) m (rowsOf w n (now (values .entry)) (now (marks .entry))) found) ⌝ }
 {
     let Keyed::At(i) = found else {
         return m;

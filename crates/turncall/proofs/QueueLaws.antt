@@ -9,6 +9,7 @@ use lib.Seq.{take-take}
 use Rattle.frames.specs.Cells.{Words, Rows}
 use Rattle.frames.specs.Frame.{isFrame, frameRows, front}
 use Rattle.frames.specs.Front.{frontOf}
+use Rattle.options.specs.declared.Options.{Options}
 use Rattle.options.specs.Options.{columns, rightColumns}
 use Rattle.frames.specs.declared.Front.the-variants.{Words as Long, Nothing}
 use Rattle.frames.proofs.FrontLaws.{Fronted, front-told}
@@ -30,7 +31,7 @@ use Rattle.turnfront.specs.Turns.{RowsTurned, FrameIn}
 use Rattle.turnfront.specs.declared.TurnedPart.{TurnedPart}
 use Rattle.turncall.specs.Queue.{waitingIn, listedTurn, frontTurn, queueTurn, ListedTurned, QueueTurned, QueueIn}
 
-module _ (bad : Bool) (state : NodeState) (j : Part) (area right out : Words) where
+module _ (o : Options) (bad : Bool) (state : NodeState) (j : Part) (area right out : Words) where
   abbrev starts : Answer
   starts = readyJudged bad (j .failed) state (j .«queue_words») (j .sequence)
 
@@ -55,59 +56,59 @@ module _ (bad : Bool) (state : NodeState) (j : Part) (area right out : Words) wh
   unbroken e = past bad (Refused BadJoin) _ (Wrote (j .sequence)) (apart BadJoin _) e .0
 
   -- One that does not go on changes nothing.
-  stops : (a : Answer) → starts ≡ a → wrote a ≡ false → QueueTurned bad state j area right out (record { answer = a; part = j }) out
+  stops : (a : Answer) → starts ≡ a → wrote a ≡ false → QueueTurned o bad state j area right out (record { answer = a; part = j }) out
   unfolding queueTurn
   stops (Wrote s) e g = let z : _≡_ {A = ℕ} 0 1 = cc in absurd (omega arith)
   stops WantsRight e g = record { answer = rw (e, queueTurn); part = rw (e, queueTurn); words = rw (e, queueTurn) }
   stops Idle e g = record { answer = rw (e, queueTurn); part = rw (e, queueTurn); words = rw (e, queueTurn) }
   stops (Refused n) e g = record { answer = rw (e, queueTurn); part = rw (e, queueTurn); words = rw (e, queueTurn) }
 
-  pub ready-stops : (t : Answer) → t ≡ starts → wrote t ≡ false → QueueTurned bad state j area right out (record { answer = t; part = j }) out
+  pub ready-stops : (t : Answer) → t ≡ starts → wrote t ≡ false → QueueTurned o bad state j area right out (record { answer = t; part = j }) out
   ready-stops t e g = stops t (sym e) g
 
   -- No frame at the front.
-  pub front-stops : starts ≡ Wrote (j .sequence) → frontOf (columns (j .options)) (waitingIn j area) ≡ Nothing → QueueTurned bad state j area right out (record { answer = Refused BadFrame; part = j }) out
+  pub front-stops : starts ≡ Wrote (j .sequence) → frontOf (columns o) (waitingIn j area) ≡ Nothing → QueueTurned o bad state j area right out (record { answer = Refused BadFrame; part = j }) out
   unfolding queueTurn frontTurn
   front-stops e n = record { answer = rw (e, queueTurn, n, frontTurn); part = rw (e, queueTurn, n, frontTurn); words = rw (e, queueTurn, n, frontTurn) }
 
   -- A frame of k words at the front.
-  pub front-turns : starts ≡ Wrote (j .sequence) → (k : ℕ) → frontOf (columns (j .options)) (waitingIn j area) ≡ Long k → (x : TurnedPart) (out′ : Words)
-      → ListedTurned j (take k (drop (j .«queue_start») area)) right out x out′ → QueueTurned bad state j area right out x out′
+  pub front-turns : starts ≡ Wrote (j .sequence) → (k : ℕ) → frontOf (columns o) (waitingIn j area) ≡ Long k → (x : TurnedPart) (out′ : Words)
+      → ListedTurned o j (take k (drop (j .«queue_start») area)) right out x out′ → QueueTurned o bad state j area right out x out′
   unfolding queueTurn frontTurn
   front-turns e k t x out′ h = record { answer = rw (e, queueTurn, t, frontTurn) (h .answer); part = rw (e, queueTurn, t, frontTurn) (h .part); words = rw (e, queueTurn, t, frontTurn) (h .words) }
 
 -- ---- the frame at the front
-module _ (j : Part) (f right out : Words) where
+module _ (o : Options) (j : Part) (f right out : Words) where
   abbrev rows : Rows
-  rows = frameRows (columns (j .options)) f
+  rows = frameRows (columns o) f
 
   -- With a value that the list lacks.
-  pub codes-stop : lacksCode (j .options) rows ≡ true → ListedTurned j f right out (record { answer = Refused UnknownCode; part = j }) out
+  pub codes-stop : lacksCode o rows ≡ true → ListedTurned o j f right out (record { answer = Refused UnknownCode; part = j }) out
   unfolding listedTurn
   codes-stop u = record { answer = rw u; part = rw u; words = rw u }
 
   -- With listed values alone.
-  pub listed-turns : lacksCode (j .options) rows ≡ false → (x : TurnedPart) (out′ : Words)
-      → RowsTurned j rows (heldRows (rightColumns (j .options)) (j .base) (j .held) right) (length f) out x out′ → ListedTurned j f right out x out′
+  pub listed-turns : lacksCode o rows ≡ false → (x : TurnedPart) (out′ : Words)
+      → RowsTurned o j rows (heldRows (rightColumns o) (j .base) (j .held) right) (length f) out x out′ → ListedTurned o j f right out x out′
   unfolding listedTurn
   listed-turns u x out′ h = record { answer = rw u (h .answer); part = rw u (h .part); words = rw u (h .words) }
 
 -- The front of so many words.
-module _ (j : Part) (area right : Words) (k : ℕ) (told : frontOf (columns (j .options)) (waitingIn j area) ≡ Long k) where
-  is-front : Fronted (columns (j .options)) (waitingIn j area) k
-  is-front = front-told (columns (j .options)) (waitingIn j area) k told
+module _ (o : Options) (j : Part) (area right : Words) (k : ℕ) (told : frontOf (columns o) (waitingIn j area) ≡ Long k) where
+  is-front : Fronted (columns o) (waitingIn j area) k
+  is-front = front-told (columns o) (waitingIn j area) k told
 
   pub front-within : k ≤ j .«queue_words»
   front-within = omega (arith, is-front .within, length-take (j .«queue_words») (drop (j .«queue_start») area))
 
   -- It is the first words of the queue.
-  pub front-here : front (columns (j .options)) (waitingIn j area) ≡ take k (drop (j .«queue_start») area)
+  pub front-here : front (columns o) (waitingIn j area) ≡ take k (drop (j .«queue_start») area)
   front-here = is-front .here ∙ take-take k (j .«queue_words») (drop (j .«queue_start») area) front-within
 
-  pub front-frame : isFrame (columns (j .options)) (take k (drop (j .«queue_start») area)) ≡ true
+  pub front-frame : isFrame (columns o) (take k (drop (j .«queue_start») area)) ≡ true
   front-frame = rw front-here at (is-front .is)
 
-  pub frame-in : QueueIn j area right → j .sequence < 2 ^ 64 → length area < 2 ^ 64 → length right < 2 ^ 64 → FrameIn j (take k (drop (j .«queue_start») area)) right
+  pub frame-in : QueueIn o j area right → j .sequence < 2 ^ 64 → length area < 2 ^ 64 → length right < 2 ^ 64 → FrameIn o j (take k (drop (j .«queue_start») area)) right
   frame-in g s l m =
       record {
         few = g .few;
@@ -115,7 +116,7 @@ module _ (j : Part) (area right : Words) (k : ℕ) (told : frontOf (columns (j .
         frame = front-frame;
         held = g .right-room;
         counts = record {
-          base = omega (arith, g .right-room, capacity-room (rightColumns (j .options)) right, rows-words (capacity (rightColumns (j .options)) right) (rightColumns (j .options)) (omega arith));
+          base = omega (arith, g .right-room, capacity-room (rightColumns o) right, rows-words (capacity (rightColumns o) right) (rightColumns o) (omega arith));
           rows = g .rows;
           start = omega (arith, g .left-room);
           words = rw (length-take k (drop (j .«queue_start») area)) (omega (arith, front-within));

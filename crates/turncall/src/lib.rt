@@ -3,6 +3,7 @@ use framerule::front_words;
 use frames::Front;
 use judges::judge_ready;
 use listed::lacks_code;
+use options::Terms;
 use options::left_columns;
 use outcomes::Answer;
 use outcomes::NodeState;
@@ -13,6 +14,7 @@ use turnfront::turn_frame;
 use turnparts::Part;
 ghost use mathlib.Core.Path.{_≡_};
 ghost use mathlib.Core.Bool.{false};
+ghost use Rattle.options.specs.Options.{withList};
 ghost use Rattle.turnfront.specs.Turns.{FrameIn};
 ghost use Rattle.turncall.specs.Queue.{QueueIn, QueueTurned, ListedTurned};
 
@@ -27,15 +29,23 @@ fn unturned(answer: Answer, j: Part) -> TurnedPart
 }
 
 // A turn over the frame at the front, unless it has a value that the list of ranks lacks.
-fn turn_listed(j: Part, frame: &[i64], right: &[i64], out: &mut [i64]) -> TurnedPart
-    requires { ⌜ FrameIn j (now frame) (now right) ⌝ }
-    ensures { λ r. ⌜ ListedTurned j (now (frame .entry)) (now (right .entry)) (now (out .entry)) r (now (out .exit)) ⌝ }
+fn turn_listed(
+    j: Part,
+    o: Terms,
+    codes: &[i64],
+    rising: &[u8],
+    frame: &[i64],
+    right: &[i64],
+    out: &mut [i64],
+) -> TurnedPart
+    requires { ⌜ FrameIn (withList o (now codes) (now rising)) j (now frame) (now right) ⌝ }
+    ensures { λ r. ⌜ ListedTurned (withList o (now (codes .entry)) (now (rising .entry))) j (now (frame .entry)) (now (right .entry)) (now (out .entry)) r (now (out .exit)) ⌝ }
 {
-    let c = left_columns(j.options);
-    if lacks_code(frame, c, j.options) {
+    let c = left_columns(o);
+    if lacks_code(frame, c, o, codes, rising) {
         return unturned(Answer::Refused(Refusal::UnknownCode), j);
     }
-    turn_frame(j, frame, right, out)
+    turn_frame(j, o, codes, rising, frame, right, out)
 }
 
 // A turn of the join in this state: refused, Idle, or over the frame at the front of the queue. `bad` says whether the join meets refusal 2.
@@ -43,18 +53,21 @@ pub fn turn_queue(
     bad: bool,
     state: NodeState,
     j: Part,
+    o: Terms,
+    codes: &[i64],
+    rising: &[u8],
     left: &[i64],
     right: &[i64],
     out: &mut [i64],
 ) -> TurnedPart
-    requires { ⌜ (bad ≡ false → QueueIn j (now left) (now right)) ⌝ }
-    ensures { λ r. ⌜ QueueTurned bad state j (now (left .entry)) (now (right .entry)) (now (out .entry)) r (now (out .exit)) ⌝ }
+    requires { ⌜ (bad ≡ false → QueueIn (withList o (now codes) (now rising)) j (now left) (now right)) ⌝ }
+    ensures { λ r. ⌜ QueueTurned (withList o (now (codes .entry)) (now (rising .entry))) bad state j (now (left .entry)) (now (right .entry)) (now (out .entry)) r (now (out .exit)) ⌝ }
 {
     let starts = judge_ready(bad, j.failed, state, j.queue_words, j.sequence);
     if !goes_on(starts) {
         return unturned(starts, j);
     }
-    let c = left_columns(j.options);
+    let c = left_columns(o);
     let start = j.queue_start;
     let end = start + j.queue_words;
     let front = front_words(&left[start..end], c);
@@ -62,5 +75,5 @@ pub fn turn_queue(
         return unturned(Answer::Refused(Refusal::BadFrame), j);
     };
     let e = start + k;
-    turn_listed(j, &left[start..e], right, out)
+    turn_listed(j, o, codes, rising, &left[start..e], right, out)
 }

@@ -48,46 +48,46 @@ stopped j WantsRight = j
 stopped j Idle = j
 stopped j (Refused n) = spoiledPart n j
 
-module _ (j : Part) (rows held : Rows) where
-  room-all : (P : Answer → Type 0) (room : ℕ) → P WantsRight → P (Refused NoRoom) → P (Refused UsedUp) → P (Wrote (j .sequence)) → P (roomAnswer j rows held room)
+module _ (o : Options) (j : Part) (rows held : Rows) where
+  room-all : (P : Answer → Type 0) (room : ℕ) → P WantsRight → P (Refused NoRoom) → P (Refused UsedUp) → P (Wrote (j .sequence)) → P (roomAnswer o j rows held room)
   unfolding roomAnswer
   room-all P room pw p6 p7 p =
-      cond-ind P (not (j .«right_ended») && needMore (j .options) rows held) (λ t. pw) (λ t.
-      cond-ind P (ltb room (frameWords (length rows) (answerColumns (j .options)))) (λ u. p6) (λ u.
+      cond-ind P (not (j .«right_ended») && needMore o rows held) (λ t. pw) (λ t.
+      cond-ind P (ltb room (frameWords (length rows) (answerColumns o))) (λ u. p6) (λ u.
       cond-ind P (eqb (j .sequence) lastSequence) (λ v. p7) (λ v. p)))
 
-  order-all : (P : Answer → Type 0) (s : ℕ) → P (Refused LeftOrder) → P (Refused RightOrder) → P (Wrote (j .sequence)) → P (orderAnswer j rows held s)
+  order-all : (P : Answer → Type 0) (s : ℕ) → P (Refused LeftOrder) → P (Refused RightOrder) → P (Wrote (j .sequence)) → P (orderAnswer o j rows held s)
   unfolding orderAnswer
   order-all P s p8 p9 p =
-      cond-ind P (badLeft (j .options) (j .«last_left») rows) (λ t. p8) (λ t.
-      cond-ind P (badRightAt (j .options) (j .«last_right») (length rows) s held) (λ u. p9) (λ u. p))
+      cond-ind P (badLeft o (j .«last_left») rows) (λ t. p8) (λ t.
+      cond-ind P (badRightAt o (j .«last_right») (length rows) s held) (λ u. p9) (λ u. p))
 
   -- A turn that has what it needs, and rows in order, writes at the sequence that it came with.
-  pub room-goes : (room : ℕ) (t : Answer) → t ≡ roomAnswer j rows held room → wrote t ≡ true → roomAnswer j rows held room ≡ Wrote (j .sequence)
+  pub room-goes : (room : ℕ) (t : Answer) → t ≡ roomAnswer o j rows held room → wrote t ≡ true → roomAnswer o j rows held room ≡ Wrote (j .sequence)
   room-goes room t e g =
       room-all (λ a. wrote a ≡ true → a ≡ Wrote (j .sequence)) room (λ x. cc) (λ x. cc) (λ x. cc) (λ x. refl) (sym (ap wrote e) ∙ g)
 
-  order-writes : (s : ℕ) (t : Answer) → t ≡ orderAnswer j rows held s → wrote t ≡ true → orderAnswer j rows held s ≡ Wrote (j .sequence)
+  order-writes : (s : ℕ) (t : Answer) → t ≡ orderAnswer o j rows held s → wrote t ≡ true → orderAnswer o j rows held s ≡ Wrote (j .sequence)
   order-writes s t e g = order-all (λ a. wrote a ≡ true → a ≡ Wrote (j .sequence)) s (λ x. cc) (λ x. cc) (λ x. refl) (sym (ap wrote e) ∙ g)
 
   -- What a turn that has what it needs can count on.
-  pub room-there : (room : ℕ) → roomAnswer j rows held room ≡ Wrote (j .sequence) → (frameWords (length rows) (answerColumns (j .options)) ≤ room) × (j .sequence ≡ lastSequence → ⊥)
+  pub room-there : (room : ℕ) → roomAnswer o j rows held room ≡ Wrote (j .sequence) → (frameWords (length rows) (answerColumns o) ≤ room) × (j .sequence ≡ lastSequence → ⊥)
   unfolding roomAnswer
   room-there room e =
-      let p = past (not (j .«right_ended») && needMore (j .options) rows held) WantsRight _ (Wrote (j .sequence)) (λ x. let z : _≡_ {A = ℕ} 0 1 = cc in omega arith) e in
-      let q = past (ltb room (frameWords (length rows) (answerColumns (j .options)))) (Refused NoRoom) _ (Wrote (j .sequence)) (λ x. let z : _≡_ {A = ℕ} 0 1 = cc in omega arith) (p .1) in
+      let p = past (not (j .«right_ended») && needMore o rows held) WantsRight _ (Wrote (j .sequence)) (λ x. let z : _≡_ {A = ℕ} 0 1 = cc in omega arith) e in
+      let q = past (ltb room (frameWords (length rows) (answerColumns o))) (Refused NoRoom) _ (Wrote (j .sequence)) (λ x. let z : _≡_ {A = ℕ} 0 1 = cc in omega arith) (p .1) in
       let r = past (eqb (j .sequence) lastSequence) (Refused UsedUp) (Wrote (j .sequence)) (Wrote (j .sequence)) (λ x. let z : _≡_ {A = ℕ} 0 1 = cc in omega arith) (q .1) in
-      (ltb-false room (frameWords (length rows) (answerColumns (j .options))) (q .0), eqb-false (j .sequence) lastSequence (r .0))
+      (ltb-false room (frameWords (length rows) (answerColumns o)) (q .0), eqb-false (j .sequence) lastSequence (r .0))
 
   module _ (k : ℕ) (out : Words) where
-    not-written : (a : Answer) → rowsAnswer j rows held (length out) ≡ a → wrote a ≡ false → RowsTurned j rows held k out (record { answer = a; part = stopped j a }) out
+    not-written : (a : Answer) → rowsAnswer o j rows held (length out) ≡ a → wrote a ≡ false → RowsTurned o j rows held k out (record { answer = a; part = stopped j a }) out
     unfolding rowsTurn
     not-written (Wrote s) e g = let z : _≡_ {A = ℕ} 0 1 = cc in absurd (omega arith)
     not-written WantsRight e g = record { answer = rw (e, rowsTurn); part = rw (e, rowsTurn); words = rw (e, rowsTurn) }
     not-written Idle e g = record { answer = rw (e, rowsTurn); part = rw (e, rowsTurn); words = rw (e, rowsTurn) }
     not-written (Refused n) e g = record { answer = rw (e, rowsTurn); part = rw (e, rowsTurn); words = rw (e, rowsTurn) }
 
-    without : (a : Answer) → roomAnswer j rows held (length out) ≡ a → wrote a ≡ false → rowsAnswer j rows held (length out) ≡ a
+    without : (a : Answer) → roomAnswer o j rows held (length out) ≡ a → wrote a ≡ false → rowsAnswer o j rows held (length out) ≡ a
     unfolding rowsAnswer
     without (Wrote s) e g = let z : _≡_ {A = ℕ} 0 1 = cc in absurd (omega arith)
     without WantsRight e g = rw (e, rowsAnswer)
@@ -95,34 +95,31 @@ module _ (j : Part) (rows held : Rows) where
     without (Refused n) e g = rw (e, rowsAnswer)
 
     -- Without what it needs it changes nothing.
-    pub room-stops : (t : Answer) → t ≡ roomAnswer j rows held (length out) → wrote t ≡ false → RowsTurned j rows held k out (record { answer = t; part = j }) out
+    pub room-stops : (t : Answer) → t ≡ roomAnswer o j rows held (length out) → wrote t ≡ false → RowsTurned o j rows held k out (record { answer = t; part = j }) out
     room-stops t e g =
         let same : stopped j t ≡ j = rw e (room-all (λ a. stopped j a ≡ j) (length out) refl refl refl refl) in
         rw same at (not-written t (without t (sym e) g) g)
 
-    module _ (needs : roomAnswer j rows held (length out) ≡ Wrote (j .sequence)) (s : ℕ) (at : s ≡ lastPrune (j .options) rows held) (t : Answer) (judged : t ≡ orderAnswer j rows held s) where
-      is-order : rowsAnswer j rows held (length out) ≡ t
+    module _ (needs : roomAnswer o j rows held (length out) ≡ Wrote (j .sequence)) (s : ℕ) (at : s ≡ lastPrune o rows held) (t : Answer) (judged : t ≡ orderAnswer o j rows held s) where
+      is-order : rowsAnswer o j rows held (length out) ≡ t
       unfolding rowsAnswer
       is-order = rw (needs, rowsAnswer, judged, at)
 
       -- Rows that are out of order mark the join failed, and change nothing else.
-      pub order-stops : wrote t ≡ false → RowsTurned j rows held k out (record { answer = t; part = failedPart j }) out
+      pub order-stops : wrote t ≡ false → RowsTurned o j rows held k out (record { answer = t; part = failedPart j }) out
       order-stops g =
           let same : wrote t ≡ false → stopped j t ≡ failedPart j = rw judged (order-all (λ a. wrote a ≡ false → stopped j a ≡ failedPart j) s (λ x. refl) (λ x. refl) (λ x. let z : _≡_ {A = ℕ} 0 1 = cc in absurd (omega arith))) in
           rw (same g) at (not-written t is-order g)
 
-      pub order-goes : wrote t ≡ true → (kept : Rows) (first : ℕ) (r : Part) (out′ : Words) → kept ≡ keptRows (j .options) rows held → first ≡ firstPrune (j .options) rows held
-          → Written j rows kept first s k out r out′ → RowsTurned j rows held k out (record { answer = t; part = r }) out′
+      pub order-goes : wrote t ≡ true → (kept : Rows) (first : ℕ) (r : Part) (out′ : Words) → kept ≡ keptRows o rows held → first ≡ firstPrune o rows held
+          → Written o j rows kept first s k out r out′ → RowsTurned o j rows held k out (record { answer = t; part = r }) out′
       unfolding rowsTurn
       order-goes g kept first r out′ ek ef w =
-          let e : rowsAnswer j rows held (length out) ≡ Wrote (j .sequence) = is-order ∙ judged ∙ order-writes s t judged g in
+          let e : rowsAnswer o j rows held (length out) ≡ Wrote (j .sequence) = is-order ∙ judged ∙ order-writes s t judged g in
           record { answer = rw (e, rowsTurn) (judged ∙ order-writes s t judged g); part = rw (e, rowsTurn, ← ek, ← ef, ← at) (w .part); words = rw (e, rowsTurn, ← ek, ← ef) (w .words) }
 
 -- ---- the words
-module _ {j : Part} {c w n : ℕ} {lv lm rv rm : Words} (t : TurnIn j c w n lv lm rv rm) where
-  abbrev o : Options
-  o = j .options
-
+module _ {o : Options} {j : Part} {c w n : ℕ} {lv lm rv rm : Words} (t : TurnIn o j c w n lv lm rv rm) where
   abbrev rows : Rows
   rows = rowsOf c n lv lm
 
@@ -161,9 +158,9 @@ module _ {j : Part} {c w n : ℕ} {lv lm rv rm : Words} (t : TurnIn j c w n lv l
         pub both-in : first + s ≤ j .held
         both-in = omega (arith, is, last-is, drops-within o rows held, rows-length w (j .held) rv rm)
 
-        pub write-in : (out : Words) → roomAnswer j rows held (length out) ≡ Wrote (j .sequence) → WriteIn j c w n lv lm first s kv km out
+        pub write-in : (out : Words) → roomAnswer o j rows held (length out) ≡ Wrote (j .sequence) → WriteIn o j c w n lv lm first s kv km out
         write-in out needs =
-            let p = room-there j rows held (length out) needs in
+            let p = room-there o j rows held (length out) needs in
             record {
               columns = t .columns;
               wide = t .wide;
@@ -177,45 +174,45 @@ module _ {j : Part} {c w n : ℕ} {lv lm rv rm : Words} (t : TurnIn j c w n lv l
             }
 
 -- ---- the frame at the front
-module _ {j : Part} {f right : Words} (p : FrameIn j f right) (c w n e : ℕ) (narrow : c ≡ columns (j .options)) (wide : w ≡ rightColumns (j .options)) (count : n ≡ rowCount f) (at : e ≡ 2 + n * c) where
+module _ {o : Options} {j : Part} {f right : Words} (p : FrameIn o j f right) (c w n e : ℕ) (narrow : c ≡ columns o) (wide : w ≡ rightColumns o) (count : n ≡ rowCount f) (at : e ≡ 2 + n * c) where
   exact : length f ≡ frameWords n c
-  exact = rw (narrow, count) (frame-parts (columns (j .options)) f (p .frame) .exact)
+  exact = rw (narrow, count) (frame-parts (columns o) f (p .frame) .exact)
 
   pub parts-fit : 2 + 2 * (n * c) ≡ length f
   parts-fit = sym exact
 
-  left-values : take (e - 2) (drop 2 f) ≡ valuesIn (columns (j .options)) f
-  left-values = values-part (columns (j .options)) f e (rw (at, count, narrow))
+  left-values : take (e - 2) (drop 2 f) ≡ valuesIn (columns o) f
+  left-values = values-part (columns o) f e (rw (at, count, narrow))
 
-  left-marks : take (length f - e) (drop e f) ≡ marksIn (columns (j .options)) f
-  left-marks = marks-part (columns (j .options)) f e (rw (at, count, narrow))
+  left-marks : take (length f - e) (drop e f) ≡ marksIn (columns o) f
+  left-marks = marks-part (columns o) f e (rw (at, count, narrow))
 
-  pub frame-in : TurnIn j c w n (take (e - 2) (drop 2 f)) (take (length f - e) (drop e f)) (drop (j .base * w) right) (drop ((capacity w right + j .base) * w) right)
+  pub frame-in : TurnIn o j c w n (take (e - 2) (drop 2 f)) (take (length f - e) (drop e f)) (drop (j .base * w) right) (drop ((capacity w right + j .base) * w) right)
   frame-in =
       let x = exact in
       record {
         columns = narrow;
         wide = wide;
         carried = p .carried;
-        short = rw count (frame-few (columns (j .options)) f (p .frame));
+        short = rw count (frame-few (columns o) f (p .frame));
         left = record {
           few = p .few;
           wide = omega (arith, narrow);
           values = rw (length-take (e - 2) (drop 2 f), length-drop 2 f) (omega arith);
           marks = rw (length-take (length f - e) (drop e f), length-drop e f) (omega arith);
         };
-        right = held-in (j .options) w (j .base) (j .held) right (p .few) (omega (arith, wide)) (rw wide (p .held));
+        right = held-in o w (j .base) (j .held) right (p .few) (omega (arith, wide)) (rw wide (p .held));
         counts = rw x at (p .counts);
       }
 
   pub frame-turned : (out : Words) (r : TurnedPart) (out′ : Words)
-      → RowsTurned j (rowsOf c n (take (e - 2) (drop 2 f)) (take (length f - e) (drop e f))) (rowsOf w (j .held) (drop (j .base * w) right) (drop ((capacity w right + j .base) * w) right)) (frameWords n c) out r out′
-      → RowsTurned j (frameRows (columns (j .options)) f) (heldRows (rightColumns (j .options)) (j .base) (j .held) right) (length f) out r out′
+      → RowsTurned o j (rowsOf c n (take (e - 2) (drop 2 f)) (take (length f - e) (drop e f))) (rowsOf w (j .held) (drop (j .base * w) right) (drop ((capacity w right + j .base) * w) right)) (frameWords n c) out r out′
+      → RowsTurned o j (frameRows (columns o) f) (heldRows (rightColumns o) (j .base) (j .held) right) (length f) out r out′
   unfolding frameRows heldRows
   frame-turned out r out′ h = rw (exact, narrow, ← left-values, ← left-marks, ← count) (rw (narrow, wide) at h)
 
 -- The held rows start within the capacity.
-pub base-in : {j : Part} {f right : Words} → FrameIn j f right → (w : ℕ) → w ≡ rightColumns (j .options) → BaseIn w (j .base) right
+pub base-in : {o : Options} {j : Part} {f right : Words} → FrameIn o j f right → (w : ℕ) → w ≡ rightColumns o → BaseIn w (j .base) right
 base-in p w wide = record {
   columns = record { some = omega (arith, wide); few = omega (arith, wide, p .few, p .carried) };
   within = rw wide (omega (arith, p .held));

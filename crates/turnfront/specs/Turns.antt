@@ -5,6 +5,7 @@ use Prim.Native.Nat.{ℕ, _+_, _≤_}
 use lib.ListN.{length}
 use Rattle.frames.specs.Cells.{Rows, Words}
 use Rattle.frames.specs.Frame.{isFrame}
+use Rattle.options.specs.declared.Options.{Options}
 use Rattle.options.specs.Options.{columns, rightColumns, Few}
 use Rattle.area.specs.Area.{capacity}
 use Rattle.matching.specs.Answer.{frameAnswer, answered}
@@ -18,10 +19,10 @@ use Rattle.turnparts.specs.declared.Part.{Part}
 use Rattle.turnfront.specs.declared.TurnedPart.{TurnedPart}
 
 -- Both answers in order; the split is that of the prune by the last row.
-unfoldable pub rowsAnswer : Part → Rows → Rows → ℕ → Answer
-rowsAnswer j rows held room =
-    elim (roomAnswer j rows held room) [
-      | Wrote s ↦ orderAnswer j rows held (lastPrune (j .options) rows held)
+unfoldable pub rowsAnswer : Options → Part → Rows → Rows → ℕ → Answer
+rowsAnswer o j rows held room =
+    elim (roomAnswer o j rows held room) [
+      | Wrote s ↦ orderAnswer o j rows held (lastPrune o rows held)
       | WantsRight ↦ WantsRight
       | Idle ↦ Idle
       | Refused n ↦ Refused n
@@ -41,26 +42,26 @@ abbrev pub left : Answer → Part → Words → Left
 left a j out = record { answer = a; part = j; out = out }
 
 -- All of it.
-unfoldable pub rowsTurn : Part → Rows → Rows → ℕ → Words → Left
-rowsTurn j rows held k out =
-    let first = firstPrune (j .options) rows held in
-    let kept = keptRows (j .options) rows held in
-    elim (rowsAnswer j rows held (length out)) [
-      | Wrote s ↦ left (Wrote (j .sequence)) (leftPart j rows kept first (lastPrune (j .options) rows held) k) (answered (j .options) (frameAnswer (j .options) (j .pruned + first) kept rows) out)
+unfoldable pub rowsTurn : Options → Part → Rows → Rows → ℕ → Words → Left
+rowsTurn o j rows held k out =
+    let first = firstPrune o rows held in
+    let kept = keptRows o rows held in
+    elim (rowsAnswer o j rows held (length out)) [
+      | Wrote s ↦ left (Wrote (j .sequence)) (leftPart o j rows kept first (lastPrune o rows held) k) (answered o (frameAnswer o (j .pruned + first) kept rows) out)
       | WantsRight ↦ left WantsRight j out
       | Idle ↦ left Idle j out
       | Refused n ↦ left (Refused n) (spoiledPart n j) out
     ]
 
-pub record RowsTurned (j : Part) (rows held : Rows) (k : ℕ) (out : Words) (r : TurnedPart) (out′ : Words) : Type 0 where
-  pub answer : r .answer ≡ rowsTurn j rows held k out .answer
-  pub part : r .part ≡ rowsTurn j rows held k out .part
-  pub words : out′ ≡ rowsTurn j rows held k out .out
+pub record RowsTurned (o : Options) (j : Part) (rows held : Rows) (k : ℕ) (out : Words) (r : TurnedPart) (out′ : Words) : Type 0 where
+  pub answer : r .answer ≡ rowsTurn o j rows held k out .answer
+  pub part : r .part ≡ rowsTurn o j rows held k out .part
+  pub words : out′ ≡ rowsTurn o j rows held k out .out
 
 -- The words are a frame, and wait; the held rows are there.
-pub record FrameIn (j : Part) (f right : Words) : Type 0 where
-  pub few : Few (j .options)
-  pub carried : j .options .carried ≤ 8
-  pub frame : isFrame (columns (j .options)) f ≡ true
-  pub held : j .base + j .held ≤ capacity (rightColumns (j .options)) right
+pub record FrameIn (o : Options) (j : Part) (f right : Words) : Type 0 where
+  pub few : Few o
+  pub carried : o .carried ≤ 8
+  pub frame : isFrame (columns o) f ≡ true
+  pub held : j .base + j .held ≤ capacity (rightColumns o) right
   pub counts : Counts j (length f)

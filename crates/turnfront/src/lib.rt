@@ -2,6 +2,7 @@
 use area::held_marks;
 use area::held_values;
 use framerule::row_count;
+use options::Terms;
 use options::left_columns;
 use options::right_columns;
 use outcomes::Answer;
@@ -18,7 +19,7 @@ ghost use mathlib.Core.Path.{_≡_};
 ghost use lib.ListN.{length};
 ghost use Rattle.frames.specs.Cells.{rowsOf};
 ghost use Rattle.frames.specs.Frame.{frameRows, frameWords};
-ghost use Rattle.options.specs.Options.{columns, rightColumns};
+ghost use Rattle.options.specs.Options.{withList, columns, rightColumns};
 ghost use Rattle.area.specs.Area.{heldRows};
 ghost use Rattle.outcomes.specs.declared.Answer.the-variants.{Wrote};
 ghost use Rattle.turnparts.specs.Part.{roomAnswer, TurnIn};
@@ -43,6 +44,9 @@ fn unturned(answer: Answer, j: Part) -> TurnedPart
 // A turn that has what it needs: its prunes, its order, its answer. With the check on, the split of the prune by the last row is checked.
 fn turn_pruned(
     j: Part,
+    o: Terms,
+    codes: &[i64],
+    rising: &[u8],
     c: usize,
     w: usize,
     n: usize,
@@ -52,27 +56,44 @@ fn turn_pruned(
     rm: &[i64],
     out: &mut [i64],
 ) -> TurnedPart
-    requires { ⌜ TurnIn j c w n (now lv) (now lm) (now rv) (now rm) × (roomAnswer j (rowsOf c n (now lv) (now lm)) (rowsOf w (j .held) (now rv) (now rm)) (length (now out)) ≡ Wrote (j .sequence)) ⌝ }
-    ensures { λ r. ⌜ RowsTurned j (rowsOf c n (now (lv .entry)) (now (lm .entry))) (rowsOf w (j .held) (now (rv .entry)) (now (rm .entry))) (frameWords n c) (now (out .entry)) r (now (out .exit)) ⌝ }
+    requires { ⌜ TurnIn (withList o (now codes) (now rising)) j c w n (now lv) (now lm) (now rv) (now rm) × (roomAnswer (withList o (now codes) (now rising)) j (rowsOf c n (now lv) (now lm)) (rowsOf w (j .held) (now rv) (now rm)) (length (now out)) ≡ Wrote (j .sequence)) ⌝ }
+    ensures { λ r. ⌜ RowsTurned (withList o (now (codes .entry)) (now (rising .entry))) j (rowsOf c n (now (lv .entry)) (now (lm .entry))) (rowsOf w (j .held) (now (rv .entry)) (now (rm .entry))) (frameWords n c) (now (out .entry)) r (now (out .exit)) ⌝ }
 {
-    let o = j.options;
-    let first = first_prune(lv, lm, n, rv, rm, j.held, c, w, o);
+    let first = first_prune(lv, lm, n, rv, rm, j.held, c, w, o, codes, rising);
     let kv = from_row(rv, first, w);
     let km = from_row(rm, first, w);
-    let last = last_prune(lv, lm, n, kv, km, j.held - first, c, w, o);
-    let order = judge_order(j, c, w, n, last, lv, lm, rv, rm);
+    let last = last_prune(lv, lm, n, kv, km, j.held - first, c, w, o, codes, rising);
+    let order = judge_order(j, o, codes, rising, c, w, n, last, lv, lm, rv, rm);
     if !goes_on(order) {
         return unturned(order, fail(j));
     }
     TurnedPart {
         answer: order,
-        part: write_turn(j, c, w, n, lv, lm, first, last, kv, km, out),
+        part: write_turn(
+            j,
+            o,
+            codes,
+            rising,
+            c,
+            w,
+            n,
+            lv,
+            lm,
+            first,
+            last,
+            kv,
+            km,
+            out,
+        ),
     }
 }
 
 // A turn over n left rows and the held rows.
 fn turn_rows(
     j: Part,
+    o: Terms,
+    codes: &[i64],
+    rising: &[u8],
     c: usize,
     w: usize,
     n: usize,
@@ -82,26 +103,47 @@ fn turn_rows(
     rm: &[i64],
     out: &mut [i64],
 ) -> TurnedPart
-    requires { ⌜ TurnIn j c w n (now lv) (now lm) (now rv) (now rm) ⌝ }
-    ensures { λ r. ⌜ RowsTurned j (rowsOf c n (now (lv .entry)) (now (lm .entry))) (rowsOf w (j .held) (now (rv .entry)) (now (rm .entry))) (frameWords n c) (now (out .entry)) r (now (out .exit)) ⌝ }
+    requires { ⌜ TurnIn (withList o (now codes) (now rising)) j c w n (now lv) (now lm) (now rv) (now rm) ⌝ }
+    ensures { λ r. ⌜ RowsTurned (withList o (now (codes .entry)) (now (rising .entry))) j (rowsOf c n (now (lv .entry)) (now (lm .entry))) (rowsOf w (j .held) (now (rv .entry)) (now (rm .entry))) (frameWords n c) (now (out .entry)) r (now (out .exit)) ⌝ }
 {
-    let room = judge_room(j, c, w, n, lv, lm, rv, rm, out.len());
+    let room = judge_room(j, o, codes, rising, c, w, n, lv, lm, rv, rm, out.len());
     if !goes_on(room) {
         return unturned(room, j);
     }
-    turn_pruned(j, c, w, n, lv, lm, rv, rm, out)
+    turn_pruned(j, o, codes, rising, c, w, n, lv, lm, rv, rm, out)
 }
 
 // A turn over the frame at the front of the queue.
-pub fn turn_frame(j: Part, frame: &[i64], right: &[i64], out: &mut [i64]) -> TurnedPart
-    requires { ⌜ FrameIn j (now frame) (now right) ⌝ }
-    ensures { λ r. ⌜ RowsTurned j (frameRows (columns (j .options)) (now (frame .entry))) (heldRows (rightColumns (j .options)) (j .base) (j .held) (now (right .entry))) (length (now (frame .entry))) (now (out .entry)) r (now (out .exit)) ⌝ }
+pub fn turn_frame(
+    j: Part,
+    o: Terms,
+    codes: &[i64],
+    rising: &[u8],
+    frame: &[i64],
+    right: &[i64],
+    out: &mut [i64],
+) -> TurnedPart
+    requires { ⌜ FrameIn (withList o (now codes) (now rising)) j (now frame) (now right) ⌝ }
+    ensures { λ r. ⌜ RowsTurned (withList o (now (codes .entry)) (now (rising .entry))) j (frameRows (columns (withList o (now (codes .entry)) (now (rising .entry)))) (now (frame .entry))) (heldRows (rightColumns (withList o (now (codes .entry)) (now (rising .entry)))) (j .base) (j .held) (now (right .entry))) (length (now (frame .entry))) (now (out .entry)) r (now (out .exit)) ⌝ }
 {
-    let c = left_columns(j.options);
-    let w = right_columns(j.options);
+    let c = left_columns(o);
+    let w = right_columns(o);
     let n = row_count(frame);
     let e = 2 + n * c;
     let rv = held_values(right, j.base, w);
     let rm = held_marks(right, j.base, w);
-    turn_rows(j, c, w, n, &frame[2..e], &frame[e..], rv, rm, out)
+    turn_rows(
+        j,
+        o,
+        codes,
+        rising,
+        c,
+        w,
+        n,
+        &frame[2..e],
+        &frame[e..],
+        rv,
+        rm,
+        out,
+    )
 }

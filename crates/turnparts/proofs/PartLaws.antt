@@ -6,6 +6,7 @@ use native.Mathlib.Omega.{arith}
 use lib.ListN.{length}
 use Rattle.frames.specs.Cells.{Words, rowsOf}
 use Rattle.frames.specs.Frame.{frameWords, frameLimit}
+use Rattle.options.specs.declared.Options.{Options}
 use Rattle.options.specs.Options.{answerColumns}
 use Rattle.order.specs.declared.Row.{Row}
 use Rattle.order.specs.Requires.{RowsIn}
@@ -14,21 +15,21 @@ use Rattle.turnrows.specs.Prunes.{remembered, rememberedLeft}
 use Rattle.turnparts.specs.Part.{leftAt, leftPart, TurnIn, WriteIn}
 use Rattle.turnparts.specs.declared.Part.{Part}
 
-module _ {j : Part} {c w n : ℕ} {lv lm rv rm : Words} (t : TurnIn j c w n lv lm rv rm) where
+module _ {o : Options} {j : Part} {c w n : ℕ} {lv lm rv rm : Words} (t : TurnIn o j c w n lv lm rv rm) where
   -- The answer has few cells, so that its length fits a word.
-  pub cells-few : n * answerColumns (j .options) ≤ 9 * frameLimit
+  pub cells-few : n * answerColumns o ≤ 9 * frameLimit
   cells-few =
-      let m : n * answerColumns (j .options) ≤ n * 9 = mul-le-mul-left {m = answerColumns (j .options)} {n = 9} n (omega (arith, t .carried)) in
+      let m : n * answerColumns o ≤ n * 9 = mul-le-mul-left {m = answerColumns o} {n = 9} n (omega (arith, t .carried)) in
       omega (arith, t .short)
 
 -- ---- what is written
-module _ {j : Part} {c w n : ℕ} {lv lm : Words} {first last : ℕ} {kv km out : Words} (t : WriteIn j c w n lv lm first last kv km out) where
-  pub kept-last : RowsIn (j .options) w last kv km
+module _ {o : Options} {j : Part} {c w n : ℕ} {lv lm : Words} {first last : ℕ} {kv km out : Words} (t : WriteIn o j c w n lv lm first last kv km out) where
+  pub kept-last : RowsIn o w last kv km
   kept-last =
       let m = mul-le-mul-right {m = last} {n = j .held - first} w (omega (arith, t .within)) in
       record { few = t .kept .few; wide = t .kept .wide; values = omega (arith, t .kept .values); marks = omega (arith, t .kept .marks) }
 
-  pub left-as : (l r : Row) (x : Part) → l ≡ rememberedLeft (j .options) (j .«last_left») (rowsOf c n lv lm) → r ≡ remembered (j .options) (j .«last_right») (rowsOf w last kv km)
-      → x ≡ leftAt j (first + last) (frameWords n c) l r → x ≡ leftPart j (rowsOf c n lv lm) (rowsOf w (j .held - first) kv km) first last (frameWords n c)
+  pub left-as : (l r : Row) (x : Part) → l ≡ rememberedLeft o (j .«last_left») (rowsOf c n lv lm) → r ≡ remembered o (j .«last_right») (rowsOf w last kv km)
+      → x ≡ leftAt j (first + last) (frameWords n c) l r → x ≡ leftPart o j (rowsOf c n lv lm) (rowsOf w (j .held - first) kv km) first last (frameWords n c)
   unfolding leftPart
   left-as l r x el er e = rw (rows-take w (j .held - first) last kv km (omega (arith, t .within)), ← el, ← er) e

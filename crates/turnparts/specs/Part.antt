@@ -34,18 +34,17 @@ roomTests o ended sequence rows held room =
 abbrev pub orderTests : Bool → Bool → List (Test Answer)
 orderTests left right = test left (Refused LeftOrder) ∷ test right (Refused RightOrder) ∷ []
 
-unfoldable pub roomAnswer : Part → Rows → Rows → ℕ → Answer
-roomAnswer j rows held room = firstOf (roomTests (j .options) (j .«right_ended») (j .sequence) rows held room) (Wrote (j .sequence))
+unfoldable pub roomAnswer : Options → Part → Rows → Rows → ℕ → Answer
+roomAnswer o j rows held room = firstOf (roomTests o (j .«right_ended») (j .sequence) rows held room) (Wrote (j .sequence))
 
-unfoldable pub orderAnswer : Part → Rows → Rows → ℕ → Answer
-orderAnswer j rows held s =
-    firstOf (orderTests (badLeft (j .options) (j .«last_left») rows) (badRightAt (j .options) (j .«last_right») (length rows) s held)) (Wrote (j .sequence))
+unfoldable pub orderAnswer : Options → Part → Rows → Rows → ℕ → Answer
+orderAnswer o j rows held s =
+    firstOf (orderTests (badLeft o (j .«last_left») rows) (badRightAt o (j .«last_right») (length rows) s held)) (Wrote (j .sequence))
 
 -- ---- what a turn leaves
 -- The join without d held rows and without a waiting frame of k words, at the next sequence, with the rows that are remembered now.
 abbrev pub leftAt : Part → ℕ → ℕ → Row → Row → Part
 leftAt j d k l r = record {
-  options = j .options;
   base = j .base + d;
   held = j .held - d;
   pruned = j .pruned + d;
@@ -61,7 +60,6 @@ leftAt j d k l r = record {
 -- The join, failed.
 abbrev pub failedPart : Part → Part
 failedPart j = record {
-  options = j .options;
   base = j .base;
   held = j .held;
   pruned = j .pruned;
@@ -75,14 +73,14 @@ failedPart j = record {
 }
 
 -- The join after a turn that writes: `first` and then `last` held rows are dropped, and a frame of k words leaves.
-unfoldable pub leftPart : Part → Rows → Rows → ℕ → ℕ → ℕ → Part
-leftPart j rows kept first last k =
-    leftAt j (first + last) k (rememberedLeft (j .options) (j .«last_left») rows) (remembered (j .options) (j .«last_right») (take last kept))
+unfoldable pub leftPart : Options → Part → Rows → Rows → ℕ → ℕ → ℕ → Part
+leftPart o j rows kept first last k =
+    leftAt j (first + last) k (rememberedLeft o (j .«last_left») rows) (remembered o (j .«last_right») (take last kept))
 
 -- A turn that writes: its part of the join, and the output.
-pub record Written (j : Part) (rows kept : Rows) (first last k : ℕ) (out : Words) (r : Part) (out′ : Words) : Type 0 where
-  pub part : r ≡ leftPart j rows kept first last k
-  pub words : out′ ≡ answered (j .options) (frameAnswer (j .options) (j .pruned + first) kept rows) out
+pub record Written (o : Options) (j : Part) (rows kept : Rows) (first last k : ℕ) (out : Words) (r : Part) (out′ : Words) : Type 0 where
+  pub part : r ≡ leftPart o j rows kept first last k
+  pub words : out′ ≡ answered o (frameAnswer o (j .pruned + first) kept rows) out
 
 -- ---- what is asked
 -- The join's counters have room for what a turn adds to them; a frame of k words waits.
@@ -95,23 +93,23 @@ pub record Counts (j : Part) (k : ℕ) : Type 0 where
   pub sequence : j .sequence < 2 ^ 64
 
 -- The frame's n rows are there, each c wide, and the held rows, each w wide.
-pub record TurnIn (j : Part) (c w n : ℕ) (lv lm rv rm : Words) : Type 0 where
-  pub columns : c ≡ columns (j .options)
-  pub wide : w ≡ rightColumns (j .options)
-  pub carried : j .options .carried ≤ 8
+pub record TurnIn (o : Options) (j : Part) (c w n : ℕ) (lv lm rv rm : Words) : Type 0 where
+  pub columns : c ≡ columns o
+  pub wide : w ≡ rightColumns o
+  pub carried : o .carried ≤ 8
   pub short : n ≤ frameLimit
-  pub left : RowsIn (j .options) c n lv lm
-  pub right : RowsIn (j .options) w (j .held) rv rm
+  pub left : RowsIn o c n lv lm
+  pub right : RowsIn o w (j .held) rv rm
   pub counts : Counts j (frameWords n c)
 
 -- The frame's n rows are there, each c wide, and the kept rows, each w wide, and so is the room for the answer; the counters take the new join.
-pub record WriteIn (j : Part) (c w n : ℕ) (lv lm : Words) (first last : ℕ) (kv km out : Words) : Type 0 where
-  pub columns : c ≡ columns (j .options)
-  pub wide : w ≡ rightColumns (j .options)
-  pub carried : j .options .carried ≤ 8
-  pub left : RowsIn (j .options) c n lv lm
-  pub kept : RowsIn (j .options) w (j .held - first) kv km
+pub record WriteIn (o : Options) (j : Part) (c w n : ℕ) (lv lm : Words) (first last : ℕ) (kv km out : Words) : Type 0 where
+  pub columns : c ≡ columns o
+  pub wide : w ≡ rightColumns o
+  pub carried : o .carried ≤ 8
+  pub left : RowsIn o c n lv lm
+  pub kept : RowsIn o w (j .held - first) kv km
   pub within : first + last ≤ j .held
   pub counts : Counts j (frameWords n c)
-  pub room : frameWords n (answerColumns (j .options)) ≤ length out
+  pub room : frameWords n (answerColumns o) ≤ length out
   pub sequence : j .sequence + 2 < 2 ^ 64

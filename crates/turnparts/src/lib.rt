@@ -1,6 +1,6 @@
-// What a turn works on: the join without its state, which no turn reads or moves; what the turn has and needs, and what it writes and leaves.
+// What a turn works on: the join without its options, which no turn moves, and its state, which none reads or moves; what the turn has and needs, and what it writes and leaves.
 use matchframe::match_frame;
-use options::Options;
+use options::Terms;
 use options::answer_columns;
 use order::Row;
 use outcomes::Answer;
@@ -15,12 +15,12 @@ ghost use mathlib.Core.Bool.{not, _&&_};
 ghost use Prim.Native.Nat.{_+_, _-_, _^_, _≤_, _<_};
 ghost use Rattle.frames.specs.Cells.{rowsOf};
 ghost use Rattle.frames.specs.Frame.{frameWords};
+ghost use Rattle.options.specs.Options.{withList};
 ghost use Rattle.searching.specs.Reach.{needMore};
 ghost use Rattle.turnparts.specs.Part.{roomAnswer, orderAnswer, leftAt, failedPart, Written, Counts, TurnIn, WriteIn};
 
-// A join without its state.
+// A join without its options, which come beside it, and its state.
 pub struct Part {
-    pub options: Options,
     pub base: usize,
     pub held: usize,
     pub pruned: usize,
@@ -39,6 +39,9 @@ const LAST_SEQUENCE: u64 = 18446744073709551614;
 // Whether a turn with these n left rows waits for right rows: it never does once right has ended.
 fn wants_right(
     j: Part,
+    o: Terms,
+    codes: &[i64],
+    rising: &[u8],
     c: usize,
     w: usize,
     n: usize,
@@ -47,18 +50,21 @@ fn wants_right(
     rv: &[i64],
     rm: &[i64],
 ) -> bool
-    requires { ⌜ TurnIn j c w n (now lv) (now lm) (now rv) (now rm) ⌝ }
-    ensures { λ r. ⌜ r ≡ (not (j .«right_ended») && needMore (j .options) (rowsOf c n (now (lv .entry)) (now (lm .entry))) (rowsOf w (j .held) (now (rv .entry)) (now (rm .entry)))) ⌝ }
+    requires { ⌜ TurnIn (withList o (now codes) (now rising)) j c w n (now lv) (now lm) (now rv) (now rm) ⌝ }
+    ensures { λ r. ⌜ r ≡ (not (j .«right_ended») && needMore (withList o (now (codes .entry)) (now (rising .entry))) (rowsOf c n (now (lv .entry)) (now (lm .entry))) (rowsOf w (j .held) (now (rv .entry)) (now (rm .entry)))) ⌝ }
 {
     if j.right_ended {
         return false;
     }
-    need_more(lv, lm, n, c, rv, rm, j.held, w, j.options)
+    need_more(lv, lm, n, c, rv, rm, j.held, w, o, codes, rising)
 }
 
 // Whether a turn with these n left rows has what it needs: right rows, room in the output, a sequence.
 pub fn judge_room(
     j: Part,
+    o: Terms,
+    codes: &[i64],
+    rising: &[u8],
     c: usize,
     w: usize,
     n: usize,
@@ -68,13 +74,13 @@ pub fn judge_room(
     rm: &[i64],
     room: usize,
 ) -> Answer
-    requires { ⌜ TurnIn j c w n (now lv) (now lm) (now rv) (now rm) ⌝ }
-    ensures { λ r. ⌜ r ≡ roomAnswer j (rowsOf c n (now (lv .entry)) (now (lm .entry))) (rowsOf w (j .held) (now (rv .entry)) (now (rm .entry))) room ⌝ }
+    requires { ⌜ TurnIn (withList o (now codes) (now rising)) j c w n (now lv) (now lm) (now rv) (now rm) ⌝ }
+    ensures { λ r. ⌜ r ≡ roomAnswer (withList o (now (codes .entry)) (now (rising .entry))) j (rowsOf c n (now (lv .entry)) (now (lm .entry))) (rowsOf w (j .held) (now (rv .entry)) (now (rm .entry))) room ⌝ }
 {
-    if wants_right(j, c, w, n, lv, lm, rv, rm) {
+    if wants_right(j, o, codes, rising, c, w, n, lv, lm, rv, rm) {
         return Answer::WantsRight;
     }
-    if room < 2 + 2 * (n * answer_columns(j.options)) {
+    if room < 2 + 2 * (n * answer_columns(o)) {
         return Answer::Refused(Refusal::NoRoom);
     }
     if j.sequence == LAST_SEQUENCE {
@@ -86,6 +92,9 @@ pub fn judge_room(
 // Whether the order of the rows lets the turn go on; s is the split of the prune by the last row.
 pub fn judge_order(
     j: Part,
+    o: Terms,
+    codes: &[i64],
+    rising: &[u8],
     c: usize,
     w: usize,
     n: usize,
@@ -95,14 +104,13 @@ pub fn judge_order(
     rv: &[i64],
     rm: &[i64],
 ) -> Answer
-    requires { ⌜ TurnIn j c w n (now lv) (now lm) (now rv) (now rm) × (s ≤ j .held) ⌝ }
-    ensures { λ r. ⌜ r ≡ orderAnswer j (rowsOf c n (now (lv .entry)) (now (lm .entry))) (rowsOf w (j .held) (now (rv .entry)) (now (rm .entry))) s ⌝ }
+    requires { ⌜ TurnIn (withList o (now codes) (now rising)) j c w n (now lv) (now lm) (now rv) (now rm) × (s ≤ j .held) ⌝ }
+    ensures { λ r. ⌜ r ≡ orderAnswer (withList o (now (codes .entry)) (now (rising .entry))) j (rowsOf c n (now (lv .entry)) (now (lm .entry))) (rowsOf w (j .held) (now (rv .entry)) (now (rm .entry))) s ⌝ }
 {
-    let o = j.options;
-    if bad_left(j.last_left, lv, lm, n, c, o) {
+    if bad_left(j.last_left, lv, lm, n, c, o, codes, rising) {
         return Answer::Refused(Refusal::LeftOrder);
     }
-    if bad_right(j.last_right, n, s, rv, rm, j.held, w, o) {
+    if bad_right(j.last_right, n, s, rv, rm, j.held, w, o, codes, rising) {
         return Answer::Refused(Refusal::RightOrder);
     }
     Answer::Wrote(j.sequence)
@@ -135,6 +143,9 @@ pub fn fail(mut j: Part) -> Part
 // Writes the answer of n left rows over the kept rows, from which `last` are then dropped; `first` were dropped before.
 pub fn write_turn(
     j: Part,
+    o: Terms,
+    codes: &[i64],
+    rising: &[u8],
     c: usize,
     w: usize,
     n: usize,
@@ -146,13 +157,12 @@ pub fn write_turn(
     km: &[i64],
     out: &mut [i64],
 ) -> Part
-    requires { ⌜ WriteIn j c w n (now lv) (now lm) first last (now kv) (now km) (now out) ⌝ }
-    ensures { λ r. ⌜ Written j (rowsOf c n (now (lv .entry)) (now (lm .entry))) (rowsOf w (j .held - first) (now (kv .entry)) (now (km .entry))) first last (frameWords n c) (now (out .entry)) r (now (out .exit)) ⌝ }
+    requires { ⌜ WriteIn (withList o (now codes) (now rising)) j c w n (now lv) (now lm) first last (now kv) (now km) (now out) ⌝ }
+    ensures { λ r. ⌜ Written (withList o (now (codes .entry)) (now (rising .entry))) j (rowsOf c n (now (lv .entry)) (now (lm .entry))) (rowsOf w (j .held - first) (now (kv .entry)) (now (km .entry))) first last (frameWords n c) (now (out .entry)) r (now (out .exit)) ⌝ }
 {
-    let o = j.options;
     let kept = j.held - first;
     let number = j.pruned + first;
-    match_frame(lv, lm, n, c, kv, km, kept, w, number, o, out);
+    match_frame(lv, lm, n, c, kv, km, kept, w, number, o, codes, rising, out);
     let l = remembered_left(j.last_left, lv, lm, n, c, o);
     let r = remembered(j.last_right, kv, km, last, w, o);
     leave(j, first + last, 2 + 2 * (n * c), l, r)

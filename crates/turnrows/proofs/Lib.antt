@@ -1,2 +1,3 @@
 pub mod PruneLaws
 pub mod LeftLaws
+pub mod TermLaws

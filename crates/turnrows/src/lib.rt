@@ -2,7 +2,7 @@
 use keyed::first_keyed;
 use keyed::last_keyed;
 use neighbours::is_sorted;
-use options::Options;
+use options::Terms;
 use options::is_on;
 use options::is_strict;
 use order::Keyed;
@@ -15,7 +15,7 @@ ghost use mathlib.Core.Path.{_≡_};
 ghost use Prim.Native.Nat.{_-_, _*_, _≤_};
 ghost use lib.ListN.{length, drop};
 ghost use Rattle.frames.specs.Cells.{rowsOf, Words};
-ghost use Rattle.options.specs.Options.{isOn};
+ghost use Rattle.options.specs.Options.{withList, withoutList, isOn};
 ghost use Rattle.order.specs.Keyed.{firstLeft, lastLeft};
 ghost use Rattle.order.specs.Requires.{KeysIn, RowsIn};
 ghost use Rattle.searching.specs.Reach.{pruneBy};
@@ -23,7 +23,7 @@ ghost use Rattle.splitcheck.specs.Requires.{SplitIn};
 ghost use Rattle.turnrows.specs.Prunes.{badLeft, badRightAt, firstPrune, remembered, rememberedLeft};
 
 // Whether the order of the rows is checked.
-fn checks(o: Options) -> bool
+fn checks(o: Terms) -> bool
     ensures { λ r. ⌜ r ≡ isOn (o .check) ⌝ }
 {
     let check = o.check;
@@ -31,9 +31,9 @@ fn checks(o: Options) -> bool
 }
 
 // The row of n left rows that is compared with the remembered one: the first with a key, or, strict, the first.
-fn first_left(marks: &[i64], n: usize, c: usize, o: Options) -> Keyed
-    requires { ⌜ KeysIn o c n (now marks) ⌝ }
-    ensures { λ r. ⌜ ((vs : Words) → n * c ≤ length vs → r ≡ firstLeft o (rowsOf c n vs (now (marks .entry)))) ⌝ }
+fn first_left(marks: &[i64], n: usize, c: usize, o: Terms) -> Keyed
+    requires { ⌜ KeysIn (withoutList o) c n (now marks) ⌝ }
+    ensures { λ r. ⌜ ((vs : Words) → n * c ≤ length vs → r ≡ firstLeft (withoutList o) (rowsOf c n vs (now (marks .entry)))) ⌝ }
 {
     let check = o.check;
     if !is_strict(check) {
@@ -46,9 +46,9 @@ fn first_left(marks: &[i64], n: usize, c: usize, o: Options) -> Keyed
 }
 
 // The row of n left rows that is remembered: the last with a key, or, strict, the last.
-fn last_left(marks: &[i64], n: usize, c: usize, o: Options) -> Keyed
-    requires { ⌜ KeysIn o c n (now marks) ⌝ }
-    ensures { λ r. ⌜ ((vs : Words) → n * c ≤ length vs → r ≡ lastLeft o (rowsOf c n vs (now (marks .entry)))) ⌝ }
+fn last_left(marks: &[i64], n: usize, c: usize, o: Terms) -> Keyed
+    requires { ⌜ KeysIn (withoutList o) c n (now marks) ⌝ }
+    ensures { λ r. ⌜ ((vs : Words) → n * c ≤ length vs → r ≡ lastLeft (withoutList o) (rowsOf c n vs (now (marks .entry)))) ⌝ }
 {
     let check = o.check;
     if !is_strict(check) {
@@ -61,18 +61,27 @@ fn last_left(marks: &[i64], n: usize, c: usize, o: Options) -> Keyed
 }
 
 // Whether the left rows are out of order, with the check on: behind the remembered row, or among themselves.
-pub fn bad_left(m: Row, lv: &[i64], lm: &[i64], n: usize, c: usize, o: Options) -> bool
-    requires { ⌜ RowsIn o c n (now lv) (now lm) ⌝ }
-    ensures { λ r. ⌜ r ≡ badLeft o m (rowsOf c n (now (lv .entry)) (now (lm .entry))) ⌝ }
+pub fn bad_left(
+    m: Row,
+    lv: &[i64],
+    lm: &[i64],
+    n: usize,
+    c: usize,
+    o: Terms,
+    codes: &[i64],
+    rising: &[u8],
+) -> bool
+    requires { ⌜ RowsIn (withList o (now codes) (now rising)) c n (now lv) (now lm) ⌝ }
+    ensures { λ r. ⌜ r ≡ badLeft (withList o (now (codes .entry)) (now (rising .entry))) m (rowsOf c n (now (lv .entry)) (now (lm .entry))) ⌝ }
 {
     if !checks(o) {
         return false;
     }
     let first = first_left(lm, n, c, o);
-    if out_of_order(m, first, lv, lm, c, o) {
+    if out_of_order(m, first, lv, lm, c, o, codes, rising) {
         return true;
     }
-    !is_sorted(lv, lm, n, c, o)
+    !is_sorted(lv, lm, n, c, o, codes, rising)
 }
 
 // Whether the held rows are out of order, with the check on: among themselves, or at the split s of a prune by a frame of n rows.
@@ -84,15 +93,17 @@ pub fn bad_right(
     rm: &[i64],
     held: usize,
     w: usize,
-    o: Options,
+    o: Terms,
+    codes: &[i64],
+    rising: &[u8],
 ) -> bool
-    requires { ⌜ SplitIn o s w held (now rv) (now rm) ⌝ }
-    ensures { λ r. ⌜ r ≡ badRightAt o m n s (rowsOf w held (now (rv .entry)) (now (rm .entry))) ⌝ }
+    requires { ⌜ SplitIn (withList o (now codes) (now rising)) s w held (now rv) (now rm) ⌝ }
+    ensures { λ r. ⌜ r ≡ badRightAt (withList o (now (codes .entry)) (now (rising .entry))) m n s (rowsOf w held (now (rv .entry)) (now (rm .entry))) ⌝ }
 {
     if !checks(o) {
         return false;
     }
-    if !is_sorted(rv, rm, held, w, o) {
+    if !is_sorted(rv, rm, held, w, o, codes, rising) {
         return true;
     }
     if n == 0 {
@@ -101,7 +112,7 @@ pub fn bad_right(
     if held == 0 {
         return false;
     }
-    bad_split(m, s, rv, rm, held, w, o)
+    bad_split(m, s, rv, rm, held, w, o, codes, rising)
 }
 
 // How many held rows the prune by row 0 drops, which is made only with the check off.
@@ -114,15 +125,17 @@ pub fn first_prune(
     held: usize,
     c: usize,
     w: usize,
-    o: Options,
+    o: Terms,
+    codes: &[i64],
+    rising: &[u8],
 ) -> usize
-    requires { ⌜ RowsIn o c n (now lv) (now lm) × RowsIn o w held (now rv) (now rm) ⌝ }
-    ensures { λ r. ⌜ r ≡ firstPrune o (rowsOf c n (now (lv .entry)) (now (lm .entry))) (rowsOf w held (now (rv .entry)) (now (rm .entry))) ⌝ }
+    requires { ⌜ RowsIn (withList o (now codes) (now rising)) c n (now lv) (now lm) × RowsIn (withList o (now codes) (now rising)) w held (now rv) (now rm) ⌝ }
+    ensures { λ r. ⌜ r ≡ firstPrune (withList o (now (codes .entry)) (now (rising .entry))) (rowsOf c n (now (lv .entry)) (now (lm .entry))) (rowsOf w held (now (rv .entry)) (now (rm .entry))) ⌝ }
 {
     if checks(o) {
         return 0;
     }
-    prune_by(0, lv, lm, n, c, rv, rm, held, w, o)
+    prune_by(0, lv, lm, n, c, rv, rm, held, w, o, codes, rising)
 }
 
 // How many held rows the prune by the last row drops; no row, no prune.
@@ -135,21 +148,23 @@ pub fn last_prune(
     held: usize,
     c: usize,
     w: usize,
-    o: Options,
+    o: Terms,
+    codes: &[i64],
+    rising: &[u8],
 ) -> usize
-    requires { ⌜ RowsIn o c n (now lv) (now lm) × RowsIn o w held (now rv) (now rm) ⌝ }
-    ensures { λ r. ⌜ r ≡ pruneBy o (n - 1) (rowsOf c n (now (lv .entry)) (now (lm .entry))) (rowsOf w held (now (rv .entry)) (now (rm .entry))) ⌝ }
+    requires { ⌜ RowsIn (withList o (now codes) (now rising)) c n (now lv) (now lm) × RowsIn (withList o (now codes) (now rising)) w held (now rv) (now rm) ⌝ }
+    ensures { λ r. ⌜ r ≡ pruneBy (withList o (now (codes .entry)) (now (rising .entry))) (n - 1) (rowsOf c n (now (lv .entry)) (now (lm .entry))) (rowsOf w held (now (rv .entry)) (now (rm .entry))) ⌝ }
 {
     if n == 0 {
         return 0;
     }
-    prune_by(n - 1, lv, lm, n, c, rv, rm, held, w, o)
+    prune_by(n - 1, lv, lm, n, c, rv, rm, held, w, o, codes, rising)
 }
 
 // The row that left remembers after n rows went by, which it does only with the check on.
-pub fn remembered_left(m: Row, lv: &[i64], lm: &[i64], n: usize, c: usize, o: Options) -> Row
-    requires { ⌜ RowsIn o c n (now lv) (now lm) ⌝ }
-    ensures { λ r. ⌜ r ≡ rememberedLeft o m (rowsOf c n (now (lv .entry)) (now (lm .entry))) ⌝ }
+pub fn remembered_left(m: Row, lv: &[i64], lm: &[i64], n: usize, c: usize, o: Terms) -> Row
+    requires { ⌜ RowsIn (withoutList o) c n (now lv) (now lm) ⌝ }
+    ensures { λ r. ⌜ r ≡ rememberedLeft (withoutList o) m (rowsOf c n (now (lv .entry)) (now (lm .entry))) ⌝ }
 {
     if !checks(o) {
         return m;
@@ -159,9 +174,9 @@ pub fn remembered_left(m: Row, lv: &[i64], lm: &[i64], n: usize, c: usize, o: Op
 }
 
 // The row that right remembers after n rows went by, which it does only with the check on.
-pub fn remembered(m: Row, values: &[i64], marks: &[i64], n: usize, w: usize, o: Options) -> Row
-    requires { ⌜ RowsIn o w n (now values) (now marks) ⌝ }
-    ensures { λ r. ⌜ r ≡ remembered o m (rowsOf w n (now (values .entry)) (now (marks .entry))) ⌝ }
+pub fn remembered(m: Row, values: &[i64], marks: &[i64], n: usize, w: usize, o: Terms) -> Row
+    requires { ⌜ RowsIn (withoutList o) w n (now values) (now marks) ⌝ }
+    ensures { λ r. ⌜ r ≡ remembered (withoutList o) m (rowsOf w n (now (values .entry)) (now (marks .entry))) ⌝ }
 {
     if !checks(o) {
         return m;

@@ -6,12 +6,13 @@ use fits::too_far;
 use keyed::null_at;
 use matching::Choice;
 use matching::Step;
-use options::Options;
 use options::Strategy;
+use options::Terms;
 ghost use mathlib.Core.Path.{_≡_};
 ghost use mathlib.Core.List.{List};
 ghost use Prim.Native.Nat.{ℕ, _+_, _-_, _*_, _^_, _<_, _≤_};
 ghost use Rattle.frames.specs.Cells.{Cell, value};
+ghost use Rattle.options.specs.Options.{withoutList};
 ghost use Rattle.order.specs.Order.{keyOf};
 ghost use Rattle.order.specs.Requires.{RowsIn};
 ghost use Rattle.options.specs.declared.Strategy.the-variants.{Backward, Forward};
@@ -28,10 +29,10 @@ fn advance(
     w: usize,
     v: i64,
     s: Strategy,
-    o: Options,
+    o: Terms,
 ) -> usize
-    requires { ⌜ RowsIn o w end (now rv) (now rm) × (c < end) ⌝ }
-    ensures { λ r. ⌜ (c ≤ r) × (r < end) × ((at : ℕ) → CursorAt o s w at end (now (rv .entry)) (now (rm .entry)) v c → Came o s w at end (now (rv .entry)) (now (rm .entry)) v c r) ⌝ }
+    requires { ⌜ RowsIn (withoutList o) w end (now rv) (now rm) × (c < end) ⌝ }
+    ensures { λ r. ⌜ (c ≤ r) × (r < end) × ((at : ℕ) → CursorAt (withoutList o) s w at end (now (rv .entry)) (now (rm .entry)) v c → Came (withoutList o) s w at end (now (rv .entry)) (now (rm .entry)) v c r) ⌝ }
 {
     let by = o.by;
     let mut i = c;
@@ -56,10 +57,10 @@ fn fits_at(
     v: i64,
     number: usize,
     s: Strategy,
-    o: Options,
+    o: Terms,
 ) -> bool
-    requires { ⌜ Rests o s w at end (now rv) (now rm) number v c ⌝ }
-    ensures { λ r. ⌜ r ≡ fitsKey s (o .«allow_eq») (value v) (keyAt o w (now (rv .entry)) (now (rm .entry)) c) ⌝ }
+    requires { ⌜ Rests (withoutList o) s w at end (now rv) (now rm) number v c ⌝ }
+    ensures { λ r. ⌜ r ≡ fitsKey s (o .«allow_eq») (value v) (keyAt (withoutList o) w (now (rv .entry)) (now (rm .entry)) c) ⌝ }
 {
     let by = o.by;
     let q = c * w + by;
@@ -80,10 +81,10 @@ fn choice_at(
     v: i64,
     number: usize,
     s: Strategy,
-    o: Options,
+    o: Terms,
 ) -> Choice
-    requires { ⌜ Rests o s w at end (now rv) (now rm) number v c ⌝ }
-    ensures { λ r. ⌜ ((x : List Cell) → keyOf o x ≡ value v → r ≡ matchIn o (number + at) (between w at end (now (rv .entry)) (now (rm .entry))) x) ⌝ }
+    requires { ⌜ Rests (withoutList o) s w at end (now rv) (now rm) number v c ⌝ }
+    ensures { λ r. ⌜ ((x : List Cell) → keyOf (withoutList o) x ≡ value v → r ≡ matchIn (withoutList o) (number + at) (between w at end (now (rv .entry)) (now (rm .entry))) x) ⌝ }
 {
     if !fits_at(rv, rm, at, c, end, w, v, number, s, o) {
         return Choice::Nothing;
@@ -107,10 +108,10 @@ fn step(
     v: i64,
     number: usize,
     s: Strategy,
-    o: Options,
+    o: Terms,
 ) -> Step
-    requires { ⌜ CursorAt o s w at end (now rv) (now rm) v c × (number + end ≤ 2 ^ 63 - 1) ⌝ }
-    ensures { λ r. ⌜ Stepped o s w at end (now (rv .entry)) (now (rm .entry)) number v c r ⌝ }
+    requires { ⌜ CursorAt (withoutList o) s w at end (now rv) (now rm) v c × (number + end ≤ 2 ^ 63 - 1) ⌝ }
+    ensures { λ r. ⌜ Stepped (withoutList o) s w at end (now (rv .entry)) (now (rm .entry)) number v c r ⌝ }
 {
     let d = advance(rv, rm, c, end, w, v, s, o);
     Step {
@@ -130,10 +131,10 @@ fn step_by(
     v: i64,
     number: usize,
     s: Strategy,
-    o: Options,
+    o: Terms,
 ) -> Step
-    requires { ⌜ CursorAt o s w at end (now rv) (now rm) v c × (number + end ≤ 2 ^ 63 - 1) ⌝ }
-    ensures { λ r. ⌜ Stepped o s w at end (now (rv .entry)) (now (rm .entry)) number v c r ⌝ }
+    requires { ⌜ CursorAt (withoutList o) s w at end (now rv) (now rm) v c × (number + end ≤ 2 ^ 63 - 1) ⌝ }
+    ensures { λ r. ⌜ Stepped (withoutList o) s w at end (now (rv .entry)) (now (rm .entry)) number v c r ⌝ }
 {
     match s {
         // Backward selects the last row in the right DataFrame whose 'on' key is less than or equal to the left's key.
@@ -158,10 +159,10 @@ pub fn walk_row(
     w: usize,
     number: usize,
     s: Strategy,
-    o: Options,
+    o: Terms,
 ) -> Step
-    requires { ⌜ WalkAt o s p (now lv) (now lm) w at end (now rv) (now rm) number c ⌝ }
-    ensures { λ r. ⌜ WalkedRow o s p (now (lv .entry)) (now (lm .entry)) w at end (now (rv .entry)) (now (rm .entry)) number c r ⌝ }
+    requires { ⌜ WalkAt (withoutList o) s p (now lv) (now lm) w at end (now rv) (now rm) number c ⌝ }
+    ensures { λ r. ⌜ WalkedRow (withoutList o) s p (now (lv .entry)) (now (lm .entry)) w at end (now (rv .entry)) (now (rm .entry)) number c r ⌝ }
 {
     let by = o.by;
     let k = p + by;

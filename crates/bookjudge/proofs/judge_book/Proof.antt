@@ -5,8 +5,8 @@ use native.Mathlib.Omega.{arith}
 use borrow.Author.Tests.{not-false}
 use denote.Ref.{now}
 use Rattle.frames.specs.Frame.{isTable, frameRows}
-use Rattle.options.specs.Options.{rightColumns}
-use Rattle.options.proofs.OptionLaws.{Allowed}
+use Rattle.options.specs.Options.{withList, rightColumns, Few}
+use Rattle.options.proofs.OptionLaws.{Allowed, allowed-few}
 use Rattle.order.specs.Listed.{lacksCode}
 use Rattle.outcomes.specs.declared.Took.the-variants.{Accepted}
 use Rattle.callrules.specs.Judged.{openAnswer}
@@ -29,23 +29,26 @@ enum-told-2 : tie.Need-enum-told-2
 enum-told-2 c = search needs
 
 -- The options are not refused.
-opened : (c : tie.After-enum-told2) → openAnswer (c .before .before .before .args .o) ≡ Accepted
+opened : (c : tie.After-enum-told2) → let a = c .before .before .before .before .args in openAnswer (withList (a .o) (now (a .codes)) (now (a .rising))) ≡ Accepted
 opened c = sym (c .before .before .judge-open .ensures) ∙ c .enum-told2 .given .1
 
-judged : (c : tie.After-enum-told2) → let a = c .before .before .before .args in bookJudged (a .o) (now (a .book)) ≡ bookRest (a .o) (now (a .book))
+judged : (c : tie.After-enum-told2) → let a = c .before .before .before .before .args in bookJudged (withList (a .o) (now (a .codes)) (now (a .rising))) (now (a .book)) ≡ bookRest (withList (a .o) (now (a .codes)) (now (a .rising))) (now (a .book))
 judged c = book-open _ _ (opened c)
 
-allowed : (c : tie.After-enum-told2) → Allowed (c .before .before .before .args .o)
+allowed : (c : tie.After-enum-told2) → let a = c .before .before .before .before .args in Allowed (withList (a .o) (now (a .codes)) (now (a .rising)))
 allowed c = open-allowed _ (opened c)
 
+few : (c : tie.After-enum-told2) → let a = c .before .before .before .before .args in Few (withList (a .o) (now (a .codes)) (now (a .rising)))
+few c = let s = c .before .before .before .before in allowed-few _ (allowed c) (s .pre .0) (s .pre .1)
+
 right-columns-requires : tie.Need-right-columns-requires
-right-columns-requires c κs = (allowed c .few .by, allowed c .carried)
+right-columns-requires c κs = (allowed c .by, allowed c .carried)
 
 is-table-requires : tie.Need-is-table-requires
 is-table-requires c κs = search needs
 
 -- What the calls say, by the definitions' names.
-book : (c : tie.After-is-table) → let a = c .before .before .before .before .before .args in c .is-table .result ≡ isTable (rightColumns (a .o)) (now (a .book))
+book : (c : tie.After-is-table) → let a = c .before .before .before .before .before .before .args in c .is-table .result ≡ isTable (rightColumns (withList (a .o) (now (a .codes)) (now (a .rising)))) (now (a .book))
 book c = rw (c .before .right-columns .ensures) at (c .is-table .ensures)
 
 returns-2 : tie.Need-returns-2
@@ -54,10 +57,10 @@ returns-2 c = simp (judged (c .before .before .before), ← book (c .before), c 
 lacks-code-requires : tie.Need-lacks-code-requires
 lacks-code-requires c κs =
     let w = c .before .before in
-    (allowed (w .before) .few, omega (arith, w .right-columns .ensures), sym (c .before .is-table .ensures) ∙ not-false (c .before .is-table .result) (c .if1 .left))
+    (few (w .before), omega (arith, w .right-columns .ensures), sym (c .before .is-table .ensures) ∙ not-false (c .before .is-table .result) (c .if1 .left))
 
-codes : (c : tie.After-lacks-code) → let a = c .before .before .before .before .before .before .before .args in
-    c .lacks-code .result ≡ lacksCode (a .o) (frameRows (rightColumns (a .o)) (now (a .book)))
+codes : (c : tie.After-lacks-code) → let a = c .before .before .before .before .before .before .before .before .args in
+    c .lacks-code .result ≡ lacksCode (withList (a .o) (now (a .codes)) (now (a .rising))) (frameRows (rightColumns (withList (a .o) (now (a .codes)) (now (a .rising)))) (now (a .book)))
 codes c = rw (c .before .before .before .right-columns .ensures) at (c .lacks-code .ensures)
 
 returns-3 : tie.Need-returns-3

@@ -5,8 +5,8 @@ use native.Mathlib.Omega.{arith}
 use borrow.Author.Tests.{not-true, not-false}
 use denote.Ref.{now}
 use Rattle.frames.specs.Frame.{isTable, frameRows}
-use Rattle.options.specs.Options.{rightColumns}
-use Rattle.options.proofs.OptionLaws.{Allowed}
+use Rattle.options.specs.Options.{withList, rightColumns, Few}
+use Rattle.options.proofs.OptionLaws.{Allowed, allowed-few}
 use Rattle.order.specs.Listed.{lacksCode}
 use Rattle.outcomes.specs.declared.Took.the-variants.{Accepted}
 use Rattle.callrules.specs.Judged.{openAnswer}
@@ -29,24 +29,27 @@ enum-told-2 : tie.Need-enum-told-2
 enum-told-2 c = search needs
 
 -- The options are not refused.
-opened : (c : tie.After-enum-told2) → openAnswer (c .before .before .before .args .o) ≡ Accepted
+opened : (c : tie.After-enum-told2) → let a = c .before .before .before .before .args in openAnswer (withList (a .o) (now (a .codes)) (now (a .rising))) ≡ Accepted
 opened c = sym (c .before .before .judge-open .ensures) ∙ c .enum-told2 .given .1
 
-judged : (c : tie.After-enum-told2) → let a = c .before .before .before .args in
-    booksJudged (a .o) (now (a .house)) (now (a .festival)) ≡ booksRest (a .o) (now (a .house)) (now (a .festival))
+judged : (c : tie.After-enum-told2) → let a = c .before .before .before .before .args in
+    booksJudged (withList (a .o) (now (a .codes)) (now (a .rising))) (now (a .house)) (now (a .festival)) ≡ booksRest (withList (a .o) (now (a .codes)) (now (a .rising))) (now (a .house)) (now (a .festival))
 judged c = books-open _ _ _ (opened c)
 
-allowed : (c : tie.After-enum-told2) → Allowed (c .before .before .before .args .o)
+allowed : (c : tie.After-enum-told2) → let a = c .before .before .before .before .args in Allowed (withList (a .o) (now (a .codes)) (now (a .rising)))
 allowed c = open-allowed _ (opened c)
 
+few : (c : tie.After-enum-told2) → let a = c .before .before .before .before .args in Few (withList (a .o) (now (a .codes)) (now (a .rising)))
+few c = let s = c .before .before .before .before in allowed-few _ (allowed c) (s .pre .0) (s .pre .1)
+
 right-columns-requires : tie.Need-right-columns-requires
-right-columns-requires c κs = (allowed c .few .by, allowed c .carried)
+right-columns-requires c κs = (allowed c .by, allowed c .carried)
 
 is-table-requires : tie.Need-is-table-requires
 is-table-requires c κs = search needs
 
 -- What the calls say, by the definitions' names.
-house : (c : tie.After-is-table) → let a = c .before .before .before .before .before .args in c .is-table .result ≡ isTable (rightColumns (a .o)) (now (a .house))
+house : (c : tie.After-is-table) → let a = c .before .before .before .before .before .before .args in c .is-table .result ≡ isTable (rightColumns (withList (a .o) (now (a .codes)) (now (a .rising)))) (now (a .house))
 house c = rw (c .before .right-columns .ensures) at (c .is-table .ensures)
 
 returns-2 : tie.Need-returns-2
@@ -58,7 +61,7 @@ is-house c = not-false (c .before .is-table .result) (c .if1 .left)
 is-table-requires-2 : tie.Need-is-table-requires-2
 is-table-requires-2 c κs = search needs
 
-festival : (c : tie.After-is-table2) → let a = c .before .before .before .before .before .before .before .args in c .is-table2 .result ≡ isTable (rightColumns (a .o)) (now (a .festival))
+festival : (c : tie.After-is-table2) → let a = c .before .before .before .before .before .before .before .before .args in c .is-table2 .result ≡ isTable (rightColumns (withList (a .o) (now (a .codes)) (now (a .rising)))) (now (a .festival))
 festival c = rw (c .before .before .before .right-columns .ensures) at (c .is-table2 .ensures)
 
 returns-3 : tie.Need-returns-3
@@ -73,10 +76,10 @@ lacks-code-requires : tie.Need-lacks-code-requires
 lacks-code-requires c κs =
     let h = c .before .before in
     let w = h .before .before in
-    (allowed (w .before) .few, omega (arith, w .right-columns .ensures), sym (h .before .is-table .ensures) ∙ is-house h)
+    (few (w .before), omega (arith, w .right-columns .ensures), sym (h .before .is-table .ensures) ∙ is-house h)
 
-first : (c : tie.After-lacks-code) → let a = c .before .before .before .before .before .before .before .before .before .args in
-    c .lacks-code .result ≡ lacksCode (a .o) (frameRows (rightColumns (a .o)) (now (a .house)))
+first : (c : tie.After-lacks-code) → let a = c .before .before .before .before .before .before .before .before .before .before .args in
+    c .lacks-code .result ≡ lacksCode (withList (a .o) (now (a .codes)) (now (a .rising))) (frameRows (rightColumns (withList (a .o) (now (a .codes)) (now (a .rising)))) (now (a .house)))
 first c = rw (c .before .before .before .before .before .right-columns .ensures) at (c .lacks-code .ensures)
 
 returns-4 : tie.Need-returns-4
@@ -89,10 +92,10 @@ lacks-code-requires-2 : tie.Need-lacks-code-requires-2
 lacks-code-requires-2 c κs =
     let f = c .before .before in
     let w = f .before .before .before .before in
-    (allowed (w .before) .few, omega (arith, w .right-columns .ensures), sym (f .before .is-table2 .ensures) ∙ is-festival f)
+    (few (w .before), omega (arith, w .right-columns .ensures), sym (f .before .is-table2 .ensures) ∙ is-festival f)
 
-second : (c : tie.After-lacks-code2) → let a = c .before .before .before .before .before .before .before .before .before .before .before .args in
-    c .lacks-code2 .result ≡ lacksCode (a .o) (frameRows (rightColumns (a .o)) (now (a .festival)))
+second : (c : tie.After-lacks-code2) → let a = c .before .before .before .before .before .before .before .before .before .before .before .before .args in
+    c .lacks-code2 .result ≡ lacksCode (withList (a .o) (now (a .codes)) (now (a .rising))) (frameRows (rightColumns (withList (a .o) (now (a .codes)) (now (a .rising)))) (now (a .festival)))
 second c = rw (c .before .before .before .before .before .before .before .right-columns .ensures) at (c .lacks-code2 .ensures)
 
 returns-5 : tie.Need-returns-5

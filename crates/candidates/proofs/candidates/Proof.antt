@@ -3,6 +3,7 @@ use native.Mathlib.Omega.{arith}
 use denote.Ref.{now}
 use lib.IntN.{pos}
 use lib.ListN.{getD}
+use Rattle.options.specs.Options.{withoutList}
 use Rattle.order.proofs.RowLaws.{row-room}
 use Rattle.frames.proofs.Signed.{back}
 use Rattle.candidates.proofs.PartLaws.{no-keys, from-keys}
@@ -31,7 +32,7 @@ returns : tie.Need-returns
 returns c =
     let s = c .before .before in
     let a = s .args in
-    no-keys (a .o) (a .wl) (a .from) (a .to) (now (a .lv)) (now (a .lm)) (s .pre .0) (a .wr) (a .at) (a .end) (now (a .rv)) (now (a .rm)) (s .pre .2) (c .before .first-key .result) (c .before .first-key .ensures) (c .if1 .taken)
+    no-keys (withoutList (a .o)) (a .wl) (a .from) (a .to) (now (a .lv)) (now (a .lm)) (s .pre .0) (a .wr) (a .at) (a .end) (now (a .rv)) (now (a .rm)) (s .pre .2) (c .before .first-key .result) (c .before .first-key .ensures) (c .if1 .taken)
 
 mul-p : tie.Need-mul-p
 mul-p c = let r = room c in let p = c .before .before .pre .0 .rows in omega arith
@@ -71,7 +72,7 @@ returns-2 c =
     let i = k .result in
     let h : i < a .to = omega (arith, k .ensures .within, c .before .before .before .if1 .left) in
     let e = rw (back (getD (now (a .lv)) (i * a .wl + a .o .by) (pos 0)) (c .before .before .part-of-arg .given), back (getD (now (a .lv)) ((a .to - 1) * a .wl + a .o .by) (pos 0)) (c .before .part-of-arg2 .given)) at (c .part-of .ensures) in
-    from-keys (a .o) (a .wl) (a .from) (a .to) (now (a .lv)) (now (a .lm)) (s .pre .0) (a .wr) (a .at) (a .end) (now (a .rv)) (now (a .rm)) (s .pre .2) i (k .ensures) (c .part-of .result) h e
+    from-keys (withoutList (a .o)) (a .wl) (a .from) (a .to) (now (a .lv)) (now (a .lm)) (s .pre .0) (a .wr) (a .at) (a .end) (now (a .rv)) (now (a .rm)) (s .pre .2) i (k .ensures) (c .part-of .result) h e
 
 pub candidates-spec : {M : Type 1} → statement M
 candidates-spec =

@@ -5,6 +5,7 @@ use denote.Ref.{now}
 use lib.IntN.{pos}
 use lib.ListN.{getD}
 use mir.Facts.{toZ-ofZ}
+use Rattle.options.specs.Options.{withoutList}
 use Rattle.order.proofs.RowLaws.{row-room}
 use Rattle.frames.proofs.Signed.{lt-flag}
 use Rattle.candidates.proofs.PartLaws.{whole, near-one}
@@ -25,7 +26,7 @@ returns : tie.Need-returns
 returns c =
     let s = c .before .before in
     let a = s .args in
-    whole (a .o) (a .w) (a .at) (a .end) (now (a .rv)) (now (a .rm)) (s .pre .0) (s .pre .1) (a .v) (a .v)
+    whole (withoutList (a .o)) (a .w) (a .at) (a .end) (now (a .rv)) (now (a .rm)) (s .pre .0) (s .pre .1) (a .v) (a .v)
 
 sub-last : tie.Need-sub-last
 sub-last c = search needs
@@ -46,7 +47,7 @@ returns-2 : tie.Need-returns-2
 returns-2 c =
     let s = c .before .before .before .before in
     let a = s .args in
-    whole (a .o) (a .w) (a .at) (a .end) (now (a .rv)) (now (a .rm)) (s .pre .0) (s .pre .1) (a .v) (a .v)
+    whole (withoutList (a .o)) (a .w) (a .at) (a .end) (now (a .rv)) (now (a .rm)) (s .pre .0) (s .pre .1) (a .v) (a .v)
 
 sub-t13 : tie.Need-sub-t13
 sub-t13 c = search needs
@@ -59,7 +60,7 @@ returns-3 c =
     let b = rw (toZ-ofZ (s .fits .v)) at (c .before .before .before .last-fit .ensures) in
     let h : a .at < j = omega (arith, b .start, c .before .before .if1 .left) in
     let n = lt-flag {a = getD (now (a .rv)) ((j - 1) * a .w + a .o .by) (pos 0)} (record { sfits = c .before .if22 .given }) (s .fits .v) (c .if2 .left) in
-    near-one (a .o) (a .w) (a .at) (a .end) (now (a .rv)) (now (a .rm)) (s .pre .0) (s .pre .1) (s .pre .2) (a .v) j b h n
+    near-one (withoutList (a .o)) (a .w) (a .at) (a .end) (now (a .rv)) (now (a .rm)) (s .pre .0) (s .pre .1) (s .pre .2) (a .v) j b h n
 
 pub nearest-part-spec : {M : Type 1} → statement M
 nearest-part-spec = tie.close (tie.spec last-fit-requires returns sub-last mul-last add-last mul-if2 shared-slice-copy-out-if2 returns-2 sub-t13 returns-3)

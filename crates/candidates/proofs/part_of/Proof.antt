@@ -3,6 +3,7 @@ use mathlib.Core.Path.{sym, _∙_}
 use denote.Ref.{now}
 use mir.Facts.{toZ-ofZ}
 use Rattle.frames.proofs.Signed.{lt-flag}
+use Rattle.options.specs.Options.{withoutList}
 use Rattle.candidates.proofs.PartLaws.{whole, one-key}
 use Rattle.candidates.proofs.part_of.Statement.{statement}
 use Rattle.candidates.proofs.part_of.Tie as tie
@@ -33,7 +34,7 @@ returns : tie.Need-returns
 returns c =
     let s = c .before .before .before .before in
     let a = s .args in
-    whole (a .o) (a .w) (a .at) (a .end) (now (a .rv)) (now (a .rm)) (s .pre .0) (s .pre .1) (a .f) (a .l)
+    whole (withoutList (a .o)) (a .w) (a .at) (a .end) (now (a .rv)) (now (a .rm)) (s .pre .0) (s .pre .1) (a .f) (a .l)
 
 nearest-part-requires : tie.Need-nearest-part-requires
 nearest-part-requires c κs =
@@ -51,7 +52,7 @@ returns-4 c =
     let s = c .before .before .before .before .before in
     let a = s .args in
     let f = s .fits in
-    one-key (a .o) (a .w) (a .at) (a .end) (now (a .rv)) (now (a .rm)) (a .f) (a .l) (c .nearest-part .result) (lt-flag (f .f) (f .l) (c .before .if1 .left)) (rw (toZ-ofZ (f .f)) at (c .nearest-part .ensures))
+    one-key (withoutList (a .o)) (a .w) (a .at) (a .end) (now (a .rv)) (now (a .rm)) (a .f) (a .l) (c .nearest-part .result) (lt-flag (f .f) (f .l) (c .before .if1 .left)) (rw (toZ-ofZ (f .f)) at (c .nearest-part .ensures))
 
 pub part-of-spec : {M : Type 1} → statement M
 part-of-spec = tie.close (tie.spec strategy-of-requires enum-told backward-part-requires enum-told-2 forward-part-requires enum-told-3 returns nearest-part-requires returns-2 returns-3 returns-4)

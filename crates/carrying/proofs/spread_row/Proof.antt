@@ -4,7 +4,7 @@ use native.Mathlib.Omega.{arith}
 use denote.Ref.{now}
 use mir.Syntax.{w64}
 use mir.ValLaws.{toZ-pos}
-use Rattle.options.specs.Options.{answerColumns}
+use Rattle.options.specs.Options.{withoutList, answerColumns}
 use Rattle.carrying.specs.Loops.{RightIn}
 use Rattle.carrying.specs.Spread.{choiceAt}
 use Rattle.matching.specs.declared.Choice.the-variants.{Row}
@@ -25,11 +25,11 @@ chosen : (c : tie.After-known-told) → let a = c .before .before .before .befor
 chosen c = sym (c .before .before .before .choice-at .ensures) ∙ c .before .choice .given .1
 
 -- its right row is there
-held : (c : tie.After-known-told) → let a = c .before .before .before .before .before .before .args in RightIn (a .o) (a .wr) (now (a .rv)) (now (a .rm)) (a .number) (Row (c .before .choice .given .0 .0))
+held : (c : tie.After-known-told) → let a = c .before .before .before .before .before .before .args in RightIn (withoutList (a .o)) (a .wr) (now (a .rv)) (now (a .rm)) (a .number) (Row (c .before .choice .given .0 .0))
 held c =
     let s = c .before .before .before .before .before .before in
     let a = s .args in
-    subst (RightIn (a .o) (a .wr) (now (a .rv)) (now (a .rm)) (a .number)) (chosen c) (s .pre .chosen)
+    subst (RightIn (withoutList (a .o)) (a .wr) (now (a .rv)) (now (a .rm)) (a .number)) (chosen c) (s .pre .chosen)
 
 mul-k : tie.Need-mul-k
 mul-k c = let t = there c in omega arith
@@ -96,8 +96,8 @@ returns c =
     let a = e .before .args in
     let k = c .before .before .before .before .before .before .before in
     let r = k .before .choice .given .0 .0 in
-    let n : a .i * e .answer-columns .result ≡ a .i * answerColumns (a .o) = ap (λ (z : ℕ). a .i * z) (e .answer-columns .ensures) in
-    let p = row-chosen (a .o) (a .number) (a .wr) (now (a .rv)) (now (a .rm)) (a .m) (a .i * e .answer-columns .result) (now (a .out)) (choiceAt (a .m) (now (a .out)) (a .i)) r
+    let n : a .i * e .answer-columns .result ≡ a .i * answerColumns (withoutList (a .o)) = ap (λ (z : ℕ). a .i * z) (e .answer-columns .ensures) in
+    let p = row-chosen (withoutList (a .o)) (a .number) (a .wr) (now (a .rv)) (now (a .rm)) (a .m) (a .i * e .answer-columns .result) (now (a .out)) (choiceAt (a .m) (now (a .out)) (a .i)) r
     ((r - a .number) * a .wr + a .o .by + 1) _ _ (chosen k) refl (c .before .before .before .before .before .put-cell .ensures ∙ rw (toZ-pos w64 r (held k .1))) (c .before .carry-cells .ensures) in
     rw n at p
 
@@ -108,8 +108,8 @@ returns-2 : tie.Need-returns-2
 returns-2 c =
     let e = c .before .before .before .before .before .before .before in
     let a = e .before .args in
-    let n : a .i * e .answer-columns .result ≡ a .i * answerColumns (a .o) = ap (λ (z : ℕ). a .i * z) (e .answer-columns .ensures) in
-    let p = row-none (a .o) (a .number) (a .wr) (now (a .rv)) (now (a .rm)) (a .m) (a .i * e .answer-columns .result) (now (a .out)) (choiceAt (a .m) (now (a .out)) (a .i))
+    let n : a .i * e .answer-columns .result ≡ a .i * answerColumns (withoutList (a .o)) = ap (λ (z : ℕ). a .i * z) (e .answer-columns .ensures) in
+    let p = row-none (withoutList (a .o)) (a .number) (a .wr) (now (a .rv)) (now (a .rm)) (a .m) (a .i * e .answer-columns .result) (now (a .out)) (choiceAt (a .m) (now (a .out)) (a .i))
     (e .answer-columns .result) _ (sym (c .before .before .before .before .before .choice-at .ensures) ∙ c .before .before .before .enum-told .given .1) (e .answer-columns .ensures) (c .before .null-cells .ensures) in
     rw n at p
 

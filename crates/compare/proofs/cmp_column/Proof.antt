@@ -5,17 +5,19 @@ use Prim.Native.Nat.{_+_}
 use denote.Ref.{now}
 use lib.IntN.{pos}
 use lib.ListN.{getD}
+use lib.Seq.{length-take-le}
 use Rattle.frames.proofs.Signed.{back}
-use Rattle.ranks.proofs.KeptLaws.{good-kept}
-use Rattle.options.specs.Options.{isRanked}
-use Rattle.options.proofs.OptionLaws.{ranked-given, ranked-rule, plain-rule}
+use Rattle.ranks.proofs.KeptLaws.{Kept}
+use Rattle.options.specs.Options.{withList, isRanked}
+use Rattle.options.specs.declared.Options.{Options}
+use Rattle.options.proofs.OptionLaws.{ranked-list, ranked-rule, plain-rule}
 use borrow.Author.Needs.{needs}
 use Rattle.compare.proofs.cmp_column.Statement.{statement}
 use Rattle.compare.proofs.cmp_column.Tie as tie
 use Rattle.compare.proofs.cmp_column.Reads as reads
 use Rattle.compare.proofs.cmp_column.Lts as lts
+use Rattle.cells.proofs.cmp_listed.Reads as cmp-listed-reads
 use Rattle.compare.proofs.cmp_at.Reads as cmp-at-reads
-use Rattle.cells.proofs.cmp_ranked.Reads as cmp-ranked-reads
 use Rattle.options.proofs.is_ranked.Reads as is-ranked-reads
 
 add-a : tie.Need-add-a
@@ -27,61 +29,78 @@ add-b c = search needs
 is-ranked-requires : tie.Need-is-ranked-requires
 is-ranked-requires c κs = search needs
 
-mul-cmp-ranked : tie.Need-mul-cmp-ranked
-mul-cmp-ranked c = search needs
+mul-cmp-listed : tie.Need-mul-cmp-listed
+mul-cmp-listed c = search needs
 
-shared-slice-copy-out-cmp-ranked : tie.Need-shared-slice-copy-out-cmp-ranked
-shared-slice-copy-out-cmp-ranked c = search needs
+shared-slice-copy-out-cmp-listed : tie.Need-shared-slice-copy-out-cmp-listed
+shared-slice-copy-out-cmp-listed c = search needs
 
-mul-cmp-ranked-2 : tie.Need-mul-cmp-ranked-2
-mul-cmp-ranked-2 c = search needs
+mul-cmp-listed-2 : tie.Need-mul-cmp-listed-2
+mul-cmp-listed-2 c = search needs
 
-shared-slice-copy-out-cmp-ranked-2 : tie.Need-shared-slice-copy-out-cmp-ranked-2
-shared-slice-copy-out-cmp-ranked-2 c = search needs
+shared-slice-copy-out-cmp-listed-2 : tie.Need-shared-slice-copy-out-cmp-listed-2
+shared-slice-copy-out-cmp-listed-2 c = search needs
 
-mul-cmp-ranked-3 : tie.Need-mul-cmp-ranked-3
-mul-cmp-ranked-3 c = search needs
+mul-cmp-listed-3 : tie.Need-mul-cmp-listed-3
+mul-cmp-listed-3 c = search needs
 
-shared-slice-copy-out-cmp-ranked-3 : tie.Need-shared-slice-copy-out-cmp-ranked-3
-shared-slice-copy-out-cmp-ranked-3 c = search needs
+shared-slice-copy-out-cmp-listed-3 : tie.Need-shared-slice-copy-out-cmp-listed-3
+shared-slice-copy-out-cmp-listed-3 c = search needs
 
-mul-cmp-ranked-4 : tie.Need-mul-cmp-ranked-4
-mul-cmp-ranked-4 c = search needs
+mul-cmp-listed-4 : tie.Need-mul-cmp-listed-4
+mul-cmp-listed-4 c = search needs
 
-shared-slice-copy-out-cmp-ranked-4 : tie.Need-shared-slice-copy-out-cmp-ranked-4
-shared-slice-copy-out-cmp-ranked-4 c = search needs
+shared-slice-copy-out-cmp-listed-4 : tie.Need-shared-slice-copy-out-cmp-listed-4
+shared-slice-copy-out-cmp-listed-4 c = search needs
 
-array-read-cmp-ranked : tie.Need-array-read-cmp-ranked
-array-read-cmp-ranked c = search needs
+array-read-cmp-listed : tie.Need-array-read-cmp-listed
+array-read-cmp-listed c = search needs
 
-array-read-cmp-ranked-2 : tie.Need-array-read-cmp-ranked-2
-array-read-cmp-ranked-2 c = search needs
+array-read-cmp-listed-2 : tie.Need-array-read-cmp-listed-2
+array-read-cmp-listed-2 c = search needs
 
--- The column has the list, or not.
-ranked : (c : tie.Then1) → let a = c .before .before .before .before .args in isRanked (a .o) (a .j) ≡ true
+-- The options with their list.
+abbrev whole : tie.Start → Options
+whole s = withList (s .args .o) (now (s .args .codes)) (now (s .args .rising))
+
+-- The column has the list, which is kept; or it has none.
+ranked : (c : tie.Then1) → let s = c .before .before .before .before .before in isRanked (whole s) (s .args .j) ≡ true
 ranked c = sym (c .before .is-ranked .ensures) ∙ c .if1 .taken
 
-plain : (c : tie.Else1) → let a = c .before .before .before .before .args in isRanked (a .o) (a .j) ≡ false
+list : (c : tie.Then1) → Kept (whole (c .before .before .before .before .before) .ranks)
+list c = let s = c .before .before .before .before .before in ranked-list (whole s) (s .args .j) (ranked c) (s .pre .0 .few)
+
+plain : (c : tie.Else1) → let s = c .before .before .before .before .before in isRanked (whole s) (s .args .j) ≡ false
 plain c = sym (c .before .is-ranked .ensures) ∙ c .if1 .left
 
-cmp-ranked-requires : tie.Need-cmp-ranked-requires
-cmp-ranked-requires c κs =
+slice-aggregate-cmp-listed : tie.Need-slice-aggregate-cmp-listed
+slice-aggregate-cmp-listed c =
     let t = c .before .before .before .before .before in
-    let s = t .before .before .before .before in
-    good-kept (s .args .o .by) (s .args .o .ranks) (ranked-given (s .args .o) (s .args .j) (ranked t)) (s .pre .0 .few .list)
+    let s = t .before .before .before .before .before in
+    sym (length-take-le (s .args .o .count) (now (s .args .codes)) (list t .codes))
+
+slice-aggregate-cmp-listed-2 : tie.Need-slice-aggregate-cmp-listed-2
+slice-aggregate-cmp-listed-2 c =
+    let t = c .before .before .before .before .before .before in
+    let s = t .before .before .before .before .before in
+    sym (length-take-le (s .args .o .count) (now (s .args .rising)) (list t .places))
+
+cmp-listed-requires : tie.Need-cmp-listed-requires
+cmp-listed-requires c κs = list (c .before .before .before .before .before .before) .indexed
 
 returns : tie.Need-returns
 returns c =
-    let t = c .before .before .before .before .before .before in
-    let a = t .before .before .before .before .args in
+    let t = c .before .before .before .before .before .before .before in
+    let s = t .before .before .before .before .before in
+    let a = s .args in
     rw (
-      ranked-rule (a .o) (a .j) (ranked t),
-      back (getD (now (a .va)) (a .pa + a .j) (pos 0)) (c .before .before .before .before .cmp-ranked-arg .given),
-      back (getD (now (a .ma)) (a .pa + a .j) (pos 0)) (c .before .before .before .cmp-ranked-arg2 .given),
-      back (getD (now (a .vb)) (a .pb + a .j) (pos 0)) (c .before .before .cmp-ranked-arg3 .given),
-      back (getD (now (a .mb)) (a .pb + a .j) (pos 0)) (c .before .cmp-ranked-arg4 .given),
+      ranked-rule (whole s) (a .j) (ranked t),
+      back (getD (now (a .va)) (a .pa + a .j) (pos 0)) (c .before .before .before .before .before .before .cmp-listed-arg .given),
+      back (getD (now (a .ma)) (a .pa + a .j) (pos 0)) (c .before .before .before .before .before .cmp-listed-arg2 .given),
+      back (getD (now (a .vb)) (a .pb + a .j) (pos 0)) (c .before .before .before .before .cmp-listed-arg3 .given),
+      back (getD (now (a .mb)) (a .pb + a .j) (pos 0)) (c .before .before .before .cmp-listed-arg4 .given),
     )
-    at (c .cmp-ranked .ensures)
+    at (c .cmp-listed .ensures)
 
 array-read-cmp-at : tie.Need-array-read-cmp-at
 array-read-cmp-at c = search needs
@@ -95,8 +114,8 @@ cmp-at-requires c κs = search needs
 returns-2 : tie.Need-returns-2
 returns-2 c =
     let t = c .before in
-    let a = t .before .before .before .before .args in
-    rw (plain-rule (a .o) (a .j) (plain t)) at (c .cmp-at .ensures)
+    let s = t .before .before .before .before .before in
+    rw (plain-rule (whole s) (s .args .j) (plain t)) at (c .cmp-at .ensures)
 
 pub cmp-column-spec : {M : Type 1} → statement M
 cmp-column-spec =
@@ -105,17 +124,19 @@ cmp-column-spec =
     add-a
     add-b
     is-ranked-requires
-    mul-cmp-ranked
-    shared-slice-copy-out-cmp-ranked
-    mul-cmp-ranked-2
-    shared-slice-copy-out-cmp-ranked-2
-    mul-cmp-ranked-3
-    shared-slice-copy-out-cmp-ranked-3
-    mul-cmp-ranked-4
-    shared-slice-copy-out-cmp-ranked-4
-    array-read-cmp-ranked
-    array-read-cmp-ranked-2
-    cmp-ranked-requires
+    mul-cmp-listed
+    shared-slice-copy-out-cmp-listed
+    mul-cmp-listed-2
+    shared-slice-copy-out-cmp-listed-2
+    mul-cmp-listed-3
+    shared-slice-copy-out-cmp-listed-3
+    mul-cmp-listed-4
+    shared-slice-copy-out-cmp-listed-4
+    array-read-cmp-listed
+    array-read-cmp-listed-2
+    slice-aggregate-cmp-listed
+    slice-aggregate-cmp-listed-2
+    cmp-listed-requires
     returns
     array-read-cmp-at
     array-read-cmp-at-2

@@ -5,6 +5,7 @@ use native.Mathlib.Omega.{arith}
 use borrow.Author.Needs.{needs}
 use denote.Ref.{now}
 use Rattle.frames.specs.Cells.{rowFrom}
+use Rattle.options.specs.Options.{withList}
 use Rattle.order.specs.Order.{cmpFirst}
 use Rattle.order.specs.declared.Order.{Order}
 use Rattle.order.specs.declared.Order.the-variants.{Equal}
@@ -13,11 +14,11 @@ use Rattle.compare.proofs.cmp_group.Statement.{statement}
 use Rattle.compare.proofs.cmp_group.Tie as tie
 
 abbrev Inv-loop : tie.InvT-loop
-Inv-loop va ma pa vb mb pb o by j₀ j =
-    (j ≤ by) × ((wa wb : ℕ) → o .by < wa → o .by < wb → cmpFirst o j (rowFrom wa pa va ma) (rowFrom wb pb vb mb) ≡ Equal)
+Inv-loop va ma pa vb mb pb o codes rising by j₀ j =
+    (j ≤ by) × ((wa wb : ℕ) → o .by < wa → o .by < wb → cmpFirst (withList o codes rising) j (rowFrom wa pa va ma) (rowFrom wb pb vb mb) ≡ Equal)
 
 abbrev μ-loop : tie.MeasureT-loop
-μ-loop va ma pa vb mb pb o by j₀ j = by - j
+μ-loop va ma pa vb mb pb o codes rising by j₀ j = by - j
 
 loop-holds : tie.Need-loop-holds Inv-loop μ-loop
 unfolding cmpFirst
@@ -31,11 +32,11 @@ enum-told c = search needs
 
 -- after the call, the first j + 1 columns compare as column j does
 came : (c : tie.After-cmp-column Inv-loop μ-loop) (x : Order) → c .cmp-column .result ≡ x → (wa wb : ℕ) →
-    let a = c .before .before .before .args in
+    let a = c .before .before .before .before .args in
     a .o .by < wa → a .o .by < wb →
-    cmpFirst (a .o) (c .before .before .loop .j + 1) (rowFrom wa (a .pa) (now (a .va)) (now (a .ma))) (rowFrom wb (a .pb) (now (a .vb)) (now (a .mb))) ≡ x
+    cmpFirst (withList (a .o) (now (a .codes)) (now (a .rising))) (c .before .before .loop .j + 1) (rowFrom wa (a .pa) (now (a .va)) (now (a .ma))) (rowFrom wb (a .pb) (now (a .vb)) (now (a .mb))) ≡ x
 came c x h wa wb ha hb =
-    let s = c .before .before .before in
+    let s = c .before .before .before .before in
     let a = s .args in
     let p = s .pre in
     let j = c .before .before .loop .j in
@@ -61,7 +62,7 @@ loop-again c = (omega arith, λ wa wb ha hb. came (c .before .before) Equal (c .
 
 returns-2 : tie.Need-returns-2 Inv-loop μ-loop
 returns-2 c = λ wa wb ha hb.
-    let e : c .before .loop .j ≡ c .before .before .args .o .by = omega arith in
+    let e : c .before .loop .j ≡ c .before .before .before .args .o .by = omega arith in
     sym (rw e at (c .before .loop .inv .1 wa wb ha hb))
 
 pub cmp-group-spec : {M : Type 1} → statement M

@@ -5,7 +5,7 @@ use native.Mathlib.Omega.{arith}
 use Prim.Native.Nat.{_+_}
 use denote.Ref.{now}
 use lib.Dec.{ltb}
-use Rattle.options.specs.Options.{refusedOptions, rightColumns}
+use Rattle.options.specs.Options.{withList, refusedOptions, rightColumns}
 use Rattle.area.specs.Area.{capacity}
 use Rattle.callrules.specs.Judged.{badNumbers}
 use Rattle.options.proofs.OptionLaws.{Allowed, allowed-parts}
@@ -21,21 +21,21 @@ unfolding badNumbers
 returns c = simp (← c .before .refused-options .ensures, c .if1 .taken)
 
 -- The options are not refused, so they have few columns.
-fine : (c : tie.Else1) → refusedOptions (c .before .before .args .o) ≡ false
+fine : (c : tie.Else1) → let a = c .before .before .before .args in refusedOptions (withList (a .o) (now (a .codes)) (now (a .rising))) ≡ false
 fine c = sym (c .before .refused-options .ensures) ∙ c .if1 .left
 
-allowed : (c : tie.Else1) → Allowed (c .before .before .args .o)
+allowed : (c : tie.Else1) → let a = c .before .before .before .args in Allowed (withList (a .o) (now (a .codes)) (now (a .rising)))
 allowed c = allowed-parts _ (fine c)
 
 -- The first sum that is tested is that of the held rows.
-rows : (c : tie.After-above) → let a = c .before .before .before .before .args in c .above .result ≡ ltb (capacity (rightColumns (a .o)) (now (a .right))) (a .base + a .held)
+rows : (c : tie.After-above) → let a = c .before .before .before .before .before .args in c .above .result ≡ ltb (capacity (rightColumns (withList (a .o) (now (a .codes)) (now (a .rising)))) (now (a .right))) (a .base + a .held)
 rows c = rw (c .before .right-columns .ensures) at (c .above .ensures)
 
 right-columns-requires : tie.Need-right-columns-requires
-right-columns-requires c κs = (allowed c .few .by, allowed c .carried)
+right-columns-requires c κs = (allowed c .by, allowed c .carried)
 
 mul-above : tie.Need-mul-above
-mul-above c = omega (arith, c .right-columns .ensures, allowed (c .before) .few .by, allowed (c .before) .carried)
+mul-above c = omega (arith, c .right-columns .ensures, allowed (c .before) .by, allowed (c .before) .carried)
 
 div-above : tie.Need-div-above
 div-above c = search needs

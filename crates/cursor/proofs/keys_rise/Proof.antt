@@ -7,7 +7,7 @@ use denote.Ref.{now}
 use lib.IntN.{pos}
 use lib.ListN.{getD}
 use Rattle.frames.specs.Cells.{isNull}
-use Rattle.options.specs.Options.{keyRule}
+use Rattle.options.specs.Options.{withoutList, keyRule}
 use Rattle.order.specs.Order.{cmpCell, isGreater}
 use Rattle.order.specs.Requires.{cellAt}
 use Rattle.order.proofs.RowLaws.{row-room}
@@ -76,7 +76,7 @@ returns c =
     let ms = now (a .marks) in
     let x = l .i * a .w + a .o .by in
     let y = (l .i + 1) * a .w + a .o .by in
-    sym (keys-fall (a .o) (a .w) vs ms (a .from) (a .to) (s .pre .0) (l .i) (l .inv .0) (l .inv .3) (next d) (falls-end (getD vs x (pos 0)) (getD ms x (pos 0)) (getD vs y (pos 0)) (getD ms y (pos 0)) (l .inv .2) (sym (told (c .before)) ∙ c .if1 .taken)))
+    sym (keys-fall (withoutList (a .o)) (a .w) vs ms (a .from) (a .to) (s .pre .0) (l .i) (l .inv .0) (l .inv .3) (next d) (falls-end (getD vs x (pos 0)) (getD ms x (pos 0)) (getD vs y (pos 0)) (getD ms y (pos 0)) (l .inv .2) (sym (told (c .before)) ∙ c .if1 .taken)))
 
 mul-if2 : tie.Need-mul-if2 Inv-loop μ-loop
 mul-if2 c = let r = room (c .before .before) in let p = c .before .before .before .before .pre .0 in omega arith
@@ -102,7 +102,7 @@ returns-2 c =
     let x = l .i * a .w + a .o .by in
     let y = (l .i + 1) * a .w + a .o .by in
     let t = rw (place d) at (lt-flag {a = getD vs (l .i * a .w + a .o .by + a .w) (pos 0)} {b = getD vs (l .i * a .w + a .o .by) (pos 0)} (record { sfits = c .before .before .if22 .given }) (record { sfits = c .before .if23 .given }) (c .if2 .taken)) in
-    sym (keys-fall (a .o) (a .w) vs ms (a .from) (a .to) (s .pre .0) (l .i) (l .inv .0) (l .inv .3) (next d) (falls-less (getD vs x (pos 0)) (getD ms x (pos 0)) (getD vs y (pos 0)) (getD ms y (pos 0)) (l .inv .2) (sym (told (e .before)) ∙ e .if1 .left) t))
+    sym (keys-fall (withoutList (a .o)) (a .w) vs ms (a .from) (a .to) (s .pre .0) (l .i) (l .inv .0) (l .inv .3) (next d) (falls-less (getD vs x (pos 0)) (getD ms x (pos 0)) (getD vs y (pos 0)) (getD ms y (pos 0)) (l .inv .2) (sym (told (e .before)) ∙ e .if1 .left) t))
 
 add-i : tie.Need-add-i Inv-loop μ-loop
 add-i c = let n = next (c .before .before .before .before .before) in omega arith
@@ -146,7 +146,7 @@ returns-3 c =
     let l = c .before .loop in
     let s = c .before .before in
     let a = s .args in
-    sym (keys-rose (a .o) (a .w) (now (a .values)) (now (a .marks)) (a .from) (a .to) (s .pre .0) (l .i) (l .inv .0) (l .inv .3) (omega (arith, l .inv .1, c .loop-test .left)))
+    sym (keys-rose (withoutList (a .o)) (a .w) (now (a .values)) (now (a .marks)) (a .from) (a .to) (s .pre .0) (l .i) (l .inv .0) (l .inv .3) (omega (arith, l .inv .1, c .loop-test .left)))
 
 pub keys-rise-spec : {M : Type 1} → statement M
 keys-rise-spec = tie.close (tie.spec Inv-loop μ-loop loop-holds sub-loop mul-p add-p add-q null-at-requires returns mul-if2 shared-slice-copy-out-if2 mul-if2-2 shared-slice-copy-out-if2-2 returns-2 add-i loop-less loop-again returns-3)

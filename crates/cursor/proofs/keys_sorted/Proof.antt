@@ -2,6 +2,7 @@ use mathlib.Core.Path.{sym, _∙_}
 use Prim.Native.Nat.{_<_}
 use native.Mathlib.Omega.{arith}
 use denote.Ref.{now}
+use Rattle.options.specs.Options.{withoutList}
 use Rattle.matching.proofs.RestLaws.{keys-nulls, keys-none}
 use Rattle.cursor.proofs.keys_sorted.Statement.{statement}
 use Rattle.cursor.proofs.keys_sorted.Tie as tie
@@ -16,7 +17,7 @@ returns c =
     let s = c .before .before in
     let a = s .args in
     let e = c .before .first-key .ensures in
-    sym (keys-none (a .o) (a .w) (now (a .values)) (now (a .marks)) (a .from) (a .to) (s .pre .0) (c .before .first-key .result) (e .start) (e .before (now (a .values))) (c .if1 .taken))
+    sym (keys-none (withoutList (a .o)) (a .w) (now (a .values)) (now (a .marks)) (a .from) (a .to) (s .pre .0) (c .before .first-key .result) (e .start) (e .before (now (a .values))) (c .if1 .taken))
 
 -- there is a row with a key
 there : (c : tie.Else1) → c .before .first-key .result < c .before .before .args .to
@@ -31,7 +32,7 @@ returns-2 c =
     let s = c .before .before .before in
     let a = s .args in
     let e = k .ensures in
-    c .keys-rise .ensures ∙ sym (keys-nulls (a .o) (a .w) (now (a .values)) (now (a .marks)) (a .from) (a .to) (s .pre .0) (k .result) (e .start) (e .before (now (a .values))) (there (c .before)))
+    c .keys-rise .ensures ∙ sym (keys-nulls (withoutList (a .o)) (a .w) (now (a .values)) (now (a .marks)) (a .from) (a .to) (s .pre .0) (k .result) (e .start) (e .before (now (a .values))) (there (c .before)))
 
 pub keys-sorted-spec : {M : Type 1} → statement M
 keys-sorted-spec = tie.close (tie.spec first-key-requires returns keys-rise-requires returns-2)

@@ -4,9 +4,11 @@ use Prim.Native.Nat.{_+_, _-_, _*_, _≤_, _<_}
 use native.Mathlib.Omega.{arith}
 use borrow.Author.Tests.{not-true, not-false}
 use denote.Ref.{now}
+use Rattle.options.specs.Options.{withList}
 use Rattle.frames.specs.Cells.{rowFrom}
 use Rattle.order.specs.Requires.{RowAt}
 use Rattle.order.proofs.RowLaws.{row-room}
+use Rattle.order.proofs.TermLaws.{row-terms}
 use Rattle.matching.specs.Groups.{sameRun}
 use Rattle.matching.specs.Stretches.{between, runOn, runLength}
 use Rattle.matching.proofs.ScanLaws.{same-yes}
@@ -15,71 +17,75 @@ use Rattle.groups.proofs.run_end.Statement.{statement}
 use Rattle.groups.proofs.run_end.Tie as tie
 
 abbrev Inv-loop : tie.InvT-loop
-Inv-loop values marks n w i o p₀ e₀ p e =
+Inv-loop values marks n w i o codes rising p₀ e₀ p e =
     (i < e) × (e ≤ n) × (p + w ≡ e * w)
-    × (i + runLength o (between w i n values marks) ≡ e + runOn o (rowFrom w p values marks) (between w e n values marks))
+    × (i + runLength (withList o codes rising) (between w i n values marks) ≡ e + runOn (withList o codes rising) (rowFrom w p values marks) (between w e n values marks))
 
 abbrev μ-loop : tie.MeasureT-loop
-μ-loop values marks n w i o p₀ e₀ p e = n - e
+μ-loop values marks n w i o codes rising p₀ e₀ p e = n - e
 
 -- row i is among the rows
-low : (c : tie.Else1 Inv-loop μ-loop) → c .before .args .i < c .before .args .n
+low : (c : tie.Else1 Inv-loop μ-loop) → c .before .before .args .i < c .before .before .args .n
 low c = let l = c .if1 .left in omega arith
 
 -- row e ends within them
-room : (c : tie.In-loop Inv-loop μ-loop) → c .before .loop .e * c .before .before .before .args .w + c .before .before .before .args .w ≤ c .before .before .before .args .n * c .before .before .before .args .w
-room c = row-room (c .before .loop .e) (c .before .before .before .args .n) (c .before .before .before .args .w) (c .loop-test .taken)
+room : (c : tie.In-loop Inv-loop μ-loop) → c .before .loop .e * c .before .before .before .before .args .w + c .before .before .before .before .args .w ≤ c .before .before .before .before .args .n * c .before .before .before .before .args .w
+room c = row-room (c .before .loop .e) (c .before .before .before .before .args .n) (c .before .before .before .before .args .w) (c .loop-test .taken)
 
 -- the two rows are there
-rows-at : (c : tie.In-loop Inv-loop μ-loop) → let l = c .before .loop in let a = c .before .before .before .args in
-    RowAt (a .o) (l .p) (now (a .values)) (now (a .marks)) × RowAt (a .o) (l .p + a .w) (now (a .values)) (now (a .marks))
+rows-at : (c : tie.In-loop Inv-loop μ-loop) → let l = c .before .loop in let a = c .before .before .before .before .args in
+    RowAt (withList (a .o) (now (a .codes)) (now (a .rising))) (l .p) (now (a .values)) (now (a .marks)) × RowAt (withList (a .o) (now (a .codes)) (now (a .rising))) (l .p + a .w) (now (a .values)) (now (a .marks))
 rows-at c =
     let r = room c in
-    let p = c .before .before .before .pre .rows in
+    let p = c .before .before .before .before .pre .rows in
     (record { few = p .few; values = omega arith; marks = omega arith }, record { few = p .few; values = omega arith; marks = omega arith })
 
 -- rows with the same by-values are of one run
 alike : (c : tie.Then2 Inv-loop μ-loop) →
     let l = c .before .before .before .loop in
-    let a = c .before .before .before .before .before .args in
-    sameRun (a .o) (rowFrom (a .w) (l .p) (now (a .values)) (now (a .marks))) (rowFrom (a .w) (l .e * a .w) (now (a .values)) (now (a .marks))) ≡ true
+    let a = c .before .before .before .before .before .before .args in
+    sameRun (withList (a .o) (now (a .codes)) (now (a .rising))) (rowFrom (a .w) (l .p) (now (a .values)) (now (a .marks))) (rowFrom (a .w) (l .e * a .w) (now (a .values)) (now (a .marks))) ≡ true
 alike c =
-    let s = c .before .before .before .before .before in
+    let s = c .before .before .before .before .before .before in
     let l = c .before .before .before .loop in
-    sym (same-yes (s .args .o) _ _ (rw (l .inv .2) at (c .before .same-values .ensures (c .if2 .taken) (s .args .w) (s .pre .rows .wide))))
+    sym (same-yes (withList (s .args .o) (now (s .args .codes)) (now (s .args .rising))) _ _ (rw (l .inv .2) at (c .before .same-values .ensures (c .if2 .taken) (now (s .args .codes)) (now (s .args .rising)) (s .args .w) (s .pre .rows .wide))))
 
 -- what `same_run` says is what row e says to the row before it
 told : (c : tie.After-same-run Inv-loop μ-loop) (t : Bool) → c .same-run .result ≡ t →
     let l = c .before .before .before .before .loop in
-    let a = c .before .before .before .before .before .before .args in
-    sameRun (a .o) (rowFrom (a .w) (l .p) (now (a .values)) (now (a .marks))) (rowFrom (a .w) (l .e * a .w) (now (a .values)) (now (a .marks))) ≡ t
+    let a = c .before .before .before .before .before .before .before .args in
+    sameRun (withList (a .o) (now (a .codes)) (now (a .rising))) (rowFrom (a .w) (l .p) (now (a .values)) (now (a .marks))) (rowFrom (a .w) (l .e * a .w) (now (a .values)) (now (a .marks))) ≡ t
 told c t e =
-    let s = c .before .before .before .before .before .before in
+    let s = c .before .before .before .before .before .before .before in
     let l = c .before .before .before .before .loop in
     sym (rw (l .inv .2) at (c .same-run .ensures (s .args .w) (s .pre .rows .wide))) ∙ e
 
 returns : tie.Need-returns Inv-loop μ-loop
 returns c =
-    let a = c .before .args in
-    rw (c .if1 .taken, run-past (a .o) (a .w) (a .n) (now (a .values)) (now (a .marks))) (omega arith)
+    let a = c .before .before .args in
+    rw (c .if1 .taken, run-past (withList (a .o) (now (a .codes)) (now (a .rising))) (a .w) (a .n) (now (a .values)) (now (a .marks))) (omega arith)
 
 mul-p : tie.Need-mul-p Inv-loop μ-loop
-mul-p c = omega (arith, row-room (c .before .args .i) (c .before .args .n) (c .before .args .w) (low c))
+mul-p c = omega (arith, row-room (c .before .before .args .i) (c .before .before .args .n) (c .before .before .args .w) (low c))
 
 add-e : tie.Need-add-e Inv-loop μ-loop
 add-e c = omega (arith, low c)
 
 loop-holds : tie.Need-loop-holds Inv-loop μ-loop
 loop-holds c =
-    let a = c .before .args in
+    let a = c .before .before .args in
     let h = low c in
-    (omega arith, omega arith, omega arith, on-first (a .o) (a .w) (a .n) (now (a .values)) (now (a .marks)) (a .i) h)
+    (omega arith, omega arith, omega arith, on-first (withList (a .o) (now (a .codes)) (now (a .rising))) (a .w) (a .n) (now (a .values)) (now (a .marks)) (a .i) h)
 
 add-q : tie.Need-add-q Inv-loop μ-loop
 add-q c = omega (arith, room c)
 
 same-values-requires : tie.Need-same-values-requires Inv-loop μ-loop
-same-values-requires c κs = rows-at c
+same-values-requires c κs =
+    let a = c .before .before .before .before .args in
+    let r = rows-at c in
+    let plain = row-terms (a .o) (now (a .codes)) (now (a .rising)) in
+    (plain (c .before .loop .p) (now (a .values)) (now (a .marks)) (r .0), plain (c .before .loop .p + a .w) (now (a .values)) (now (a .marks)) (r .1))
 
 add-e-2 : tie.Need-add-e-2 Inv-loop μ-loop
 add-e-2 c = omega arith

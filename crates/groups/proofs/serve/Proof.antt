@@ -11,7 +11,7 @@ null-group-requires c κs = search needs
 
 returns : tie.Need-returns
 returns c =
-    let s = c .before .before in
+    let s = c .before .before .before in
     let a = s .args in
     let r = s .pre .right in (
       record { run = r; upward = omega arith; within = r .within },
@@ -23,7 +23,7 @@ pass-runs-requires c κs = search needs
 
 returns-2 : tie.Need-returns-2
 returns-2 c =
-    let a = c .before .before .before .args in (
+    let a = c .before .before .before .before .args in (
       c .pass-runs .ensures .0,
       λ wl h. serve-pass _ _ _ _ _ _ _ (c .pass-runs .result) (sym (c .before .before .null-group .ensures wl (now (a .lv)) (omega arith) (omega arith)) ∙ c .before .if1 .left) (c .pass-runs .ensures .1 wl h),
     )

@@ -12,7 +12,7 @@ null-group-requires c κs = search needs
 returns : tie.Need-returns
 unfolding standing
 returns c = λ wl wr h k.
-    let a = c .before .before .args in
+    let a = c .before .before .before .args in
     let n = c .before .null-group .ensures wr (now (a .rv)) (omega arith) (omega arith) in
     rw (sym n ∙ c .if1 .taken)
 
@@ -22,7 +22,7 @@ cmp-group-requires c κs = search needs
 returns-2 : tie.Need-returns-2
 unfolding standing
 returns-2 c = λ wl wr h k.
-    let a = c .before .before .before .args in
+    let a = c .before .before .before .before .args in
     let n = c .before .before .null-group .ensures wr (now (a .rv)) (omega arith) (omega arith) in
     rw (sym n ∙ c .before .if1 .left) (c .cmp-group .ensures wr wl k h)
 

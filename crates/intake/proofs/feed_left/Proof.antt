@@ -2,13 +2,14 @@
 use mathlib.Core.Path.{sym, _∙_}
 use native.Mathlib.Omega.{arith}
 use denote.Ref.{now}
+use Rattle.options.specs.Options.{withList}
 use Rattle.callrules.proofs.FeedLaws.{LeftTaken, left-taken, left-refused, left-accepted}
 use borrow.Author.Needs.{needs}
 use Rattle.intake.proofs.feed_left.Statement.{statement}
 use Rattle.intake.proofs.feed_left.Tie as tie
 
 judge-left-requires : tie.Need-judge-left-requires
-judge-left-requires c κs = λ e. c .before .pre e .few
+judge-left-requires c κs = λ e. c .before .before .pre e .few
 
 enum-told : tie.Need-enum-told
 enum-told c = search needs
@@ -23,11 +24,11 @@ enum-told-2 : tie.Need-enum-told-2
 enum-told-2 c = search needs
 
 -- What an accepted frame has: the join holds together, and there is room for the words.
-taken : (c : tie.After-enum-told2) → let a = c .before .before .before .before .args in LeftTaken (a .bad) (a .failed) (a .state) (a .o) (a .words) (now (a .left)) (now (a .frame))
+taken : (c : tie.After-enum-told2) → let a = c .before .before .before .before .before .args in LeftTaken (a .bad) (a .failed) (a .state) (withList (a .o) (now (a .codes)) (now (a .rising))) (a .words) (now (a .left)) (now (a .frame))
 taken c = left-taken _ _ _ _ _ _ _ (sym (c .before .before .judge-left .ensures) ∙ c .enum-told2 .given .1)
 
 append-requires : tie.Need-append-requires
-append-requires c κs = let t = taken (c .before) in record { within = c .before .before .before .before .before .pre (t .unbroken) .room; room = t .room }
+append-requires c κs = let t = taken (c .before) in record { within = c .before .before .before .before .before .before .pre (t .unbroken) .room; room = t .room }
 
 add-waiting : tie.Need-add-waiting
 add-waiting c = omega (arith, taken (c .before .before .before) .room)

@@ -2,6 +2,7 @@
 use mathlib.Core.Path.{sym, _∙_}
 use native.Mathlib.Omega.{arith}
 use denote.Ref.{now}
+use Rattle.options.specs.Options.{withList}
 use Rattle.callrules.specs.Judged.{RightHolds}
 use Rattle.callrules.proofs.FeedLaws.{RightTaken, right-taken, right-refused, right-accepted, has-count}
 use borrow.Author.Needs.{needs}
@@ -9,7 +10,7 @@ use Rattle.intake.proofs.feed_right.Statement.{statement}
 use Rattle.intake.proofs.feed_right.Tie as tie
 
 judge-right-requires : tie.Need-judge-right-requires
-judge-right-requires c κs = λ e. let h = c .before .pre e in (h .few, h .carried, h .rows)
+judge-right-requires c κs = λ e. let h = c .before .before .pre e in (h .few, h .carried, h .rows)
 
 enum-told : tie.Need-enum-told
 enum-told c = search needs
@@ -24,11 +25,11 @@ enum-told-2 : tie.Need-enum-told-2
 enum-told-2 c = search needs
 
 -- What an accepted frame has: the join holds together, and there is room for the rows and numbers for them.
-taken : (c : tie.After-enum-told2) → let a = c .before .before .before .before .args in RightTaken (a .bad) (a .failed) (a .ended) (a .state) (a .o) (a .held) (a .pruned) (now (a .right)) (now (a .frame))
+taken : (c : tie.After-enum-told2) → let a = c .before .before .before .before .before .args in RightTaken (a .bad) (a .failed) (a .ended) (a .state) (withList (a .o) (now (a .codes)) (now (a .rising))) (a .held) (a .pruned) (now (a .right)) (now (a .frame))
 taken c = right-taken _ _ _ _ _ _ _ _ _ (sym (c .before .before .judge-right .ensures) ∙ c .enum-told2 .given .1)
 
-holds : (c : tie.After-enum-told2) → let a = c .before .before .before .before .args in RightHolds (a .o) (a .base) (a .held) (a .pruned) (now (a .right))
-holds c = c .before .before .before .before .pre (taken c .unbroken)
+holds : (c : tie.After-enum-told2) → let a = c .before .before .before .before .before .args in RightHolds (withList (a .o) (now (a .codes)) (now (a .rising))) (a .base) (a .held) (a .pruned) (now (a .right))
+holds c = c .before .before .before .before .before .pre (taken c .unbroken)
 
 right-columns-requires : tie.Need-right-columns-requires
 right-columns-requires c κs = (holds c .few .by, holds c .carried)

@@ -5,7 +5,7 @@ use borrow.Author.Tests.{not-false}
 use denote.Ref.{now}
 use Rattle.frames.specs.Frame.{isFrame, frameRows}
 use Rattle.frames.proofs.FrontLaws.{frame-table}
-use Rattle.options.specs.Options.{columns, Few}
+use Rattle.options.specs.Options.{withList, columns, Few}
 use Rattle.order.specs.Listed.{lacksCode}
 use Rattle.callrules.specs.Judged.{leftJudged}
 use borrow.Author.Needs.{needs}
@@ -30,8 +30,8 @@ returns-3 c =
     simp (e .before .if1 .left, e .if2 .left, ← c .before .is-running .ensures, c .if3 .taken)
 
 -- A join that is not bad compares rows.
-few : (c : tie.Else3) → Few (c .before .before .before .before .args .o)
-few c = let e = c .before .before in e .before .before .pre (e .before .if1 .left)
+few : (c : tie.Else3) → let a = c .before .before .before .before .before .args in Few (withList (a .o) (now (a .codes)) (now (a .rising)))
+few c = let e = c .before .before in e .before .before .before .pre (e .before .if1 .left)
 
 left-columns-requires : tie.Need-left-columns-requires
 left-columns-requires c κs = few c .by
@@ -40,7 +40,7 @@ is-frame-requires : tie.Need-is-frame-requires
 is-frame-requires c κs = search needs
 
 -- What the calls say, by the definitions' names.
-frame : (c : tie.After-is-frame) → let a = c .before .before .before .before .before .before .args in c .is-frame .result ≡ isFrame (columns (a .o)) (now (a .frame))
+frame : (c : tie.After-is-frame) → let a = c .before .before .before .before .before .before .before .args in c .is-frame .result ≡ isFrame (columns (withList (a .o) (now (a .codes)) (now (a .rising)))) (now (a .frame))
 frame c = rw (c .before .left-columns .ensures) at (c .is-frame .ensures)
 
 returns-4 : tie.Need-returns-4
@@ -58,7 +58,7 @@ lacks-code-requires c κs =
     (few (f .before .before), omega arith, frame-table _ _ (sym (f .is-frame .ensures) ∙ not-false (f .is-frame .result) (c .if4 .left)))
 
 codes : (c : tie.After-lacks-code) →
-    let a = c .before .before .before .before .before .before .before .before .args in c .lacks-code .result ≡ lacksCode (a .o) (frameRows (columns (a .o)) (now (a .frame)))
+    let a = c .before .before .before .before .before .before .before .before .before .args in c .lacks-code .result ≡ lacksCode (withList (a .o) (now (a .codes)) (now (a .rising))) (frameRows (columns (withList (a .o) (now (a .codes)) (now (a .rising)))) (now (a .frame)))
 codes c = rw (c .before .before .before .left-columns .ensures) at (c .lacks-code .ensures)
 
 returns-5 : tie.Need-returns-5

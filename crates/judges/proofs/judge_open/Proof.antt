@@ -1,4 +1,6 @@
 -- `judges::judge_open` meets its contract. Assumes nothing.
+use denote.Ref.{now}
+use Rattle.options.proofs.TermLaws.{bad-terms}
 use Rattle.callrules.specs.Judged.{openAnswer}
 use borrow.Author.Needs.{needs}
 use Rattle.judges.proofs.judge_open.Statement.{statement}
@@ -9,7 +11,7 @@ bad-options-requires c κs = search needs
 
 returns : tie.Need-returns
 unfolding openAnswer
-returns c = simp (← c .before .bad-options .ensures, c .if1 .taken)
+returns c = let a = c .before .before .before .args in simp (← bad-terms (a .o) (now (a .codes)) (now (a .rising)), ← c .before .bad-options .ensures, c .if1 .taken)
 
 many-carried-requires : tie.Need-many-carried-requires
 many-carried-requires c κs = search needs
@@ -17,7 +19,8 @@ many-carried-requires c κs = search needs
 returns-2 : tie.Need-returns-2
 unfolding openAnswer
 returns-2 c =
-    simp (← c .before .before .before .bad-options .ensures, c .before .before .if1 .left, ← c .before .many-carried .ensures, c .if2 .taken)
+    let a = c .before .before .before .before .before .args in
+    simp (← bad-terms (a .o) (now (a .codes)) (now (a .rising)), ← c .before .before .before .bad-options .ensures, c .before .before .if1 .left, ← c .before .many-carried .ensures, c .if2 .taken)
 
 bad-ranks-requires : tie.Need-bad-ranks-requires
 bad-ranks-requires c κs = search needs
@@ -26,7 +29,9 @@ returns-3 : tie.Need-returns-3
 unfolding openAnswer
 returns-3 c =
     let m = c .before .before .before in
+    let a = m .before .before .before .before .args in
     simp (
+      ← bad-terms (a .o) (now (a .codes)) (now (a .rising)),
       ← m .before .before .bad-options .ensures,
       m .before .if1 .left,
       ← m .many-carried .ensures,
@@ -39,7 +44,9 @@ returns-4 : tie.Need-returns-4
 unfolding openAnswer
 returns-4 c =
     let m = c .before .before .before in
+    let a = m .before .before .before .before .args in
     simp (
+      ← bad-terms (a .o) (now (a .codes)) (now (a .rising)),
       ← m .before .before .bad-options .ensures,
       m .before .if1 .left,
       ← m .many-carried .ensures,

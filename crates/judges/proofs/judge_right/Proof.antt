@@ -8,7 +8,7 @@ use denote.Ref.{now}
 use lib.Dec.{ltb}
 use Rattle.frames.specs.Frame.{isFrame, rowCount, frameRows}
 use Rattle.frames.proofs.FrontLaws.{frame-table}
-use Rattle.options.specs.Options.{rightColumns, Few}
+use Rattle.options.specs.Options.{withList, rightColumns, Few}
 use Rattle.order.specs.Listed.{lacksCode}
 use Rattle.area.specs.Area.{capacity}
 use Rattle.outcomes.specs.Answers.{mostRows}
@@ -32,16 +32,16 @@ enum-told-2 : tie.Need-enum-told-2
 enum-told-2 c = search needs
 
 -- Right is open.
-unended : (c : tie.After-enum-told2) → let a = c .before .before .before .args in endJudged (a .bad) (a .failed) (a .ended) (a .state) ≡ Accepted
+unended : (c : tie.After-enum-told2) → let a = c .before .before .before .before .args in endJudged (a .bad) (a .failed) (a .ended) (a .state) ≡ Accepted
 unended c = sym (c .before .before .judge-end .ensures) ∙ c .enum-told2 .given .1
 
-judged : (c : tie.After-enum-told2) → let a = c .before .before .before .args in
-    rightJudged (a .bad) (a .failed) (a .ended) (a .state) (a .o) (a .held) (a .pruned) (now (a .right)) (now (a .frame)) ≡ rightRest (a .o) (a .held) (a .pruned) (now (a .right)) (now (a .frame))
+judged : (c : tie.After-enum-told2) → let a = c .before .before .before .before .args in
+    rightJudged (a .bad) (a .failed) (a .ended) (a .state) (withList (a .o) (now (a .codes)) (now (a .rising))) (a .held) (a .pruned) (now (a .right)) (now (a .frame)) ≡ rightRest (withList (a .o) (now (a .codes)) (now (a .rising))) (a .held) (a .pruned) (now (a .right)) (now (a .frame))
 judged c = right-open _ _ _ _ _ _ _ _ _ (unended c)
 
 -- The join is not bad.
-holds : (c : tie.After-enum-told2) → let a = c .before .before .before .args in Few (a .o) × (a .o .carried ≤ 8) × (a .pruned + a .held ≤ mostRows)
-holds c = c .before .before .before .pre (end-taken _ _ _ _ (unended c) .unbroken)
+holds : (c : tie.After-enum-told2) → let a = c .before .before .before .before .args in Few (withList (a .o) (now (a .codes)) (now (a .rising))) × (a .o .carried ≤ 8) × (a .pruned + a .held ≤ mostRows)
+holds c = c .before .before .before .before .pre (end-taken _ _ _ _ (unended c) .unbroken)
 
 right-columns-requires : tie.Need-right-columns-requires
 right-columns-requires c κs = (holds c .0 .by, holds c .1)
@@ -50,14 +50,14 @@ is-frame-requires : tie.Need-is-frame-requires
 is-frame-requires c κs = search needs
 
 -- What the calls say, by the definitions' names.
-frame : (c : tie.After-is-frame) → let a = c .before .before .before .before .before .args in c .is-frame .result ≡ isFrame (rightColumns (a .o)) (now (a .frame))
+frame : (c : tie.After-is-frame) → let a = c .before .before .before .before .before .before .args in c .is-frame .result ≡ isFrame (rightColumns (withList (a .o) (now (a .codes)) (now (a .rising)))) (now (a .frame))
 frame c = rw (c .before .right-columns .ensures) at (c .is-frame .ensures)
 
 returns-2 : tie.Need-returns-2
 returns-2 c = let o = c .before .before .before in simp (judged o, ← frame (c .before), c .if1 .taken)
 
 -- The words are a frame, so it can be asked for codes.
-framed : (c : tie.Else1) → let a = c .before .before .before .before .before .before .args in isFrame (c .before .before .right-columns .result) (now (a .frame)) ≡ true
+framed : (c : tie.Else1) → let a = c .before .before .before .before .before .before .before .args in isFrame (c .before .before .right-columns .result) (now (a .frame)) ≡ true
 framed c = sym (c .before .is-frame .ensures) ∙ not-false (c .before .is-frame .result) (c .if1 .left)
 
 lacks-code-requires : tie.Need-lacks-code-requires
@@ -66,7 +66,7 @@ lacks-code-requires c κs =
     (holds (w .before) .0, omega (arith, w .right-columns .ensures), frame-table _ _ (framed c))
 
 codes : (c : tie.After-lacks-code) →
-    let a = c .before .before .before .before .before .before .before .args in c .lacks-code .result ≡ lacksCode (a .o) (frameRows (rightColumns (a .o)) (now (a .frame)))
+    let a = c .before .before .before .before .before .before .before .before .args in c .lacks-code .result ≡ lacksCode (withList (a .o) (now (a .codes)) (now (a .rising))) (frameRows (rightColumns (withList (a .o) (now (a .codes)) (now (a .rising)))) (now (a .frame)))
 codes c = rw (c .before .before .before .right-columns .ensures) at (c .lacks-code .ensures)
 
 returns-3 : tie.Need-returns-3
@@ -89,11 +89,11 @@ div-above c = search needs
 above-requires : tie.Need-above-requires
 above-requires c κs = search needs
 
-room : (c : tie.After-above) → let a = c .before .before .before .before .before .before .before .before .before .before .args in
-    c .above .result ≡ ltb (capacity (rightColumns (a .o)) (now (a .right))) (a .held + rowCount (now (a .frame)))
+room : (c : tie.After-above) → let a = c .before .before .before .before .before .before .before .before .before .before .before .args in
+    c .above .result ≡ ltb (capacity (rightColumns (withList (a .o) (now (a .codes)) (now (a .rising)))) (now (a .right))) (a .held + rowCount (now (a .frame)))
 room c = rw (c .before .before .before .before .before .before .right-columns .ensures, c .before .row-count .ensures) at (c .above .ensures)
 
-numbers : (c : tie.After-above2) → let a = c .before .before .before .before .before .before .before .before .before .before .before .before .args in
+numbers : (c : tie.After-above2) → let a = c .before .before .before .before .before .before .before .before .before .before .before .before .before .args in
     c .above2 .result ≡ ltb mostRows (a .pruned + a .held + rowCount (now (a .frame)))
 numbers c = rw (c .before .before .before .row-count .ensures) at (c .above2 .ensures)
 

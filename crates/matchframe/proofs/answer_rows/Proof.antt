@@ -1,4 +1,6 @@
 use denote.Ref.{now}
+use Rattle.options.specs.Options.{withList}
+use Rattle.carrying.proofs.TermLaws.{spread-in-terms, spreads-terms}
 use Rattle.carrying.proofs.LaidLaws.{frame-room, spread-in, answer-spread, answer-plain}
 use borrow.Author.Needs.{needs}
 use Rattle.matchframe.proofs.answer_rows.Statement.{statement}
@@ -6,25 +8,26 @@ use Rattle.matchframe.proofs.answer_rows.Tie as tie
 
 match-rows-requires : tie.Need-match-rows-requires
 match-rows-requires c κs =
-    let s = c .before in
+    let s = c .before .before in
     let a = s .args in
-    frame-room (a .o) (a .wl) (a .nl) (now (a .lv)) (now (a .lm)) (a .wr) (a .nr) (now (a .rv)) (now (a .rm)) (a .number) (a .m) (now (a .out)) (s .pre)
+    frame-room (withList (a .o) (now (a .codes)) (now (a .rising))) (a .wl) (a .nl) (now (a .lv)) (now (a .lm)) (a .wr) (a .nr) (now (a .rv)) (now (a .rm)) (a .number) (a .m) (now (a .out)) (s .pre)
 
 same-length : tie.Need-same-length
 same-length c = search needs
 
 returns : tie.Need-returns
 returns c =
-    let s = c .before .before .before .before .before in
+    let s = c .before .before .before .before .before .before in
     let a = s .args in
-    answer-plain (a .o) (a .wl) (a .nl) (now (a .lv)) (now (a .lm)) (a .wr) (a .nr) (now (a .rv)) (now (a .rm)) (a .number) (a .m) (now (a .out)) (s .pre) _ (c .if1 .taken) (c .before .before .before .match-rows .ensures)
+    answer-plain (withList (a .o) (now (a .codes)) (now (a .rising))) (a .wl) (a .nl) (now (a .lv)) (now (a .lm)) (a .wr) (a .nr) (now (a .rv)) (now (a .rm)) (a .number) (a .m) (now (a .out)) (s .pre) _ (c .if1 .taken) (c .before .before .before .match-rows .ensures)
 
 spread-rows-requires : tie.Need-spread-rows-requires
 spread-rows-requires c κs =
     let f = c .before .before .before .before in
-    let s = f .before .before in
+    let s = f .before .before .before in
     let a = s .args in
-    spread-in (a .o) (a .wl) (a .nl) (now (a .lv)) (now (a .lm)) (a .wr) (a .nr) (now (a .rv)) (now (a .rm)) (a .number) (a .m) (now (a .out)) (s .pre) _ (f .match-rows .kept .1 .1 .1 .1 .1 .1 .1 .1 .1 .1 .1 .0) (f .match-rows .ensures)
+    spread-in-terms (a .o) (now (a .codes)) (now (a .rising)) (a .nl) (a .wr) (a .nr) (now (a .rv)) (now (a .rm)) (a .number) (a .m) _
+    (spread-in (withList (a .o) (now (a .codes)) (now (a .rising))) (a .wl) (a .nl) (now (a .lv)) (now (a .lm)) (a .wr) (a .nr) (now (a .rv)) (now (a .rm)) (a .number) (a .m) (now (a .out)) (s .pre) _ (f .match-rows .kept .1 .1 .1 .1 .1 .1 .1 .1 .1 .1 .1 .1 .1 .0) (f .match-rows .ensures))
 
 same-length-2 : tie.Need-same-length-2
 same-length-2 c = search needs
@@ -32,9 +35,9 @@ same-length-2 c = search needs
 returns-2 : tie.Need-returns-2
 returns-2 c =
     let f = c .before .before .before .before .before .before in
-    let s = f .before .before in
+    let s = f .before .before .before in
     let a = s .args in
-    answer-spread (a .o) (a .wl) (a .nl) (now (a .lv)) (now (a .lm)) (a .wr) (a .nr) (now (a .rv)) (now (a .rm)) (a .number) (a .m) (now (a .out)) (s .pre) _ _ (f .match-rows .ensures) (c .before .spread-rows .ensures)
+    answer-spread (withList (a .o) (now (a .codes)) (now (a .rising))) (a .wl) (a .nl) (now (a .lv)) (now (a .lm)) (a .wr) (a .nr) (now (a .rv)) (now (a .rm)) (a .number) (a .m) (now (a .out)) (s .pre) _ _ (f .match-rows .ensures) (spreads-terms (a .o) (now (a .codes)) (now (a .rising)) (a .number) _ (a .nl) (a .m) _ _ (c .before .spread-rows .ensures))
 
 pub answer-rows-spec : {M : Type 1} → statement M
 answer-rows-spec =

@@ -2,6 +2,7 @@ use mathlib.Core.Path.{refl, sym, subst}
 use Prim.Native.Nat.{ℕ, _*_}
 use native.Mathlib.Omega.{arith}
 use denote.Ref.{now}
+use Rattle.options.specs.Options.{withList}
 use Rattle.matching.specs.Requires.{AnswerRoom}
 use Rattle.carrying.proofs.LaidLaws.{answer-whole}
 use borrow.Author.Needs.{needs}
@@ -13,11 +14,11 @@ answer-columns-requires c κs = search needs
 
 -- there is room for the cells that the code counts
 room : (c : tie.After-answer-columns) →
-    let a = c .before .args in
-    AnswerRoom (a .o) (a .wl) (a .nl) (now (a .lv)) (now (a .lm)) (a .wr) (a .nr) (now (a .rv)) (now (a .rm)) (a .number) (a .nl * c .answer-columns .result) (now (a .out))
+    let a = c .before .before .args in
+    AnswerRoom (withList (a .o) (now (a .codes)) (now (a .rising))) (a .wl) (a .nl) (now (a .lv)) (now (a .lm)) (a .wr) (a .nr) (now (a .rv)) (now (a .rm)) (a .number) (a .nl * c .answer-columns .result) (now (a .out))
 room c =
-    let a = c .before .args in
-    subst (λ (z : ℕ). AnswerRoom (a .o) (a .wl) (a .nl) (now (a .lv)) (now (a .lm)) (a .wr) (a .nr) (now (a .rv)) (now (a .rm)) (a .number) (a .nl * z) (now (a .out))) (sym (c .answer-columns .ensures)) (c .before .pre)
+    let a = c .before .before .args in
+    subst (λ (z : ℕ). AnswerRoom (withList (a .o) (now (a .codes)) (now (a .rising))) (a .wl) (a .nl) (now (a .lv)) (now (a .lm)) (a .wr) (a .nr) (now (a .rv)) (now (a .rm)) (a .number) (a .nl * z) (now (a .out))) (sym (c .answer-columns .ensures)) (c .before .before .pre)
 
 mul-answer-rows : tie.Need-mul-answer-rows
 mul-answer-rows c = let r = room c .room in omega arith
@@ -34,9 +35,9 @@ same-length c = search needs
 returns : tie.Need-returns
 returns c =
     let e = c .before .before .before .before .before .before in
-    let a = e .before .args in
+    let a = e .before .before .args in
     let k = e .answer-columns .result in
-    answer-whole (a .o) (a .wl) (a .nl) (now (a .lv)) (now (a .lm)) (a .wr) (a .nr) (now (a .rv)) (now (a .rm)) (a .number) (a .nl * k) (now (a .out)) (room e) k _ _ refl (e .answer-columns .ensures) (c .before .before .before .before .answer-rows .ensures) (c .before .put-head .ensures)
+    answer-whole (withList (a .o) (now (a .codes)) (now (a .rising))) (a .wl) (a .nl) (now (a .lv)) (now (a .lm)) (a .wr) (a .nr) (now (a .rv)) (now (a .rm)) (a .number) (a .nl * k) (now (a .out)) (room e) k _ _ refl (e .answer-columns .ensures) (c .before .before .before .before .answer-rows .ensures) (c .before .put-head .ensures)
 
 pub match-frame-spec : {M : Type 1} → statement M
 match-frame-spec =

@@ -5,74 +5,78 @@ use native.Mathlib.Nat.{mul-le-mul-right}
 use native.Mathlib.Omega.{arith}
 use denote.Ref.{now}
 use lib.ListN.{length}
+use Rattle.options.specs.Options.{withList}
 use Rattle.frames.specs.Cells.{rowsOf}
 use Rattle.order.proofs.RowLaws.{row-room}
 use Rattle.matching.specs.Groups.{runs, byRuns}
-use Rattle.matching.specs.Stretches.{lay}
+use Rattle.matching.specs.Stretches.{between, lay}
 use Rattle.matching.specs.Loops.{RunAt}
 use Rattle.matching.specs.declared.Choice.{Choice}
+use Rattle.matching.proofs.TermLaws.{room-terms, lay-terms}
 use Rattle.matching.proofs.WalkLaws.{run-up, run-within}
 use Rattle.matching.proofs.LayLaws.{groupsFrom, groups-all, groups-more, groups-end}
 use Rattle.matchframe.proofs.match_groups.Statement.{statement}
 use Rattle.matchframe.proofs.match_groups.Tie as tie
 
 abbrev Inv-loop : tie.InvT-loop
-Inv-loop lv lm nl wl rv rm nr wr number o m out₀ at₀ end₀ i₀ out at end i =
-    (i ≤ nl) × (length out ≡ length out₀) × RunAt o wr nr rv rm at end
-    × (lay m 0 (byRuns o number (runs o (rowsOf wr nr rv rm)) (runs o (rowsOf wl nl lv lm))) out₀ ≡ lay m i (groupsFrom o number m wl nl lv lm wr nr rv rm at i) out)
+Inv-loop lv lm nl wl rv rm nr wr number o codes rising m out₀ at₀ end₀ i₀ out at end i =
+    (i ≤ nl) × (length out ≡ length out₀) × RunAt (withList o codes rising) wr nr rv rm at end
+    × (lay m 0 (byRuns (withList o codes rising) number (runs (withList o codes rising) (rowsOf wr nr rv rm)) (runs (withList o codes rising) (rowsOf wl nl lv lm))) out₀ ≡ lay m i (groupsFrom (withList o codes rising) number m wl nl lv lm wr nr rv rm at i) out)
 
 abbrev μ-loop : tie.MeasureT-loop
-μ-loop lv lm nl wl rv rm nr wr number o m out₀ at₀ end₀ i₀ out at end i = nl - i
+μ-loop lv lm nl wl rv rm nr wr number o codes rising m out₀ at₀ end₀ i₀ out at end i = nl - i
 
 -- the left run at row i has a row and ends within the rows
-ahead : (c : tie.After-run-end2 Inv-loop μ-loop) → (c .before .before .loop .i < c .run-end2 .result) × (c .run-end2 .result ≤ c .before .before .before .before .args .nl)
+ahead : (c : tie.After-run-end2 Inv-loop μ-loop) → (c .before .before .loop .i < c .run-end2 .result) × (c .run-end2 .result ≤ c .before .before .before .before .before .args .nl)
 ahead c =
-    let a = c .before .before .before .before .args in
+    let a = c .before .before .before .before .before .args in
     let i = c .before .before .loop .i in
-    let u = run-up (a .o) (a .wl) (a .nl) (now (a .lv)) (now (a .lm)) i (c .before .loop-test .taken) in
-    let v = run-within (a .o) (a .wl) (a .nl) (now (a .lv)) (now (a .lm)) i (c .before .loop-test .taken) in
+    let u = run-up (withList (a .o) (now (a .codes)) (now (a .rising))) (a .wl) (a .nl) (now (a .lv)) (now (a .lm)) i (c .before .loop-test .taken) in
+    let v = run-within (withList (a .o) (now (a .codes)) (now (a .rising))) (a .wl) (a .nl) (now (a .lv)) (now (a .lm)) i (c .before .loop-test .taken) in
     let q = c .run-end2 .ensures in
     (omega arith, omega arith)
 
-room : (c : tie.After-run-end2 Inv-loop μ-loop) → let a = c .before .before .before .before .args in c .before .before .loop .i * a .wl + a .wl ≤ a .nl * a .wl
-room c = let a = c .before .before .before .before .args in row-room (c .before .before .loop .i) (a .nl) (a .wl) (c .before .loop-test .taken)
+room : (c : tie.After-run-end2 Inv-loop μ-loop) → let a = c .before .before .before .before .before .args in c .before .before .loop .i * a .wl + a .wl ≤ a .nl * a .wl
+room c = let a = c .before .before .before .before .before .args in row-room (c .before .before .loop .i) (a .nl) (a .wl) (c .before .loop-test .taken)
 
 run-end-requires : tie.Need-run-end-requires Inv-loop μ-loop
-run-end-requires c κs = record { rows = c .pre .right; within = omega arith }
+run-end-requires c κs = record { rows = c .before .pre .right; within = omega arith }
 
 loop-holds : tie.Need-loop-holds Inv-loop μ-loop
 loop-holds c =
-    let s = c .before in
+    let s = c .before .before in
     let a = s .args in (
       omega arith,
       refl,
       record { rows = s .pre .right; within = omega arith; run = c .run-end .ensures },
-      ap (λ (ks : List Choice). lay (a .m) 0 ks (now (a .out))) (groups-all (a .o) (a .number) (a .m) (a .wl) (a .nl) (now (a .lv)) (now (a .lm)) (a .wr) (a .nr) (now (a .rv)) (now (a .rm))),
+      ap (λ (ks : List Choice). lay (a .m) 0 ks (now (a .out))) (groups-all (withList (a .o) (now (a .codes)) (now (a .rising))) (a .number) (a .m) (a .wl) (a .nl) (now (a .lv)) (now (a .lm)) (a .wr) (a .nr) (now (a .rv)) (now (a .rm))),
     )
 
 run-end-requires-2 : tie.Need-run-end-requires-2 Inv-loop μ-loop
-run-end-requires-2 c κs = record { rows = c .before .before .before .pre .left; within = c .before .loop .inv .0 }
+run-end-requires-2 c κs = record { rows = c .before .before .before .before .pre .left; within = c .before .loop .inv .0 }
 
 mul-serve : tie.Need-mul-serve Inv-loop μ-loop
-mul-serve c = let r = room c in let p = c .before .before .before .before .pre .left in omega arith
+mul-serve c = let r = room c in let p = c .before .before .before .before .before .pre .left in omega arith
 
 serve-requires : tie.Need-serve-requires Inv-loop μ-loop
 serve-requires c κs =
     let r = room c in
-    let p = c .before .before .before .before .pre .left in
+    let p = c .before .before .before .before .before .pre .left in
     record { left = record { few = p .few; values = omega arith; marks = omega arith }; right = c .before .before .loop .inv .2 }
 
 match-run-requires : tie.Need-match-run-requires Inv-loop μ-loop
 match-run-requires c κs =
     let e = c .before .before in
     let l = e .before .before .loop in
-    let s = e .before .before .before .before in
+    let s = e .before .before .before .before .before in
     let p = s .pre in
     let g = c .before .serve .ensures .0 in
     let u = ahead e in
     let h = mul-le-mul-right {m = c .before .serve .result .used} {n = s .args .nr} (s .args .wr) (g .within) in
     let k = mul-le-mul-right {m = e .run-end2 .result} {n = s .args .nl} (s .args .wl) (u .1) in
-    record {
+    let a = s .args in
+    room-terms (a .o) (now (a .codes)) (now (a .rising)) (a .wl) (a .m) (now (a .lv)) (now (a .lm)) _ _ (a .wr) (now (a .rv)) (now (a .rm)) _ _ (a .number) _
+    (record {
       left = record { few = p .left .few; wide = p .left .wide; values = omega (arith, k, p .left .values); marks = omega (arith, k, p .left .marks) };
       upward = omega arith;
       within = omega (arith, u .1, p .within);
@@ -80,7 +84,7 @@ match-run-requires c κs =
       run = g .upward;
       numbers = omega (arith, g .within, p .numbers);
       room = omega (arith, p .room, l .inv .1);
-    }
+    })
 
 loop-less : tie.Need-loop-less Inv-loop μ-loop
 loop-less c = let u = ahead (c .before .before .before .before) in let t = c .before .before .before .before .before .loop-test .taken in omega arith
@@ -89,14 +93,14 @@ loop-again : tie.Need-loop-again Inv-loop μ-loop
 loop-again c =
     let e = c .before .before .before .before in
     let l = e .before .before .loop in
-    let s = e .before .before .before .before in
+    let s = e .before .before .before .before .before in
     let a = s .args in
     let g = c .before .before .before .serve in
-    let m = groups-more (a .o) (a .number) (a .m) (a .wl) (a .nl) (now (a .lv)) (now (a .lm)) (a .wr) (a .nr) (now (a .rv)) (now (a .rm)) (l .at) (l .i) (e .run-end2 .result) (g .result) (l .out) (e .before .loop-test .taken) (e .run-end2 .ensures) (g .ensures .1 (a .wl) (s .pre .left .wide)) in (
+    let m = groups-more (withList (a .o) (now (a .codes)) (now (a .rising))) (a .number) (a .m) (a .wl) (a .nl) (now (a .lv)) (now (a .lm)) (a .wr) (a .nr) (now (a .rv)) (now (a .rm)) (l .at) (l .i) (e .run-end2 .result) (g .result) (l .out) (e .before .loop-test .taken) (e .run-end2 .ensures) (g .ensures .1 (a .wl) (s .pre .left .wide)) in (
       ahead e .1,
       c .before .match-run .kept .1 .1 .1 .1 .1 .1 .1 .1 .1 .1 .1 .1 .1 .0 ∙ l .inv .1,
       g .ensures .0 .run,
-      l .inv .3 ∙ rw (c .before .match-run .ensures) m,
+      l .inv .3 ∙ rw (c .before .match-run .ensures ∙ lay-terms (a .o) (now (a .codes)) (now (a .rising)) (a .m) (l .i) (a .number + g .result .at) (between (a .wr) (g .result .at) (g .result .used) (now (a .rv)) (now (a .rm))) (between (a .wl) (l .i) (e .run-end2 .result) (now (a .lv)) (now (a .lm))) (l .out)) m,
     )
 
 same-length : tie.Need-same-length Inv-loop μ-loop
@@ -105,9 +109,9 @@ same-length c = c .before .loop .inv .1
 returns : tie.Need-returns Inv-loop μ-loop
 returns c =
     let l = c .before .loop in
-    let a = c .before .before .before .args in
+    let a = c .before .before .before .before .args in
     let e : l .i ≡ a .nl = omega (arith, c .loop-test .left, l .inv .0) in
-    sym (l .inv .3 ∙ rw e (groups-end (a .o) (a .number) (a .m) (a .wl) (a .nl) (now (a .lv)) (now (a .lm)) (a .wr) (a .nr) (now (a .rv)) (now (a .rm)) (l .at) (l .out)))
+    sym (l .inv .3 ∙ rw e (groups-end (withList (a .o) (now (a .codes)) (now (a .rising))) (a .number) (a .m) (a .wl) (a .nl) (now (a .lv)) (now (a .lm)) (a .wr) (a .nr) (now (a .rv)) (now (a .rm)) (l .at) (l .out)))
 
 pub match-groups-spec : {M : Type 1} → statement M
 match-groups-spec =

@@ -4,6 +4,7 @@ use mathlib.Core.Bool.{true}
 use native.Mathlib.Omega.{arith}
 use borrow.Author.Tests.{not-false}
 use denote.Ref.{now}
+use Rattle.options.specs.Options.{withoutList}
 use Rattle.matching.specs.Loops.{RunRoom}
 use Rattle.matching.specs.Moves.{keysSorted}
 use Rattle.matching.specs.Stretches.{between}
@@ -24,7 +25,7 @@ returns : tie.Need-returns
 returns c = c .before .scan-run .ensures
 
 -- the left run is sorted
-left-sorted : (c : tie.Else1) → let a = c .before .before .args in keysSorted (a .o) (between (a .wl) (a .from) (a .to) (now (a .lv)) (now (a .lm))) ≡ true
+left-sorted : (c : tie.Else1) → let a = c .before .before .args in keysSorted (withoutList (a .o)) (between (a .wl) (a .from) (a .to) (now (a .lv)) (now (a .lm))) ≡ true
 left-sorted c = sym (c .before .keys-sorted .ensures) ∙ not-false (c .before .keys-sorted .result) (c .if1 .left)
 
 candidates-requires : tie.Need-candidates-requires
@@ -36,7 +37,7 @@ candidates-requires c κs =
 part-room : (c : tie.After-candidates) →
     let a = c .before .before .before .args in
     let r = c .candidates .result in
-    RunRoom (a .o) (a .wl) (a .m) (now (a .lv)) (now (a .lm)) (a .from) (a .to) (a .wr) (now (a .rv)) (now (a .rm)) (r .from) (r .to) (a .number) (now (a .out))
+    RunRoom (withoutList (a .o)) (a .wl) (a .m) (now (a .lv)) (now (a .lm)) (a .from) (a .to) (a .wr) (now (a .rv)) (now (a .rm)) (r .from) (r .to) (a .number) (now (a .out))
 part-room c =
     let s = c .before .before .before in
     let a = s .args in
@@ -46,7 +47,7 @@ part-room c =
       left = p .left;
       upward = p .upward;
       within = p .within;
-      right = rows-less (a .o) (a .wr) (now (a .rv)) (now (a .rm)) (c .candidates .result .to) (a .end) (e .within) (p .right);
+      right = rows-less (withoutList (a .o)) (a .wr) (now (a .rv)) (now (a .rm)) (c .candidates .result .to) (a .end) (e .within) (p .right);
       run = e .upward;
       numbers = omega (arith, e .within, p .numbers);
       room = p .room;

@@ -5,6 +5,7 @@ use native.Mathlib.Omega.{arith}
 use denote.Ref.{now}
 use lib.ListN.{length}
 use Rattle.frames.specs.Cells.{rowFrom}
+use Rattle.options.specs.Options.{withoutList}
 use Rattle.order.proofs.RowLaws.{row-room}
 use Rattle.matching.specs.Match.{matchIn}
 use Rattle.matching.specs.Stretches.{between, lay}
@@ -17,8 +18,8 @@ use Rattle.matchrun.proofs.scan_run.Tie as tie
 abbrev Inv-loop : tie.InvT-loop
 Inv-loop lv lm m wl from to rv rm wr at end number o out₀ i₀ out i =
     (from ≤ i) × (i ≤ to) × (length out ≡ length out₀)
-    × (lay m from (map (matchIn o (number + at) (between wr at end rv rm)) (between wl from to lv lm)) out₀
-    ≡ lay m i (map (matchIn o (number + at) (between wr at end rv rm)) (between wl i to lv lm)) out)
+    × (lay m from (map (matchIn (withoutList o) (number + at) (between wr at end rv rm)) (between wl from to lv lm)) out₀
+    ≡ lay m i (map (matchIn (withoutList o) (number + at) (between wr at end rv rm)) (between wl i to lv lm)) out)
 
 abbrev μ-loop : tie.MeasureT-loop
 μ-loop lv lm m wl from to rv rm wr at end number o out₀ i₀ out i = to - i
@@ -32,7 +33,7 @@ room c =
 -- the choice of row i
 choice : (c : tie.After-match-row Inv-loop μ-loop) →
     let a = c .before .before .before .args in
-    c .match-row .result ≡ matchIn (a .o) (a .number + a .at) (between (a .wr) (a .at) (a .end) (now (a .rv)) (now (a .rm))) (rowFrom (a .wl) (c .before .before .loop .i * a .wl) (now (a .lv)) (now (a .lm)))
+    c .match-row .result ≡ matchIn (withoutList (a .o)) (a .number + a .at) (between (a .wr) (a .at) (a .end) (now (a .rv)) (now (a .rm))) (rowFrom (a .wl) (c .before .before .loop .i * a .wl) (now (a .lv)) (now (a .lm)))
 choice c = let s = c .before .before .before in c .match-row .ensures (s .args .wl) (s .pre .left .wide)
 
 loop-holds : tie.Need-loop-holds Inv-loop μ-loop
@@ -56,7 +57,7 @@ put-requires c κs =
     let t = c .before .before .loop-test .taken in
     let p = s .pre in
     let e = between-length (a .wr) (now (a .rv)) (now (a .rm)) (a .at) (a .end) in
-    (record { there = omega (arith, p .within); room = omega (arith, p .room, l .inv .2) }, rw (choice (c .before)) (match-small (a .o) (a .number + a .at) _ _ (omega (arith, p .run, p .numbers))))
+    (record { there = omega (arith, p .within); room = omega (arith, p .room, l .inv .2) }, rw (choice (c .before)) (match-small (withoutList (a .o)) (a .number + a .at) _ _ (omega (arith, p .run, p .numbers))))
 
 add-i : tie.Need-add-i Inv-loop μ-loop
 add-i c = let t = c .before .before .before .before .loop-test .taken in omega arith
@@ -70,7 +71,7 @@ loop-again c =
     let l = i .before .loop in
     let a = i .before .before .args in
     let t = i .loop-test .taken in
-    let f = matchIn (a .o) (a .number + a .at) (between (a .wr) (a .at) (a .end) (now (a .rv)) (now (a .rm))) in (
+    let f = matchIn (withoutList (a .o)) (a .number + a .at) (between (a .wr) (a .at) (a .end) (now (a .rv)) (now (a .rm))) in (
       omega arith,
       omega arith,
       c .before .put .kept .0 ∙ l .inv .2,
@@ -84,7 +85,7 @@ returns : tie.Need-returns Inv-loop μ-loop
 returns c =
     let l = c .before .loop in
     let a = c .before .before .args in
-    let f = matchIn (a .o) (a .number + a .at) (between (a .wr) (a .at) (a .end) (now (a .rv)) (now (a .rm))) in
+    let f = matchIn (withoutList (a .o)) (a .number + a .at) (between (a .wr) (a .at) (a .end) (now (a .rv)) (now (a .rm))) in
     let e : l .i ≡ a .to = omega (arith, c .loop-test .left, l .inv .1) in
     sym (l .inv .3 ∙ rw e (lay-done (a .m) f (a .wl) (now (a .lv)) (now (a .lm)) (a .to) (l .out)))
 

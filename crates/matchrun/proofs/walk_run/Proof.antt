@@ -7,7 +7,7 @@ use denote.Ref.{now}
 use lib.IntN.{ℤ}
 use lib.ListN.{length}
 use Rattle.frames.specs.Cells.{value, rowFrom}
-use Rattle.options.specs.Options.{keyRule}
+use Rattle.options.specs.Options.{withoutList, keyRule}
 use Rattle.order.proofs.OrderLaws.{at-most, cmpCell-is}
 use Rattle.order.proofs.RowLaws.{row-room}
 use Rattle.matching.specs.Match.{matchIn}
@@ -23,9 +23,9 @@ use Rattle.matchrun.proofs.walk_run.Tie as tie
 abbrev Inv-loop : tie.InvT-loop
 Inv-loop lv lm m wl from to rv rm wr at end number o out₀ s c₀ i₀ moved₀ out c i moved =
     (from ≤ i) × (i ≤ to) × (length out ≡ length out₀) × (at ≤ c) × (c ≤ end) × (at < end → c < end) × (moved ≡ (i - from) + (c - at))
-    × ((u : ℤ) → ((j : ℕ) → from ≤ j → j < i → NotAbove (keyAt o wl lv lm j) (value u)) → Behind s (o .«allow_eq») (keyAt o wr rv rm) at (value u) c)
-    × (lay m from (map (matchIn o (number + at) (between wr at end rv rm)) (between wl from to lv lm)) out₀
-    ≡ lay m i (map (matchIn o (number + at) (between wr at end rv rm)) (between wl i to lv lm)) out)
+    × ((u : ℤ) → ((j : ℕ) → from ≤ j → j < i → NotAbove (keyAt (withoutList o) wl lv lm j) (value u)) → Behind s (o .«allow_eq») (keyAt (withoutList o) wr rv rm) at (value u) c)
+    × (lay m from (map (matchIn (withoutList o) (number + at) (between wr at end rv rm)) (between wl from to lv lm)) out₀
+    ≡ lay m i (map (matchIn (withoutList o) (number + at) (between wr at end rv rm)) (between wl i to lv lm)) out)
 
 abbrev μ-loop : tie.MeasureT-loop
 μ-loop lv lm m wl from to rv rm wr at end number o out₀ s c₀ i₀ moved₀ out c i moved = to - i
@@ -37,29 +37,29 @@ room c =
     row-room (c .before .loop .i) (s .args .to) (s .args .wl) (c .loop-test .taken)
 
 -- the keys of both runs do not fall
-left-rising : (c : tie.Start Inv-loop μ-loop) → Rising (keyAt (c .args .o) (c .args .wl) (now (c .args .lv)) (now (c .args .lm))) (c .args .from) (c .args .to)
+left-rising : (c : tie.Start Inv-loop μ-loop) → Rising (keyAt (withoutList (c .args .o)) (c .args .wl) (now (c .args .lv)) (now (c .args .lm))) (c .args .from) (c .args .to)
 left-rising c =
     let a = c .args in
-    sorted-rising (a .o) (a .wl) (now (a .lv)) (now (a .lm)) (a .from) (a .to) (c .pre .room .left) (c .pre .left)
+    sorted-rising (withoutList (a .o)) (a .wl) (now (a .lv)) (now (a .lm)) (a .from) (a .to) (c .pre .room .left) (c .pre .left)
 
-right-rising : (c : tie.Start Inv-loop μ-loop) → Rising (keyAt (c .args .o) (c .args .wr) (now (c .args .rv)) (now (c .args .rm))) (c .args .at) (c .args .end)
-right-rising c = let a = c .args in sorted-rising (a .o) (a .wr) (now (a .rv)) (now (a .rm)) (a .at) (a .end) (c .pre .room .right) (c .pre .right)
+right-rising : (c : tie.Start Inv-loop μ-loop) → Rising (keyAt (withoutList (c .args .o)) (c .args .wr) (now (c .args .rv)) (now (c .args .rm))) (c .args .at) (c .args .end)
+right-rising c = let a = c .args in sorted-rising (withoutList (a .o)) (a .wr) (now (a .rv)) (now (a .rm)) (a .at) (a .end) (c .pre .room .right) (c .pre .right)
 
 -- a key that is not below that of row i is not below that of any row before it
 above : (c : tie.In-loop Inv-loop μ-loop) →
     let a = c .before .before .before .args in
     let i = c .before .loop .i in
-    (u : ℤ) → NotAbove (keyAt (a .o) (a .wl) (now (a .lv)) (now (a .lm)) i) (value u) → (j : ℕ) → a .from ≤ j → j < i → NotAbove (keyAt (a .o) (a .wl) (now (a .lv)) (now (a .lm)) j) (value u)
+    (u : ℤ) → NotAbove (keyAt (withoutList (a .o)) (a .wl) (now (a .lv)) (now (a .lm)) i) (value u) → (j : ℕ) → a .from ≤ j → j < i → NotAbove (keyAt (withoutList (a .o)) (a .wl) (now (a .lv)) (now (a .lm)) j) (value u)
 above c u h j l g =
     let a = c .before .before .before .args in
     let i = c .before .loop .i in
-    let k = keyAt (a .o) (a .wl) (now (a .lv)) (now (a .lm)) in
+    let k = keyAt (withoutList (a .o)) (a .wl) (now (a .lv)) (now (a .lm)) in
     at-most (cmpCell-is keyRule) (k j) (k i) (value u) (left-rising (c .before .before .before) j i l (omega (arith, g)) (c .loop-test .taken)) h
 
 -- the choice of row i
 choice : (c : tie.After-walk-row Inv-loop μ-loop) →
     let a = c .before .before .before .before .args in
-    c .walk-row .result .choice ≡ matchIn (a .o) (a .number + a .at) (between (a .wr) (a .at) (a .end) (now (a .rv)) (now (a .rm))) (rowFrom (a .wl) (c .before .before .loop .i * a .wl) (now (a .lv)) (now (a .lm)))
+    c .walk-row .result .choice ≡ matchIn (withoutList (a .o)) (a .number + a .at) (between (a .wr) (a .at) (a .end) (now (a .rv)) (now (a .rm))) (rowFrom (a .wl) (c .before .before .loop .i * a .wl) (now (a .lv)) (now (a .lm)))
 choice c = let s = c .before .before .before .before in c .walk-row .ensures .chosen (s .args .wl) (s .pre .room .left .wide)
 
 strategy-of-requires : tie.Need-strategy-of-requires Inv-loop μ-loop
@@ -100,7 +100,7 @@ put-requires c κs =
     let t = c .before .before .loop-test .taken in
     let p = s .pre .room in
     let e = between-length (a .wr) (now (a .rv)) (now (a .rm)) (a .at) (a .end) in
-    (record { there = omega (arith, p .within, t); room = omega (arith, p .room, l .inv .2) }, rw (choice (c .before)) (match-small (a .o) (a .number + a .at) _ _ (omega (arith, e, p .run, p .numbers))))
+    (record { there = omega (arith, p .within, t); room = omega (arith, p .room, l .inv .2) }, rw (choice (c .before)) (match-small (withoutList (a .o)) (a .number + a .at) _ _ (omega (arith, e, p .run, p .numbers))))
 
 sub-moved : tie.Need-sub-moved Inv-loop μ-loop
 sub-moved c = omega (arith, c .before .before .before .before .walk-row .ensures .upward)
@@ -131,7 +131,7 @@ loop-again c =
     let a = s .args in
     let t = d .before .loop-test .taken in
     let g = d .walk-row .ensures in
-    let f = matchIn (a .o) (a .number + a .at) (between (a .wr) (a .at) (a .end) (now (a .rv)) (now (a .rm))) in (
+    let f = matchIn (withoutList (a .o)) (a .number + a .at) (between (a .wr) (a .at) (a .end) (now (a .rv)) (now (a .rm))) in (
       omega (arith, l .inv .0),
       omega (arith, t),
       c .before .before .put .kept .0 ∙ l .inv .2,
@@ -150,7 +150,7 @@ returns : tie.Need-returns Inv-loop μ-loop
 returns c =
     let l = c .before .loop in
     let a = c .before .before .before .args in
-    let f = matchIn (a .o) (a .number + a .at) (between (a .wr) (a .at) (a .end) (now (a .rv)) (now (a .rm))) in
+    let f = matchIn (withoutList (a .o)) (a .number + a .at) (between (a .wr) (a .at) (a .end) (now (a .rv)) (now (a .rm))) in
     let e : l .i ≡ a .to = omega (arith, c .loop-test .left, l .inv .1) in
     (record { come = l .c; upward = l .inv .3; within = l .inv .4; moves = rw e at (l .inv .6); most = omega (arith, e, l .inv .6, l .inv .4) }, sym (l .inv .8 ∙ rw e (lay-done (a .m) f (a .wl) (now (a .lv)) (now (a .lm)) (a .to) (l .out))))
 

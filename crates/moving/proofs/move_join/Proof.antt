@@ -12,6 +12,7 @@ use Rattle.moving.proofs.copy_left.Reads as copy-left-reads
 use Rattle.moving.proofs.copy_right.Reads as copy-right-reads
 use Rattle.moving.proofs.no_room.Reads as no-room-reads
 use Rattle.options.proofs.right_columns.Reads as right-columns-reads
+use Rattle.options.proofs.terms_of.Reads as terms-of-reads
 use Rattle.node.proofs.bad_join.Reads as bad-join-reads
 
 bad-join-requires : tie.Need-bad-join-requires
@@ -21,7 +22,7 @@ returns : tie.Need-returns
 returns c = bad-move _ _ _ _ _ (sym (c .before .bad-join .ensures) ∙ c .if1 .taken)
 
 no-room-requires : tie.Need-no-room-requires
-no-room-requires c κs = let g = good _ _ _ (sym (c .before .before .before .bad-join .ensures) ∙ c .before .before .if1 .left) in (g .few .by, g .carried)
+no-room-requires c κs = let g = good _ _ _ (sym (c .before .before .before .bad-join .ensures) ∙ c .before .before .if1 .left) in (g .by, g .carried)
 
 same-length : tie.Need-same-length
 same-length c = search needs
@@ -43,13 +44,16 @@ fine c =
 copy-left-requires : tie.Need-copy-left-requires
 copy-left-requires c κs = let t = fine (c .before) in record { within = t .good .left-room; room = t .left-room }
 
+terms-of-requires : tie.Need-terms-of-requires
+terms-of-requires c κs = search needs
+
 right-columns-requires : tie.Need-right-columns-requires
-right-columns-requires c κs = let g = fine (c .before .before .before) .good in (g .few .by, g .carried)
+right-columns-requires c κs = let g = fine (c .before .before .before .before) .good in rw (c .terms-of .ensures) (g .by, g .carried)
 
 copy-right-requires : tie.Need-copy-right-requires
 copy-right-requires c κs =
-    let t = fine (c .before .before .before .before .before) in
-    rw (c .before .right-columns .ensures) (record { columns = record { some = omega arith; few = omega (arith, t .good .few, t .good .carried) }; within = t .good .right-room; room = t .right-room })
+    let t = fine (c .before .before .before .before .before .before) in
+    rw (c .before .right-columns .ensures, c .before .before .terms-of .ensures) (record { columns = record { some = omega arith; few = omega (arith, t .good .by, t .good .carried) }; within = t .good .right-room; room = t .right-room })
 
 same-length-3 : tie.Need-same-length-3
 same-length-3 c = search needs
@@ -60,9 +64,9 @@ same-length-4 c = search needs
 returns-3 : tie.Need-returns-3
 returns-3 c =
     let p = c .before .before .before .before in
-    let e = p .before .before .before .before .before .before in
+    let e = p .before .before .before .before .before .before .before in
     let s = e .before .before .before .before .before in
-    done-move _ _ _ _ _ _ _ (sym (s .bad-join .ensures) ∙ e .before .before .before .before .if1 .left) (sym (e .before .no-room .ensures) ∙ e .if2 .left) (p .before .before .before .before .copy-left .ensures) (rw (p .before .before .right-columns .ensures) at (p .copy-right .ensures))
+    done-move _ _ _ _ _ _ _ (sym (s .bad-join .ensures) ∙ e .before .before .before .before .if1 .left) (sym (e .before .no-room .ensures) ∙ e .if2 .left) (p .before .before .before .before .before .copy-left .ensures) (rw (p .before .before .right-columns .ensures, p .before .before .before .terms-of .ensures) at (p .copy-right .ensures))
 
 pub move-join-spec : {M : Type 1} → statement M
 move-join-spec =
@@ -75,6 +79,7 @@ move-join-spec =
     same-length-2
     returns-2
     copy-left-requires
+    terms-of-requires
     right-columns-requires
     copy-right-requires
     same-length-3

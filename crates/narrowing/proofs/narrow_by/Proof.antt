@@ -6,10 +6,12 @@ use native.Mathlib.Omega.{arith}
 use denote.Ref.{now}
 use lib.IntN.{pos}
 use lib.ListN.{getD}
+use lib.Seq.{length-take-le}
 use Rattle.frames.proofs.Signed.{back}
-use Rattle.ranks.proofs.KeptLaws.{good-kept, none-indexed}
-use Rattle.options.specs.Options.{isRanked}
-use Rattle.options.proofs.OptionLaws.{ranked-given, ranked-rule, plain-rule}
+use Rattle.ranks.proofs.KeptLaws.{Kept, none-indexed}
+use Rattle.options.specs.Options.{withList, isRanked}
+use Rattle.options.specs.declared.Options.{Options}
+use Rattle.options.proofs.OptionLaws.{ranked-list, ranked-rule, plain-rule}
 use Rattle.order.specs.Requires.{cellAt}
 use Rattle.order.proofs.RowLaws.{row-cell}
 use Rattle.narrowing.proofs.ColumnLaws.{column-step}
@@ -19,7 +21,6 @@ use Rattle.narrowing.proofs.narrow_by.Tie as tie
 use Rattle.narrowing.proofs.narrow_by.Reads as reads
 use Rattle.narrowing.proofs.narrow_by.Lts as lts
 use Rattle.narrowing.proofs.narrow_column.Reads as narrow-column-reads
-use Rattle.narrowing.proofs.narrow_ranked.Reads as narrow-ranked-reads
 use Rattle.options.proofs.is_ranked.Reads as is-ranked-reads
 
 array-read-down : tie.Need-array-read-down
@@ -46,53 +47,71 @@ shared-slice-copy-out-mark c = search needs
 is-ranked-requires : tie.Need-is-ranked-requires
 is-ranked-requires c κs = search needs
 
--- The column has the list, or not.
-ranked : (c : tie.Then1) → let a = c .before .before .before .before .before .before .args in isRanked (a .o) (a .j) ≡ true
+-- The options with their list.
+abbrev whole : tie.Start → Options
+whole s = withList (s .args .o) (now (s .args .codes)) (now (s .args .rising))
+
+-- The column has the list, which is kept; or it has none.
+ranked : (c : tie.Then1) → let s = c .before .before .before .before .before .before .before in isRanked (whole s) (s .args .j) ≡ true
 ranked c = sym (c .before .is-ranked .ensures) ∙ c .if1 .taken
 
-plain : (c : tie.Else1) → let a = c .before .before .before .before .before .before .args in isRanked (a .o) (a .j) ≡ false
+list : (c : tie.Then1) → Kept (whole (c .before .before .before .before .before .before .before) .ranks)
+list c = let s = c .before .before .before .before .before .before .before in ranked-list (whole s) (s .args .j) (ranked c) (s .pre .0 .few)
+
+plain : (c : tie.Else1) → let s = c .before .before .before .before .before .before .before in isRanked (whole s) (s .args .j) ≡ false
 plain c = sym (c .before .is-ranked .ensures) ∙ c .if1 .left
 
-narrow-ranked-requires : tie.Need-narrow-ranked-requires
-narrow-ranked-requires c κs =
+slice-aggregate-narrow-column : tie.Need-slice-aggregate-narrow-column
+slice-aggregate-narrow-column c =
     let t = c .before in
-    let s = t .before .before .before .before .before .before in
-    (good-kept (s .args .o .by) (s .args .o .ranks) (ranked-given (s .args .o) (s .args .j) (ranked t)) (s .pre .0 .few .list), s .pre .1)
+    let s = t .before .before .before .before .before .before .before in
+    sym (length-take-le (s .args .o .count) (now (s .args .codes)) (list t .codes))
+
+slice-aggregate-narrow-column-2 : tie.Need-slice-aggregate-narrow-column-2
+slice-aggregate-narrow-column-2 c =
+    let t = c .before .before in
+    let s = t .before .before .before .before .before .before .before in
+    sym (length-take-le (s .args .o .count) (now (s .args .rising)) (list t .places))
+
+narrow-column-requires : tie.Need-narrow-column-requires
+narrow-column-requires c κs =
+    let t = c .before .before in
+    (list t .indexed, t .before .before .before .before .before .before .before .pre .1)
 
 returns : tie.Need-returns
 returns c = λ n wl h l.
-    let t = c .before .before in
-    let s = t .before .before .before .before .before .before in
+    let t = c .before .before .before in
+    let s = t .before .before .before .before .before .before .before in
     let a = s .args in
     let q = s .pre .0 in
     let i = s .pre .2 in
     let ev = back (getD (now (a .lv)) (a .p + a .j) (pos 0)) (t .before .before .before .value .given) in
     let em = back (getD (now (a .lm)) (a .p + a .j) (pos 0)) (t .before .before .mark .given) in
-    column-step (a .o) _ _ _ (a .j) (cellAt (a .p + a .j) (now (a .lv)) (now (a .lm))) _ _ (ranked-rule (a .o) (a .j) (ranked t))
+    column-step (whole s) _ _ _ (a .j) (cellAt (a .p + a .j) (now (a .lv)) (now (a .lm))) _ _ (ranked-rule (whole s) (a .j) (ranked t))
     (row-cell wl (a .p) (a .j) (now (a .lv)) (now (a .lm)) (omega (arith, i, l)) (omega (arith, q .values, i)))
-    (rw (ev, em) at (c .narrow-ranked .ensures n h))
+    (rw (ev, em) at (c .narrow-column .ensures n h))
 
-slice-aggregate-narrow-column : tie.Need-slice-aggregate-narrow-column
-slice-aggregate-narrow-column c = search needs
+slice-aggregate-narrow-column-3 : tie.Need-slice-aggregate-narrow-column-3
+slice-aggregate-narrow-column-3 c = search needs
 
-slice-aggregate-narrow-column-2 : tie.Need-slice-aggregate-narrow-column-2
-slice-aggregate-narrow-column-2 c = search needs
+slice-aggregate-narrow-column-4 : tie.Need-slice-aggregate-narrow-column-4
+slice-aggregate-narrow-column-4 c = search needs
 
-narrow-column-requires : tie.Need-narrow-column-requires
-narrow-column-requires c κs = (none-indexed, c .before .before .before .before .before .before .before .before .pre .1)
+narrow-column-requires-2 : tie.Need-narrow-column-requires-2
+narrow-column-requires-2 c κs = (none-indexed, c .before .before .before .before .before .before .before .before .before .pre .1)
 
 returns-2 : tie.Need-returns-2
 returns-2 c = λ n wl h l.
     let t = c .before .before .before in
-    let s = t .before .before .before .before .before .before in
+    let s = t .before .before .before .before .before .before .before in
     let a = s .args in
     let q = s .pre .0 in
     let i = s .pre .2 in
     let ev = back (getD (now (a .lv)) (a .p + a .j) (pos 0)) (t .before .before .before .value .given) in
     let em = back (getD (now (a .lm)) (a .p + a .j) (pos 0)) (t .before .before .mark .given) in
-    column-step (a .o) _ _ _ (a .j) (cellAt (a .p + a .j) (now (a .lv)) (now (a .lm))) _ _ (plain-rule (a .o) (a .j) (plain t))
+    column-step (whole s) _ _ _ (a .j) (cellAt (a .p + a .j) (now (a .lv)) (now (a .lm))) _ _ (plain-rule (whole s) (a .j) (plain t))
     (row-cell wl (a .p) (a .j) (now (a .lv)) (now (a .lm)) (omega (arith, i, l)) (omega (arith, q .values, i)))
-    (rw (ev, em) at (c .narrow-column .ensures n h))
+    (rw (ev, em) at (c .narrow-column2 .ensures n h))
 
 pub narrow-by-spec : {M : Type 1} → statement M
 narrow-by-spec =
@@ -106,9 +125,11 @@ narrow-by-spec =
     mul-mark
     shared-slice-copy-out-mark
     is-ranked-requires
-    narrow-ranked-requires
-    returns
     slice-aggregate-narrow-column
     slice-aggregate-narrow-column-2
     narrow-column-requires
+    returns
+    slice-aggregate-narrow-column-3
+    slice-aggregate-narrow-column-4
+    narrow-column-requires-2
     returns-2)

@@ -3,15 +3,19 @@ use mathlib.Core.Path.{_≡_, sym, ap, _∙_}
 use native.Mathlib.Omega.{arith}
 use denote.Ref.{now}
 use Rattle.frames.specs.Cells.{rowFrom}
-use Rattle.options.specs.Options.{keyRule}
+use Rattle.options.specs.Options.{withList, keyRule}
 use Rattle.order.specs.Order.{cmpCell, cmpRow, isGreater}
 use Rattle.order.proofs.RowLaws.{row-cell, not-greater-arm}
+use Rattle.order.proofs.TermLaws.{row-terms}
 use Rattle.neighbours.proofs.FallLaws.{keys-decide}
 use Rattle.neighbours.proofs.row_falls.Statement.{statement}
 use Rattle.neighbours.proofs.row_falls.Tie as tie
 
 same-values-requires : tie.Need-same-values-requires
-same-values-requires c κs = search needs
+same-values-requires c κs =
+    let s = c .before in
+    let a = s .args in
+    (row-terms (a .o) (now (a .codes)) (now (a .rising)) (a .p) (now (a .values)) (now (a .marks)) (s .pre .0), row-terms (a .o) (now (a .codes)) (now (a .rising)) (a .q) (now (a .values)) (now (a .marks)) (s .pre .1))
 
 add-key-falls : tie.Need-add-key-falls
 add-key-falls c = search needs
@@ -24,15 +28,15 @@ key-falls-requires c κs = search needs
 
 returns : tie.Need-returns
 returns c = λ w h.
-    let s = c .before .before .before in
+    let s = c .before .before .before .before in
     let a = s .args in
     let vs = now (a .values) in
     let ms = now (a .marks) in
     let r = s .pre .0 in
     let u = s .pre .1 in
-    let e = c .before .before .same-values .ensures (c .before .if1 .taken) w h in
+    let e = c .before .before .same-values .ensures (c .before .if1 .taken) (now (a .codes)) (now (a .rising)) w h in
     c .key-falls .ensures
-    ∙ sym (ap isGreater (keys-decide (a .o) (rowFrom w (a .p) vs ms) (rowFrom w (a .q) vs ms) e) ∙ rw (row-cell w (a .p) (a .o .by) vs ms h (r .values), row-cell w (a .q) (a .o .by) vs ms h (u .values)))
+    ∙ sym (ap isGreater (keys-decide (withList (a .o) (now (a .codes)) (now (a .rising))) (rowFrom w (a .p) vs ms) (rowFrom w (a .q) vs ms) e) ∙ rw (row-cell w (a .p) (a .o .by) vs ms h (r .values), row-cell w (a .q) (a .o .by) vs ms h (u .values)))
 
 cmp-row-requires : tie.Need-cmp-row-requires
 cmp-row-requires c κs = search needs

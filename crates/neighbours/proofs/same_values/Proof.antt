@@ -6,6 +6,7 @@ use native.Mathlib.Decide.{ℕ-discrete}
 use borrow.Author.Tests.{not-false}
 use denote.Ref.{now}
 use Rattle.frames.specs.Cells.{rowFrom}
+use Rattle.options.specs.Options.{withList}
 use Rattle.order.specs.Requires.{cellAt}
 use Rattle.order.proofs.OrderLaws.{equal-group}
 use Rattle.order.proofs.RowLaws.{row-cell}
@@ -35,7 +36,7 @@ same-value-requires c κs =
     (record { values = omega arith; marks = omega arith }, record { values = omega arith; marks = omega arith })
 
 returns : tie.Need-returns Inv-loop μ-loop
-returns c = λ (e : false ≡ true). λ w h. cc
+returns c = λ (e : false ≡ true). λ codes rising w h. cc
 
 add-j : tie.Need-add-j Inv-loop μ-loop
 add-j c = let t = c .before .before .loop-test .taken in omega arith
@@ -56,14 +57,14 @@ loop-again c =
     by i h s r (no e) = r i (omega arith)
 
 returns-2 : tie.Need-returns-2 Inv-loop μ-loop
-returns-2 c = λ e w h.
+returns-2 c = λ e codes rising w h.
     let l = c .before .loop in
     let s = c .before .before in
     let a = s .args in
     let t = c .loop-test .left in
     let r = s .pre .0 in
     let u = s .pre .1 in
-    equal-group (a .o) (rowFrom w (a .p) (now (a .values)) (now (a .marks))) (rowFrom w (a .q) (now (a .values)) (now (a .marks))) (λ i k.
+    equal-group (withList (a .o) codes rising) (rowFrom w (a .p) (now (a .values)) (now (a .marks))) (rowFrom w (a .q) (now (a .values)) (now (a .marks))) (λ i k.
     row-cell w (a .p) i (now (a .values)) (now (a .marks)) (omega (arith, h, k)) (omega (arith, k, r .values))
     ∙ l .inv .1 i (omega (arith, t, k))
     ∙ sym (row-cell w (a .q) i (now (a .values)) (now (a .marks)) (omega (arith, h, k)) (omega (arith, k, u .values))))

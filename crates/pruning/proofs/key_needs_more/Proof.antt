@@ -4,6 +4,7 @@ use native.Mathlib.Omega.{arith}
 use denote.Ref.{now}
 use lib.ListN.{length}
 use Rattle.frames.specs.Cells.{rowsOf}
+use Rattle.options.specs.Options.{withoutList}
 use Rattle.order.specs.Requires.{cellAt}
 use Rattle.frames.proofs.WordLaws.{rows-length}
 use Rattle.order.proofs.RowLaws.{row-room}
@@ -29,7 +30,7 @@ find-key-requires c κs =
 many : (c : tie.After-find-key) → let a = c .before .before .before .args in length (rowsOf (a .w) (a .n) (now (a .rv)) (now (a .rm))) ≡ a .n
 many c = let a = c .before .before .before .args in rows-length (a .w) (a .n) (now (a .rv)) (now (a .rm))
 
-first : (c : tie.After-find-key) → let a = c .before .before .before .args in c .find-key .result ≡ findKey (a .o) (seekOf (c .before .before .strategy-of .result) (a .o .«allow_eq»)) (cellAt (a .k) (now (a .lv)) (now (a .lm))) (rowsOf (a .w) (a .n) (now (a .rv)) (now (a .rm))) (a .s .start) (a .s .end)
+first : (c : tie.After-find-key) → let a = c .before .before .before .args in c .find-key .result ≡ findKey (withoutList (a .o)) (seekOf (c .before .before .strategy-of .result) (a .o .«allow_eq»)) (cellAt (a .k) (now (a .lv)) (now (a .lm))) (rowsOf (a .w) (a .n) (now (a .rv)) (now (a .rm))) (a .s .start) (a .s .end)
 first c = let s = c .before .before .before in rw (← (c .before .seek-of .ensures)) (c .find-key .ensures (s .args .n) (s .pre .2))
 
 returns : tie.Need-returns

@@ -17,25 +17,25 @@ many-left c = let a = c .args in rows-length (a .wl) (a .nl) (now (a .lv)) (now 
 many : (c : tie.Start) → let a = c .args in length (rowsOf (a .w) (a .n) (now (a .rv)) (now (a .rm))) ≡ a .n
 many c = let a = c .args in rows-length (a .w) (a .n) (now (a .rv)) (now (a .rm))
 
-chosen : (c : tie.Else2) → c .before .before .args .i < c .before .before .args .nl
-chosen c = c .before .before .pre .0 .row (omega (arith, c .before .if1 .left))
+chosen : (c : tie.Else2) → c .before .before .before .args .i < c .before .before .before .args .nl
+chosen c = c .before .before .before .pre .0 .row (omega (arith, c .before .if1 .left))
 
 returns : tie.Need-returns
-returns c = prune-no-left _ _ _ _ _ _ (many-left (c .before)) (many (c .before)) (c .if1 .taken)
+returns c = prune-no-left _ _ _ _ _ _ (many-left (c .before .before)) (many (c .before .before)) (c .if1 .taken)
 
 returns-2 : tie.Need-returns-2
-returns-2 c = let s = c .before .before in prune-no-held _ _ _ _ _ _ (many-left s) (many s) (c .before .if1 .left) (c .if2 .taken)
+returns-2 c = let s = c .before .before .before in prune-no-held _ _ _ _ _ _ (many-left s) (many s) (c .before .if1 .left) (c .if2 .taken)
 
 mul-split-at : tie.Need-mul-split-at
-mul-split-at c = let s = c .before .before in let r = row-room (s .args .i) (s .args .nl) (s .args .wl) (chosen c) in omega (arith, s .pre .1 .values)
+mul-split-at c = let s = c .before .before .before in let r = row-room (s .args .i) (s .args .nl) (s .args .wl) (chosen c) in omega (arith, s .pre .1 .values)
 
 split-at-requires : tie.Need-split-at-requires
-split-at-requires c κs = let s = c .before .before in (row-at (s .pre .1) (s .args .i) (chosen c), s .pre .2)
+split-at-requires c κs = let s = c .before .before .before in (row-at (s .pre .1) (s .args .i) (chosen c), s .pre .2)
 
 returns-3 : tie.Need-returns-3
 returns-3 c =
     let e = c .before in
-    let s = e .before .before in
+    let s = e .before .before .before in
     let a = s .args in
     rw (c .split-at .ensures (a .wl) (s .pre .1 .wide))
     (prune-split _ _ _ _ _ _ (many-left s) (many s) (e .before .if1 .left) (e .if2 .left) _ (rows-from (a .wl) (a .nl) (a .i) (now (a .lv)) (now (a .lm)) (chosen e)))

@@ -62,18 +62,22 @@ returns c =
 goes : (c : tie.Else1 Inv-loop μ-loop) → wrote (c .before .before .before .before .turn .result .answer) ≡ true
 goes c = sym (c .before .goes-on .ensures) ∙ not-false (c .before .goes-on .result) (c .if1 .left)
 
+terms-of-requires : tie.Need-terms-of-requires Inv-loop μ-loop
+terms-of-requires c κs = search needs
+
 answer-columns-requires : tie.Need-answer-columns-requires Inv-loop μ-loop
 answer-columns-requires c κs =
-    let u = c .before .before .before .before in
+    let i = c .before in
+    let u = i .before .before .before .before in
     let l = u .before .before in
-    run-carried _ _ _ _ _ (l .before .loop .inv) (more l) _ _ (u .turn .ensures) (goes c)
+    rw (c .terms-of .ensures) (run-carried _ _ _ _ _ (l .before .loop .inv) (more l) _ _ (u .turn .ensures) (goes i))
 
 mul-turn-words : tie.Need-mul-turn-words Inv-loop μ-loop
-mul-turn-words c = mul-turn (c .before .before .before .before .before .before .before)
+mul-turn-words c = mul-turn (c .before .before .before .before .before .before .before .before)
 
 sub-turn-words : tie.Need-sub-turn-words Inv-loop μ-loop
 sub-turn-words c =
-    let u = c .before .before .before .before .before in
+    let u = c .before .before .before .before .before .before in
     let l = u .before .before in
     omega (arith, put-length _ _ _ _ _ (l .before .loop .inv) (more l) _ _ (u .turn .ensures), l .before .loop .inv .within)
 
@@ -86,19 +90,21 @@ part-turn-words-end c = omega arith
 turn-words-requires : tie.Need-turn-words-requires Inv-loop μ-loop
 turn-words-requires c κs =
     let a = c .before .before in
-    let i = a .before in
+    let t = a .before in
+    let i = t .before in
     let u = i .before .before .before .before in
     let l = u .before .before in
     let n = run-count _ _ _ _ _ (l .before .loop .inv) (more l) _ _ (u .turn .ensures) (goes i) in
-    (n .0, n .1, omega (arith, a .answer-columns .ensures, answer-columns-requires i))
+    (n .0, n .1, omega (arith, a .answer-columns .ensures, answer-columns-requires t tt))
 
 add-at : tie.Need-add-at Inv-loop μ-loop
 add-at c =
     let a = c .before .before .before in
-    let i = a .before in
+    let t = a .before in
+    let i = t .before in
     let u = i .before .before .before .before in
     let l = u .before .before in
-    omega (arith, run-within _ _ _ _ _ (l .before .loop .inv) (more l) _ _ (u .turn .ensures) (goes i) _ _ (a .answer-columns .ensures) (c .turn-words .ensures), l .before .loop .inv .same, l .before .before .good .1 .1 .1 .1 .0 .0)
+    omega (arith, run-within _ _ _ _ _ (l .before .loop .inv) (more l) _ _ (u .turn .ensures) (goes i) _ _ (rw (t .terms-of .ensures) at (a .answer-columns .ensures)) (c .turn-words .ensures), l .before .loop .inv .same, l .before .before .good .1 .1 .1 .1 .0 .0)
 
 add-made : tie.Need-add-made Inv-loop μ-loop
 add-made c = omega arith
@@ -109,10 +115,11 @@ loop-less c = omega arith
 loop-again : tie.Need-loop-again Inv-loop μ-loop
 loop-again c =
     let a = c .before .before .before in
-    let i = a .before in
+    let t = a .before in
+    let i = t .before in
     let u = i .before .before .before .before in
     let l = u .before .before in
-    run-more _ _ _ _ _ (l .before .loop .inv) (more l) _ _ (u .turn .ensures) (goes i) _ _ (a .answer-columns .ensures) (c .turn-words .ensures)
+    run-more _ _ _ _ _ (l .before .loop .inv) (more l) _ _ (u .turn .ensures) (goes i) _ _ (rw (t .terms-of .ensures) at (a .answer-columns .ensures)) (c .turn-words .ensures)
 
 same-length-2 : tie.Need-same-length-2 Inv-loop μ-loop
 same-length-2 c = c .before .loop .inv .same
@@ -136,6 +143,7 @@ run-spec =
     stop-of-requires
     same-length
     returns
+    terms-of-requires
     answer-columns-requires
     mul-turn-words
     sub-turn-words

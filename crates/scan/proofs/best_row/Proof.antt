@@ -8,6 +8,7 @@ use borrow.Author.Needs.{needs}
 use denote.Ref.{now}
 use mir.Facts.{toZ-ofZ}
 use Rattle.frames.specs.Cells.{Cell, value}
+use Rattle.options.specs.Options.{withoutList}
 use Rattle.order.specs.Order.{keyOf}
 use Rattle.matching.specs.Match.{Hit, nobody, fits, choose}
 use Rattle.matching.specs.Stretches.{between, hitAt}
@@ -18,9 +19,9 @@ use Rattle.scan.proofs.best_row.Tie as tie
 
 abbrev Inv-loop : tie.InvT-loop
 Inv-loop rv rm from to w v s o best₀ j₀ best j =
-    (from ≤ j) × (j ≤ to) × BestIn o w to rv rm best
-    × ((first : ℕ) (x : List Cell) → keyOf o x ≡ value (toZ w64 v)
-    → choose o x (fits o x) nobody (first + from) (between w from to rv rm) ≡ choose o x (fits o x) (hitAt first w to rv rm best) (first + j) (between w j to rv rm))
+    (from ≤ j) × (j ≤ to) × BestIn (withoutList o) w to rv rm best
+    × ((first : ℕ) (x : List Cell) → keyOf (withoutList o) x ≡ value (toZ w64 v)
+    → choose (withoutList o) x (fits (withoutList o) x) nobody (first + from) (between w from to rv rm) ≡ choose (withoutList o) x (fits (withoutList o) x) (hitAt first w to rv rm best) (first + j) (between w j to rv rm))
 
 abbrev μ-loop : tie.MeasureT-loop
 μ-loop rv rm from to w v s o best₀ j₀ best j = to - j
@@ -55,8 +56,8 @@ loop-again c =
       c .meet-row .ensures .kept,
       λ first x ex.
           l .inv .3 first x ex
-          ∙ scan-more (a .o) x (a .w) (a .to) (now (a .rv)) (now (a .rm)) first (l .j) (hitAt first (a .w) (a .to) (now (a .rv)) (now (a .rm)) (l .best)) t
-          ∙ ap (λ (h : Hit). choose (a .o) x (fits (a .o) x) h (first + (l .j + 1)) (between (a .w) (l .j + 1) (a .to) (now (a .rv)) (now (a .rm)))) (sym (c .meet-row .ensures .met first x ex)),
+          ∙ scan-more (withoutList (a .o)) x (a .w) (a .to) (now (a .rv)) (now (a .rm)) first (l .j) (hitAt first (a .w) (a .to) (now (a .rv)) (now (a .rm)) (l .best)) t
+          ∙ ap (λ (h : Hit). choose (withoutList (a .o)) x (fits (withoutList (a .o)) x) h (first + (l .j + 1)) (between (a .w) (l .j + 1) (a .to) (now (a .rv)) (now (a .rm)))) (sym (c .meet-row .ensures .met first x ex)),
     )
 
 returns : tie.Need-returns Inv-loop μ-loop
@@ -65,7 +66,7 @@ returns c =
     let s = c .before .before in
     let a = s .args in
     let e : l .j ≡ a .to = omega arith in
-    (l .inv .2, λ first x ex. sym (rw e at (l .inv .3 first x (rw (toZ-ofZ (s .fits .v)) ex)) ∙ scan-end (a .o) x (a .w) (a .to) (now (a .rv)) (now (a .rm)) first _))
+    (l .inv .2, λ first x ex. sym (rw e at (l .inv .3 first x (rw (toZ-ofZ (s .fits .v)) ex)) ∙ scan-end (withoutList (a .o)) x (a .w) (a .to) (now (a .rv)) (now (a .rm)) first _))
 
 pub best-row-spec : {M : Type 1} → statement M
 best-row-spec =

@@ -8,6 +8,7 @@ use lib.IntN.{pos, natAbs, _-ℤ_}
 use lib.ListN.{getD}
 use lib.Signed.{leZ}
 use Rattle.frames.specs.Cells.{value, isNull, rowFrom}
+use Rattle.options.specs.Options.{withoutList}
 use Rattle.order.specs.Order.{keyOf}
 use Rattle.frames.proofs.Signed.{back}
 use Rattle.order.proofs.RowLaws.{row-cell, row-room}
@@ -22,7 +23,7 @@ use Rattle.scan.proofs.match_row.Tie as tie
 -- the key of the left row, where it is not null
 key : (c : tie.After-v) →
     let a = c .before .before .before .args in
-    (wl : ℕ) → a .o .by < wl → keyOf (a .o) (rowFrom wl (a .p) (now (a .lv)) (now (a .lm))) ≡ value (getD (now (a .lv)) (a .p + a .o .by) (pos 0))
+    (wl : ℕ) → a .o .by < wl → keyOf (withoutList (a .o)) (rowFrom wl (a .p) (now (a .lv)) (now (a .lm))) ≡ value (getD (now (a .lv)) (a .p + a .o .by) (pos 0))
 key c wl h =
     let s = c .before .before .before in
     let a = s .args in
@@ -35,7 +36,7 @@ found : (c : tie.After-choose-row) →
     (wl : ℕ) → a .o .by < wl →
     let x = rowFrom wl (a .p) (now (a .lv)) (now (a .lm)) in
     hitAt (a .number) (a .w) (a .to) (now (a .rv)) (now (a .rm)) (c .choose-row .result)
-    ≡ choose (a .o) x (fits (a .o) x) nobody (a .number + a .from) (between (a .w) (a .from) (a .to) (now (a .rv)) (now (a .rm)))
+    ≡ choose (withoutList (a .o)) x (fits (withoutList (a .o)) x) nobody (a .number + a .from) (between (a .w) (a .from) (a .to) (now (a .rv)) (now (a .rm)))
 found c wl h =
     let a = c .before .before .before .before .args in
     let x = rowFrom wl (a .p) (now (a .lv)) (now (a .lm)) in
@@ -51,12 +52,12 @@ room c = let a = c .before .before .before .before .before .args in row-room (c 
 right-key : (c : tie.Else2) →
     let a = c .before .before .before .before .before .args in
     let b = c .before .choose-row .result in
-    keyOf (a .o) (rowFrom (a .w) (b * a .w) (now (a .rv)) (now (a .rm))) ≡ value (getD (now (a .rv)) (b * a .w + a .o .by) (pos 0))
+    keyOf (withoutList (a .o)) (rowFrom (a .w) (b * a .w) (now (a .rv)) (now (a .rm))) ≡ value (getD (now (a .rv)) (b * a .w + a .o .by) (pos 0))
 right-key c =
     let s = c .before .before .before .before .before in
     let a = s .args in
     let b = c .before .choose-row .result in
-    let k = key-at (a .o) (a .w) (a .to) (now (a .rv)) (now (a .rm)) (s .pre .right) b (low c) in
+    let k = key-at (withoutList (a .o)) (a .w) (a .to) (now (a .rv)) (now (a .rm)) (s .pre .right) b (low c) in
     k ∙ present (getD (now (a .rv)) (b * a .w + a .o .by) (pos 0)) (getD (now (a .rm)) (b * a .w + a .o .by) (pos 0)) (rw k at (c .before .choose-row .ensures .0 .keyed (low c)))
 
 -- what `too_far` says of the two keys
@@ -84,7 +85,7 @@ returns c = λ wl h.
     let s = c .before .before in
     let a = s .args in
     let k = row-cell wl (a .p) (a .o .by) (now (a .lv)) (now (a .lm)) h (s .pre .left .values) in
-    sym (none-null (a .o) _ _ _ (ap isNull k ∙ sym (c .before .null-at .ensures (now (a .lv))) ∙ c .if1 .taken))
+    sym (none-null (withoutList (a .o)) _ _ _ (ap isNull k ∙ sym (c .before .null-at .ensures (now (a .lv))) ∙ c .if1 .taken))
 
 mul-v : tie.Need-mul-v
 mul-v c = search needs

@@ -4,6 +4,7 @@ use native.Mathlib.Omega.{arith}
 use borrow.Author.Tests.{not-true, not-false}
 use denote.Ref.{now}
 use Rattle.frames.proofs.BoolLaws.{and-true}
+use Rattle.options.specs.Options.{termsOf, withoutList}
 use Rattle.matching.specs.Stretches.{between}
 use Rattle.matching.specs.Moves.{keysSorted}
 use Rattle.scanwalk.specs.Drive.{keyOptions}
@@ -47,7 +48,7 @@ returns-2 c =
 -- both runs are sorted where the walk begins
 both : (c : tie.Else2) →
     let a = c .before .before .before .before .args in
-    (keysSorted (keyOptions (a .strategy)) (between 1 0 (a .n) (now (a .lv)) (now (a .lm))) && keysSorted (keyOptions (a .strategy)) (between 1 0 (a .m) (now (a .rv)) (now (a .rm)))) ≡ true
+    (keysSorted (withoutList (termsOf (keyOptions (a .strategy)))) (between 1 0 (a .n) (now (a .lv)) (now (a .lm))) && keysSorted (withoutList (termsOf (keyOptions (a .strategy)))) (between 1 0 (a .m) (now (a .rv)) (now (a .rm)))) ≡ true
 both c = rw (c .before .before .before .key-options .ensures) at (sym (c .before .both-sorted .ensures) ∙ not-false (c .before .both-sorted .result) (c .if2 .left))
 
 walk-run-requires : tie.Need-walk-run-requires

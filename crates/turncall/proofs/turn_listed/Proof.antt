@@ -4,7 +4,7 @@ use native.Mathlib.Omega.{arith}
 use denote.Ref.{now}
 use Rattle.frames.specs.Frame.{frameRows}
 use Rattle.frames.proofs.FrontLaws.{frame-table}
-use Rattle.options.specs.Options.{columns}
+use Rattle.options.specs.Options.{withList, columns}
 use Rattle.order.specs.Listed.{lacksCode}
 use Rattle.turncall.proofs.QueueLaws.{codes-stop, listed-turns}
 use borrow.Author.Needs.{needs}
@@ -23,11 +23,11 @@ left-columns-requires c κs = search needs
 lacks-code-requires : tie.Need-lacks-code-requires
 lacks-code-requires c κs =
     let e = c .left-columns .ensures in
-    let p = c .before .pre in
+    let p = c .before .before .pre in
     (p .few, omega (arith, e), rw e (frame-table _ _ (p .frame)))
 
 -- What the call says, by the definition's name.
-told : (c : tie.After-lacks-code) → let a = c .before .before .args in c .lacks-code .result ≡ lacksCode (a .j .options) (frameRows (columns (a .j .options)) (now (a .frame)))
+told : (c : tie.After-lacks-code) → let a = c .before .before .before .args in c .lacks-code .result ≡ lacksCode (withList (a .o) (now (a .codes)) (now (a .rising))) (frameRows (columns (withList (a .o) (now (a .codes)) (now (a .rising)))) (now (a .frame)))
 told c = rw (c .before .left-columns .ensures) at (c .lacks-code .ensures)
 
 unturned-requires : tie.Need-unturned-requires
@@ -36,8 +36,8 @@ unturned-requires c κs = search needs
 returns : tie.Need-returns
 returns c =
     let t = c .before in
-    let a = t .before .before .before .args in
-    rw (c .unturned .ensures) (codes-stop (a .j) (now (a .frame)) (now (a .right)) (now (a .out)) (sym (told (t .before)) ∙ t .if1 .taken))
+    let a = t .before .before .before .before .args in
+    rw (c .unturned .ensures) (codes-stop (withList (a .o) (now (a .codes)) (now (a .rising))) (a .j) (now (a .frame)) (now (a .right)) (now (a .out)) (sym (told (t .before)) ∙ t .if1 .taken))
 
 turn-frame-requires : tie.Need-turn-frame-requires
 turn-frame-requires c κs = search needs
@@ -48,8 +48,8 @@ same-length c = search needs
 returns-2 : tie.Need-returns-2
 returns-2 c =
     let t = c .before .before .before in
-    let a = t .before .before .before .args in
-    listed-turns (a .j) (now (a .frame)) (now (a .right)) (now (a .out)) (sym (told (t .before)) ∙ t .if1 .left) _ _ (c .before .turn-frame .ensures)
+    let a = t .before .before .before .before .args in
+    listed-turns (withList (a .o) (now (a .codes)) (now (a .rising))) (a .j) (now (a .frame)) (now (a .right)) (now (a .out)) (sym (told (t .before)) ∙ t .if1 .left) _ _ (c .before .turn-frame .ensures)
 
 pub turn-listed-spec : {M : Type 1} → statement M
 turn-listed-spec =

@@ -4,7 +4,7 @@ use native.Mathlib.Omega.{arith}
 use borrow.Author.Tests.{not-true, not-false}
 use denote.Ref.{now}
 use Rattle.frames.specs.Front.{frontOf}
-use Rattle.options.specs.Options.{columns}
+use Rattle.options.specs.Options.{withList, columns}
 use Rattle.outcomes.specs.declared.Answer.the-variants.{Wrote}
 use Rattle.callrules.specs.Judged.{readyJudged}
 use Rattle.turncall.specs.Queue.{waitingIn, QueueIn}
@@ -31,23 +31,23 @@ unturned-requires : tie.Need-unturned-requires
 unturned-requires c κs = search needs
 
 returns : tie.Need-returns
-returns c = let i = c .before in rw (c .unturned .ensures) (let a = i .before .before .before .args in ready-stops (a .bad) (a .state) (a .j) (now (a .left)) (now (a .right)) (now (a .out)) _ (i .before .before .judge-ready .ensures) (sym (i .before .goes-on .ensures) ∙ not-true (i .before .goes-on .result) (i .if1 .taken)))
+returns c = let i = c .before in rw (c .unturned .ensures) (let a = i .before .before .before .before .args in ready-stops (withList (a .o) (now (a .codes)) (now (a .rising))) (a .bad) (a .state) (a .j) (now (a .left)) (now (a .right)) (now (a .out)) _ (i .before .before .judge-ready .ensures) (sym (i .before .goes-on .ensures) ∙ not-true (i .before .goes-on .result) (i .if1 .taken)))
 
 -- The join is not bad and a frame waits.
-went : (c : tie.Else1) → let a = c .before .before .before .args in readyJudged (a .bad) (a .j .failed) (a .state) (a .j .«queue_words») (a .j .sequence) ≡ Wrote (a .j .sequence)
-went c = let a = c .before .before .before .args in goes (a .bad) (a .state) (a .j) (now (a .left)) (now (a .right)) (now (a .out)) _ (c .before .before .judge-ready .ensures) (sym (c .before .goes-on .ensures) ∙ not-false (c .before .goes-on .result) (c .if1 .left))
+went : (c : tie.Else1) → let a = c .before .before .before .before .args in readyJudged (a .bad) (a .j .failed) (a .state) (a .j .«queue_words») (a .j .sequence) ≡ Wrote (a .j .sequence)
+went c = let a = c .before .before .before .before .args in goes (withList (a .o) (now (a .codes)) (now (a .rising))) (a .bad) (a .state) (a .j) (now (a .left)) (now (a .right)) (now (a .out)) _ (c .before .before .judge-ready .ensures) (sym (c .before .goes-on .ensures) ∙ not-false (c .before .goes-on .result) (c .if1 .left))
 
-sound : (c : tie.Else1) → let a = c .before .before .before .args in QueueIn (a .j) (now (a .left)) (now (a .right))
-sound c = let a = c .before .before .before .args in c .before .before .before .pre (unbroken (a .bad) (a .state) (a .j) (now (a .left)) (now (a .right)) (now (a .out)) (went c))
+sound : (c : tie.Else1) → let a = c .before .before .before .before .args in QueueIn (withList (a .o) (now (a .codes)) (now (a .rising))) (a .j) (now (a .left)) (now (a .right))
+sound c = let a = c .before .before .before .before .args in c .before .before .before .before .pre (unbroken (withList (a .o) (now (a .codes)) (now (a .rising))) (a .bad) (a .state) (a .j) (now (a .left)) (now (a .right)) (now (a .out)) (went c))
 
 left-columns-requires : tie.Need-left-columns-requires
 left-columns-requires c κs = sound c .few .by
 
 add-end : tie.Need-add-end
-add-end c = let i = c .before .before in let x = i .before .before .before in omega (arith, sound i .left-room, x .good .1 .1 .1 .0 .0)
+add-end c = let i = c .before .before in let x = i .before .before .before .before in omega (arith, sound i .left-room, x .good .1 .1 .1 .1 .1 .1 .0 .0)
 
 mul-front-words : tie.Need-mul-front-words
-mul-front-words c = let i = c .before .before in let x = i .before .before .before in omega (arith, sound i .left-room, x .good .1 .1 .1 .0 .1)
+mul-front-words c = let i = c .before .before in let x = i .before .before .before .before in omega (arith, sound i .left-room, x .good .1 .1 .1 .1 .1 .1 .0 .1)
 
 sub-front-words : tie.Need-sub-front-words
 sub-front-words c = search needs
@@ -71,9 +71,9 @@ unturned-requires-2 : tie.Need-unturned-requires-2
 unturned-requires-2 c κs = search needs
 
 -- What was told of the front, by the definitions' names.
-told : (c : tie.After-front-words) → let a = c .before .before .before .before .before .before .before .args in c .front-words .result ≡ frontOf (columns (a .j .options)) (waitingIn (a .j) (now (a .left)))
+told : (c : tie.After-front-words) → let a = c .before .before .before .before .before .before .before .before .args in c .front-words .result ≡ frontOf (columns (withList (a .o) (now (a .codes)) (now (a .rising)))) (waitingIn (a .j) (now (a .left)))
 told c =
-    let a = c .before .before .before .before .before .before .before .args in
+    let a = c .before .before .before .before .before .before .before .before .args in
     let z : a .j .«queue_start» + a .j .«queue_words» - a .j .«queue_start» ≡ a .j .«queue_words» = omega arith in
     rw (c .before .before .before .left-columns .ensures, z) at (c .front-words .ensures)
 
@@ -81,19 +81,19 @@ returns-2 : tie.Need-returns-2
 returns-2 c =
     let q = c .before .before .before in
     let i = q .before .before .before .before in
-    rw (c .unturned2 .ensures) (let a = i .before .before .before .args in front-stops (a .bad) (a .state) (a .j) (now (a .left)) (now (a .right)) (now (a .out)) (went i) (sym (told q) ∙ c .before .enum-told .given .1))
+    rw (c .unturned2 .ensures) (let a = i .before .before .before .before .args in front-stops (withList (a .o) (now (a .codes)) (now (a .rising))) (a .bad) (a .state) (a .j) (now (a .left)) (now (a .right)) (now (a .out)) (went i) (sym (told q) ∙ c .before .enum-told .given .1))
 
-within : (c : tie.After-known-told) → let a = c .before .before .before .before .before .before .before .before .before .before .args in c .before .front .given .0 .0 ≤ a .j .«queue_words»
+within : (c : tie.After-known-told) → let a = c .before .before .before .before .before .before .before .before .before .before .before .args in c .before .front .given .0 .0 ≤ a .j .«queue_words»
 within c =
     let q = c .before .before .before in
     let i = q .before .before .before .before in
-    (let a = i .before .before .before .args in front-within (a .j) (now (a .left)) (now (a .right)) _ (sym (told q) ∙ c .before .front .given .1))
+    (let a = i .before .before .before .before .args in front-within (withList (a .o) (now (a .codes)) (now (a .rising))) (a .j) (now (a .left)) (now (a .right)) _ (sym (told q) ∙ c .before .front .given .1))
 
 add-e : tie.Need-add-e
-add-e c = let i = c .before .before .before .before .before .before .before in let x = i .before .before .before in omega (arith, within c, sound i .left-room, x .good .1 .1 .1 .0 .0)
+add-e c = let i = c .before .before .before .before .before .before .before in let x = i .before .before .before .before in omega (arith, within c, sound i .left-room, x .good .1 .1 .1 .1 .1 .1 .0 .0)
 
 mul-turn-listed : tie.Need-mul-turn-listed
-mul-turn-listed c = let i = c .before .before .before .before .before .before .before in let x = i .before .before .before in omega (arith, sound i .left-room, x .good .1 .1 .1 .0 .1)
+mul-turn-listed c = let i = c .before .before .before .before .before .before .before in let x = i .before .before .before .before in omega (arith, sound i .left-room, x .good .1 .1 .1 .1 .1 .1 .0 .1)
 
 sub-turn-listed : tie.Need-sub-turn-listed
 sub-turn-listed c = search needs
@@ -109,11 +109,11 @@ turn-listed-requires c κs =
     let t = c .before .before in
     let q = t .before .before .before in
     let i = q .before .before .before .before in
-    let x = i .before .before .before in
+    let x = i .before .before .before .before in
     let z : x .args .j .«queue_start» + t .before .front .given .0 .0 - x .args .j .«queue_start» ≡ t .before .front .given .0 .0 = omega arith in
-    let s = q .before .before .struct-known .given .1 .1 .1 .1 .1 .1 .1 .1 .0 in
+    let s = q .before .before .struct-known .given .1 .1 .1 .1 .1 .1 .1 .0 in
     let a = x .args in
-    rw z (frame-in (a .j) (now (a .left)) (now (a .right)) _ (sym (told q) ∙ t .before .front .given .1) (sound i) (omega (arith, s)) (x .good .1 .1 .1 .0 .0) (x .good .1 .1 .1 .1 .0 .0))
+    rw z (frame-in (withList (a .o) (now (a .codes)) (now (a .rising))) (a .j) (now (a .left)) (now (a .right)) _ (sym (told q) ∙ t .before .front .given .1) (sound i) (omega (arith, s)) (x .good .1 .1 .1 .1 .1 .1 .0 .0) (x .good .1 .1 .1 .1 .1 .1 .1 .0 .0))
 
 same-length : tie.Need-same-length
 same-length c = search needs
@@ -123,10 +123,10 @@ returns-3 c =
     let t = c .before .before .before .before in
     let q = t .before .before .before in
     let i = q .before .before .before .before in
-    let x = i .before .before .before in
+    let x = i .before .before .before .before in
     let z : x .args .j .«queue_start» + t .before .front .given .0 .0 - x .args .j .«queue_start» ≡ t .before .front .given .0 .0 = omega arith in
     let a = x .args in
-    front-turns (a .bad) (a .state) (a .j) (now (a .left)) (now (a .right)) (now (a .out)) (went i) _ (sym (told q) ∙ t .before .front .given .1) _ _ (rw z at (c .before .turn-listed .ensures))
+    front-turns (withList (a .o) (now (a .codes)) (now (a .rising))) (a .bad) (a .state) (a .j) (now (a .left)) (now (a .right)) (now (a .out)) (went i) _ (sym (told q) ∙ t .before .front .given .1) _ _ (rw z at (c .before .turn-listed .ensures))
 
 pub turn-queue-spec : {M : Type 1} → statement M
 turn-queue-spec =

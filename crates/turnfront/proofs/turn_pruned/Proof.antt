@@ -4,6 +4,7 @@ use native.Mathlib.Omega.{arith}
 use borrow.Author.Tests.{not-true, not-false}
 use denote.Ref.{now}
 use Rattle.frames.specs.Cells.{rowsOf}
+use Rattle.options.specs.Options.{withList}
 use Rattle.turnrows.specs.Prunes.{lastPrune}
 use Rattle.turnfront.proofs.TurnLaws.{first-in, first-words, kept-in, kept-are, last-is, both-in, write-in, order-stops, order-goes}
 use borrow.Author.Needs.{needs}
@@ -37,7 +38,7 @@ last-prune-requires c κs = let f = c .before .before .before in let p = f .befo
 
 -- The split is that of the prune by the last row, and is among the held rows.
 split : (c : tie.After-last-prune) → let a = c .before .before .before .before .before .before .args in
-    c .last-prune .result ≡ lastPrune (a .j .options) (rowsOf (a .c) (a .n) (now (a .lv)) (now (a .lm))) (rowsOf (a .w) (a .j .held) (now (a .rv)) (now (a .rm)))
+    c .last-prune .result ≡ lastPrune (withList (a .o) (now (a .codes)) (now (a .rising))) (rowsOf (a .c) (a .n) (now (a .lv)) (now (a .lm))) (rowsOf (a .w) (a .j .held) (now (a .rv)) (now (a .rm)))
 split c =
     let f = c .before .before .before .before in
     last-is (f .before .before .pre .0) _ (f .first-prune .ensures) _ _ (c .before .before .before .from-row .ensures) (c .before .before .from-row2 .ensures) _ (c .last-prune .ensures)
@@ -66,7 +67,7 @@ returns c =
     let l = q .before in
     let f = l .before .before .before .before in
     let x = f .before .before in
-    rw (c .unturned .ensures, c .before .fail .ensures) (order-stops _ _ _ _ (now (x .args .out)) (x .pre .1) _ (split l) _ (q .judge-order .ensures) (sym (i .before .goes-on .ensures) ∙ not-true (i .before .goes-on .result) (i .if1 .taken)))
+    rw (c .unturned .ensures, c .before .fail .ensures) (order-stops _ _ _ _ _ (now (x .args .out)) (x .pre .1) _ (split l) _ (q .judge-order .ensures) (sym (i .before .goes-on .ensures) ∙ not-true (i .before .goes-on .result) (i .if1 .taken)))
 
 write-turn-requires : tie.Need-write-turn-requires
 write-turn-requires c κs =
@@ -85,7 +86,7 @@ returns-2 c =
     let l = q .before in
     let f = l .before .before .before .before in
     let x = f .before .before in
-    order-goes _ _ _ _ (now (x .args .out)) (x .pre .1) _ (split l) _ (q .judge-order .ensures) (sym (i .before .goes-on .ensures) ∙ not-false (i .before .goes-on .result) (i .if1 .left))
+    order-goes _ _ _ _ _ (now (x .args .out)) (x .pre .1) _ (split l) _ (q .judge-order .ensures) (sym (i .before .goes-on .ensures) ∙ not-false (i .before .goes-on .result) (i .if1 .left))
     _ _ _ _ (kept-are (x .pre .0) _ (f .first-prune .ensures) _ _ (l .before .before .before .from-row .ensures) (l .before .before .from-row2 .ensures)) (f .first-prune .ensures) (c .before .write-turn .ensures)
 
 pub turn-pruned-spec : {M : Type 1} → statement M

@@ -21,10 +21,10 @@ unturned-requires : tie.Need-unturned-requires
 unturned-requires c κs = search needs
 
 returns : tie.Need-returns
-returns c = let i = c .before in rw (c .unturned .ensures) (room-stops _ _ _ _ _ _ (i .before .before .judge-room .ensures) (sym (i .before .goes-on .ensures) ∙ not-true (i .before .goes-on .result) (i .if1 .taken)))
+returns c = let i = c .before in rw (c .unturned .ensures) (room-stops _ _ _ _ _ _ _ (i .before .before .judge-room .ensures) (sym (i .before .goes-on .ensures) ∙ not-true (i .before .goes-on .result) (i .if1 .taken)))
 
 turn-pruned-requires : tie.Need-turn-pruned-requires
-turn-pruned-requires c κs = let i = c .before in let x = i .before .before .before in (x .pre, room-goes _ _ _ _ _ (i .before .before .judge-room .ensures) (sym (i .before .goes-on .ensures) ∙ not-false (i .before .goes-on .result) (i .if1 .left)))
+turn-pruned-requires c κs = let i = c .before in let x = i .before .before .before .before in (x .pre, room-goes _ _ _ _ _ _ (i .before .before .judge-room .ensures) (sym (i .before .goes-on .ensures) ∙ not-false (i .before .goes-on .result) (i .if1 .left)))
 
 same-length : tie.Need-same-length
 same-length c = search needs

@@ -24,8 +24,8 @@ answer-columns-requires : tie.Need-answer-columns-requires
 answer-columns-requires c κs = search needs
 
 -- the answer's cells are few
-few : (c : tie.After-answer-columns) → c .before .before .before .args .n * c .answer-columns .result ≤ 9 * frameLimit
-few c = rw (c .answer-columns .ensures) (cells-few (c .before .before .before .pre))
+few : (c : tie.After-answer-columns) → c .before .before .before .before .args .n * c .answer-columns .result ≤ 9 * frameLimit
+few c = rw (c .answer-columns .ensures) (cells-few (c .before .before .before .before .pre))
 
 mul-if2 : tie.Need-mul-if2
 mul-if2 c = omega (arith, few c)

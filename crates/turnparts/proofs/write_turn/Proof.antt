@@ -1,3 +1,8 @@
+use mathlib.Core.Path.{_∙_}
+use denote.Ref.{now}
+use Rattle.frames.specs.Cells.{rowsOf}
+use Rattle.order.proofs.TermLaws.{rows-terms}
+use Rattle.turnrows.proofs.TermLaws.{remembered-terms, remembered-left-terms}
 use Rattle.turnparts.proofs.PartLaws.{kept-last, left-as}
 use borrow.Author.Needs.{needs}
 use Rattle.turnparts.proofs.write_turn.Statement.{statement}
@@ -19,10 +24,16 @@ match-frame-requires : tie.Need-match-frame-requires
 match-frame-requires c κs = search needs
 
 remembered-left-requires : tie.Need-remembered-left-requires
-remembered-left-requires c κs = search needs
+remembered-left-requires c κs =
+    let s = c .before .before .before .before .before .before in
+    let a = s .args in
+    rows-terms (a .o) (now (a .codes)) (now (a .rising)) (a .c) (a .n) (now (a .lv)) (now (a .lm)) (s .pre .left)
 
 remembered-requires : tie.Need-remembered-requires
-remembered-requires c κs = kept-last (c .before .before .before .before .before .before .before .pre)
+remembered-requires c κs =
+    let s = c .before .before .before .before .before .before .before in
+    let a = s .args in
+    rows-terms (a .o) (now (a .codes)) (now (a .rising)) (a .w) (a .last) (now (a .kv)) (now (a .km)) (kept-last (s .pre))
 
 add-leave : tie.Need-add-leave
 add-leave c = search needs
@@ -43,7 +54,12 @@ same-length : tie.Need-same-length
 same-length c = search needs
 
 returns : tie.Need-returns
-returns c = let s = c .before .before .before .before .before .before .before .before .before in record { part = left-as (s .pre) _ _ _ (c .before .before .remembered-left .ensures) (c .before .remembered .ensures) (c .leave .ensures); words = c .before .before .before .before .match-frame .ensures }
+returns c =
+    let s = c .before .before .before .before .before .before .before .before .before in
+    let a = s .args in
+    let l = c .before .before .remembered-left .ensures ∙ remembered-left-terms (a .o) (now (a .codes)) (now (a .rising)) (a .j .«last_left») (rowsOf (a .c) (a .n) (now (a .lv)) (now (a .lm))) in
+    let r = c .before .remembered .ensures ∙ remembered-terms (a .o) (now (a .codes)) (now (a .rising)) (a .j .«last_right») (rowsOf (a .w) (a .last) (now (a .kv)) (now (a .km))) in
+    record { part = left-as (s .pre) _ _ _ l r (c .leave .ensures); words = c .before .before .before .before .match-frame .ensures }
 
 pub write-turn-spec : {M : Type 1} → statement M
 write-turn-spec =

@@ -2,8 +2,9 @@ use mathlib.Core.Path.{_≡_, sym, _∙_}
 use borrow.Author.Tests.{not-true, not-false}
 use denote.Ref.{now}
 use Rattle.frames.specs.Cells.{rowsOf}
-use Rattle.options.specs.Options.{columns}
+use Rattle.options.specs.Options.{withList, columns}
 use Rattle.order.specs.Keyed.{firstLeft, rowAt, recall, outOfOrder}
+use Rattle.order.proofs.TermLaws.{keys-terms, first-left-terms}
 use Rattle.splitcheck.specs.Requires.{FoundAmong}
 use Rattle.splitcheck.proofs.BeforeLaws.{found-in}
 use Rattle.turnrows.specs.Prunes.{badLeft}
@@ -20,26 +21,33 @@ unfolding badLeft
 returns c = simp (← c .before .checks .ensures, not-true (c .before .checks .result) (c .if1 .taken))
 
 first-left-requires : tie.Need-first-left-requires
-first-left-requires c κs = search needs
+first-left-requires c κs =
+    let s = c .before .before .before in
+    let a = s .args in
+    let p = s .pre in
+    keys-terms (a .o) (now (a .codes)) (now (a .rising)) (a .c) (a .n) (now (a .lm)) (record { few = p .few; wide = p .wide; marks = p .marks })
 
 -- the row that is compared is one of the frame's
-first : (c : tie.After-first-left) → let a = c .before .before .before .args in c .first-left .result ≡ firstLeft (a .o) (rowsOf (a .c) (a .n) (now (a .lv)) (now (a .lm)))
-first c = let s = c .before .before .before in c .first-left .ensures (now (s .args .lv)) (s .pre .values)
+first : (c : tie.After-first-left) → let a = c .before .before .before .before .args in c .first-left .result ≡ firstLeft (withList (a .o) (now (a .codes)) (now (a .rising))) (rowsOf (a .c) (a .n) (now (a .lv)) (now (a .lm)))
+first c =
+    let s = c .before .before .before .before in
+    let a = s .args in
+    c .first-left .ensures (now (a .lv)) (s .pre .values) ∙ first-left-terms (a .o) (now (a .codes)) (now (a .rising)) (rowsOf (a .c) (a .n) (now (a .lv)) (now (a .lm)))
 
-among : (c : tie.After-first-left) → FoundAmong (c .first-left .result) (c .before .before .before .args .n)
-among c = let a = c .before .before .before .args in first-left-among (a .o) (a .c) (a .n) (now (a .lv)) (now (a .lm)) (c .first-left .result) (first c)
+among : (c : tie.After-first-left) → FoundAmong (c .first-left .result) (c .before .before .before .before .args .n)
+among c = let a = c .before .before .before .before .args in first-left-among (withList (a .o) (now (a .codes)) (now (a .rising))) (a .c) (a .n) (now (a .lv)) (now (a .lm)) (c .first-left .result) (first c)
 
 out-of-order-requires : tie.Need-out-of-order-requires
 out-of-order-requires c κs =
-    let s = c .before .before .before in
+    let s = c .before .before .before .before in
     let a = s .args in
-    found-in (a .o) (a .c) (a .n) (c .first-left .result) (now (a .lv)) (now (a .lm)) (s .pre) (among c)
+    found-in (withList (a .o) (now (a .codes)) (now (a .rising))) (a .c) (a .n) (c .first-left .result) (now (a .lv)) (now (a .lm)) (s .pre) (among c)
 
 -- whether it comes before the remembered row
-fault : (c : tie.After-out-of-order) → let a = c .before .before .before .before .args in
+fault : (c : tie.After-out-of-order) → let a = c .before .before .before .before .before .args in
     let rows = rowsOf (a .c) (a .n) (now (a .lv)) (now (a .lm)) in
-    c .out-of-order .result ≡ outOfOrder (a .o) (recall (columns (a .o)) (a .m)) (rowAt rows (firstLeft (a .o) rows))
-fault c = let k = c .before in rw (← (first k)) (c .out-of-order .ensures (k .before .before .before .args .n) (among k))
+    c .out-of-order .result ≡ outOfOrder (withList (a .o) (now (a .codes)) (now (a .rising))) (recall (columns (withList (a .o) (now (a .codes)) (now (a .rising)))) (a .m)) (rowAt rows (firstLeft (withList (a .o) (now (a .codes)) (now (a .rising))) rows))
+fault c = let k = c .before in rw (← (first k)) (c .out-of-order .ensures (k .before .before .before .before .args .n) (among k))
 
 returns-2 : tie.Need-returns-2
 unfolding badLeft

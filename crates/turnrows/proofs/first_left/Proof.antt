@@ -2,6 +2,7 @@ use mathlib.Core.Path.{sym, _∙_}
 use native.Mathlib.Omega.{arith}
 use borrow.Author.Tests.{not-true, not-false}
 use denote.Ref.{now}
+use Rattle.options.specs.Options.{withoutList}
 use Rattle.frames.specs.Cells.{rowsOf}
 use Rattle.order.proofs.KeyedLaws.{first-loose}
 use Rattle.turnrows.proofs.LeftLaws.{first-none, first-some}
@@ -19,19 +20,19 @@ returns : tie.Need-returns
 returns c = λ vs h.
     let a = c .before .before .before .args in
     let e = sym (c .before .before .is-strict .ensures) ∙ not-true (c .before .before .is-strict .result) (c .before .if1 .taken) in
-    c .first-keyed .ensures vs h ∙ sym (first-loose (a .o) (rowsOf (a .c) (a .n) vs (now (a .marks))) e)
+    c .first-keyed .ensures vs h ∙ sym (first-loose (withoutList (a .o)) (rowsOf (a .c) (a .n) vs (now (a .marks))) e)
 
 returns-2 : tie.Need-returns-2
 returns-2 c = λ vs h.
     let a = c .before .before .before .args in
     let e = sym (c .before .before .is-strict .ensures) ∙ not-false (c .before .before .is-strict .result) (c .before .if1 .left) in
-    sym (first-none (a .o) (a .c) vs (now (a .marks)) e (a .n) (c .if2 .taken))
+    sym (first-none (withoutList (a .o)) (a .c) vs (now (a .marks)) e (a .n) (c .if2 .taken))
 
 returns-3 : tie.Need-returns-3
 returns-3 c = λ vs h.
     let a = c .before .before .before .args in
     let e = sym (c .before .before .is-strict .ensures) ∙ not-false (c .before .before .is-strict .result) (c .before .if1 .left) in
-    sym (first-some (a .o) (a .c) vs (now (a .marks)) e (a .n) (omega (arith, c .if2 .left)))
+    sym (first-some (withoutList (a .o)) (a .c) vs (now (a .marks)) e (a .n) (omega (arith, c .if2 .left)))
 
 pub first-left-spec : {M : Type 1} → statement M
 first-left-spec =

@@ -2,6 +2,7 @@ use mathlib.Core.Path.{sym, _∙_}
 use native.Mathlib.Omega.{arith}
 use borrow.Author.Tests.{not-true, not-false}
 use denote.Ref.{now}
+use Rattle.options.specs.Options.{withoutList}
 use Rattle.frames.specs.Cells.{rowsOf}
 use Rattle.order.proofs.KeyedLaws.{last-loose}
 use Rattle.turnrows.proofs.LeftLaws.{last-none, last-some}
@@ -19,13 +20,13 @@ returns : tie.Need-returns
 returns c = λ vs h.
     let a = c .before .before .before .args in
     let e = sym (c .before .before .is-strict .ensures) ∙ not-true (c .before .before .is-strict .result) (c .before .if1 .taken) in
-    c .last-keyed .ensures vs h ∙ sym (last-loose (a .o) (rowsOf (a .c) (a .n) vs (now (a .marks))) e)
+    c .last-keyed .ensures vs h ∙ sym (last-loose (withoutList (a .o)) (rowsOf (a .c) (a .n) vs (now (a .marks))) e)
 
 returns-2 : tie.Need-returns-2
 returns-2 c = λ vs h.
     let a = c .before .before .before .args in
     let e = sym (c .before .before .is-strict .ensures) ∙ not-false (c .before .before .is-strict .result) (c .before .if1 .left) in
-    sym (last-none (a .o) (a .c) vs (now (a .marks)) e (a .n) (c .if2 .taken))
+    sym (last-none (withoutList (a .o)) (a .c) vs (now (a .marks)) e (a .n) (c .if2 .taken))
 
 sub-t8 : tie.Need-sub-t8
 sub-t8 c = search needs
@@ -34,7 +35,7 @@ returns-3 : tie.Need-returns-3
 returns-3 c = λ vs h.
     let a = c .before .before .before .args in
     let e = sym (c .before .before .is-strict .ensures) ∙ not-false (c .before .before .is-strict .result) (c .before .if1 .left) in
-    sym (last-some (a .o) (a .c) vs (now (a .marks)) e (a .n) (omega (arith, c .if2 .left)))
+    sym (last-some (withoutList (a .o)) (a .c) vs (now (a .marks)) e (a .n) (omega (arith, c .if2 .left)))
 
 pub last-left-spec : {M : Type 1} → statement M
 last-left-spec =

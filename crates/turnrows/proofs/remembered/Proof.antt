@@ -1,6 +1,7 @@
 use mathlib.Core.Path.{_≡_}
 use borrow.Author.Tests.{not-true, not-false}
 use denote.Ref.{now}
+use Rattle.options.specs.Options.{withoutList}
 use Rattle.frames.specs.Cells.{rowsOf}
 use Rattle.order.specs.Keyed.{lastKeyed, rememberAt, rememberLast}
 use Rattle.splitcheck.specs.Requires.{FoundAmong}
@@ -21,22 +22,22 @@ last-keyed-requires : tie.Need-last-keyed-requires
 last-keyed-requires c κs = search needs
 
 -- the row that is remembered is one of them
-last : (c : tie.After-last-keyed) → let a = c .before .before .before .args in c .last-keyed .result ≡ lastKeyed (a .o) (rowsOf (a .w) (a .n) (now (a .values)) (now (a .marks)))
+last : (c : tie.After-last-keyed) → let a = c .before .before .before .args in c .last-keyed .result ≡ lastKeyed (withoutList (a .o)) (rowsOf (a .w) (a .n) (now (a .values)) (now (a .marks)))
 last c = let s = c .before .before .before in c .last-keyed .ensures (now (s .args .values)) (s .pre .values)
 
 among : (c : tie.After-last-keyed) → FoundAmong (c .last-keyed .result) (c .before .before .before .args .n)
-among c = let a = c .before .before .before .args in last-among (a .o) (a .w) (a .n) (c .last-keyed .result) (now (a .values)) (now (a .marks)) (last c)
+among c = let a = c .before .before .before .args in last-among (withoutList (a .o)) (a .w) (a .n) (c .last-keyed .result) (now (a .values)) (now (a .marks)) (last c)
 
 remember-found-requires : tie.Need-remember-found-requires
 remember-found-requires c κs =
     let s = c .before .before .before in
     let a = s .args in
-    found-in (a .o) (a .w) (a .n) (c .last-keyed .result) (now (a .values)) (now (a .marks)) (s .pre) (among c)
+    found-in (withoutList (a .o)) (a .w) (a .n) (c .last-keyed .result) (now (a .values)) (now (a .marks)) (s .pre) (among c)
 
 -- what is remembered by it
 by-it : (c : tie.After-remember-found) → let a = c .before .before .before .before .args in
     let rows = rowsOf (a .w) (a .n) (now (a .values)) (now (a .marks)) in
-    c .remember-found .result ≡ rememberAt (a .o) (a .m) rows (lastKeyed (a .o) rows)
+    c .remember-found .result ≡ rememberAt (withoutList (a .o)) (a .m) rows (lastKeyed (withoutList (a .o)) rows)
 by-it c = let k = c .before in rw (← (last k)) (c .remember-found .ensures (k .before .before .before .args .n) (among k))
 
 returns-2 : tie.Need-returns-2

@@ -1,6 +1,7 @@
 use mathlib.Core.Path.{_≡_}
 use borrow.Author.Tests.{not-true, not-false}
 use denote.Ref.{now}
+use Rattle.options.specs.Options.{withoutList}
 use Rattle.frames.specs.Cells.{rowsOf}
 use Rattle.order.specs.Keyed.{lastLeft, rememberAt}
 use Rattle.splitcheck.specs.Requires.{FoundAmong}
@@ -22,22 +23,22 @@ last-left-requires : tie.Need-last-left-requires
 last-left-requires c κs = search needs
 
 -- the row that is remembered is one of them
-last : (c : tie.After-last-left) → let a = c .before .before .before .args in c .last-left .result ≡ lastLeft (a .o) (rowsOf (a .c) (a .n) (now (a .lv)) (now (a .lm)))
+last : (c : tie.After-last-left) → let a = c .before .before .before .args in c .last-left .result ≡ lastLeft (withoutList (a .o)) (rowsOf (a .c) (a .n) (now (a .lv)) (now (a .lm)))
 last c = let s = c .before .before .before in c .last-left .ensures (now (s .args .lv)) (s .pre .values)
 
 among : (c : tie.After-last-left) → FoundAmong (c .last-left .result) (c .before .before .before .args .n)
-among c = let a = c .before .before .before .args in last-left-among (a .o) (a .c) (a .n) (now (a .lv)) (now (a .lm)) (c .last-left .result) (last c)
+among c = let a = c .before .before .before .args in last-left-among (withoutList (a .o)) (a .c) (a .n) (now (a .lv)) (now (a .lm)) (c .last-left .result) (last c)
 
 remember-found-requires : tie.Need-remember-found-requires
 remember-found-requires c κs =
     let s = c .before .before .before in
     let a = s .args in
-    found-in (a .o) (a .c) (a .n) (c .last-left .result) (now (a .lv)) (now (a .lm)) (s .pre) (among c)
+    found-in (withoutList (a .o)) (a .c) (a .n) (c .last-left .result) (now (a .lv)) (now (a .lm)) (s .pre) (among c)
 
 -- what is remembered by it
 by-it : (c : tie.After-remember-found) → let a = c .before .before .before .before .args in
     let rows = rowsOf (a .c) (a .n) (now (a .lv)) (now (a .lm)) in
-    c .remember-found .result ≡ rememberAt (a .o) (a .m) rows (lastLeft (a .o) rows)
+    c .remember-found .result ≡ rememberAt (withoutList (a .o)) (a .m) rows (lastLeft (withoutList (a .o)) rows)
 by-it c = let k = c .before in rw (← (last k)) (c .remember-found .ensures (k .before .before .before .args .n) (among k))
 
 returns-2 : tie.Need-returns-2

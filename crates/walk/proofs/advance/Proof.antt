@@ -7,6 +7,7 @@ use mir.Syntax.{w64}
 use mir.Val.{toZ, ofZ}
 use mir.Facts.{toZ-ofZ}
 use Rattle.frames.specs.Cells.{value}
+use Rattle.options.specs.Options.{withoutList}
 use Rattle.order.proofs.RowLaws.{row-room}
 use Rattle.matching.specs.Moves.{movesOn, keyAt, CursorAt}
 use Rattle.matching.proofs.RestLaws.{cursor-on}
@@ -14,7 +15,7 @@ use Rattle.walk.proofs.advance.Statement.{statement}
 use Rattle.walk.proofs.advance.Tie as tie
 
 abbrev Inv-loop : tie.InvT-loop
-Inv-loop rv rm c end w v s o by i₀ i = (c ≤ i) × (i < end) × ((at : ℕ) → CursorAt o s w at end rv rm (toZ w64 v) c → CursorAt o s w at end rv rm (toZ w64 v) i)
+Inv-loop rv rm c end w v s o by i₀ i = (c ≤ i) × (i < end) × ((at : ℕ) → CursorAt (withoutList o) s w at end rv rm (toZ w64 v) c → CursorAt (withoutList o) s w at end rv rm (toZ w64 v) i)
 
 abbrev μ-loop : tie.MeasureT-loop
 μ-loop rv rm c end w v s o by i₀ i = end - i
@@ -31,7 +32,7 @@ room c =
 told : (c : tie.After-moves Inv-loop μ-loop) →
     let a = c .before .before .before .args in
     let i = c .before .before .loop .i in
-    c .moves .result ≡ movesOn (a .s) (a .o .«allow_eq») (value (toZ w64 (ofZ w64 (a .v)))) (keyAt (a .o) (a .w) (now (a .rv)) (now (a .rm)) i) (keyAt (a .o) (a .w) (now (a .rv)) (now (a .rm)) (i + 1))
+    c .moves .result ≡ movesOn (a .s) (a .o .«allow_eq») (value (toZ w64 (ofZ w64 (a .v)))) (keyAt (withoutList (a .o)) (a .w) (now (a .rv)) (now (a .rm)) i) (keyAt (withoutList (a .o)) (a .w) (now (a .rv)) (now (a .rm)) (i + 1))
 told c =
     let a = c .before .before .before .args in
     let i = c .before .before .loop .i in
@@ -88,7 +89,7 @@ loop-again c =
     let t = c .before .before .loop-test .taken in
     let e = told (c .before) in
     let h : l .i + 1 < a .end = omega (arith, t) in
-    (omega (arith, l .inv .0), h, λ at k. cursor-on (a .o) (a .s) (a .w) at (a .end) (now (a .rv)) (now (a .rm)) _ (l .i) (l .inv .2 at k) h (sym (rw (not-false (c .before .moves .result) (c .if1 .left)) at e)))
+    (omega (arith, l .inv .0), h, λ at k. cursor-on (withoutList (a .o)) (a .s) (a .w) at (a .end) (now (a .rv)) (now (a .rm)) _ (l .i) (l .inv .2 at k) h (sym (rw (not-false (c .before .moves .result) (c .if1 .left)) at e)))
 
 returns-2 : tie.Need-returns-2 Inv-loop μ-loop
 returns-2 c =

@@ -12,6 +12,7 @@ use lib.ListN.{getD}
 use lib.Signed.{leZ}
 use mir.Facts.{toZ-ofZ}
 use Rattle.frames.specs.Cells.{Cell, value, isNull, rowFrom}
+use Rattle.options.specs.Options.{withoutList}
 use Rattle.order.specs.Order.{keyOf}
 use Rattle.order.specs.Requires.{cellAt}
 use Rattle.frames.proofs.Signed.{back}
@@ -32,26 +33,26 @@ room c = row-room (c .args .c) (c .args .end) (c .args .w) (c .pre .rests .there
 -- row c fits, so it has a key
 right-key : (c : tie.Else1) →
     let a = c .before .before .args in
-    keyOf (a .o) (rowFrom (a .w) (a .c * a .w) (now (a .rv)) (now (a .rm))) ≡ value (getD (now (a .rv)) (a .c * a .w + a .o .by) (pos 0))
+    keyOf (withoutList (a .o)) (rowFrom (a .w) (a .c * a .w) (now (a .rv)) (now (a .rm))) ≡ value (getD (now (a .rv)) (a .c * a .w + a .o .by) (pos 0))
 right-key c =
     let s = c .before .before in
     let a = s .args in
     let e = rw (toZ-ofZ (s .fits .v)) at (c .before .fits-at .ensures) in
     let t = sym e ∙ not-false (c .before .fits-at .result) (c .if1 .left) in
     let n = not-true (isNull (cellAt (a .c * a .w + a .o .by) (now (a .rv)) (now (a .rm)))) (and-true (not (isNull (cellAt (a .c * a .w + a .o .by) (now (a .rv)) (now (a .rm))))) _ t .0) in
-    key-at (a .o) (a .w) (a .end) (now (a .rv)) (now (a .rm)) (s .pre .rests .rows) (a .c) (s .pre .rests .there)
+    key-at (withoutList (a .o)) (a .w) (a .end) (now (a .rv)) (now (a .rm)) (s .pre .rests .rows) (a .c) (s .pre .rests .there)
     ∙ present (getD (now (a .rv)) (a .c * a .w + a .o .by) (pos 0)) (getD (now (a .rm)) (a .c * a .w + a .o .by) (pos 0)) n
 
 -- it is what the scan finds
 found : (c : tie.Else1) →
     let a = c .before .before .args in
-    (x : List Cell) → keyOf (a .o) x ≡ value (a .v)
-    → hitAt (a .number) (a .w) (a .end) (now (a .rv)) (now (a .rm)) (a .c) ≡ choose (a .o) x (fits (a .o) x) nobody (a .number + a .at) (between (a .w) (a .at) (a .end) (now (a .rv)) (now (a .rm)))
+    (x : List Cell) → keyOf (withoutList (a .o)) x ≡ value (a .v)
+    → hitAt (a .number) (a .w) (a .end) (now (a .rv)) (now (a .rm)) (a .c) ≡ choose (withoutList (a .o)) x (fits (withoutList (a .o)) x) nobody (a .number + a .at) (between (a .w) (a .at) (a .end) (now (a .rv)) (now (a .rm)))
 found c x ex =
     let s = c .before .before in
     let a = s .args in
     let e = rw (toZ-ofZ (s .fits .v)) at (c .before .fits-at .ensures) in
-    rest-hit (a .o) (a .s) (a .w) (a .at) (a .end) (now (a .rv)) (now (a .rm)) (a .v) (a .c) (s .pre .rests) (s .pre .stopped) (a .number) x ex (sym e ∙ not-false (c .before .fits-at .result) (c .if1 .left))
+    rest-hit (withoutList (a .o)) (a .s) (a .w) (a .at) (a .end) (now (a .rv)) (now (a .rm)) (a .v) (a .c) (s .pre .rests) (s .pre .stopped) (a .number) x ex (sym e ∙ not-false (c .before .fits-at .result) (c .if1 .left))
 
 -- what `too_far` says of the two keys
 far : (c : tie.After-too-far) →
@@ -74,7 +75,7 @@ returns c = λ x ex.
     let s = c .before .before in
     let a = s .args in
     let e = rw (toZ-ofZ (s .fits .v)) at (c .before .fits-at .ensures) in
-    sym (none-best _ _ _ _ _ _ _ _ _ _ (rest-none (a .o) (a .s) (a .w) (a .at) (a .end) (now (a .rv)) (now (a .rm)) (a .v) (a .c) (s .pre .rests) (s .pre .stopped) (a .number) x ex (sym e ∙ not-true (c .before .fits-at .result) (c .if1 .taken))) refl)
+    sym (none-best _ _ _ _ _ _ _ _ _ _ (rest-none (withoutList (a .o)) (a .s) (a .w) (a .at) (a .end) (now (a .rv)) (now (a .rm)) (a .v) (a .c) (s .pre .rests) (s .pre .stopped) (a .number) x ex (sym e ∙ not-true (c .before .fits-at .result) (c .if1 .taken))) refl)
 
 mul-q : tie.Need-mul-q
 mul-q c = let s = c .before .before in omega (arith, room s, s .pre .rests .rows)

@@ -5,6 +5,7 @@ use native.Mathlib.Omega.{arith}
 use denote.Ref.{now}
 use mir.Facts.{toZ-ofZ}
 use Rattle.frames.specs.Cells.{value}
+use Rattle.options.specs.Options.{withoutList}
 use Rattle.order.proofs.RowLaws.{row-room}
 use Rattle.matching.specs.Moves.{keyAt}
 use Rattle.matching.proofs.RestLaws.{known-fits}
@@ -32,7 +33,7 @@ returns c =
     let s = c .before .before .before in
     let a = s .args in
     ap not (c .null-at .ensures (now (a .rv)))
-    ∙ known-fits (a .s) (a .o .«allow_eq») (keyAt (a .o) (a .w) (now (a .rv)) (now (a .rm))) (a .at) (a .end) (value (a .v)) (a .c) (s .pre .rests .behind) (s .pre .stopped) (sym (c .before .before .known .ensures) ∙ c .before .if1 .taken)
+    ∙ known-fits (a .s) (a .o .«allow_eq») (keyAt (withoutList (a .o)) (a .w) (now (a .rv)) (now (a .rm))) (a .at) (a .end) (value (a .v)) (a .c) (s .pre .rests .behind) (s .pre .stopped) (sym (c .before .before .known .ensures) ∙ c .before .if1 .taken)
 
 fits-key-requires : tie.Need-fits-key-requires
 fits-key-requires c κs = let s = c .before .before in let r = room s in let p = s .pre .rests .rows in record { values = omega arith; marks = omega arith }

@@ -2,6 +2,7 @@ use denote.Ref.{now}
 use mir.Syntax.{w64}
 use mir.Val.{toZ, ofZ}
 use mir.Facts.{toZ-ofZ}
+use Rattle.options.specs.Options.{withoutList}
 use Rattle.matching.specs.Moves.{Came}
 use Rattle.walk.proofs.step.Statement.{statement}
 use Rattle.walk.proofs.step.Tie as tie
@@ -9,7 +10,7 @@ use Rattle.walk.proofs.step.Tie as tie
 -- where the cursor came to
 came : (c : tie.After-advance) →
     let a = c .before .args in
-    Came (a .o) (a .s) (a .w) (a .at) (a .end) (now (a .rv)) (now (a .rm)) (toZ w64 (ofZ w64 (a .v))) (a .c) (c .advance .result)
+    Came (withoutList (a .o)) (a .s) (a .w) (a .at) (a .end) (now (a .rv)) (now (a .rm)) (toZ w64 (ofZ w64 (a .v))) (a .c) (c .advance .result)
 came c = c .advance .ensures .2 (c .before .args .at) (rw (toZ-ofZ (c .before .fits .v)) (c .before .pre .0))
 
 advance-requires : tie.Need-advance-requires

@@ -6,7 +6,7 @@ use denote.Ref.{now}
 use lib.IntN.{pos}
 use lib.ListN.{getD}
 use Rattle.frames.specs.Cells.{value, isNull, rowFrom}
-use Rattle.options.specs.Options.{keyRule}
+use Rattle.options.specs.Options.{withoutList, keyRule}
 use Rattle.order.specs.Requires.{cellAt}
 use Rattle.frames.proofs.Signed.{back}
 use Rattle.order.proofs.OrderLaws.{at-most-refl, cmpCell-is}
@@ -30,7 +30,7 @@ key c =
 -- the right cursor, for this key
 stands : (c : tie.After-step-by-arg) →
     let a = c .before .before .before .before .args in
-    CursorAt (a .o) (a .s) (a .w) (a .at) (a .end) (now (a .rv)) (now (a .rm)) (getD (now (a .lv)) (a .p + a .o .by) (pos 0)) (a .c)
+    CursorAt (withoutList (a .o)) (a .s) (a .w) (a .at) (a .end) (now (a .rv)) (now (a .rm)) (getD (now (a .lv)) (a .p + a .o .by) (pos 0)) (a .c)
 stands c =
     let s = c .before .before .before .before in
     let a = s .args in
@@ -61,7 +61,7 @@ returns c =
       within = p .within;
       there = p .there;
       behind = p .behind;
-      chosen = λ wl h. sym (none-null (a .o) _ _ _ (ap isNull (row-cell wl (a .p) (a .o .by) (now (a .lv)) (now (a .lm)) h (p .left .values)) ∙ sym (c .before .null-at .ensures (now (a .lv))) ∙ c .if1 .taken));
+      chosen = λ wl h. sym (none-null (withoutList (a .o)) _ _ _ (ap isNull (row-cell wl (a .p) (a .o .by) (now (a .lv)) (now (a .lm)) h (p .left .values)) ∙ sym (c .before .null-at .ensures (now (a .lv))) ∙ c .if1 .taken));
     }
 
 returns-2 : tie.Need-returns-2
@@ -74,7 +74,7 @@ returns-2 c =
       within = p .within;
       there = p .there;
       behind = p .behind;
-      chosen = λ wl h. sym (none-rows (a .o) _ _ (a .w) (a .at) (a .end) (now (a .rv)) (now (a .rm)) (c .if2 .taken));
+      chosen = λ wl h. sym (none-rows (withoutList (a .o)) _ _ (a .w) (a .at) (a .end) (now (a .rv)) (now (a .rm)) (c .if2 .taken));
     }
 
 mul-step-by : tie.Need-mul-step-by
@@ -102,7 +102,7 @@ returns-3 c =
       upward = d .came .forward;
       within = omega (arith, m .there);
       there = λ h. m .there;
-      behind = λ u h. later (a .o .«allow_eq») (keyAt (a .o) (a .w) (now (a .rv)) (now (a .rm))) (a .at) (a .end) (p .rising) (a .s) (value v) (value u) _ refl (rw k at h) (m .there) (m .behind);
+      behind = λ u h. later (a .o .«allow_eq») (keyAt (withoutList (a .o)) (a .w) (now (a .rv)) (now (a .rm))) (a .at) (a .end) (p .rising) (a .s) (value v) (value u) _ refl (rw k at h) (m .there) (m .behind);
       chosen = λ wl h. d .chosen (rowFrom wl (a .p) (now (a .lv)) (now (a .lm))) (row-cell wl (a .p) (a .o .by) (now (a .lv)) (now (a .lm)) h (p .left .values) ∙ k);
     }
 

@@ -7,6 +7,7 @@ use borrow.Author.Tests.{not-true, not-false}
 use denote.Ref.{now}
 use lib.ListN.{length}
 use Rattle.frames.specs.Cells.{Words, rowFrom, rowsOf}
+use Rattle.options.specs.Options.{withoutList}
 use Rattle.order.specs.Order.{nullKey}
 use Rattle.order.specs.Keyed.{firstKeyed, firstFrom}
 use Rattle.order.proofs.RowLaws.{row-room, rest, rest-all, first-none, first-found, first-passed}
@@ -15,7 +16,7 @@ use Rattle.keyed.proofs.scan.first_keyed.Tie as tie
 
 abbrev Inv-loop : tie.InvT-loop
 Inv-loop marks n w o p₀ i₀ p i =
-    (i ≤ n) × (p ≡ i * w) × ((vs : Words) → n * w ≤ length vs → firstKeyed o (rowsOf w n vs marks) ≡ firstFrom o i (rest w p (n - i) vs marks))
+    (i ≤ n) × (p ≡ i * w) × ((vs : Words) → n * w ≤ length vs → firstKeyed (withoutList o) (rowsOf w n vs marks) ≡ firstFrom (withoutList o) i (rest w p (n - i) vs marks))
 
 abbrev μ-loop : tie.MeasureT-loop
 μ-loop marks n w o p₀ i₀ p i = n - i
@@ -24,7 +25,7 @@ loop-holds : tie.Need-loop-holds Inv-loop μ-loop
 loop-holds c =
     let a = c .args in
     let z : a .n - 0 ≡ a .n = omega arith in
-    (omega arith, omega arith, λ vs h. rw z (ap (firstFrom (a .o) 0) (rest-all (a .o) (a .w) vs (now (a .marks)) (a .n))))
+    (omega arith, omega arith, λ vs h. rw z (ap (firstFrom (withoutList (a .o)) 0) (rest-all (withoutList (a .o)) (a .w) vs (now (a .marks)) (a .n))))
 
 room : (c : tie.In-loop Inv-loop μ-loop) → let a = c .before .before .args in c .before .loop .p + a .w ≤ a .n * a .w
 room c = omega (arith, row-room (c .before .loop .i) (c .before .before .args .n) (c .before .before .args .w) (c .loop-test .taken))
@@ -35,7 +36,7 @@ null-key-requires c κs = record { marks = omega (arith, room c) }
 -- what `null_key` says is what row i says of its key
 told : (c : tie.After-null-key Inv-loop μ-loop) (t : Bool) → c .null-key .result ≡ t → (vs : Words) →
     let a = c .before .before .before .args in
-    a .n * a .w ≤ length vs → nullKey (a .o) (rowFrom (a .w) (c .before .before .loop .p) vs (now (a .marks))) ≡ t
+    a .n * a .w ≤ length vs → nullKey (withoutList (a .o)) (rowFrom (a .w) (c .before .before .loop .p) vs (now (a .marks))) ≡ t
 told c t e vs h =
     let s = c .before .before .before in
     let r = room (c .before) in
@@ -73,7 +74,7 @@ returns-2 c = λ vs h.
     let l = c .before in
     let a = l .before .args in
     let z : a .n - l .loop .i ≡ 0 = omega arith in
-    sym (rw z at (l .loop .inv .2 vs h) ∙ first-none (a .o) (a .w) vs (now (a .marks)) (l .loop .i) (l .loop .p))
+    sym (rw z at (l .loop .inv .2 vs h) ∙ first-none (withoutList (a .o)) (a .w) vs (now (a .marks)) (l .loop .i) (l .loop .p))
 
 pub first-keyed-spec : {M : Type 1} → statement M
 first-keyed-spec =

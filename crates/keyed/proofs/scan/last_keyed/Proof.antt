@@ -8,6 +8,7 @@ use borrow.Author.Tests.{not-true, not-false}
 use denote.Ref.{now}
 use lib.ListN.{length, getD}
 use Rattle.frames.specs.Cells.{Words, rowsOf}
+use Rattle.options.specs.Options.{withoutList}
 use Rattle.order.specs.Order.{nullKey}
 use Rattle.order.specs.Keyed.{lastKeyed, lastBelow}
 use Rattle.frames.proofs.WordLaws.{rows-length}
@@ -17,7 +18,7 @@ use Rattle.keyed.proofs.scan.last_keyed.Tie as tie
 
 abbrev Inv-loop : tie.InvT-loop
 Inv-loop marks n w o p₀ i₀ p i =
-    (i ≤ n) × (p ≡ i * w) × ((vs : Words) → n * w ≤ length vs → lastKeyed o (rowsOf w n vs marks) ≡ lastBelow o (rowsOf w n vs marks) i)
+    (i ≤ n) × (p ≡ i * w) × ((vs : Words) → n * w ≤ length vs → lastKeyed (withoutList o) (rowsOf w n vs marks) ≡ lastBelow (withoutList o) (rowsOf w n vs marks) i)
 
 abbrev μ-loop : tie.MeasureT-loop
 μ-loop marks n w o p₀ i₀ p i = i
@@ -28,7 +29,7 @@ mul-p c = omega arith
 loop-holds : tie.Need-loop-holds Inv-loop μ-loop
 loop-holds c =
     let a = c .args in
-    (omega arith, refl, λ vs h. ap (lastBelow (a .o) (rowsOf (a .w) (a .n) vs (now (a .marks)))) (rows-length (a .w) (a .n) vs (now (a .marks))))
+    (omega arith, refl, λ vs h. ap (lastBelow (withoutList (a .o)) (rowsOf (a .w) (a .n) vs (now (a .marks)))) (rows-length (a .w) (a .n) vs (now (a .marks))))
 
 -- row i - 1 starts at p - w
 place : (c : tie.In-loop Inv-loop μ-loop) → let l = c .before .loop in let a = c .before .before .args in (l .p ≡ (l .i - 1) * a .w + a .w) × ((l .i - 1) * a .w + a .w ≤ a .n * a .w)
@@ -50,7 +51,7 @@ null-key-requires c κs = let r = place c in record { marks = omega arith }
 -- what `null_key` says is what row i - 1 says of its key
 told : (c : tie.After-null-key Inv-loop μ-loop) (t : Bool) → c .null-key .result ≡ t → (vs : Words) →
     let a = c .before .before .before .args in
-    a .n * a .w ≤ length vs → nullKey (a .o) (getD (rowsOf (a .w) (a .n) vs (now (a .marks))) (c .before .before .loop .i - 1) []) ≡ t
+    a .n * a .w ≤ length vs → nullKey (withoutList (a .o)) (getD (rowsOf (a .w) (a .n) vs (now (a .marks))) (c .before .before .loop .i - 1) []) ≡ t
 told c t e vs h =
     let s = c .before .before .before in
     let a = s .args in

@@ -3,16 +3,22 @@ use borrow.Author.Needs.{needs}
 use mathlib.Core.Path.{_≡_, sym, ap, _∙_}
 use native.Mathlib.Omega.{arith}
 use denote.Ref.{now}
+use Rattle.options.specs.Options.{withList}
 use Rattle.frames.specs.Cells.{rowFrom}
 use Rattle.order.specs.Order.{isEqual}
 use Rattle.order.proofs.RowLaws.{row-cell}
+use Rattle.order.proofs.TermLaws.{row-terms}
 use Rattle.neighbours.proofs.FallLaws.{keys-decide}
 use Rattle.notices.proofs.NoticeLaws.{not-equal-arm}
 use Rattle.notices.proofs.list.same_row.Statement.{statement}
 use Rattle.notices.proofs.list.same_row.Tie as tie
 
 same-values-requires : tie.Need-same-values-requires
-same-values-requires c κs = search needs
+same-values-requires c κs =
+    let s = c .before in
+    let a = s .args in
+    let plain = row-terms (a .o) (now (a .codes)) (now (a .rising)) in
+    (plain (a .p) (now (a .values)) (now (a .marks)) (s .pre .0), plain (a .q) (now (a .values)) (now (a .marks)) (s .pre .1))
 
 add-same-key : tie.Need-add-same-key
 add-same-key c = search needs
@@ -25,13 +31,13 @@ same-key-requires c κs = search needs
 
 returns : tie.Need-returns
 returns c = λ w h.
-    let s = c .before .before .before in
+    let s = c .before .before .before .before in
     let a = s .args in
     let vs = now (a .values) in
     let ms = now (a .marks) in
-    let e = c .before .before .same-values .ensures (c .before .if1 .taken) w h in
+    let e = c .before .before .same-values .ensures (c .before .if1 .taken) (now (a .codes)) (now (a .rising)) w h in
     c .same-key .ensures
-    ∙ sym (ap isEqual (keys-decide (a .o) (rowFrom w (a .p) vs ms) (rowFrom w (a .q) vs ms) e) ∙ rw (row-cell w (a .p) (a .o .by) vs ms h (s .pre .0 .values), row-cell w (a .q) (a .o .by) vs ms h (s .pre .1 .values)))
+    ∙ sym (ap isEqual (keys-decide (withList (a .o) (now (a .codes)) (now (a .rising))) (rowFrom w (a .p) vs ms) (rowFrom w (a .q) vs ms) e) ∙ rw (row-cell w (a .p) (a .o .by) vs ms h (s .pre .0 .values), row-cell w (a .q) (a .o .by) vs ms h (s .pre .1 .values)))
 
 cmp-row-requires : tie.Need-cmp-row-requires
 cmp-row-requires c κs = search needs

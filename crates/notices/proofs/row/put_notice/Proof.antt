@@ -7,6 +7,7 @@ use denote.Ref.{now}
 use mir.Syntax.{w64}
 use mir.ValLaws.{toZ-pos}
 use lib.IntN.{pos}
+use Rattle.options.specs.Options.{withoutList}
 use Rattle.frames.specs.Cells.{null, value, rowFrom}
 use Rattle.books.specs.Standing.{nameless}
 use Rattle.notices.proofs.NoticeLaws.{notice-nameless, notice-stands, notice-names}
@@ -30,7 +31,7 @@ same-length : tie.Need-same-length
 same-length c = search needs
 
 -- what was asked of the row
-asked : (c : tie.After-is-nameless) → let a = c .before .args in c .is-nameless .result ≡ nameless (a .o) (rowFrom (a .w) (a .i * a .w) (now (a .values)) (now (a .marks)))
+asked : (c : tie.After-is-nameless) → let a = c .before .args in c .is-nameless .result ≡ nameless (withoutList (a .o)) (rowFrom (a .w) (a .i * a .w) (now (a .values)) (now (a .marks)))
 asked c =
     let s = c .before in
     c .is-nameless .ensures (s .args .w) (now (s .args .values)) (omega (arith, s .pre .wide)) (omega (arith, s .pre .wide, s .pre .values))
@@ -38,7 +39,7 @@ asked c =
 returns : tie.Need-returns
 returns c =
     let a = c .before .before .before .before .before .args in
-    c .before .put-pair .ensures null refl refl ∙ rw (notice-nameless (a .o) (a .column) (a .i) (a .last) _ (sym (asked (c .before .before .before .before)) ∙ c .before .before .before .if1 .taken))
+    c .before .put-pair .ensures null refl refl ∙ rw (notice-nameless (withoutList (a .o)) (a .column) (a .i) (a .last) _ (sym (asked (c .before .before .before .before)) ∙ c .before .before .before .if1 .taken))
 
 add-stands : tie.Need-add-stands
 add-stands c = search needs
@@ -63,7 +64,7 @@ returns-2 c =
     let s = c .before .before .before .before .before .before .before .before in
     let a = s .args in
     c .before .put-pair2 .ensures null refl refl
-    ∙ rw (notice-stands (a .o) (a .column) (a .i) (a .last) (a .w) (a .i * a .w) (now (a .values)) (now (a .marks)) (s .pre .wide) (s .pre .values) (sym (asked (c .before .before .before .before .before .before .before)) ∙ c .before .before .before .before .before .before .if1 .left) (sym (c .before .before .before .before .stands .ensures) ∙ c .before .before .before .if2 .taken))
+    ∙ rw (notice-stands (withoutList (a .o)) (a .column) (a .i) (a .last) (a .w) (a .i * a .w) (now (a .values)) (now (a .marks)) (s .pre .wide) (s .pre .values) (sym (asked (c .before .before .before .before .before .before .before)) ∙ c .before .before .before .before .before .before .if1 .left) (sym (c .before .before .before .before .stands .ensures) ∙ c .before .before .before .if2 .taken))
 
 cast-put-pair : tie.Need-cast-put-pair
 cast-put-pair c = search needs
@@ -79,7 +80,7 @@ returns-3 c =
     let s = c .before .before .before .before .before .before .before .before in
     let a = s .args in
     c .before .put-pair3 .ensures (value (pos (a .last))) (sym (toZ-pos w64 (a .last) (s .pre .number))) refl
-    ∙ rw (notice-names (a .o) (a .column) (a .i) (a .last) (a .w) (a .i * a .w) (now (a .values)) (now (a .marks)) (s .pre .wide) (s .pre .values) (sym (asked (c .before .before .before .before .before .before .before)) ∙ c .before .before .before .before .before .before .if1 .left) (sym (c .before .before .before .before .stands .ensures) ∙ c .before .before .before .if2 .left))
+    ∙ rw (notice-names (withoutList (a .o)) (a .column) (a .i) (a .last) (a .w) (a .i * a .w) (now (a .values)) (now (a .marks)) (s .pre .wide) (s .pre .values) (sym (asked (c .before .before .before .before .before .before .before)) ∙ c .before .before .before .before .before .before .if1 .left) (sym (c .before .before .before .before .stands .ensures) ∙ c .before .before .before .if2 .left))
 
 pub put-notice-spec : {M : Type 1} → statement M
 put-notice-spec =

@@ -2,6 +2,7 @@ use mathlib.Core.Path.{_≡_}
 use Prim.Native.Nat.{_+_, _*_, _≤_}
 use native.Mathlib.Omega.{arith}
 use denote.Ref.{now}
+use Rattle.options.specs.Options.{withList}
 use Rattle.frames.specs.Cells.{rowFrom, rowsOf}
 use Rattle.order.proofs.RowLaws.{rows-from}
 use Rattle.splitcheck.proofs.BeforeLaws.{found-nothing, found-at}
@@ -16,17 +17,17 @@ enum-told : tie.Need-enum-told
 enum-told c = search needs
 
 returns : tie.Need-returns
-returns c = λ wp n h k. let a = c .before .before .args in found-nothing (a .o) _ (rowsOf (a .w) n (now (a .values)) (now (a .marks))) (a .found) (c .enum-told .given .1)
+returns c = λ wp n h k. let a = c .before .before .before .args in found-nothing (withList (a .o) (now (a .codes)) (now (a .rising))) _ (rowsOf (a .w) n (now (a .values)) (now (a .marks))) (a .found) (c .enum-told .given .1)
 
 mul-cmp-row : tie.Need-mul-cmp-row
 mul-cmp-row c =
-    let s = c .before .before .before in
+    let s = c .before .before .before .before in
     let q = s .pre .1 in
     omega (arith, q .values (c .before .found .given .0 .0) (c .before .found .given .1))
 
 cmp-row-requires : tie.Need-cmp-row-requires
 cmp-row-requires c κs =
-    let s = c .before .before .before in
+    let s = c .before .before .before .before in
     let q = s .pre .1 in
     let i = c .before .found .given .0 .0 in
     (s .pre .0, record { few = q .few; values = omega (arith, q .wide, q .values i (c .before .found .given .1)); marks = omega (arith, q .wide, q .marks i (c .before .found .given .1)) })
@@ -37,11 +38,11 @@ is-greater-requires c κs = search needs
 returns-2 : tie.Need-returns-2
 returns-2 c = λ wp n h k.
     let g = c .before .before in
-    let s = g .before .before .before in
+    let s = g .before .before .before .before in
     let a = s .args in
     let i = g .before .found .given .0 .0 in
     let e = g .before .found .given .1 in
-    found-at (a .o) _ (rowsOf (a .w) n (now (a .values)) (now (a .marks))) (a .found) i (rowFrom (a .w) (i * a .w) (now (a .values)) (now (a .marks))) _ _ e
+    found-at (withList (a .o) (now (a .codes)) (now (a .rising))) _ (rowsOf (a .w) n (now (a .values)) (now (a .marks))) (a .found) i (rowFrom (a .w) (i * a .w) (now (a .values)) (now (a .marks))) _ _ e
     (rows-from (a .w) n i (now (a .values)) (now (a .marks)) (k i e))
     (c .before .cmp-row .ensures wp (a .w) h (s .pre .1 .wide)) (c .is-greater .ensures)
 

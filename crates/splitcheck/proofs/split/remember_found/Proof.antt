@@ -3,7 +3,7 @@ use Prim.Native.Nat.{_+_, _*_, _≤_}
 use native.Mathlib.Omega.{arith}
 use denote.Ref.{now}
 use Rattle.frames.specs.Cells.{rowFrom, rowsOf}
-use Rattle.options.specs.Options.{columns}
+use Rattle.options.specs.Options.{withoutList, columns}
 use Rattle.order.specs.Keyed.{compared}
 use Rattle.order.proofs.RowLaws.{rows-from}
 use Rattle.splitcheck.proofs.BeforeLaws.{remember-nothing, remember-at, compared-from}
@@ -18,7 +18,7 @@ enum-told : tie.Need-enum-told
 enum-told c = search needs
 
 returns : tie.Need-returns
-returns c = λ n k. let a = c .before .before .args in remember-nothing (a .o) _ (rowsOf (a .w) n (now (a .values)) (now (a .marks))) (a .found) (c .enum-told .given .1)
+returns c = λ n k. let a = c .before .before .args in remember-nothing (withoutList (a .o)) _ (rowsOf (a .w) n (now (a .values)) (now (a .marks))) (a .found) (c .enum-told .given .1)
 
 left-columns-requires : tie.Need-left-columns-requires
 left-columns-requires c κs = c .before .before .before .pre .few .by
@@ -45,8 +45,8 @@ returns-2 c = λ n h.
     let i = k .before .found .given .0 .0 in
     let e = k .before .found .given .1 in
     rw (c .before .left-columns .ensures) at (c .copy-row .ensures)
-    ∙ remember-at (a .o) _ (rowsOf (a .w) n (now (a .values)) (now (a .marks))) (a .found) i (rowFrom (columns (a .o)) (i * a .w) (now (a .values)) (now (a .marks))) e
-    (ap (compared (a .o)) (rows-from (a .w) n i (now (a .values)) (now (a .marks)) (h i e)) ∙ compared-from (a .o) (a .w) (i * a .w) (now (a .values)) (now (a .marks)) (s .pre .wide))
+    ∙ remember-at (withoutList (a .o)) _ (rowsOf (a .w) n (now (a .values)) (now (a .marks))) (a .found) i (rowFrom (columns (withoutList (a .o))) (i * a .w) (now (a .values)) (now (a .marks))) e
+    (ap (compared (withoutList (a .o))) (rows-from (a .w) n i (now (a .values)) (now (a .marks)) (h i e)) ∙ compared-from (withoutList (a .o)) (a .w) (i * a .w) (now (a .values)) (now (a .marks)) (s .pre .wide))
 
 pub remember-found-spec : {M : Type 1} → statement M
 remember-found-spec =
