@@ -1,38 +1,13 @@
 """The command from its words to its status."""
-import contextlib
 import os
 import signal
-import sys
 
 from .arguments import parse
-from .explain import explanation
-from .joined import Join
-from .order import Order
-from .pricing import Pricing
-from .problem import BAD_INPUT, DONE, Problem
-from .progress import Progress
-from .sink import sink
-from .source import Source
+from .join import price
+from .problem import BAD_INPUT, DONE, Problem, say
 
 # The status of a program that a signal ends, less the signal's number.
 BY_SIGNAL = 128
-
-
-def price(args):
-    """Does the main job: both files are opened and looked at before anything is built or written."""
-    order = Order(args.by, args.on, args.descending, args.nulls_last, *args.rank)
-    progress = Progress(wanted=args.output is not None or not sys.stdout.isatty())
-    with contextlib.ExitStack() as stack:
-        sales, notices = (stack.enter_context(contextlib.closing(Source(path, order, args.check)))
-                          for path in (args.sales, args.notices))
-        target = sink(args.output, [args.sales, args.notices])
-        join = Join(order, args.strategy, args.exact, args.tolerance, args.check)
-        stack.callback(progress.clear)
-        writer = stack.enter_context(target)
-        pricing = Pricing(sales, notices, join, writer, progress)
-        pricing.run()
-    if args.explain:
-        sys.stderr.write(explanation(args, pricing))
 
 
 def no_reader():
@@ -55,10 +30,10 @@ def main(words):
     try:
         price(parse(words))
     except Problem as problem:
-        print(f'rowkeeper: {problem}', file=sys.stderr)
+        say(problem)
         return problem.status
     except MemoryError:
-        print('rowkeeper: there is not enough memory', file=sys.stderr)
+        say('there is not enough memory')
         return BAD_INPUT
     except BrokenPipeError:
         return no_reader()

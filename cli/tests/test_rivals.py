@@ -37,7 +37,7 @@ class Rivals(Case):
     def priced(self, name, table):
         """The sales priced by these notices: for each performance its rows, each notice by its place among its own."""
         run = apart(['join', SALES, self.file(name, text(table)), *ON, *self.strategy])
-        self.assertEqual((run.status, run.err), (0, ''))
+        self.went_well(run)
         found = {}
         for row in rows(run.out):
             own = [number for number, notice in enumerate(table) if notice[0] == row[0]]

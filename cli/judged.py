@@ -1,0 +1,81 @@
+"""Both tables read to their ends and judged, before anything is written. The numbers of their compared columns are kept in
+temporary files, so that the second reading need not look at these cells again."""
+from array import array
+
+from .cells import Text, parted
+from .input import put, temporary
+from .kinds import Turned
+from .problem import say
+
+WORD = 8
+
+
+class Judged:
+    """A table that was judged: of each of its blocks the size and the sum, and the numbers of its compared columns."""
+
+    def __init__(self, source):
+        self.source, self.kept, self.blocks = source, temporary(), []
+
+    def restart(self):
+        """Forgets what was read."""
+        self.kept.seek(0)
+        self.kept.truncate()
+        self.blocks = []
+        self.source.again()
+
+    def read(self, show):
+        """Reads the table to its end."""
+        self.restart()
+        while True:
+            pair = self.source.next()
+            if pair is None:
+                return
+            self.keep(*pair)
+            show()
+
+    def keep(self, block, columns):
+        """Keeps the numbers of a block: texts by the order in which they are met."""
+        nulls = []
+        for kind, column in zip(self.source.kinds.all(), columns):
+            values, marks = parted(kind.numbers(column) if isinstance(kind, Text) else column)
+            nulls.append(marks is not None)
+            put(self.kept, values.tobytes() + (marks.tobytes() if marks is not None else b''))
+        self.blocks.append((block.size, block.sum, block.height, nulls))
+
+    def words(self, height):
+        """The next words of what was kept."""
+        words = array('q')
+        words.frombytes(self.kept.read(WORD * height))
+        return words
+
+    def pairs(self):
+        """The blocks again, from the first on, each with its columns in numbers: values and marks; text by codes in text order."""
+        self.source.again()
+        self.kept.seek(0)
+        codes = self.source.kinds.codes()
+        for size, total, height, nulls in self.blocks:
+            columns = []
+            for code, null in zip(codes, nulls):
+                values = self.words(height)
+                values = values if code is None else array('q', map(code.__getitem__, values))
+                marks = self.words(height) if null else None
+                columns.append((values if marks is None or code is None else array('q', map(int.__mul__, values, marks)), marks))
+            self.source.rows += height
+            yield self.source.records.exactly(size, total), columns
+
+    def close(self):
+        """Gives the temporary file back."""
+        self.kept.close()
+
+
+def judge(tables, kinds, progress):
+    """Reads both tables to their ends. If a by-column turns out to be text, both are read again."""
+    while True:
+        try:
+            for table in tables:
+                table.read(lambda: progress.show('reading', *(each.source for each in tables)))
+            return
+        except Turned as turned:
+            kinds.turn(turned)
+            if turned.after_numbers:
+                say(f'{kinds.order.columns[turned.column]} is compared as text, because of {turned.why}')
