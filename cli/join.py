@@ -57,7 +57,7 @@ class Pricing:
         """Matches and writes at once: both tables are sorted."""
         join, held = self.join(), Held(self.layout.texts)
         self.priced = self.begin()
-        self.matching = Matching(join, Feed(sales), Feed(notices), held, self.priced.part(held))
+        self.matching = Matching(join, Feed(sales), Feed(notices), held, self.priced.part(held, self.args.stream))
         self.matching.run(self.show('writing'))
 
     def judged(self):

@@ -123,8 +123,9 @@ class Priced:
         if not self.matched_only or missing < len(marks):
             self.put('\n'.join(map(operator.add, lines, texts)))
 
-    def part(self, held):
-        """What takes parts of the sales as they are matched, with the notices that are held."""
+    def part(self, held, at_once=False):
+        """What takes parts of the sales as they are matched, with the notices that are held; `at_once`: none of them waits to be
+        written with others."""
         nothing = self.layout.nothing
 
         def found(part, values, marks):
@@ -133,6 +134,8 @@ class Priced:
             first, texts = held.between(min(matched), max(matched)) if matched else (0, [])
             beside = [texts[number - first] if mark else nothing for number, mark in zip(values, marks)]
             self.write(part.lines(), beside, marks, lambda row: part.block.line(part.first + row))
+            if at_once:
+                self.file.flush()
         return found
 
     def said(self):

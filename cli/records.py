@@ -221,8 +221,8 @@ class Records:
         """The next records, at least one; None at the end of the file."""
         while True:
             self.or_late()
-            if not self.ended:
-                self.more(self.bytes)
+            if not self.ended and len(self.rest) < self.bytes:
+                self.more(self.bytes - len(self.rest))
             end = self.rest.rfind(b'\n') + 1
             if not end:
                 end = self.to_line_end(0, self.at_line)
