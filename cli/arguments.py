@@ -186,7 +186,7 @@ def judge(args):
     if args.sales == DASH and args.notices == DASH:
         raise Problem('-: standard input can be one of the two files, not both', BAD_USAGE)
     args.strategy = args.strategy or STRATEGIES[0]
-    args.encoding = known_encoding(args.encoding or 'utf-8')
+    args.encoding = known_encoding('utf-8' if args.encoding is None else args.encoding)
 
 
 def parse(words):

@@ -48,7 +48,7 @@ class Input:
     and so is text in another encoding than UTF-8."""
 
     def __init__(self, path, encoding='utf-8', streamed=False):
-        self.path, self.decoder, self.encoding = (STANDARD if path == DASH else path), None, encoding
+        self.path, self.decoder, self.encoding, self.lines = (STANDARD if path == DASH else path), None, encoding, 0
         self.file = self.opened(path)
         try:
             self.begin(streamed)
@@ -90,11 +90,12 @@ class Input:
     def copy(self):
         """Copies all bytes to a file that can be read again."""
         copy = temporary()
-        while True:
-            data = self.read(PIECE)
-            if not data:
-                break
-            put(copy, data)
+        try:
+            for data in iter(lambda: self.read(PIECE), b''):
+                put(copy, data)
+        except BaseException:
+            copy.close()
+            raise
         self.file.close()
         self.file, self.decoder, self.start, self.size, self.read_some = copy, None, 0, copy.tell(), copy.read
         self.rewind()
@@ -105,18 +106,23 @@ class Input:
         self.pending = b''
 
     def read(self, count):
-        """The next bytes as UTF-8, so many or a few more or fewer; none at the end. What is no text of another encoding is told
-        by its place in the file."""
+        """The next bytes as UTF-8, so many or a few more or fewer; none at the end."""
         while True:
             data, self.pending = self.pending + self.read_some(count), b''
             if self.decoder is None:
                 return data
-            try:
-                found = self.decoder.decode(data, not data).encode('utf-8')
-            except UnicodeError:
-                raise Problem(f'{at(self.path)}: the file is not text in the encoding {self.encoding}') from None
+            found = self.decoded(data)
+            self.lines += found.count('\n')
             if found or not data:
-                return found
+                return found.encode('utf-8', 'surrogatepass')
+
+    def decoded(self, data):
+        """Bytes of another encoding as text, which may end before they do; none are the end. What is no text is told by its line."""
+        try:
+            return self.decoder.decode(data, not data)
+        except UnicodeDecodeError as error:
+            line = 1 + self.lines + error.object[:error.start].decode(self.encoding, 'ignore').count('\n')
+            raise Problem(f'{at(self.path, line)}: the line is not text in the encoding {self.encoding}') from None
 
     def share(self):
         """How much of the file has been read, from 0 to 1; None where its length is not known, as of a pipe."""

@@ -5,7 +5,7 @@ from array import array
 from .cells import Text, parted
 from .input import put, temporary
 from .kinds import Turned
-from .problem import say
+from .problem import Disorder, say
 
 WORD = 8
 
@@ -68,13 +68,24 @@ class Judged:
         self.kept.close()
 
 
+def read_all(tables, progress):
+    """Reads both tables to their ends. That a by-column is text may be known only by its last cell: where rows are out of order as
+    whole numbers, all cells are looked at before that is told."""
+    try:
+        for table in tables:
+            table.read(lambda: progress.show('reading', *(each.source for each in tables)))
+    except Disorder:
+        turned = next(filter(None, (table.source.turned() for table in tables)), None)
+        if turned is None:
+            raise
+        raise turned from None
+
+
 def judge(tables, kinds, progress):
-    """Reads both tables to their ends. If a by-column turns out to be text, both are read again."""
+    """Reads both tables to their ends and judges them. If a by-column turns out to be text, both are read again."""
     while True:
         try:
-            for table in tables:
-                table.read(lambda: progress.show('reading', *(each.source for each in tables)))
-            return
+            return read_all(tables, progress)
         except Turned as turned:
             kinds.turn(turned)
             if turned.after_numbers:

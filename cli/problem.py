@@ -16,6 +16,10 @@ class Problem(Exception):
         self.status = status
 
 
+class Disorder(Problem):
+    """Rows that are out of order."""
+
+
 def say(line):
     """A line on standard error; nothing where that is closed or cannot be written."""
     if sys.stderr is not None:

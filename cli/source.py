@@ -3,7 +3,7 @@ import csv
 
 from .cells import Text, Whole
 from .kinds import Turned
-from .problem import Problem, at, named, quoted, say
+from .problem import Disorder, Problem, at, named, quoted, say
 from .records import Records, plainly
 
 # The separators that are tried where none is named, and what messages call them.
@@ -139,19 +139,48 @@ class Source:
         if isinstance(kind, Text):
             here, there = (quoted(each[1][place].strip()) if each[0][column] else 'an empty cell' for each in (row, before))
             note = f' (as text, because of {self.kinds.why[column]})' if column in self.kinds.why and is_number(here, there) else ''
-        raise Problem(f'{at(self.path, row[2], self.names[column])}: out of order: {here} comes after {there} of line {before[2]}{note}; '
+        raise Disorder(f'{at(self.path, row[2], self.names[column])}: out of order: {here} comes after {there} of line {before[2]}{note}; '
                       f'rows must be sorted by {self.kinds.order.said(self.names)}, or add --sort')
+
+    def turned(self):
+        """The first cell in a by-column of whole numbers that makes it text, as Turned; None if there is none. Nothing else is judged."""
+        self.again()
+        turning = [column for column in range(len(self.names)) if self.kinds.turns(column)]
+        try:
+            for block in iter(self.records.block, None):
+                for column, cells in zip(turning, block.columns([self.places[column] for column in turning], self.width)):
+                    row = not_whole(cells)
+                    if row is not None:
+                        return Turned(column, self.path, block.line(row), cells[row], True)
+        except (Problem, ValueError):
+            pass
+        return None
 
     def share(self):
         """How much of the file has been read, from 0 to 1; None where its length is not known."""
         return self.input.share()
 
 
-def is_number(*shown):
-    """Whether two texts that are shown in quotes are whole numbers: who sorted them by number is told why this is not the order."""
+def not_whole(cells):
+    """The first of some cells that is no whole number; None if all are."""
     try:
-        return all(Whole.value(each.strip("'")) is not None for each in shown)
+        Whole.column(cells)
+        return None
+    except ValueError:
+        return next(row for row, cell in enumerate(cells) if not is_whole(cell))
+
+
+def is_whole(cell):
+    """Whether a cell is a whole number or empty."""
+    try:
+        Whole.value(cell)
+        return True
     except ValueError:
         return False
+
+
+def is_number(*shown):
+    """Whether two texts that are shown in quotes are whole numbers: who sorted them by number is told why this is not the order."""
+    return all(is_whole(each.strip("'")) for each in shown)
 
 
