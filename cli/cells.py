@@ -11,6 +11,9 @@ LEAST, MOST = -2**63, 2**63 - 1
 # The most digits that such a number has.
 DIGITS = 19
 
+# How often each cell of a column stands there where it is read once for all.
+OFTEN = 4
+
 WHOLE = re.compile(r'([+-]?)0*([0-9]+)')
 
 
@@ -39,10 +42,13 @@ class Whole:
     def column(cells):
         """The numbers of a column, None for each null; ValueError where a cell is none. Python's own reader of numbers is taken
         where all cells are plain: it would take other things for numbers too."""
-        text = ''.join(cells)
+        different = set(cells)
+        text = ''.join(different)
         if text.isascii() and '_' not in text:
             try:
-                if '' not in cells:
+                if '' not in different and len(different) * OFTEN < len(cells):
+                    return array('q', map({cell: int(cell) for cell in different}.__getitem__, cells))
+                if '' not in different:
                     return array('q', map(int, cells))
                 column = [int(cell) if cell else None for cell in cells]
                 array('q', filter(None, column))

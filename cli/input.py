@@ -100,9 +100,9 @@ class Input:
         self.file, self.decoder, self.start, self.size, self.read_some = copy, None, 0, copy.tell(), copy.read
         self.rewind()
 
-    def rewind(self):
-        """Goes back to the first byte behind the mark."""
-        self.file.seek(self.start)
+    def rewind(self, place=0):
+        """Goes back to the first byte behind the mark, or to one further on."""
+        self.file.seek(self.start + place)
         self.pending = b''
 
     def read(self, count):

@@ -93,7 +93,8 @@ class Pricing:
         elif self.args.sort:
             self.by_sorting(*self.judged())
         else:
-            self.in_step(*(table.pairs() for table in self.judged()))
+            sales, notices = self.judged()
+            self.in_step(sales.pairs(), notices.pairs(later=True))
         if self.args.fail_unmatched and self.priced.matched < self.priced.sales:
             raise Problem(self.priced.said(), UNMATCHED)
 

@@ -10,6 +10,19 @@ from .problem import Disorder, say
 WORD = 8
 
 
+class Later:
+    """A block of which nothing but the height is known, until its text is wanted: notices that no sale takes are not read again."""
+
+    def __init__(self, records, place, size, total, by_line, height):
+        self.records, self.place, self.how = records, place, (size, total, by_line)
+        self.height, self.number, self.texts = height, 0, None
+
+    def chosen(self, *how):
+        """The cells of columns as text for the output."""
+        self.records.go_to(self.place)
+        return self.records.exactly(*self.how).chosen(*how)
+
+
 class Judged:
     """A table that was judged: of each of its blocks the size and the sum, and the numbers of its compared columns."""
 
@@ -40,7 +53,7 @@ class Judged:
             values, marks = parted(kind.numbers(column) if isinstance(kind, Text) else column)
             nulls.append(marks is not None)
             put(self.kept, values.tobytes() + (marks.tobytes() if marks is not None else b''))
-        self.blocks.append((block.size, block.sum, block.height, nulls))
+        self.blocks.append((block.size, block.sum, block.text is not None, block.height, nulls))
 
     def words(self, height):
         """The next words of what was kept."""
@@ -48,12 +61,14 @@ class Judged:
         words.frombytes(self.kept.read(WORD * height))
         return words
 
-    def pairs(self):
-        """The blocks again, from the first on, each with its columns in numbers: values and marks; text by codes in text order."""
+    def pairs(self, later=False):
+        """The blocks again, from the first on, each with its columns in numbers: values and marks; text by codes in text order.
+        `later`: the text of a block is read when it is wanted."""
         self.source.again()
+        self.source.counted = sum(block[3] for block in self.blocks)
         self.kept.seek(0)
-        codes = self.source.kinds.codes()
-        for size, total, height, nulls in self.blocks:
+        codes, place = self.source.kinds.codes(), self.source.header_size
+        for size, total, by_line, height, nulls in self.blocks:
             columns = []
             for code, null in zip(codes, nulls):
                 values = self.words(height)
@@ -61,7 +76,9 @@ class Judged:
                 marks = self.words(height) if null else None
                 columns.append((values if marks is None or code is None else array('q', map(int.__mul__, values, marks)), marks))
             self.source.rows += height
-            yield self.source.records.exactly(size, total), columns
+            yield Later(self.source.records, place, size, total, by_line, height) if later else \
+                self.source.records.exactly(size, total, by_line), columns
+            place += size
 
     def close(self):
         """Gives the temporary file back."""

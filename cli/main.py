@@ -1,4 +1,5 @@
 """The command from its words to its status."""
+import gc
 import os
 import signal
 
@@ -45,7 +46,9 @@ def main(words):
 
 
 def command(words):
-    """Runs the command as a program: signals that ask it to end are heeded."""
+    """Runs the command as a program: signals that ask it to end are heeded. Nothing in it refers to itself in circles, so Python need
+    not look for such things among the cells."""
+    gc.disable()
     for number in (signal.SIGTERM, signal.SIGHUP):
         signal.signal(number, ended)
     return main(words)

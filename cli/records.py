@@ -31,27 +31,44 @@ def plainly(error):
 def written(cells, separator):
     """Cells as a record of CSV; those that need quotes get them."""
     text = separator.join(cells)
-    if text.count(separator) == len(cells) - 1 and not any(sign in text for sign in '"\n\r'):
+    if text.count(separator) == len(cells) - 1 and QUOTE not in text and '\n' not in text and '\r' not in text:
         return text
-    return separator.join(f'"{cell.replace(QUOTE, QUOTE * 2)}"' if any(sign in cell for sign in ('"', '\n', '\r', separator)) else cell
-                          for cell in cells)
+    return separator.join([f'"{cell.replace(QUOTE, QUOTE * 2)}"' if QUOTE in cell or separator in cell or '\n' in cell or '\r' in cell else cell
+                           for cell in cells])
+
+
+def plain(data):
+    """Bytes as text, with line feeds alone at the ends of lines, and none behind the last."""
+    text = data.decode('utf-8')
+    text = text.replace('\r\n', '\n') if '\r' in text else text
+    return text[:-1] if text.endswith('\n') else text
 
 
 class Block:
-    """Some records: their text as it stands in the file, without line ends, and their cells. `text` has one record a line and no
-    quote, or `rows` has the cells."""
+    """Some records: their text as it stands in the file, without line ends, and their cells. Either `text` has one record a line, and
+    what else is known of it is made of it when it is asked for; or `lines`, `rows` and `starts` have the text, the cells and the first
+    line of each."""
 
-    def __init__(self, separator, text, lines=None, rows=None, first=0, starts=None):
-        self.separator, self.text, self.found, self.rows = separator, text, lines, rows
-        self.first, self.starts, self.size, self.sum, self.number, self.texts = first, starts, 0, 0, 0, None
-        self.height = len(lines) if lines is not None else text.count('\n') + 1
+    def __init__(self, separator, text, first=0, lines=None, rows=None, starts=None):
+        self.separator, self.text, self.first, self.starts = separator, text, first, starts
+        self.found_lines, self.found_rows = lines, rows
+        self.quoted = text is None or QUOTE in text
+        self.height = len(lines) if text is None else text.count('\n') + 1
+        self.size, self.sum, self.number, self.texts = 0, 0, 0, None
 
     @property
     def lines(self):
         """The text of each record."""
-        if self.found is None:
-            self.found = self.text.split('\n')
-        return self.found
+        if self.found_lines is None:
+            self.found_lines = self.text.split('\n')
+        return self.found_lines
+
+    @property
+    def rows(self):
+        """The cells of each record."""
+        if self.found_rows is None:
+            self.found_rows = list(csv.reader(self.lines, strict=True, delimiter=self.separator))
+        return self.found_rows
 
     def line(self, row):
         """The line of the file where a record begins."""
@@ -59,12 +76,12 @@ class Block:
 
     def cells(self, row):
         """The cells of a record."""
-        return self.rows[row] if self.rows is not None else self.lines[row].split(self.separator)
+        return self.rows[row] if self.quoted else self.lines[row].split(self.separator)
 
     def columns(self, places, width):
         """The cells of these columns; ValueError unless every record has so many columns."""
-        if self.rows is not None:
-            if any(len(cells) != width for cells in self.rows):
+        if self.quoted:
+            if set(map(len, self.rows)) - {width}:
                 raise ValueError('another number of columns')
             return [[cells[place] for cells in self.rows] for place in places]
         sign = self.separator
@@ -74,11 +91,14 @@ class Block:
         return [flat[place::width + 1] for place in places]
 
     def chosen(self, places, width, separator):
-        """The cells of these columns as text for the output, for each record."""
-        if self.rows is None and separator == self.separator and places == list(range(width)):
-            return self.lines
+        """The cells of these columns as text for the output, for each record: cut from its text where they are its last ones."""
+        dropped = width - len(places)
+        if self.text is not None and separator == self.separator and places == list(range(dropped, width)):
+            cut = [line.split(separator, dropped) for line in self.lines] if dropped else [[line] for line in self.lines]
+            if not self.quoted or not any(QUOTE in cell for place in range(dropped) for cell in {cells[place] for cells in cut}):
+                return [cells[-1] for cells in cut]
         columns = self.columns(places, width)
-        if self.rows is None and (separator == self.separator or separator not in self.text):
+        if not self.quoted and (separator == self.separator or separator not in self.text):
             return columns[0] if len(columns) == 1 else list(map(separator.join, zip(*columns)))
         return [written(cells, separator) for cells in zip(*columns)]
 
@@ -106,18 +126,22 @@ class Records:
         """Goes on behind the first bytes of what was read, to this line."""
         self.rest, self.at_line = self.rest[size:], line
 
-    def exactly(self, size, total):
-        """The records of the next bytes, as many as a block had and with its sum; else the file was changed in the meantime."""
+    def go_to(self, place):
+        """Goes to the byte of this number; which line it is in is not known then."""
+        self.input.rewind(place)
+
+    def exactly(self, size, total, by_line):
+        """The records of the next bytes, as many as a block had and with its sum; else the file was changed in the meantime. `by_line`:
+        they are known to be one a line."""
         self.rest = b''
         self.more(size)
         data, self.ended = self.rest, True
         if len(data) != size or zlib.crc32(data) != total:
             raise Problem(f'{at(self.input.path)}: the file was changed while it was read')
-        block = self.line_by_line(data)
-        if block is None:
+        if not by_line:
             return self.record_by_record(size)
-        self.at_line += data.count(b'\n')
-        return block
+        first, self.at_line = self.at_line, self.at_line + data.count(b'\n')
+        return Block(self.separator, plain(data), first)
 
     def more(self, count):
         """Reads on."""
@@ -177,7 +201,7 @@ class Records:
         used, self.rest, self.at_line = self.rest[:end], self.rest[end:], line
         if not rows:
             return self.or_late()
-        return self.summed(Block(self.separator, None, lines, rows, starts[0], starts), used)
+        return self.summed(Block(self.separator, None, starts[0], lines, rows, starts), used)
 
     def or_late(self):
         """Nothing more, or what was found wrong."""
@@ -192,30 +216,27 @@ class Records:
         return block
 
     def line_by_line(self, data):
-        """A piece of the file that has one record a line, as a block; None where it may be otherwise."""
+        """A piece of the file that has one record a line, as a block; None where it may be otherwise. Blank lines are passed."""
         try:
-            text = data.decode('utf-8')
+            text = plain(data)
         except UnicodeDecodeError:
             return None
-        text = text.replace('\r\n', '\n') if '\r' in text else text
         if '\r' in text or '\0' in text:
             return None
-        text = text[:-1] if text.endswith('\n') else text
-        if QUOTE in text or '\n\n' in text or text.startswith('\n') or text.endswith('\n') or not text:
-            return self.with_quotes(text)
-        return Block(self.separator, text, first=self.at_line)
-
-    def with_quotes(self, text):
-        """The same where there are quotes or blank lines, which are passed; None where a record runs over lines."""
-        lines = text.split('\n')
+        block = Block(self.separator, text, self.at_line)
+        blank = '\n\n' in text or text.startswith('\n') or text.endswith('\n') or not text
+        if not blank and not block.quoted:
+            return block
         try:
-            rows = list(csv.reader(lines, strict=True, delimiter=self.separator))
+            rows = block.rows
         except csv.Error:
             return None
-        if len(rows) != len(lines):
+        if len(rows) != block.height:
             return None
+        if not blank:
+            return block
         starts = list(compress(range(self.at_line, self.at_line + len(rows)), rows))
-        return Block(self.separator, None, list(compress(lines, rows)), list(filter(None, rows)), self.at_line, starts)
+        return Block(self.separator, None, self.at_line, list(compress(block.lines, rows)), list(filter(None, rows)), starts)
 
     def block(self):
         """The next records, at least one; None at the end of the file."""

@@ -18,7 +18,7 @@ class Source:
         self.input, self.path, self.names, self.kinds, self.check = source, source.path, names, kinds, check
         self.records = Records(source)
         self.find_header([separator] if separator else SEPARATORS)
-        self.width = len(self.header)
+        self.width, self.counted = len(self.header), 0
         self.restart()
 
     def restart(self):
@@ -157,8 +157,8 @@ class Source:
         return None
 
     def share(self):
-        """How much of the file has been read, from 0 to 1; None where its length is not known."""
-        return self.input.share()
+        """How much of the file has been read, from 0 to 1, by its rows once they have been counted; None where its length is not known."""
+        return self.rows / self.counted if self.counted else self.input.share()
 
 
 def not_whole(cells):

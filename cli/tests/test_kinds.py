@@ -154,7 +154,7 @@ class RandomTables(Case):
                 self.assertEqual([row['n'] for row in rows], list(map(str, range(len(rows)))))
                 self.assertEqual([row['notice_n'] for row in rows], [row['notice_row'] for row in rows])
             met.add((tables.kind, tables.sort, len(tables.by), any(each is not None for each in tables.matches)))
-        self.assertGreaterEqual(len(met), 30)
+        self.assertGreaterEqual(len(met), min(30, TABLES // 8))
 
 
 class Columns(Case):
