@@ -120,25 +120,6 @@ class Faults(Case):
         run = within(['join', sales, notices, '--on', 'm'])
         self.assertEqual(self.went_well(run), [0, 1, 1, 3])
 
-    def test_a_crate_that_is_not_in_the_library(self):
-        """An edit of it says nothing about the library, and makes nothing anew."""
-        copy = os.path.join(self.folder, 'copy')
-        for name in ('cli', 'bindings/python/rowkeeper', 'tools/parts', 'dist', 'interface', 'crates', 'build'):
-            shutil.copytree(os.path.join(ROOT, name), os.path.join(copy, name), symlinks=True, ignore=shutil.ignore_patterns('__pycache__'))
-        for name in ('rowkeeper', 'crates.txt'):
-            shutil.copy(os.path.join(ROOT, name), os.path.join(copy, name))
-        path = self.file('s.csv', 'm\n1\n')
-        for crate, said in (('takings', ''), ('host', 'crates of the library were edited')):
-            for folder, _, files in os.walk(os.path.join(copy, 'crates', crate)):
-                for name in files:
-                    with open(os.path.join(folder, name), 'a', encoding='utf-8') as file:
-                        file.write('\n')
-            ran = subprocess.run([sys.executable, os.path.join(copy, 'rowkeeper'), 'join', path, path, '--on', 'm'],
-                                 stdout=subprocess.PIPE, stderr=subprocess.PIPE)
-            self.assertEqual((ran.returncode, ran.stdout), (0, b'm,notice_row,notice_m\n1,0,1\n'))
-            self.assertEqual(said in ran.stderr.decode(), True)
-            self.assertEqual(ran.stderr.count(b'\n'), 1 + bool(said))
-
 
 def gone(pid):
     """Whether a process has ended."""
