@@ -57,7 +57,8 @@ class Files(Case):
         """Text that is not in its encoding, and an encoding that there is not."""
         good = 'm\n5\n'
         self.refused(self.run_over('m,x\n5,ü\n'.encode('cp1252'), good, '--on', 'm'), 's.csv, line 2: byte 3 of the line is not UTF-8 text')
-        self.refused(self.run_over(b'\xff\xfem\x00\n\x00\x00\xd8', good, '--on', 'm'), 's.csv, line 2: the line is not text in the encoding utf-16-le')
+        self.refused(self.run_over(b'\xff\xfem\x00\n\x00\x00\xd8', good, '--on', 'm'), 's.csv, line 2: the line is not text in the '
+                     'encoding utf-16-le')
         self.refused(self.run_over('m\n5\n'.encode('utf-16-le'), good, '--on', 'm'), 's.csv, line 1: there is a NUL character')
         self.refused(self.run_over(b'm,x\n5,\x80\n6,\x81\n', good, '--on', 'm', '--encoding', 'cp1252'), 's.csv, line 3: the line is not '
                      'text in the encoding cp1252')

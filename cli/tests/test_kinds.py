@@ -162,7 +162,8 @@ class Columns(Case):
 
     def run_over(self, sales, notices, *words):
         """A run over two tables of p and t, and a column more in the notices."""
-        paths = self.file('s.csv', 'p,t\n' + ''.join(f'{row}\n' for row in sales)), self.file('n.csv', 'p,t,x\n' + ''.join(f'{row}\n' for row in notices))
+        paths = [self.file(name, ''.join(f'{row}\n' for row in rows))
+                 for name, rows in (('s.csv', ['p,t', *sales]), ('n.csv', ['p,t,x', *notices]))]
         return within(['join', *paths, '--on', 't', '--by', 'p', *words])
 
     def priced(self, *tables):

@@ -6,11 +6,11 @@ import unittest
 from unittest import mock
 
 import rowkeeper.library
-from rowkeeper.interface import VERSION, Join
+from rowkeeper.interface import Join
 
 from .. import build
 from ..arguments import parse, parser
-from ..cells import Text, Time, Whole, frame_words, number, parted
+from ..cells import Whole, frame_words, number, parted
 from ..input import Input
 from ..kinds import Kinds
 from ..order import Order
