@@ -95,39 +95,52 @@ def prefix(text):
     return text
 
 
-def add_columns(join):
-    """The options that name columns."""
+def add_files(command):
+    """What every command takes: the two files, their columns, how they are written and sorted."""
+    command.add_argument('sales', metavar='SALES.csv')
+    command.add_argument('notices', metavar='NOTICES.csv')
     for option in ('--on', '--left-on', '--right-on'):
-        join.add_argument(option, action=Once, metavar='COLUMN')
+        command.add_argument(option, action=Once, metavar='COLUMN')
     for option in ('--by', '--left-by', '--right-by', '--descending', '--nulls-last'):
-        join.add_argument(option, action='append', default=[], metavar='COLUMN')
-    join.add_argument('--rank', type=ranks, action=Once, metavar='COLUMN=CODES')
-    join.add_argument('--columns', type=names, action=Once, metavar='COLUMNS')
+        command.add_argument(option, action='append', default=[], metavar='COLUMN')
+    command.add_argument('--rank', type=ranks, action=Once, metavar='COLUMN=CODES')
+    command.add_argument('--strict', '--check', dest='check', action='store_true', default=True)
+    command.add_argument('--no-check', dest='check', action='store_false')
+    command.add_argument('--sort', action='store_true')
+    command.add_argument('--separator', type=separator, action=Once, metavar='SIGN')
+    command.add_argument('--encoding', action=Once, metavar='NAME')
+    command.add_argument('-o', '--output', action=Once, metavar='FILE')
 
 
-def parser():
-    """The options of `rowkeeper join`, as the page tells them."""
-    top = Parser(prog='rowkeeper', allow_abbrev=False)
-    top.add_argument('--version', action='version', version=f'rowkeeper {VERSION}')
-    commands = top.add_subparsers(dest='command', metavar='join', parser_class=Parser)
-    join = commands.add_parser('join', allow_abbrev=False)
-    join.add_argument('sales', metavar='SALES.csv')
-    join.add_argument('notices', metavar='NOTICES.csv')
-    add_columns(join)
+def add_join(join):
+    """What `rowkeeper join` takes besides."""
     join.add_argument('--strategy', choices=STRATEGIES, action=Once)
     join.add_argument('--no-exact', dest='exact', action='store_false')
     join.add_argument('--tolerance', type=tolerance, action=Once, metavar='N')
-    join.add_argument('--strict', '--check', dest='check', action='store_true', default=True)
-    join.add_argument('--no-check', dest='check', action='store_false')
-    join.add_argument('--sort', action='store_true')
     join.add_argument('--stream', action='store_true')
-    join.add_argument('--separator', type=separator, action=Once, metavar='SIGN')
-    join.add_argument('--encoding', action=Once, metavar='NAME')
+    join.add_argument('--columns', type=names, action=Once, metavar='COLUMNS')
     join.add_argument('--prefix', type=prefix, action=Once, metavar='TEXT')
     join.add_argument('--matched-only', action='store_true')
     join.add_argument('--fail-unmatched', action='store_true')
-    join.add_argument('-o', '--output', action=Once, metavar='FILE')
     join.add_argument('--explain', action='store_true')
+
+
+def add_picture(picture):
+    """What `rowkeeper picture` takes besides; what is `join`'s alone is as if nothing were said."""
+    picture.add_argument('--price', action=Once, required=True, metavar='COLUMN')
+    picture.set_defaults(strategy=None, exact=True, tolerance=None, stream=False, columns=None, prefix=None, matched_only=False,
+                         fail_unmatched=False, explain=False)
+
+
+def parser():
+    """The commands and their options, as the page tells them."""
+    top = Parser(prog='rowkeeper', allow_abbrev=False)
+    top.add_argument('--version', action='version', version=f'rowkeeper {VERSION}')
+    commands = top.add_subparsers(dest='command', metavar='COMMAND', parser_class=Parser)
+    for name, add in (('join', add_join), ('picture', add_picture)):
+        command = commands.add_parser(name, allow_abbrev=False)
+        add_files(command)
+        add(command)
     return top
 
 
@@ -186,6 +199,7 @@ def judge(args):
     if args.sales == DASH and args.notices == DASH:
         raise Problem('-: standard input can be one of the two files, not both', BAD_USAGE)
     args.strategy = args.strategy or STRATEGIES[0]
+    args.columns = [args.price] if args.command == 'picture' else args.columns
     args.encoding = known_encoding('utf-8' if args.encoding is None else args.encoding)
 
 

@@ -21,7 +21,8 @@ from .source import Source
 class Pricing:
     """A run over two files, with what it opens on a stack that closes it all."""
 
-    def __init__(self, args, stack):
+    def __init__(self, args, stack, target=None):
+        """`target` takes what is written, in the place of what the arguments name."""
         self.args, self.stack = args, stack
         quiet = args.output is None and sys.stdout is not None and sys.stdout.isatty()
         self.progress = Progress(wanted=not (quiet and args.stream))
@@ -30,7 +31,7 @@ class Pricing:
         self.kinds = Kinds(order, args.tolerance, may_be_text=not args.stream)
         self.sales, self.notices = (self.source(*each) for each in ((args.sales, args.left), (args.notices, args.right)))
         self.layout = Layout(self.sales, self.notices, args.columns, args.prefix or 'notice_')
-        self.target = sink(args.output, [args.sales, args.notices], whole=args.fail_unmatched and not args.stream)
+        self.target = target or sink(args.output, [args.sales, args.notices], whole=args.fail_unmatched and not args.stream)
 
     def source(self, path, names):
         """One of the two tables, with its header read."""
@@ -70,13 +71,14 @@ class Pricing:
         """Sorts both tables, matches, and writes the sales in their own order."""
         order, join = self.kinds.coded_order(), self.join()
         sorting = self.stack.enter_context(contextlib.closing(Sorting(order, self.layout)))
-        sorting.take_sales(sales.pairs())
-        sorting.take_notices(notices.pairs())
+        show = self.show('sorting')
+        sorting.take_sales(sales.pairs(), show)
+        sorting.take_notices(notices.pairs(), show)
         feeds = [Feed(sorted_pairs(order, each, ROWS)) for each in (sorting.sales, sorting.notices)]
         self.matching = Matching(join, *feeds, sorting.held, sorting.found)
         self.matching.run(self.show('matching'))
         self.priced = self.begin()
-        sorting.write(sales.pairs(), self.priced)
+        sorting.write(sales.pairs(), self.priced, self.show('writing'))
 
     def by_streaming(self):
         """Writes rows as soon as they are matched. With the check on, the rest of the notices is read too: one that is out of order

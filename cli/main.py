@@ -5,6 +5,7 @@ import signal
 
 from .arguments import parse
 from .join import price
+from .picture import picture
 from .problem import BAD_INPUT, DONE, Problem, say
 
 # The status of a program that a signal ends, less the signal's number.
@@ -29,7 +30,8 @@ def ended(number, _):
 def main(words):
     """Runs the command; its status."""
     try:
-        price(parse(words))
+        args = parse(words)
+        {'join': price, 'picture': picture}[args.command](args)
     except Problem as problem:
         say(problem)
         return problem.status

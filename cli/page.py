@@ -4,6 +4,7 @@ python3 -m cli.page   prints the man page"""
 from rowkeeper.interface import VERSION
 
 SHORT = '''usage: rowkeeper join SALES.csv NOTICES.csv --on KEY [--by COLUMN] [options]
+       rowkeeper picture SALES.csv NOTICES.csv --on KEY --price COLUMN [options]
        rowkeeper --help | --version
 '''
 
@@ -103,6 +104,15 @@ WHERE IT GOES
                        the status is 0. --by columns hold whole numbers then
   --explain            tell at the end what was done: options, rows, frames,
                        turns, memory
+
+A PICTURE
+  rowkeeper picture SALES.csv NOTICES.csv --on minute --by performance \\
+      --price price -o season.svg
+
+  draws the notices of each performance as steps and its sales as points on
+  them, as SVG: up to 40 performances, 50,000 rows a file. It takes the options
+  on columns, files, sorting and -o.
+  --price COLUMN       the column of the notices that is drawn, as 1800 or 12.50
 
 WHEN SOMETHING IS WRONG
   One line says what, with file, line and column, and the status is 1 for the

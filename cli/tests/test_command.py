@@ -50,11 +50,6 @@ class Season(Case):
         self.assertEqual(run.out.splitlines()[1:], [f'7,{row},{rows - 1},7,{rows - 1}' for row in range(rows)])
         self.assertIn('sales       20,000 rows in 15 frames\n', run.err)
 
-    def test_picture(self):
-        """The picture under docs/ is the one that its script draws."""
-        made = subprocess.run([sys.executable, os.path.join(ROOT, 'docs', 'picture')], stdout=subprocess.PIPE, check=True)
-        self.assertEqual(made.stdout.decode('utf-8'), self.read(os.path.join(ROOT, 'docs', 'season.svg')))
-
 
 class Help(Case):
     """The page."""

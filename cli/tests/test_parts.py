@@ -198,8 +198,8 @@ class Words(unittest.TestCase):
 
     def test_page_tells_every_option(self):
         """No option is missing on the page, and it fits a screen."""
-        join = parser()._subparsers._group_actions[0].choices['join']
-        for action in join._actions:
+        commands = parser()._subparsers._group_actions[0].choices.values()
+        for action in (action for command in commands for action in command._actions):
             for option in action.option_strings:
                 if option not in ('-h', '--help'):
                     self.assertIn(f'  {option} ', PAGE)
