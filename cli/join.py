@@ -14,7 +14,7 @@ from .pricing import ROWS, Layout, Matching, Priced
 from .problem import UNMATCHED, Problem, say
 from .progress import Progress
 from .sink import sink
-from .sorting import Sorting, sorted_pairs
+from .sorting import Sorting
 from .source import Source
 
 
@@ -70,11 +70,11 @@ class Pricing:
     def by_sorting(self, sales, notices):
         """Sorts both tables, matches, and writes the sales in their own order."""
         order, join = self.kinds.coded_order(), self.join()
-        sorting = self.stack.enter_context(contextlib.closing(Sorting(order, self.layout)))
+        sorting = self.stack.enter_context(contextlib.closing(Sorting(order, self.layout, (sales, notices))))
         show = self.show('sorting')
         sorting.take_sales(sales.pairs(), show)
         sorting.take_notices(notices.pairs(), show)
-        feeds = [Feed(sorted_pairs(order, each, ROWS)) for each in (sorting.sales, sorting.notices)]
+        feeds = [Feed(each.pairs(ROWS)) for each in (sorting.sales, sorting.notices)]
         self.matching = Matching(join, *feeds, sorting.held, sorting.found)
         self.matching.run(self.show('matching'))
         self.priced = self.begin()

@@ -65,14 +65,6 @@ class Order:
         """For each row of these columns what it is compared by: of two rows the one with the smaller rank comes first."""
         return list(zip(*(self.comparable(place, cells) for place, cells in enumerate(columns))))
 
-    def cells_of(self, ranks):
-        """The cells of a column of numbers each, from the ranks of rows."""
-        found = []
-        for place, (column, (sign, null)) in enumerate(zip(zip(*ranks), self.rules)):
-            codes = self.ranks[1].__getitem__ if self.has_list(place) else int
-            found.append([None if rank == null else codes(sign * rank) for rank in column])
-        return found
-
     def in_order(self, columns):
         """Whether the rows of these columns are sorted. Where nothing but numbers or texts that rise is there, a row can be out of
         order only where some column falls: those rows alone are looked at."""

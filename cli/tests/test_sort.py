@@ -1,28 +1,48 @@
 """--sort: files in any order."""
 import random
+from array import array
 from unittest import mock
 
-from ..sorting import Sorter
+from ..cells import parted
+from ..order import Order
+from ..sorting import Coding, Sorter
 from .command import Case, within
-from .judge import matches
+from .judge import in_order, matches
 
 
 class Sorts(Case):
     """Sorting, in memory and in runs."""
 
     def test_runs(self):
-        """Rows come out sorted however many runs they are in, numbers beyond 64 bits among them."""
-        rows = [(key, number) for number, key in enumerate([5, -2**64, 2**64, 0, 5] * 40)]
-        random.Random(1).shuffle(rows)
-        for run in (1, 7, 100, 200, 1000):
-            with mock.patch('cli.sorting.RUN', run):
-                sorter = Sorter()
-            for first in range(0, len(rows), 9):
-                sorter.add(rows[first:first + 9])
-            self.assertEqual(list(sorter.sorted()), sorted(rows))
-            self.assertEqual(bool(sorter.ends), run <= 200)
-            self.assertTrue(run != 7 or len(sorter.rows) < 7)
-            sorter.close()
+        """Rows come out sorted however many runs they are in, and however the rows of the runs lie among each other."""
+        r = random.Random(1)
+        rows = [(r.choice((0, 5, 2**32, 2**64 - 1)), r.randrange(300), number) for number in range(2000)]
+        for run, merged in ((1, 7), (7, 1), (100, 30), (2000, 30000), (2001, 30000)):
+            with mock.patch('cli.sorting.RUN', run), mock.patch('cli.sorting.MERGED', merged):
+                sorter = Sorter(3)
+                for first in range(0, len(rows), 9):
+                    sorter.add([array('Q', column) for column in zip(*rows[first:first + 9])])
+                found = [row for columns in sorter.columns(50) for row in zip(*columns)]
+                self.assertEqual(found, sorted(rows))
+                self.assertEqual(bool(sorter.runs), run <= 2000)
+                sorter.close()
+
+    def test_coding(self):
+        """Columns in numbers sort as the judge sorts them, and come back as they were: all directions, nulls, a list, the ends."""
+        r = random.Random(3)
+        for case in range(200):
+            down, last, codes = r.random() < 0.5, r.random() < 0.5, r.sample((30, -5, 2**63 - 1), 3) if case % 2 else None
+            order = Order(['p'], 'm', ['p'] * down, ['p'] * last, ('p', codes) if codes else None)
+            by = [None, *(codes or (-2**63, -1, 0, 7, 2**63 - 1))][case % 3 == 0:]
+            rows = [(r.choice(by), r.choice((-2**63, -1, 0, 2**63 - 1))) for _ in range(20)]
+            coding, columns = Coding(order, [None in by, False]), [parted(list(column)) for column in zip(*rows)]
+            words = coding.words(columns)
+            self.assertEqual([(values, marks if marks and 0 in marks else None) for values, marks in coding.columns(words)], columns)
+            sorter = Sorter(coding.width + 1)
+            sorter.add([*words, array('Q', range(20))])
+            found = [number for columns in sorter.columns(50) for number in columns[-1]]
+            wanted = in_order([(*row, number) for number, row in enumerate(rows)], [down, False], [last, False], [codes, None])
+            self.assertEqual(found, [row[-1] for row in wanted])
 
     def test_files(self):
         """Files of many runs and blocks, unsorted: every sale in its own place with the judge's notice, and the notice's own number."""
