@@ -6,7 +6,7 @@ import signal
 from .arguments import parse
 from .join import price
 from .picture import picture
-from .problem import BAD_INPUT, DONE, Problem, say
+from .problem import BAD_INPUT, DONE, Problem, reason, say
 
 # The status of a program that a signal ends, less the signal's number.
 BY_SIGNAL = 128
@@ -40,6 +40,9 @@ def main(words):
         return BAD_INPUT
     except BrokenPipeError:
         return no_reader()
+    except OSError as error:  # whatever else is read or written tells its own name
+        say(f'a temporary file: cannot be used: {reason(error)}')
+        return BAD_INPUT
     except KeyboardInterrupt:
         return BY_SIGNAL + signal.SIGINT
     except Ended as signalled:

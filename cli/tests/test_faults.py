@@ -1,6 +1,7 @@
 """What once went wrong around the join: each test has failed."""
 import hashlib
 import os
+import resource
 import shutil
 import signal
 import subprocess
@@ -17,6 +18,11 @@ ON = ('--on', 'minute', '--by', 'performance')
 def closed(number):
     """What closes a standard stream in the program that is started."""
     return lambda: os.close(number)
+
+
+def small_files():
+    """What keeps the program that is started from writing long files."""
+    resource.setrlimit(resource.RLIMIT_FSIZE, (10000, 10000))
 
 
 class Faults(Case):
@@ -110,6 +116,15 @@ class Faults(Case):
                 time.sleep(0.01)
             self.assertTrue(gone(int(pid)))
         self.assertEqual(os.listdir(made), [])
+
+    def test_no_room_for_temporary_files(self):
+        """What does not fit there is told, and nothing is written: for the numbers of a file, a pipe, the sorting, the end."""
+        path = self.file('s.csv', 'm\n' + ''.join(f'{minute}\n' for minute in range(9000)))
+        for words in ([path], ['-'], [path, '--sort'], [path, '--fail-unmatched']):
+            with open(path, 'rb') as file:
+                run = apart(['join', path, *words, '--on', 'm'], preexec_fn=small_files, input=file.read())
+            self.refused(run, 'a temporary file: cannot be ')
+            self.assertIn('File too large', run.err)
 
     def test_blank_lines(self):
         """They are passed and not counted, as the page says; lines are still counted as an editor does."""
