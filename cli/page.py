@@ -46,7 +46,7 @@ WHAT GOES IN
   Both files must be sorted: by the --by columns in turn, then by the --on
   column; ascending, empty cells first. Or say --sort. Blank lines are passed
   and not counted. A line can have 16 MB. Memory goes by the notices that lie
-  between two sales of one performance (about 60 bytes each), and by the
+  between two sales of one performance (about 50 bytes each), and by the
   different texts of the --by columns, not by the length of the files.
   -                    as a file's name: standard input
   --separator SIGN     what stands between the columns of both files: ';', tab.
