@@ -121,6 +121,11 @@ class Text:
         places = {text: place for place, text in enumerate(sorted(self.known))}
         return array('q', map(places.__getitem__, self.known)) or array('q', [0])
 
+    def coded(self, column):
+        """The codes of a column of texts, where no other text will be met."""
+        codes = self.codes()
+        return [None if text is None else codes[self.known[text]] for text in column]
+
 
 def kind_of(cell):
     """The kind of key that a cell is: whole numbers, or times with a zone or without."""

@@ -1,7 +1,7 @@
 """Rows on their way into frames, and the notices that can still be matched."""
 from collections import deque
 
-from .cells import frame_words, parted
+from .cells import Text, frame_words, parted
 
 
 class Part:
@@ -39,10 +39,12 @@ class Feed:
 
 
 def streamed(source, first, progress):
-    """The blocks of a source that is read once, with their columns; the first has been read."""
+    """The blocks of a source that is read once, with their columns; the first has been read. Text stands in a column with a list
+    alone, so all texts are known."""
     pair = first
     while pair is not None:
-        yield pair[0], [parted(column) for column in pair[1]]
+        kinds = source.kinds.all()
+        yield pair[0], [parted(kind.coded(column) if isinstance(kind, Text) else column) for kind, column in zip(kinds, pair[1])]
         progress()
         pair = source.next()
 

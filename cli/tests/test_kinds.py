@@ -226,7 +226,9 @@ class Columns(Case):
         """Bands by their names: stalls, then circle, then gods; any other is told, and so is another order."""
         rank = ('--rank', 'p=stalls,circle,gods')
         sales, notices = ['stalls,9', 'circle,9', ' gods ,9'], ['stalls,1,a', 'circle,1,b', 'gods,1,c']
-        self.assertEqual([row[2] for row in self.priced(sales, notices, *rank)], ['a', 'b', 'c'])
+        for words in ([], ['--stream'], ['--no-check']):
+            self.assertEqual([row[2] for row in self.priced(sales, notices, *rank, *words)], ['a', 'b', 'c'])
+        self.assertEqual([row[2] for row in self.priced([',9', *sales], notices, *rank, '--stream')], ['', 'a', 'b', 'c'])
         self.assertEqual([row[2] for row in self.priced(sales[::-1], notices[::-1], *rank, '--descending', 'p')], ['c', 'b', 'a'])
         self.assertEqual([row[2] for row in self.priced(sales[::-1], notices[1:] + notices[:1], *rank, '--sort')], ['c', 'b', 'a'])
         self.assertEqual(self.priced(['"a,b",9'], ['"a,b",1,x'], '--rank', 'p=z,"a,b"')[0][-1:], ['x'])
