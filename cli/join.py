@@ -48,7 +48,10 @@ class Pricing:
         return Join(self.kinds.coded_order(), args.strategy, args.exact, self.kinds.distance(), args.check)
 
     def begin(self):
-        """The output, when its first line is due."""
+        """The output, when its first line is due; notes come before it."""
+        self.progress.clear()
+        for note in self.kinds.notes:
+            say(note)
         file = self.stack.enter_context(self.target)
         if self.sales.input.marked or self.sales.input.converted:
             file.write(codecs.BOM_UTF8)

@@ -5,7 +5,7 @@ from array import array
 from .cells import Text, parted
 from .input import put, temporary
 from .kinds import Turned
-from .problem import Disorder, say
+from .problem import Disorder
 
 WORD = 8
 
@@ -13,8 +13,8 @@ WORD = 8
 class Later:
     """A block of which nothing but the height is known, until its text is wanted: notices that no sale takes are not read again."""
 
-    def __init__(self, records, place, size, total, by_line, height):
-        self.records, self.place, self.how = records, place, (size, total, by_line)
+    def __init__(self, records, place, how, height):
+        self.records, self.place, self.how = records, place, how
         self.height, self.number, self.texts = height, 0, None
 
     def chosen(self, *how):
@@ -24,7 +24,8 @@ class Later:
 
 
 class Judged:
-    """A table that was judged: of each of its blocks the size and the sum, and the numbers of its compared columns."""
+    """A table that was judged: of each of its blocks where it is and its sum, how many rows it has and which of its columns have nulls;
+    and the numbers of its compared columns."""
 
     def __init__(self, source):
         self.source, self.kept, self.blocks = source, temporary(), []
@@ -53,7 +54,7 @@ class Judged:
             values, marks = parted(kind.numbers(column) if isinstance(kind, Text) else column)
             nulls.append(marks is not None)
             put(self.kept, values.tobytes() + (marks.tobytes() if marks is not None else b''))
-        self.blocks.append((block.size, block.sum, block.text is not None, block.height, nulls))
+        self.blocks.append(((block.passed, block.size, block.sum, block.text is not None), block.height, nulls))
 
     def words(self, height):
         """The next words of what was kept."""
@@ -65,10 +66,10 @@ class Judged:
         """The blocks again, from the first on, each with its columns in numbers: values and marks; text by codes in text order.
         `later`: the text of a block is read when it is wanted."""
         self.source.again()
-        self.source.counted = sum(block[3] for block in self.blocks)
+        self.source.counted = sum(height for _, height, _ in self.blocks)
         self.kept.seek(0)
         codes, place = self.source.kinds.codes(), self.source.header_size
-        for size, total, by_line, height, nulls in self.blocks:
+        for how, height, nulls in self.blocks:
             columns = []
             for code, null in zip(codes, nulls):
                 values = self.words(height)
@@ -76,9 +77,8 @@ class Judged:
                 marks = self.words(height) if null else None
                 columns.append((values if marks is None or code is None else array('q', map(int.__mul__, values, marks)), marks))
             self.source.rows += height
-            yield Later(self.source.records, place, size, total, by_line, height) if later else \
-                self.source.records.exactly(size, total, by_line), columns
-            place += size
+            yield Later(self.source.records, place, how, height) if later else self.source.records.exactly(*how), columns
+            place += how[0] + how[1]
 
     def close(self):
         """Gives the temporary file back."""
@@ -106,4 +106,4 @@ def judge(tables, kinds, progress):
         except Turned as turned:
             kinds.turn(turned)
             if turned.after_numbers:
-                say(f'{kinds.order.columns[turned.column]} is compared as text, because of {turned.why}')
+                kinds.notes.append(f'{kinds.order.columns[turned.column]} is compared as text, because of {turned.why}')

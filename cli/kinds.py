@@ -22,11 +22,12 @@ def listed_codes(texts):
 
 
 class Kinds:
-    """The kinds of an order's columns. The key's is that of the first cell that is met, in either file."""
+    """The kinds of an order's columns. The key's is that of the first cell that is met, in either file. `notes` are for the user, if all
+    goes well."""
 
     def __init__(self, order, tolerance=None, may_be_text=True):
         self.order, self.tolerance, self.may_be_text = order, tolerance, may_be_text
-        self.key, self.begun, self.why = None, None, {}
+        self.key, self.begun, self.why, self.notes = None, None, {}, []
         self.by = [Whole() for _ in order.descending]
         if order.ranks is not None and any(isinstance(code, str) for code in order.ranks[1]):
             self.by[order.ranks[0]] = Text(order.ranks[1])

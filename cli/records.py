@@ -54,7 +54,7 @@ class Block:
         self.found_lines, self.found_rows = lines, rows
         self.quoted = text is None or QUOTE in text
         self.height = len(lines) if text is None else text.count('\n') + 1
-        self.size, self.sum, self.number, self.texts = 0, 0, 0, None
+        self.passed, self.size, self.sum, self.number, self.texts = 0, 0, 0, 0, None
 
     @property
     def lines(self):
@@ -113,7 +113,7 @@ class Records:
 
     def start(self):
         """Stands at the first byte."""
-        self.rest, self.ended, self.late, self.at_line, self.bytes = b'', False, None, 1, FIRST_BYTES
+        self.rest, self.ended, self.late, self.at_line, self.bytes, self.passed = b'', False, None, 1, FIRST_BYTES, 0
 
     def again(self, size, line):
         """Goes back to the byte of this number, with which this line begins."""
@@ -130,10 +130,12 @@ class Records:
         """Goes to the byte of this number; which line it is in is not known then."""
         self.input.rewind(place)
 
-    def exactly(self, size, total, by_line):
-        """The records of the next bytes, as many as a block had and with its sum; else the file was changed in the meantime. `by_line`:
-        they are known to be one a line."""
+    def exactly(self, passed, size, total, by_line):
+        """The records behind so many bytes of blank lines: those of as many bytes as a block had, with its sum; else the file was changed
+        in the meantime. `by_line`: they are known to be one a line."""
         self.rest = b''
+        self.more(passed)
+        self.at_line, self.rest = self.at_line + self.rest.count(b'\n'), b''
         self.more(size)
         data, self.ended = self.rest, True
         if len(data) != size or zlib.crc32(data) != total:
@@ -186,13 +188,12 @@ class Records:
         try:
             for cells in csv.reader(self.lines(taken), strict=True, delimiter=self.separator):
                 if cells:
-                    text = ''.join(text for text, _ in taken)
-                    lines.append(text[:-2] if text.endswith('\r\n') else text[:-1] if text.endswith('\n') else text)
+                    lines.append(''.join(text for text, _ in taken).rstrip('\r\n'))
                     rows.append(cells)
                     starts.append(line)
                 line, end = line + len(taken), taken[-1][1]
                 taken.clear()
-                if end >= most:
+                if rows and end >= most:
                     break
         except csv.Error as error:
             self.late = Problem(f'{at(self.input.path, line)}: the line cannot be read as CSV: {plainly(error)}')
@@ -209,10 +210,9 @@ class Records:
             raise self.late
         return None
 
-    @staticmethod
-    def summed(block, data):
-        """A block with the number and the sum of its bytes."""
-        block.size, block.sum = len(data), zlib.crc32(data)
+    def summed(self, block, data):
+        """A block with the number and the sum of its bytes, and how many of blank lines were passed before them."""
+        block.passed, block.size, block.sum, self.passed = self.passed, len(data), zlib.crc32(data), 0
         return block
 
     def line_by_line(self, data):
@@ -257,3 +257,4 @@ class Records:
             if block.height:
                 self.bytes = min(MOST_BYTES, max(FEWEST_BYTES, len(data) * ROWS // block.height))
                 return self.summed(block, data)
+            self.passed += len(data)

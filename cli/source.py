@@ -1,9 +1,10 @@
 """A table: its header, and its rows in blocks, judged. Whatever is wrong is told by file, line and column."""
+import contextlib
 import csv
 
 from .cells import Text, Whole
 from .kinds import Turned
-from .problem import Disorder, Problem, at, named, quoted, say
+from .problem import Disorder, Problem, at, named, quoted
 from .records import Records, plainly
 
 # The separators that are tried where none is named, and what messages call them.
@@ -44,12 +45,14 @@ class Source:
 
     def find_header(self, separators):
         """Reads the header by the first separator with which it has all columns that are wanted, or by the first of all."""
-        found = self.read_header(separators[0])
-        separator = separators[0]
-        for other in separators[1:]:
-            if not set(self.names) <= set(found[0]) and set(self.names) <= set(self.read_header(other)[0]):
-                found, separator = self.read_header(other), other
-                say(f'{named(self.path)}: columns are separated by {SAID[other]}')
+        found, separator = self.read_header(separators[0]), separators[0]
+        if not set(self.names) <= set(found[0]):
+            for other in separators[1:]:
+                with contextlib.suppress(Problem):
+                    if set(self.names) <= set(self.read_header(other)[0]):
+                        found, separator = self.read_header(other), other
+                        self.kinds.notes.append(f'{named(self.path)}: columns are separated by {SAID[other]}')
+                        break
         self.header, self.header_line, self.header_size, self.header_end = found
         self.records.separator = self.separator = separator
         self.places = [self.place(name) for name in self.names]

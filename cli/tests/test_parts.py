@@ -12,6 +12,7 @@ from .. import build
 from ..arguments import parse, parser
 from ..cells import Whole, frame_words, number, parted
 from ..input import Input
+from ..judged import Judged
 from ..kinds import Kinds
 from ..order import Order
 from ..page import PAGE
@@ -144,6 +145,22 @@ class Sources(Case):
         self.assertEqual([row[:2] for row in rows], [(i // 4, i) for i in range(63)])
         self.assertEqual(rows[2:4] + rows[6:7], [(0, 2, '0,2,"a\nb"', 'a\nb', 4), (0, 3, '0,3,z', 'z', 6), (1, 6, '1,6,é', 'é', 9)])
         self.assertEqual(source.share(), 1.0)
+
+    def test_odd_line_ends(self):
+        """Several carriage returns at the end of a line, one alone at the end of the file, blank lines in pieces of their own: the text of
+        a row has none of them, and a second reading finds the same rows."""
+        text = 'p,m,t\n' + '\n' * 9 + '1,2,x\r\r\n' + '\n' * 50 + '1,3,"y\r"\n\r\n\n1,4,z\n1,5,\r'
+        for size in (1, 8, 1 << 15):
+            with mock.patch('cli.records.FIRST_BYTES', size), mock.patch('cli.records.MOST_BYTES', size), \
+                    mock.patch('cli.records.FEWEST_BYTES', 1):
+                table = Judged(self.source(text))
+                table.read(lambda: None)
+                blocks = [block for block, _ in table.pairs()]
+                cells = [text for block, _ in table.pairs(later=True) for text in block.chosen([0, 1, 2], 3, ',')]
+            self.assertEqual([line for block in blocks for line in block.lines], ['1,2,x', '1,3,"y\r"', '1,4,z', '1,5,'])
+            self.assertEqual([block.line(row) for block in blocks for row in range(block.height)], [11, 62, 65, 66])
+            self.assertEqual(cells, ['1,2,x', '1,3,"y\r"', '1,4,z', '1,5,'])
+            table.close()
 
     def test_kinds_of_text(self):
         """Line ends, a byte order mark, blanks, blank lines, quotes."""
