@@ -55,11 +55,11 @@ class Kinds:
         self.distance()
 
     def distance(self):
-        """The tolerance in the key's own numbers, or None. A Problem if it is of another kind."""
+        """The tolerance in the key's own numbers, or None. A Problem if it is of another kind; where no key is known any will do."""
         if self.tolerance is None:
             return None
         count, unit = self.tolerance
-        if isinstance(self.key, Time) != bool(unit):
+        if self.key is not None and isinstance(self.key, Time) != bool(unit):
             here = 'times: --tolerance 2h, with s, m, h or d' if isinstance(self.key, Time) else 'whole numbers: --tolerance 120'
             raise Problem(f'--tolerance {count}{unit}: does not go with {self.order.columns[-1]}, which holds {here}', BAD_USAGE)
         if count * UNITS.get(unit, 1) > MOST:

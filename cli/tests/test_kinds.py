@@ -144,8 +144,6 @@ class RandomTables(Case):
             r = random.Random(seed)
             tables = Tables(r, sort=seed % 2 == 1)
             paths = [self.file(name, tables.text(file)) for name, file in zip(('s.csv', 'n.csv'), tables.files)]
-            if tables.tolerance and not any(row[-1].strip() for file in tables.files for row in file) and tables.kind != 'number':
-                continue
             with self.subTest(seed=seed):
                 run = within(['join', *paths, *tables.words()])
                 self.assertEqual(run.status, 0, run.err)
@@ -194,6 +192,9 @@ class Columns(Case):
 
     def test_tolerances(self):
         """One that does not fit the key is refused as a word of the command line, before anything is written."""
+        for words in ('2h', '2'):
+            self.assertEqual(self.went_well(self.run_over([], [], '--tolerance', words))[:2], [0, 0])
+            self.assertEqual(self.went_well(self.run_over(['1,'], [], '--tolerance', words, '--stream'))[:2], [0, 1])
         self.refused(self.run_over(['a,5'], [], '--tolerance', '2h'), '--tolerance 2h: does not go with t, which holds whole numbers', 2)
         self.refused(self.run_over(['a,2026-01-05'], [], '--tolerance', '2'), '--tolerance 2: does not go with t, which holds times', 2)
         self.refused(self.run_over(['a,2026-01-05'], [], '--tolerance', f'{2**62}d'), 'is beyond 64 bits of microseconds', 2)
