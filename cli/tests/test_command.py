@@ -1,5 +1,6 @@
 """The command from outside: the season, bad input, where the output goes."""
 import os
+import re
 import signal
 import stat
 import subprocess
@@ -49,6 +50,18 @@ class Season(Case):
         self.assertEqual(run.status, 0)
         self.assertEqual(run.out.splitlines()[1:], [f'7,{row},{rows - 1},7,{rows - 1}' for row in range(rows)])
         self.assertIn('sales       20,000 rows in 15 frames\n', run.err)
+
+
+class Till(Case):
+    """README's second command: files as a till writes them."""
+
+    def test_priced(self):
+        """The output is the file beside them, and the notes say what was found."""
+        command = re.findall(r'(?m)^    [.]/rowkeeper (join .*)$', self.read(os.path.join(ROOT, 'README.md')))[1]
+        run = apart(command.split(), cwd=ROOT)
+        self.assertEqual((run.status, run.out), (0, self.read(os.path.join(SEASON, 'till_priced.csv'))))
+        self.assertEqual(run.err, 'rowkeeper: examples/season/till.csv: columns are separated by semicolons\n'
+                         'rowkeeper: 5 of 7 sales have a notice; 2 have none, the first in line 7\n')
 
 
 class Help(Case):
