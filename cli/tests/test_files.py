@@ -36,6 +36,15 @@ class Files(Case):
                      'no such column; the columns are performance;minute;seat')
         self.refused(self.run_over(sales.format('|'), notices.format('|'), *ON), 'there is no such column')
 
+    def test_groups_in_quotes(self):
+        """A notice's by-cell with a separator or a quote in it is cut off as a whole, wherever it stands."""
+        for sales, notices in (('p,m\n"a,b",5\n', 'p,m,x\n"a,b",4,"c,d"\n'), ('p,m\n"a,b",5\n', 'm,x,p\n4,"c,d","a,b"\n'),
+                               ('p,m\n"a""b",5\n', 'p,m,x\n"a""b",4,"c,d"\n'), ('p,m\na,5\n', 'p,m,x\n"a",4,"c,d"\n')):
+            for words in ((), ('--sort',)):
+                run = self.run_over(sales, notices, '--on', 'm', '--by', 'p', *words)
+                self.went_well(run)
+                self.assertEqual(run.out, f'p,m,notice_row,notice_m,x\n{sales.splitlines()[1]},0,4,"c,d"\n')
+
     def test_encodings(self):
         """cp1252 by name, UTF-16 by its mark; a mark of the sales is kept, one of the notices is not carried."""
         sales, notices, mark = 'm,Käufer\n5,Brückner €\n', 'm,Grund\n4,früh\n', b'\xef\xbb\xbf'

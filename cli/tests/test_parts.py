@@ -198,6 +198,12 @@ class Sources(Case):
                             pass
                 self.assertIn(said, str(caught.exception))
 
+    def test_short_beside_long(self):
+        """A row that lacks a cell is told, also where the next one has a cell more and both together look right."""
+        for text in ('m,t\n1\n2,3,4\n', 'm,t\n1,2,3\n4\n'):
+            with self.assertRaisesRegex(Problem, 'line 2: columns: [13], but the header names 2'):
+                self.source(text, by=()).next()
+
     def test_without_check(self):
         """Rows in any order are taken where no check is wanted."""
         self.assertEqual(list(map(list, self.source('p,m\n1,2\n1,1\n', check=False).next()[1])), [[1, 1], [2, 1]])

@@ -1,5 +1,6 @@
 """The picture, by what stands in it."""
 import os
+import re
 import xml.etree.ElementTree as tree
 
 from ..build import ROOT
@@ -36,7 +37,11 @@ class Pictures(Case):
         paths = [self.file(name, ''.join(f'{row}\n' for row in rows)) for name, rows in
                  (('s.csv', ['play;sold_at;seat', *sales]), ('n.csv', ['play;sold_at;price', *notices]))]
         words = ['picture', *paths, '--on', 'sold_at', '--by', 'play', '--price', 'price', '--separator', ';']
-        circles, texts = self.drawn(within([*words, '--sort']))
+        run = within([*words, '--sort'])
+        circles, texts = self.drawn(run)
+        steps = [each.get('d') for each in tree.fromstring(run.out).iter(f'{SVG}path') if each.get('stroke-width') == '2']
+        places = [float(place) for place in re.findall('[MLH]([0-9.]+)', steps[0])]
+        self.assertEqual((len(steps), len(places), places), (1, 6, sorted(places)))
         last, first, middle, unknown = circles
         self.assertTrue(first[0] < middle[0] < last[0] and unknown[0] < first[0])
         self.assertTrue(middle[1] < first[1] < last[1])
