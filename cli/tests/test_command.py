@@ -116,9 +116,8 @@ class Usage(Case):
                             ([*join, '--on', 'm', '--tolerance', str(2**63)], 'beyond 64 bits'),
                             ([*join, '--on', 'm', '--strat', 'nearest'], '--strat')):
             with self.subTest(words=words):
-                run = apart(words)
-                self.refused(run, said, 2)
-                self.assertEqual(run.out, '')
+                self.refused(within(words), said, 2)
+        self.refused(apart(join), '--on', 2)
 
 
 class BadFiles(Case):
