@@ -1,11 +1,18 @@
 """The command line."""
 import argparse
+import csv
+import re
 
 from rowkeeper.interface import MOST_BY, MOST_RANKS, STRATEGIES, VERSION
 
 from .cells import MOST, number
+from .input import DASH, known_encoding
+from .kinds import listed_codes
 from .page import PAGE, SHORT
 from .problem import BAD_USAGE, Problem, quoted
+
+# What --separator may be called.
+SEPARATORS = {'tab': '\t', '\\t': '\t', 'comma': ',', 'semicolon': ';'}
 
 
 class Parser(argparse.ArgumentParser):
@@ -24,26 +31,34 @@ class Parser(argparse.ArgumentParser):
         return SHORT
 
 
-def distance(text):
-    """The number of --tolerance."""
+class Once(argparse.Action):
+    """An option that can be said once."""
+
+    def __call__(self, parser, namespace, values, option_string=None):
+        """Takes the value, unless there is one."""
+        if getattr(namespace, self.dest) is not None:
+            raise argparse.ArgumentError(self, 'is said twice')
+        setattr(namespace, self.dest, values)
+
+
+def split(text):
+    """Names or codes with commas between them; those that have a comma themselves are in quotes, as in CSV."""
     try:
-        value = number(text)
+        return [each.strip() for each in next(csv.reader([text], strict=True), [])]
+    except csv.Error:
+        raise argparse.ArgumentTypeError(f'{quoted(text)} cannot be read: a quote is not closed, or closed too early') from None
+
+
+def tolerance(text):
+    """The number of --tolerance and its unit, or none."""
+    shape = re.fullmatch(r'\s*([0-9]+)\s*([smhd])\s*', text)
+    try:
+        value = number(shape.group(1) if shape else text)
     except ValueError as why:
-        raise argparse.ArgumentTypeError(str(why)) from None
+        raise argparse.ArgumentTypeError(f'{why}, nor one with s, m, h or d' if 'whole' in str(why) else str(why)) from None
     if value is None or value < 0:
-        raise argparse.ArgumentTypeError(f'must be a number from 0 to {MOST}')
-    return value
-
-
-def code(text):
-    """A code of --rank."""
-    try:
-        value = number(text)
-    except ValueError as why:
-        raise argparse.ArgumentTypeError(str(why)) from None
-    if value is None:
-        raise argparse.ArgumentTypeError('there is an empty code')
-    return value
+        raise argparse.ArgumentTypeError(f'must be a number from 0 to {MOST}, or a time as 2h')
+    return value, shape.group(2) if shape else ''
 
 
 def ranks(text):
@@ -51,61 +66,141 @@ def ranks(text):
     name, sign, codes = text.rpartition('=')
     if not sign:
         raise argparse.ArgumentTypeError(f'must be COLUMN=CODES, as band=30,10,20, not {quoted(text)}')
-    return name, [code(each) for each in codes.split(',')]
+    codes = split(codes)
+    if '' in codes or not codes:
+        raise argparse.ArgumentTypeError('there is an empty code')
+    return name, listed_codes(codes)
+
+
+def names(text):
+    """The columns of --columns."""
+    found = split(text)
+    if '' in found or not found:
+        raise argparse.ArgumentTypeError('there is an empty name')
+    return found
+
+
+def separator(text):
+    """One character, or a name of one."""
+    found = SEPARATORS.get(text, text)
+    if len(found) != 1 or found in '"\r\n\0':
+        raise argparse.ArgumentTypeError(f'must be one character, or the word tab, not {quoted(text)}')
+    return found
+
+
+def prefix(text):
+    """Any text but an empty one."""
+    if not text or not text.isprintable():
+        raise argparse.ArgumentTypeError('must be a text that can be printed, and not empty')
+    return text
+
+
+def add_files(command):
+    """What every command takes: the two files, their columns, how they are written and sorted."""
+    command.add_argument('sales', metavar='SALES.csv')
+    command.add_argument('notices', metavar='NOTICES.csv')
+    for option in ('--on', '--left-on', '--right-on'):
+        command.add_argument(option, action=Once, metavar='COLUMN')
+    for option in ('--by', '--left-by', '--right-by', '--descending', '--nulls-last'):
+        command.add_argument(option, action='append', default=[], metavar='COLUMN')
+    command.add_argument('--rank', type=ranks, action=Once, metavar='COLUMN=CODES')
+    command.add_argument('--strict', '--check', dest='check', action='store_true', default=True)
+    command.add_argument('--no-check', dest='check', action='store_false')
+    command.add_argument('--sort', action='store_true')
+    command.add_argument('--separator', type=separator, action=Once, metavar='SIGN')
+    command.add_argument('--encoding', action=Once, metavar='NAME')
+    command.add_argument('-o', '--output', action=Once, metavar='FILE')
+
+
+def add_join(join):
+    """What `rowkeeper join` takes besides."""
+    join.add_argument('--strategy', choices=STRATEGIES, action=Once)
+    join.add_argument('--no-exact', dest='exact', action='store_false')
+    join.add_argument('--tolerance', type=tolerance, action=Once, metavar='N')
+    join.add_argument('--stream', action='store_true')
+    join.add_argument('--columns', type=names, action=Once, metavar='COLUMNS')
+    join.add_argument('--prefix', type=prefix, action=Once, metavar='TEXT')
+    join.add_argument('--matched-only', action='store_true')
+    join.add_argument('--fail-unmatched', action='store_true')
+    join.add_argument('--explain', action='store_true')
+
+
+def add_picture(picture):
+    """What `rowkeeper picture` takes besides; what is `join`'s alone is as if nothing were said."""
+    picture.add_argument('--price', action=Once, required=True, metavar='COLUMN')
+    picture.set_defaults(strategy=None, exact=True, tolerance=None, stream=False, columns=None, prefix=None, matched_only=False,
+                         fail_unmatched=False, explain=False)
 
 
 def parser():
-    """The options of `rowkeeper join`, as the page tells them."""
+    """The commands and their options, as the page tells them."""
     top = Parser(prog='rowkeeper', allow_abbrev=False)
     top.add_argument('--version', action='version', version=f'rowkeeper {VERSION}')
-    commands = top.add_subparsers(dest='command', metavar='join', parser_class=Parser)
-    join = commands.add_parser('join', allow_abbrev=False)
-    join.add_argument('sales', metavar='SALES.csv')
-    join.add_argument('notices', metavar='NOTICES.csv')
-    join.add_argument('--on', required=True, metavar='COLUMN')
-    join.add_argument('--by', action='append', default=[], metavar='COLUMN')
-    join.add_argument('--strategy', choices=STRATEGIES, default=STRATEGIES[0])
-    join.add_argument('--no-exact', dest='exact', action='store_false')
-    join.add_argument('--tolerance', type=distance, metavar='N')
-    join.add_argument('--check', dest='check', action='store_true', default=True)
-    join.add_argument('--no-check', dest='check', action='store_false')
-    join.add_argument('--descending', action='append', default=[], metavar='COLUMN')
-    join.add_argument('--nulls-last', action='append', default=[], metavar='COLUMN')
-    join.add_argument('--rank', type=ranks, action='append', default=[], metavar='COLUMN=CODES')
-    join.add_argument('--output', metavar='FILE')
-    join.add_argument('--explain', action='store_true')
+    commands = top.add_subparsers(dest='command', metavar='COMMAND', parser_class=Parser)
+    for name, add in (('join', add_join), ('picture', add_picture)):
+        command = commands.add_parser(name, allow_abbrev=False)
+        add_files(command)
+        add(command)
     return top
+
+
+def one_side(left, right, both, what):
+    """The names of one kind of column for both files: those for both, or those for each."""
+    if both and (left or right):
+        raise Problem(f'--{what}: does not go with --left-{what} and --right-{what}', BAD_USAGE)
+    if len(left) != len(right):
+        raise Problem(f'--left-{what}, --right-{what}: {len(left)} and {len(right)} columns, but each needs its own', BAD_USAGE)
+    return (both, both) if both else (left, right)
+
+
+def judge_columns(args):
+    """Settles which columns are compared: `left` and `right` are the by-columns and the key of each file."""
+    some = lambda name: [] if name is None else [name]
+    on = one_side(some(args.left_on), some(args.right_on), some(args.on), 'on')
+    if not on[0]:
+        raise Problem('--on: say which column is compared; rowkeeper --help tells more', BAD_USAGE)
+    by = one_side(args.left_by, args.right_by, args.by, 'by')
+    if len(by[0]) > MOST_BY:
+        raise Problem(f'--by: {len(by[0])} columns, but there can be {MOST_BY} at most', BAD_USAGE)
+    args.left, args.right = [*by[0], *on[0]], [*by[1], *on[1]]
+    for side in (args.left, args.right):
+        twice = next((name for name in side if side.count(name) > 1), None)
+        if twice is not None:
+            raise Problem(f'--on, --by: column {twice} is named twice', BAD_USAGE)
+    for option, columns in (('--descending', args.descending), ('--nulls-last', args.nulls_last)):
+        for name in columns:
+            if name not in args.left[:-1]:
+                raise Problem(f'{option}: {name} is not a --by column', BAD_USAGE)
 
 
 def judge_rank(args):
     """Stops at a list of codes that cannot be taken."""
-    if len(args.rank) > 1:
-        raise Problem('--rank: can be said once, for one column', BAD_USAGE)
-    for name, codes in args.rank:
-        if name not in args.by:
-            raise Problem(f'--rank: {name} is not a --by column', BAD_USAGE)
-        if len(codes) > MOST_RANKS:
-            raise Problem(f'--rank: {len(codes)} codes, but there can be {MOST_RANKS} at most', BAD_USAGE)
-        twice = next((each for each in codes if codes.count(each) > 1), None)
-        if twice is not None:
-            raise Problem(f'--rank: code {twice} is named twice', BAD_USAGE)
+    name, codes = args.rank
+    if name not in args.left[:-1]:
+        raise Problem(f'--rank: {name} is not a --by column', BAD_USAGE)
+    if len(codes) > MOST_RANKS:
+        raise Problem(f'--rank: {len(codes)} codes, but there can be {MOST_RANKS} at most', BAD_USAGE)
+    twice = next((each for each in codes if codes.count(each) > 1), None)
+    if twice is not None:
+        raise Problem(f'--rank: code {twice} is named twice', BAD_USAGE)
 
 
 def judge(args):
     """Stops at options that do not go together."""
-    if len(args.by) > MOST_BY:
-        raise Problem(f'--by: {len(args.by)} columns, but there can be {MOST_BY} at most', BAD_USAGE)
-    names = [*args.by, args.on]
-    twice = next((name for name in names if names.count(name) > 1), None)
-    if twice is not None:
-        raise Problem(f'--on, --by: column {twice} is named twice', BAD_USAGE)
-    for option, columns in (('--descending', args.descending), ('--nulls-last', args.nulls_last)):
-        for name in columns:
-            if name not in args.by:
-                raise Problem(f'{option}: {name} is not a --by column', BAD_USAGE)
-    judge_rank(args)
-    if args.strategy == 'nearest' and not args.exact:
-        raise Problem('--no-exact: does not go with --strategy nearest', BAD_USAGE)
+    judge_columns(args)
+    if args.rank is not None:
+        judge_rank(args)
+    pairs = (('--no-exact', '--strategy nearest', not args.exact and args.strategy == 'nearest'),
+             ('--stream', '--sort', args.stream and args.sort),
+             ('--matched-only', '--fail-unmatched', args.matched_only and args.fail_unmatched))
+    for option, other, both in pairs:
+        if both:
+            raise Problem(f'{option}: does not go with {other}', BAD_USAGE)
+    if args.sales == DASH and args.notices == DASH:
+        raise Problem('-: standard input can be one of the two files, not both', BAD_USAGE)
+    args.strategy = args.strategy or STRATEGIES[0]
+    args.columns = [args.price] if args.command == 'picture' else args.columns
+    args.encoding = known_encoding('utf-8' if args.encoding is None else args.encoding)
 
 
 def parse(words):

@@ -1,14 +1,18 @@
-"""Cells of whole-number columns, and the words of a frame."""
+"""What the cells of a compared column may be: whole numbers, times, text. Each kind reads a cell, and a column of cells."""
 import re
 from array import array
 
 from .problem import quoted
+from .times import DATE_LENGTH, Clocks, Days
 
 # The ends of 64-bit numbers with a sign.
 LEAST, MOST = -2**63, 2**63 - 1
 
 # The most digits that such a number has.
 DIGITS = 19
+
+# How often each cell of a column stands there where it is read once for all.
+OFTEN = 4
 
 WHOLE = re.compile(r'([+-]?)0*([0-9]+)')
 
@@ -28,22 +32,132 @@ def number(cell):
     return value
 
 
-def column_numbers(cells):
-    """The numbers of a column, None for each null; ValueError where a cell is none. Python's own reader of numbers is
-    taken where all cells are plain: it would take other things for numbers too."""
-    text = ''.join(cells)
-    if text.isascii() and '_' not in text:
+class Whole:
+    """Whole numbers of 64 bits with a sign."""
+
+    said = 'a whole number'
+    value = staticmethod(number)
+
+    @staticmethod
+    def column(cells):
+        """The numbers of a column, None for each null; ValueError where a cell is none. Python's own reader of numbers is taken
+        where all cells are plain: it would take other things for numbers too."""
+        different = set(cells)
+        text = ''.join(different)
+        if text.isascii() and '_' not in text:
+            try:
+                if '' not in different and len(different) * OFTEN < len(cells):
+                    return array('q', map({cell: int(cell) for cell in different}.__getitem__, cells))
+                if '' not in different:
+                    return array('q', map(int, cells))
+                column = [int(cell) if cell else None for cell in cells]
+                array('q', filter(None, column))
+                return column
+            except (ValueError, OverflowError):
+                pass
+        return [number(cell) for cell in cells]
+
+
+class Time:
+    """Dates and times in whole microseconds, all with a zone or all without one."""
+
+    def __init__(self, zoned):
+        self.zoned = zoned
+        self.days, self.clocks = Days(), Clocks(zoned)
+        self.said = 'a time with a zone' if zoned else 'a date or time without a zone'
+
+    def value(self, cell):
+        """The microseconds of a cell, or None where it is empty."""
+        text = cell.strip()
+        if not text:
+            return None
         try:
-            return array('q', map(int, cells))
-        except (ValueError, OverflowError):
-            pass
-    return [number(cell) for cell in cells]
+            return self.days[text[:DATE_LENGTH]] + self.clocks[text[DATE_LENGTH:]]
+        except ValueError:
+            raise ValueError(f'{quoted(cell)} is not {self.said}') from None
+
+    def column(self, cells):
+        """The microseconds of a column, None for each null."""
+        days, clocks = self.days, self.clocks
+        try:
+            return array('q', [days[cell[:DATE_LENGTH]] + clocks[cell[DATE_LENGTH:]] for cell in cells])
+        except ValueError:
+            return [self.value(cell) for cell in cells]
 
 
-def frame_words(rows, columns):
-    """Rows of numbers as the library's frame: rows n, columns c, n × c values, n × c marks; a null is 0 with mark 0."""
-    cells = [cell for row in rows for cell in row]
-    words = array('q', [len(rows), columns])
-    words.extend([cell or 0 for cell in cells])
-    words.extend([0 if cell is None else 1 for cell in cells])
+class Text:
+    """Any text, without the blanks around it. What is met gets a number each, in the order in which it is met."""
+
+    said = 'text'
+
+    def __init__(self, known=()):
+        self.known = {}
+        self.meet(known)
+
+    @staticmethod
+    def value(cell):
+        """The text of a cell, or None where it is empty."""
+        return cell.strip() or None
+
+    @staticmethod
+    def column(cells):
+        """The texts of a column, None for each null."""
+        texts = list(map(str.strip, cells))
+        return [text or None for text in texts] if '' in texts else texts
+
+    def meet(self, texts):
+        """Numbers texts that are new."""
+        for text in texts:
+            self.known.setdefault(text, len(self.known))
+
+    def numbers(self, column):
+        """The numbers of a column of texts."""
+        self.meet(set(column) - self.known.keys() - {None})
+        return [None if text is None else self.known[text] for text in column] if None in column else \
+            array('q', map(self.known.__getitem__, column))
+
+    def codes(self):
+        """For each number, in turn, the place of its text among all that were met, in text order."""
+        places = {text: place for place, text in enumerate(sorted(self.known))}
+        return array('q', map(places.__getitem__, self.known)) or array('q', [0])
+
+    def coded(self, column):
+        """The codes of a column of texts, where no other text will be met."""
+        codes = self.codes()
+        return [None if text is None else codes[self.known[text]] for text in column]
+
+
+def kind_of(cell):
+    """The kind of key that a cell is: whole numbers, or times with a zone or without."""
+    try:
+        number(cell)
+        return Whole()
+    except ValueError as why:
+        for kind in (Time(False), Time(True)):
+            try:
+                kind.value(cell)
+                return kind
+            except ValueError:
+                continue
+        raise ValueError(str(why).replace('a whole number', 'a whole number, nor a date or time')) from None
+
+
+def parted(column):
+    """The values of a column of numbers, 0 for each null, and its marks, 0 for each null, or None where it has none."""
+    if isinstance(column, array):
+        return column, None
+    values = array('q', [cell or 0 for cell in column])
+    return values, array('q', [0 if cell is None else 1 for cell in column]) if None in column else None
+
+
+def frame_words(columns, first, end):
+    """Rows of these columns, each its values and its marks or None, as the library's frame: rows n, columns c, n × c values,
+    n × c marks."""
+    height, width = end - first, len(columns)
+    size = height * width
+    words = array('q', [height, width]) + array('q', [1]) * (2 * size)
+    for place, (values, marks) in enumerate(columns, 2):
+        words[place:2 + size:width] = values[first:end]
+        if marks is not None:
+            words[place + size:2 + 2 * size:width] = marks[first:end]
     return words

@@ -9,19 +9,19 @@ def count(number, what):
 
 def explanation(args, pricing):
     """The options, the rows, the frames, the turns and the areas."""
-    join, order = pricing.join, pricing.sales.order
-    by = ', '.join(order.columns[:-1]) or 'none'
+    matching, order, kinds = pricing.matching, pricing.kinds.order, pricing.kinds.all()
+    join = matching.join
     turns = join.answers
+    limit = 'none' if args.tolerance is None else '{}{}'.format(*args.tolerance)
+    columns = [f'{name} ({kind.said})' for name, kind in zip(order.columns, kinds)]
     lines = [
-        ('strategy', f'{args.strategy}, equal keys {"match" if args.exact else "do not match"}, tolerance '
-                     f'{"none" if args.tolerance is None else args.tolerance}'),
-        ('key', order.columns[-1]),
-        ('by', by),
-        ('order', f'{order}; {"checked" if args.check else "not checked"}'),
-        ('sales', f'{count(pricing.sales.rows, "row")} in {count(pricing.left_frames, "frame")}'),
+        ('strategy', f'{args.strategy}, equal keys {"match" if args.exact else "do not match"}, tolerance {limit}'),
+        ('key', columns[-1]),
+        ('by', ', '.join(columns[:-1]) or 'none'),
+        ('order', f'{order}; {"sorted first" if args.sort else "checked" if args.check else "not checked"}'),
+        ('sales', f'{count(pricing.priced.sales, "row")} in {count(matching.left_frames, "frame")}'),
         ('notices', f'{count(pricing.notices.rows, "row")} read, {join.pruned + join.held:,} of them handed in, in '
-                    f'{count(pricing.right_frames, "frame")}'),
-        ('matches', f'{count(pricing.matched, "sale")} with a notice, {pricing.sales.rows - pricing.matched:,} without'),
+                    f'{count(matching.right_frames, "frame")}'),
         ('turns', f'{turns[WROTE]:,} wrote, {turns[WANTS_RIGHT]:,} wanted notices, {turns[IDLE]:,} idle'),
         ('left area', f'{join.left_words:,} words, at most {join.most_waiting:,} used'),
         ('right area', f'{join.right_words:,} words, room for {join.right_rows:,} notices, at most '

@@ -4,7 +4,6 @@ from array import array
 
 import rowkeeper
 from rowkeeper.interface import IDLE, MOST_ROWS, NO_ROOM, WANTS_RIGHT, WROTE
-from rowkeeper.join import Matches
 
 from .build import told
 from .problem import Problem
@@ -67,6 +66,7 @@ class Join(rowkeeper.Join):
         self.answers[answer] += 1
         return answer
 
-    def matches(self):
-        """What the last turn wrote: for each left row the number of its right row, or None."""
-        return Matches(memoryview(self.output)).numbers()
+    def matched(self):
+        """What the last turn wrote: for each left row the number of its right row and 1, or 0 and 0."""
+        rows = self.output[0]
+        return self.output[2:2 + rows], self.output[2 + rows:2 + 2 * rows]

@@ -1,38 +1,15 @@
 """The command from its words to its status."""
-import contextlib
+import gc
 import os
 import signal
-import sys
 
 from .arguments import parse
-from .explain import explanation
-from .joined import Join
-from .order import Order
-from .pricing import Pricing
-from .problem import BAD_INPUT, DONE, Problem
-from .progress import Progress
-from .sink import sink
-from .source import Source
+from .join import price
+from .picture import picture
+from .problem import BAD_INPUT, DONE, Problem, reason, say
 
 # The status of a program that a signal ends, less the signal's number.
 BY_SIGNAL = 128
-
-
-def price(args):
-    """Does the main job: both files are opened and looked at before anything is built or written."""
-    order = Order(args.by, args.on, args.descending, args.nulls_last, *args.rank)
-    progress = Progress(wanted=args.output is not None or not sys.stdout.isatty())
-    with contextlib.ExitStack() as stack:
-        sales, notices = (stack.enter_context(contextlib.closing(Source(path, order, args.check)))
-                          for path in (args.sales, args.notices))
-        target = sink(args.output, [args.sales, args.notices])
-        join = Join(order, args.strategy, args.exact, args.tolerance, args.check)
-        stack.callback(progress.clear)
-        writer = stack.enter_context(target)
-        pricing = Pricing(sales, notices, join, writer, progress)
-        pricing.run()
-    if args.explain:
-        sys.stderr.write(explanation(args, pricing))
 
 
 def no_reader():
@@ -53,15 +30,19 @@ def ended(number, _):
 def main(words):
     """Runs the command; its status."""
     try:
-        price(parse(words))
+        args = parse(words)
+        {'join': price, 'picture': picture}[args.command](args)
     except Problem as problem:
-        print(f'rowkeeper: {problem}', file=sys.stderr)
+        say(problem)
         return problem.status
     except MemoryError:
-        print('rowkeeper: there is not enough memory', file=sys.stderr)
+        say('there is not enough memory')
         return BAD_INPUT
     except BrokenPipeError:
         return no_reader()
+    except OSError as error:  # whatever else is read or written tells its own name
+        say(f'a temporary file: cannot be used: {reason(error)}')
+        return BAD_INPUT
     except KeyboardInterrupt:
         return BY_SIGNAL + signal.SIGINT
     except Ended as signalled:
@@ -70,7 +51,9 @@ def main(words):
 
 
 def command(words):
-    """Runs the command as a program: signals that ask it to end are heeded."""
+    """Runs the command as a program: signals that ask it to end are heeded. Nothing in it refers to itself in circles, so Python need
+    not look for such things among the cells."""
+    gc.disable()
     for number in (signal.SIGTERM, signal.SIGHUP):
         signal.signal(number, ended)
     return main(words)

@@ -1,10 +1,17 @@
 """The order that both tables must have: by the by-columns in turn, then by the key."""
+import operator
+from itertools import compress, count, islice
 
 # Nulls are compared as numbers beyond all of 64 bits, below them or above.
 BELOW, ABOVE = -2**64, 2**64
 
 # How many codes of a list a message shows.
 SHOWN = 8
+
+
+def before_next(column, compared):
+    """The rows of a column, from 0, that compare so with the row behind them."""
+    return compress(count(), map(compared, column, islice(column, 1, None)))
 
 
 class Order:
@@ -18,48 +25,78 @@ class Order:
         signs = [-1 if down else 1 for down in self.descending] + [1]
         nulls = [ABOVE if last else BELOW for last in self.nulls_last] + [BELOW]
         self.rules = list(zip(signs, nulls))
-        self.ranks = None if listed is None else (self.columns.index(listed[0]), listed[1])
+        self.ranks = None if listed is None else (self.columns.index(listed[0]), list(listed[1]))
         self.places = {} if listed is None else {code: place for place, code in enumerate(listed[1])}
         self.plain = not any(self.descending) and listed is None
 
-    def rank(self, row):
-        """What a row is compared by: of two rows the one with the smaller rank comes first. It has listed codes alone."""
-        cells = list(row)
-        if self.ranks is not None and cells[self.ranks[0]] is not None:
-            cells[self.ranks[0]] = self.places[cells[self.ranks[0]]]
-        return tuple(null if cell is None else sign * cell for cell, (sign, null) in zip(cells, self.rules))
+    def coded(self, codes):
+        """The same order over other codes of the list, one for each."""
+        other = Order.__new__(Order)
+        other.__dict__.update(self.__dict__)
+        if self.ranks is not None:
+            other.ranks = (self.ranks[0], list(codes))
+            other.places = {code: place for place, code in enumerate(codes)}
+        return other
+
+    def has_list(self, column):
+        """Whether a column is compared by a list."""
+        return self.ranks is not None and column == self.ranks[0]
 
     def may_stand(self, column, cell):
         """Whether a cell may stand in a column: in the one that has a list, a null or one of its codes."""
-        return self.ranks is None or column != self.ranks[0] or cell is None or cell in self.places
+        return not self.has_list(column) or cell is None or cell in self.places
 
     def lacks(self, columns):
-        """Whether, of these columns of numbers, the one that has a list has another code."""
+        """Whether, of these columns, the one that has a list has another code."""
         return self.ranks is not None and not set(columns[self.ranks[0]]) - {None} <= self.places.keys()
 
-    def ranks_of(self, rows):
-        """The ranks of rows. Where no column descends or has a list, a row without a null is its own rank."""
-        if self.plain:
-            return [self.rank(row) if None in row else row for row in rows]
-        return [self.rank(row) for row in rows]
+    def comparable(self, column, cells):
+        """A column as numbers that compare as its cells do: texts by their places among those of this column."""
+        sign, null = self.rules[column]
+        if self.has_list(column):
+            places = self.places
+        elif any(isinstance(cell, str) for cell in islice(filter(None, cells), 1)):
+            places = {text: place for place, text in enumerate(sorted(set(cells) - {None}))}
+        else:
+            return [null if cell is None else sign * cell for cell in cells]
+        return [null if cell is None else sign * places[cell] for cell in cells]
+
+    def ranks_of(self, columns):
+        """For each row of these columns what it is compared by: of two rows the one with the smaller rank comes first."""
+        return list(zip(*(self.comparable(place, cells) for place, cells in enumerate(columns))))
+
+    def in_order(self, columns):
+        """Whether the rows of these columns are sorted. Where nothing but numbers or texts that rise is there, a row can be out of
+        order only where some column falls: those rows alone are looked at."""
+        if not self.plain or any(isinstance(cells, list) and None in cells for cells in columns):
+            ranks = self.ranks_of(columns)
+            return all(map(operator.le, ranks, islice(ranks, 1, None)))
+        falls = (row for cells in columns for row in before_next(cells, operator.gt))
+        return all([cells[row] for cells in columns] <= [cells[row + 1] for cells in columns] for row in falls)
 
     def fault(self, before, after):
         """The column by which the later of two rows should have come first, from 0; None where they are in order."""
-        if not self.rank(after) < self.rank(before):
-            return None
-        return next(j for j, pair in enumerate(zip(before, after)) if pair[0] != pair[1])
+        for column, pair in enumerate(zip(before, after)):
+            if pair[0] != pair[1]:
+                first, second = self.comparable(column, pair)
+                return column if second < first else None
+        return None
 
-    def said_of_list(self, name):
+    def said_of_list(self, column):
         """The order of a column's codes in words, if it has a list; of a long one its first codes."""
-        if self.ranks is None or name != self.columns[self.ranks[0]]:
+        if not self.has_list(column):
             return []
         codes = [str(code) for code in self.ranks[1]]
         return ['in the order ' + ' '.join(codes[:SHOWN] + ['…'] * (len(codes) > SHOWN))]
 
-    def __str__(self):
-        """The order in words."""
+    def said(self, names):
+        """The order in words, by the names that a file's columns have."""
         said = []
-        for name, down, last in zip(self.columns, self.descending + [False], self.nulls_last + [False]):
-            notes = ['descending'] * down + ['empty cells last'] * last + self.said_of_list(name)
+        for column, (name, down, last) in enumerate(zip(names, self.descending + [False], self.nulls_last + [False])):
+            notes = ['descending'] * down + ['empty cells last'] * last + self.said_of_list(column)
             said.append(f'{name} ({", ".join(notes)})' if notes else name)
         return ', then '.join(said)
+
+    def __str__(self):
+        """The order in words, by the names of the sales' columns."""
+        return self.said(self.columns)

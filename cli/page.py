@@ -4,6 +4,7 @@ python3 -m cli.page   prints the man page"""
 from rowkeeper.interface import VERSION
 
 SHORT = '''usage: rowkeeper join SALES.csv NOTICES.csv --on KEY [--by COLUMN] [options]
+       rowkeeper picture SALES.csv NOTICES.csv --on KEY --price COLUMN [options]
        rowkeeper --help | --version
 '''
 
@@ -13,7 +14,8 @@ PAGE = '''rowkeeper: gives every sale of a season the price notice that was in f
 
   Both files are CSV with a header line that names the columns. Each sale takes,
   among the notices of its performance, the last one that is not later than the
-  sale. The sales come out in their order, each with its notice, as CSV.
+  sale. The sales come out in their order, each with its notice, as CSV. A line
+  at the end says how many sales have a notice.
 
   Try it, in the repository:
 
@@ -25,20 +27,45 @@ WHAT COMES OUT
   first notice is number 0); then the columns of the notice, without those named
   by --by, which are the sale's own. A name that the sale has already gets
   'notice_' in front. A sale without a notice has these cells empty.
+  --columns NAMES      of the notice's columns these alone, in this order:
+                       --columns price,reason
+  --prefix TEXT        this in place of 'notice_'
+  --matched-only       leave out the sales without a notice
+  --fail-unmatched     if a sale has no notice, write nothing, and end with 4
 
 WHAT GOES IN
-  The columns named by --on and --by hold whole numbers (64 bits, minus sign
-  allowed); an empty cell there means 'not known'. All other columns are text
-  and are carried along as they are. A sale whose minute or performance is not
-  known gets no notice, and a notice without them is given to no sale.
+  The --on column holds whole numbers (64 bits, minus sign allowed) or dates and
+  times: 2026-01-05, 2026-01-05 19:30, 2026-01-05T19:30:05.123456; with a zone
+  behind the time (Z, +01:00) in all cells or in none. A date is its midnight.
+  --by columns hold any text. If all cells of one are whole numbers, in both
+  files, they are compared as numbers (7 is 007), else as text, letter by letter
+  (7 is not 007, and 10 comes before 7). Blanks around a cell do not count.
+  An empty cell in these columns means 'not known': a sale whose minute or
+  performance is not known gets no notice, and a notice without them is given to
+  no sale. All other columns are carried along as they are.
   Both files must be sorted: by the --by columns in turn, then by the --on
-  column; numbers ascending, empty cells first. Files can be of any length.
+  column; ascending, empty cells first. Or say --sort. Blank lines are passed
+  and not counted. A line can have 16 MB. Memory goes by the notices that lie
+  between two sales of one performance (about 50 bytes each), and by the
+  different texts of the --by columns, not by the length of the files.
+  -                    as a file's name: standard input
+  --separator SIGN     what stands between the columns of both files: ';', tab.
+                       Else ',' or, if the columns are found by it, ';' or tab.
+                       What comes out is separated as the sales are
+  --encoding NAME      the files are in this encoding, as cp1252, and not in
+                       UTF-8. A file that begins with a byte order mark (UTF-8
+                       or UTF-16) says it itself. What comes out is UTF-8, with
+                       a mark if the sales have one or are in another encoding
 
 WHICH NOTICE
   --on COLUMN          the column that is compared, as the minute of the sale
                        and of the notice
   --by COLUMN          sale and notice must be equal here, as the performance;
                        up to four times: --by performance --by band
+  --left-on COLUMN     in place of --on, if the files name the column
+  --right-on COLUMN    differently: --left-on sold_at --right-on valid_from
+  --left-by COLUMN     in place of --by, as often as there are columns; other
+  --right-by COLUMN    options name a column as the sales do
   --strategy WHICH     backward  the last notice not later than the sale (this
                                  is what happens when nothing is said)
                        forward   the first notice not earlier than the sale
@@ -46,30 +73,51 @@ WHICH NOTICE
                                  near the later one
   --no-exact           a notice of the sale's own minute does not count (does
                        not go with nearest)
-  --tolerance N        the notice may be at most N away from the sale
+  --tolerance N        the notice may be at most N away from the sale; for times
+                       with s, m, h or d: --tolerance 2h
 
 HOW THE FILES ARE SORTED
-  --descending COLUMN  the numbers of this --by column fall
+  --sort               sort both files first; rows that are equal stay in their
+                       order, and the sales come out in their own order. What
+                       does not fit into memory goes to temporary files
+  --descending COLUMN  the numbers or texts of this --by column fall
   --nulls-last COLUMN  the empty cells of this --by column come last
-  --rank COLUMN=CODES  this --by column is sorted in the order of these codes,
-                       not by number: --rank band=30,10,20 for stalls, circle,
-                       gods. Up to 64 codes; no other may stand in the column
-  --check              look that both files are sorted, to their ends (this is
-                       what happens when nothing is said)
+  --rank COLUMN=CODES  this --by column is sorted in the order of these codes:
+                       --rank band=30,10,20, --rank band=stalls,circle,gods. Up
+                       to 64 codes; no other may stand in the column
+  --strict             look that every row of both files comes in order, to
+                       their ends (this is what happens when nothing is said);
+  --check              is the same
   --no-check           do not look: faster, but sales may get a wrong notice
                        where a file is not sorted
 
 WHERE IT GOES
+  Nothing is written before both files have been read to their ends and found
+  right. They are read twice; what is no file, as a pipe, is copied to a
+  temporary file first (in TMPDIR, else the system's folder).
+  -o FILE
   --output FILE        write to this file instead of the screen; the file
                        appears only when it is whole, else it stays as it was
+  --stream             read once and write rows as soon as they are matched.
+                       If something is wrong further down, a line says so when
+                       wrong rows may have been written: do not use them unless
+                       the status is 0. --by columns hold whole numbers then
   --explain            tell at the end what was done: options, rows, frames,
                        turns, memory
 
+A PICTURE
+  rowkeeper picture SALES.csv NOTICES.csv --on minute --by performance \\
+      --price price -o season.svg
+
+  draws the notices of each performance as steps and its sales as points on
+  them, as SVG: up to 40 performances, 50,000 rows a file. It takes the options
+  on columns, files, sorting and -o.
+  --price COLUMN       the column of the notices that is drawn, as 1800 or 12.50
+
 WHEN SOMETHING IS WRONG
   One line says what, with file, line and column, and the status is 1 for the
-  files, 2 for the command line, 3 for the library. Lines are counted as an
-  editor counts them: the header is line 1. What was printed on the screen
-  before that line is not to be used; a file of --output is not written at all.
+  files, 2 for the command line, 3 for the library, 4 for --fail-unmatched.
+  Lines are counted as an editor counts them: the header is line 1.
 
 THE LIBRARY
   The library that does the join is compiled from proved source, for 64-bit x86

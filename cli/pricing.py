@@ -1,7 +1,10 @@
 """The main job: sales and notices go through the join in frames, and each sale is written with its notice."""
+import operator
+from itertools import compress
+
 from rowkeeper.interface import IDLE, MOST_ROWS, WANTS_RIGHT
 
-from .cells import frame_words
+from .records import written
 
 # The rows of a frame: as many as the library takes. A turn costs the frame's sales and the notices held, so a full frame
 # has the fewest notices to pass for each of its sales.
@@ -21,94 +24,124 @@ class Heights:
         self.rows = max(1, self.rows // 2) if called > self.comfort else min(self.most, 2 * self.rows)
 
 
-class Notices:
-    """The text of the notices that can still be matched, by number."""
+class Matching:
+    """Sales and notices on their way through a join. `held` keeps what is to be known of the notices, `found` takes each part of
+    the sales with the numbers of their notices and their marks."""
 
-    def __init__(self, places):
-        self.places, self.first, self.rows = places, 0, []
-        self.nothing = [''] * (1 + len(places))
-
-    def add(self, rows):
-        """Keeps the cells of new notices that are to be written."""
-        places = self.places
-        self.rows.extend([[cells[place] for place in places] for cells in rows])
-
-    def drop(self, pruned):
-        """Forgets the notices that the join has dropped."""
-        del self.rows[:pruned - self.first]
-        self.first = pruned
-
-    def found(self, number):
-        """What is written beside a sale: the notice's number and columns, all empty where it has none."""
-        if number is None:
-            return self.nothing
-        return [number, *self.rows[number - self.first]]
-
-
-class Pricing:
-    """Sales and notices on their way through a join, and what is counted on it."""
-
-    def __init__(self, sales, notices, join, writer, progress, heights=None, right_height=ROWS):
-        self.sales, self.notices, self.join = sales, notices, join
-        self.writer, self.progress = writer, progress
+    def __init__(self, join, sales, notices, held, found, heights=None, right_height=ROWS):
+        self.join, self.sales, self.notices, self.held, self.found = join, sales, notices, held, found
         self.heights, self.right_height = heights or Heights(), right_height
-        by = notices.places[:-1]
-        self.kept = Notices([place for place in range(len(notices.header)) if place not in by])
-        self.waiting, self.called = None, 0
-        self.left_frames = self.right_frames = self.matched = 0
-
-    def header(self):
-        """The columns of the output: those of the sales, the notice's number, and the notice's own but the by-columns,
-        which are those of the sale. A name that is taken gets `notice_` in front."""
-        names = list(self.sales.header)
-        for name in ['notice_row'] + [self.notices.header[place] for place in self.kept.places]:
-            while name in names:
-                name = 'notice_' + name
-            names.append(name)
-        return names
+        self.waiting, self.called, self.left_frames, self.right_frames = None, 0, 0, 0
 
     def next_sales(self):
         """Hands in the next sales; whether there were any."""
-        self.waiting, self.called = self.sales.frame(self.heights.rows), 0
-        if self.waiting.cells:
-            self.join.left(frame_words(self.waiting.numbers, self.join.columns))
+        self.waiting, self.called = self.sales.take(self.heights.rows), 0
+        if self.waiting is not None:
+            self.join.left(self.waiting.words)
             self.left_frames += 1
-        return bool(self.waiting.cells)
+        return self.waiting is not None
 
     def next_notices(self):
         """Hands in the next notices, or says that there are no more."""
-        frame = self.notices.frame(self.right_height)
-        if frame.cells:
-            self.join.right(frame_words(frame.numbers, self.join.columns))
-            self.kept.add(frame.cells)
-            self.called += len(frame.cells)
-            self.right_frames += 1
-        else:
+        part = self.notices.take(self.right_height)
+        if part is None:
             self.join.end_right()
+            return
+        self.join.right(part.words)
+        self.held.add(part)
+        self.called += part.height
+        self.right_frames += 1
 
-    def write(self):
-        """Writes the sales of a turn, each with its notice."""
-        matches = self.join.matches()
-        found = self.kept.found
-        self.writer.writerows([cells + found(number) for cells, number in zip(self.waiting.cells, matches)])
-        self.matched += len(matches) - matches.count(None)
-        self.heights.learn(self.called)
-        self.kept.drop(self.join.pruned)
-
-    def run(self):
-        """Prices all sales. With the check on, the rest of the notices is read too: one that is out of order might have
-        been a sale's notice."""
-        self.writer.writerow(self.header())
+    def run(self, show):
+        """Matches all sales."""
         while True:
             answer = self.join.answer()
             if answer == IDLE:
                 if not self.next_sales():
-                    break
+                    return
             elif answer == WANTS_RIGHT:
                 self.next_notices()
             else:
-                self.write()
-            self.progress.show(self.sales, self.notices)
-        while self.notices.check and self.notices.frame(self.right_height).cells:
-            self.progress.show(self.sales, self.notices)
-        self.progress.clear()
+                self.found(self.waiting, *self.join.matched())
+                self.heights.learn(self.called)
+                self.held.drop(self.join.pruned)
+                show()
+
+
+class Layout:
+    """The columns of the output: those of the sales; the notice's number; and the notice's own, all but the by-columns, which are
+    those of the sale, or those that are chosen. A name that is taken gets the prefix in front."""
+
+    def __init__(self, sales, notices, chosen=None, prefix='notice_'):
+        self.separator, self.prefix, self.width = sales.separator, prefix, notices.width
+        by = notices.places[:-1]
+        self.places = [place for place in range(notices.width) if place not in by] if chosen is None else \
+            [notices.place(name) for name in chosen]
+        self.names = list(sales.header)
+        for name in [f'{prefix}row'] + [notices.header[place] for place in self.places]:
+            while name in self.names:
+                name = prefix + name
+            self.names.append(name)
+        self.nothing = self.separator * (1 + len(self.places))
+
+    def header(self):
+        """The first line."""
+        return written(self.names, self.separator)
+
+    def cells(self, block):
+        """The cells of each notice of a block, as text for the output."""
+        return block.chosen(self.places, self.width, self.separator)
+
+    def texts(self, block):
+        """What is written behind a sale, for each notice of a block: its number and its cells."""
+        sign = self.separator
+        return [f'{sign}{number}{sign}{cells}' for number, cells in enumerate(self.cells(block), block.number)]
+
+
+class Priced:
+    """The sales with their notices, written, and counted."""
+
+    def __init__(self, file, layout, matched_only=False):
+        self.file, self.layout, self.matched_only = file, layout, matched_only
+        self.sales = self.matched = 0
+        self.first = None
+        self.put(layout.header())
+
+    def put(self, text):
+        """Writes lines."""
+        self.file.write(f'{text}\n'.encode('utf-8'))
+
+    def write(self, lines, texts, marks, line):
+        """Writes sales: their text, what comes behind it, and whether they have a notice; `line` tells the line of a sale."""
+        missing = marks.count(0)
+        self.sales += len(marks)
+        self.matched += len(marks) - missing
+        if missing and self.first is None:
+            self.first = line(marks.index(0))
+        if missing and self.matched_only:
+            lines, texts = compress(lines, marks), compress(texts, marks)
+        if not self.matched_only or missing < len(marks):
+            self.put('\n'.join(map(operator.add, lines, texts)))
+
+    def part(self, held, at_once=False):
+        """What takes parts of the sales as they are matched, with the notices that are held; `at_once`: none of them waits to be
+        written with others."""
+        nothing = self.layout.nothing
+
+        def found(part, values, marks):
+            """Writes a part."""
+            matched = values if 0 not in marks else list(compress(values, marks))
+            first, texts = held.between(min(matched), max(matched)) if matched else (0, [])
+            beside = [texts[number - first] if mark else nothing for number, mark in zip(values, marks)]
+            self.write(part.lines(), beside, marks, lambda row: part.block.line(part.first + row))
+            if at_once:
+                self.file.flush()
+        return found
+
+    def said(self):
+        """How many sales have a notice, in words."""
+        missing = self.sales - self.matched
+        have = f'{self.matched:,} of {self.sales:,} sale{"" if self.sales == 1 else "s"} ha{"s" if self.matched == 1 else "ve"} a notice'
+        if not missing:
+            return have
+        return f'{have}; {missing:,} ha{"s" if missing == 1 else "ve"} none, {"it is" if missing == 1 else "the first"} in line {self.first}'

@@ -1,7 +1,8 @@
 """What stops a run, told in one line."""
+import sys
 
 # The statuses that the command ends with.
-DONE, BAD_INPUT, BAD_USAGE, NO_LIBRARY = 0, 1, 2, 3
+DONE, BAD_INPUT, BAD_USAGE, NO_LIBRARY, UNMATCHED = 0, 1, 2, 3, 4
 
 # How much of a cell a message shows.
 SHOWN = 40
@@ -13,6 +14,19 @@ class Problem(Exception):
     def __init__(self, line, status=BAD_INPUT):
         super().__init__(line)
         self.status = status
+
+
+class Disorder(Problem):
+    """Rows that are out of order."""
+
+
+def say(line):
+    """A line on standard error; nothing where that is closed or cannot be written."""
+    if sys.stderr is not None:
+        try:
+            print(f'rowkeeper: {line}', file=sys.stderr, flush=True)
+        except OSError:
+            pass
 
 
 def quoted(text):

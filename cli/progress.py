@@ -13,15 +13,15 @@ class Progress:
         """Not wanted: the rows themselves go to the terminal."""
         self.stream = sys.stderr if stream is None else stream
         self.clock = clock
-        self.due = clock() + PATIENCE if wanted and self.stream.isatty() else None
+        self.due = clock() + PATIENCE if wanted and self.stream is not None and self.stream.isatty() else None
         self.shown = False
 
-    def show(self, sales, notices):
-        """Shows the rows read so far, where it is time to."""
+    def show(self, stage, sales, notices):
+        """Shows what is being done and the rows read so far, where it is time to."""
         if self.due is None or self.clock() < self.due:
             return
         self.due, self.shown = self.clock() + PACE, True
-        self.stream.write(f'\r\033[Krowkeeper: {told("sales", sales)}, {told("notices", notices)}')
+        self.stream.write(f'\r\033[Krowkeeper: {stage}: {told("sales", sales)}, {told("notices", notices)}')
         self.stream.flush()
 
     def clear(self):

@@ -1,12 +1,15 @@
 """Where the priced sales are written: standard output, or a file that appears only when it is whole."""
 import contextlib
-import csv
-import io
 import os
+import shutil
 import stat
 import sys
 
+from .input import temporary
 from .problem import Problem, at, reason
+
+# The bytes that are written at once.
+BUFFER = 1 << 18
 
 
 def same_file(path, other):
@@ -17,25 +20,31 @@ def same_file(path, other):
         return False
 
 
-def rows_to(text):
-    """A writer of CSV rows."""
-    return csv.writer(text, lineterminator='\n')
-
-
 @contextlib.contextmanager
 def standard_output():
-    """Rows to standard output, as UTF-8 whatever the machine's own encoding is."""
-    text = io.TextIOWrapper(sys.stdout.buffer, encoding='utf-8', newline='', write_through=False)
+    """Bytes to standard output."""
+    if sys.stdout is None:
+        raise Problem('standard output: cannot be written: it is closed')
     try:
-        yield rows_to(text)
-        text.flush()
+        yield sys.stdout.buffer
+        sys.stdout.buffer.flush()
     except BrokenPipeError:
         raise
     except OSError as error:
         raise Problem(f'standard output: cannot be written: {reason(error)}') from None
-    finally:
-        with contextlib.suppress(OSError):
-            text.detach()
+
+
+@contextlib.contextmanager
+def at_the_end(target):
+    """Bytes to a temporary file, which are copied to their place only if nothing went wrong until then."""
+    with contextlib.closing(temporary()) as kept:
+        try:
+            yield kept
+        except OSError as error:
+            raise Problem(f'a temporary file: cannot be written: {reason(error)}') from None
+        kept.seek(0)
+        with target as file:
+            shutil.copyfileobj(kept, file, BUFFER)
 
 
 def take_over(made, goal):
@@ -47,15 +56,15 @@ def take_over(made, goal):
 
 @contextlib.contextmanager
 def whole_file(path):
-    """Rows to a new file beside this one, which takes its name at the end. Whatever ends the run before, the new file is
+    """Bytes to a new file beside this one, which takes its name at the end. Whatever ends the run before, the new file is
     removed: its name is settled before it is made, so that there is no moment at which it could be left behind."""
     goal = os.path.realpath(path)
     made = os.path.join(os.path.dirname(goal), f'.rowkeeper-{os.urandom(8).hex()}.part')
     try:
-        with open(os.open(made, os.O_WRONLY | os.O_CREAT | os.O_EXCL, 0o666), 'w', encoding='utf-8', newline='') as text:
-            yield rows_to(text)
-            text.flush()
-            os.fsync(text.fileno())
+        with open(os.open(made, os.O_WRONLY | os.O_CREAT | os.O_EXCL, 0o666), 'wb', buffering=BUFFER) as file:
+            yield file
+            file.flush()
+            os.fsync(file.fileno())
         take_over(made, goal)
     except OSError as error:
         raise Problem(f'{at(path)}: cannot be written: {reason(error)}') from None
@@ -66,24 +75,25 @@ def whole_file(path):
 
 @contextlib.contextmanager
 def device(path):
-    """Rows to something that is no file, as a pipe with a name: it has nothing that could be replaced."""
+    """Bytes to something that is no file, as a pipe with a name: it has nothing that could be replaced."""
     try:
-        with open(path, 'w', encoding='utf-8', newline='') as text:
-            yield rows_to(text)
+        with open(path, 'wb') as file:
+            yield file
     except BrokenPipeError:
         raise
     except OSError as error:
         raise Problem(f'{at(path)}: cannot be written: {reason(error)}') from None
 
 
-def sink(path, inputs):
-    """Where rows go: the file of this name, or standard output where there is none."""
+def sink(path, inputs, whole=False):
+    """Where bytes go: the file of this name, or standard output where there is none. `whole`: all of them at the end or none, also
+    where that is no file."""
     if path is None:
-        return standard_output()
+        return at_the_end(standard_output()) if whole else standard_output()
     if any(same_file(path, each) for each in inputs):
         raise Problem(f'{at(path)}: is one of the files to be read, and is left as it is')
     if os.path.isdir(path):
         raise Problem(f'{at(path)}: cannot be written: it is a folder')
     if os.path.exists(path) and not os.path.isfile(path):
-        return device(path)
+        return at_the_end(device(path)) if whole else device(path)
     return whole_file(path)

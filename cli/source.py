@@ -1,179 +1,189 @@
-"""A CSV file, read in frames of rows; whatever is wrong with it is told by file, line and column."""
+"""A table: its header, and its rows in blocks, judged. Whatever is wrong is told by file, line and column."""
+import contextlib
 import csv
-import operator
-import os
-from itertools import islice
 
-from .cells import column_numbers, number
-from .problem import Problem, at, quoted, reason
+from .cells import Text, Whole
+from .kinds import Turned
+from .problem import Disorder, Problem, at, named, quoted
+from .records import Records, plainly
 
-# The bytes that a line can have at most: a file that is no text may have no line end at all.
-LONGEST_LINE = 1 << 24
-
-MARK = b'\xef\xbb\xbf'
-
-
-class Frame:
-    """Some rows: of each its cells as text, the line in the file where it ends, and the numbers of the by-columns and the
-    key."""
-
-    def __init__(self, cells, ends):
-        self.cells, self.ends, self.numbers = cells, ends, []
-
-    def line(self, row):
-        """The line where a row begins: cells in quotes may run over several."""
-        return self.ends[row] - sum(cell.count('\n') for cell in self.cells[row])
+# The separators that are tried where none is named, and what messages call them.
+SEPARATORS, SAID = (',', ';', '\t'), {',': 'commas', ';': 'semicolons', '\t': 'tabs'}
 
 
 class Source:
-    """A table that is read from a file. With `check` each row is compared with the one before it."""
+    """A table that is read from a file. `names` are the by-columns and the key as this file names them. With `check` each row is
+    compared with the one before it."""
 
-    def __init__(self, path, order, check):
-        self.path, self.order, self.check = path, order, check
-        self.rows, self.last, self.last_line, self.late = 0, None, None, None
+    def __init__(self, source, names, kinds, check=True, separator=None):
+        self.input, self.path, self.names, self.kinds, self.check = source, source.path, names, kinds, check
+        self.records = Records(source)
+        self.find_header([separator] if separator else SEPARATORS)
+        self.width, self.counted = len(self.header), 0
+        self.restart()
+
+    def restart(self):
+        """Forgets the rows."""
+        self.rows, self.last, self.last_cells, self.last_line = 0, None, None, None
+
+    def again(self):
+        """Goes back to the first row."""
+        self.records.again(self.header_size, self.header_end)
+        self.restart()
+
+    def read_header(self, separator):
+        """The first record by this separator: the names, its line, where it ends and the line behind it; None if there is none."""
+        taken, line = [], 1
         try:
-            self.file = open(path, 'rb')
-        except OSError as error:
-            raise Problem(f'{at(path)}: cannot be read: {reason(error)}') from None
-        try:
-            self.begin()
-        except Problem:
-            self.close()
-            raise
+            for cells in csv.reader(self.records.lines(taken), strict=True, delimiter=separator):
+                if cells:
+                    return [name.strip() for name in cells], line, taken[-1][1], len(taken) + 1
+                line = len(taken) + 1
+        except csv.Error as error:
+            raise Problem(f'{at(self.path, line)}: the line cannot be read as CSV: {plainly(error)}') from None
+        raise Problem(f'{at(self.path, 1)}: the file is empty: the first line must name the columns')
 
-    def begin(self):
-        """Reads the header, and finds the columns that are whole numbers."""
-        self.size = os.fstat(self.file.fileno()).st_size
-        self.read = csv.reader(self.lines(), strict=True)
-        header = self.records(1)
-        if not header.cells:
-            raise Problem(f'{at(self.path, 1)}: the file is empty: the first line must name the columns')
-        self.header = [name.strip() for name in header.cells[0]]
-        self.places = [self.place(name, header.line(0)) for name in self.order.columns]
+    def find_header(self, separators):
+        """Reads the header by the first separator with which it has all columns that are wanted, or by the first of all."""
+        found, separator = self.read_header(separators[0]), separators[0]
+        if not set(self.names) <= set(found[0]):
+            for other in separators[1:]:
+                with contextlib.suppress(Problem):
+                    if set(self.names) <= set(self.read_header(other)[0]):
+                        found, separator = self.read_header(other), other
+                        self.kinds.notes.append(f'{named(self.path)}: columns are separated by {SAID[other]}')
+                        break
+        self.header, self.header_line, self.header_size, self.header_end = found
+        self.records.separator = self.separator = separator
+        self.places = [self.place(name) for name in self.names]
+        self.records.pass_over(self.header_size, self.header_end)
 
-    def close(self):
-        """Gives the file back."""
-        self.file.close()
-
-    def lines(self):
-        """The file's lines as text, without a byte order mark."""
-        line = 0
-        while True:
-            raw = self.file.readline(LONGEST_LINE)
-            if not raw:
-                return
-            line += 1
-            if len(raw) == LONGEST_LINE:
-                raise Problem(f'{at(self.path, line)}: the line is too long to be a row')
-            if line == 1 and raw.startswith(MARK):
-                raw = raw[len(MARK):]
-            try:
-                yield raw.decode('utf-8')
-            except UnicodeDecodeError as error:
-                raise Problem(f'{at(self.path, line)}: byte {error.start + 1} of the line is not UTF-8 text') from None
-
-    def place(self, name, line):
-        """Where a column stands, by the header on this line."""
+    def place(self, name):
+        """Where a column stands."""
         if self.header.count(name) == 1:
             return self.header.index(name)
         if name in self.header:
-            raise Problem(f'{at(self.path, line, name)}: {self.header.count(name)} columns have this name')
+            raise Problem(f'{at(self.path, self.header_line, name)}: {self.header.count(name)} columns have this name')
         there = ', '.join(each if each.isprintable() else quoted(each) for each in self.header)
-        raise Problem(f'{at(self.path, line, name)}: there is no such column; the columns are {there}')
+        raise Problem(f'{at(self.path, self.header_line, name)}: there is no such column; the columns are {there}')
 
-    def records(self, most):
-        """The next records, not judged yet. Blank lines are passed. What makes a line unreadable is told only when the
-        records before it have been judged."""
-        if self.late:
-            raise self.late
-        found, end = Frame([], []), self.read.line_num
-        try:
-            for cells in self.read:
-                end = self.read.line_num
-                if cells:
-                    found.cells.append(cells)
-                    found.ends.append(end)
-                    if len(found.cells) == most:
-                        break
-        except csv.Error as error:
-            self.late = Problem(f'{at(self.path, end + 1)}: the line cannot be read as CSV: {plainly(error)}')
-        except OSError as error:
-            self.late = Problem(f'{at(self.path, end + 1)}: cannot be read: {reason(error)}')
-        except Problem as problem:
-            self.late = problem
-        if self.late and not found.cells:
-            raise self.late
-        return found
-
-    def frame(self, most):
-        """The next rows, at most so many, judged; none at the end of the file. Columns are judged as a whole, which is
+    def next(self):
+        """The next rows and their compared columns, judged; None at the end of the file. Columns are judged as a whole, which is
         quick; where one has a fault, the rows are gone through for the first."""
-        frame = self.records(most)
-        width = len(self.header)
+        block = self.records.block()
+        if block is None:
+            return None
         try:
-            if any(len(cells) != width for cells in frame.cells):
-                raise ValueError
-            columns = [column_numbers([cells[place] for cells in frame.cells]) for place in self.places]
-            frame.numbers = list(zip(*columns))
-            if self.order.lacks(columns) or self.check and not self.sorted(frame.numbers):
-                raise ValueError
+            columns = self.columns(block)
+            if self.kinds.order.lacks(columns) or self.check and not self.sorted(columns):
+                raise ValueError('out of order')
         except ValueError:
-            self.find_fault(frame)
-        if frame.cells:
-            self.last, self.last_line = frame.numbers[-1], frame.line(-1)
-            self.rows += len(frame.cells)
-        return frame
+            self.find_fault(block)
+            raise AssertionError('a block with a fault has a row with one') from None
+        self.last, self.last_cells = [column[-1] for column in columns], block.cells(-1)
+        self.last_line = block.line(block.height - 1)
+        self.rows += block.height
+        return block, columns
 
-    def sorted(self, rows):
+    def columns(self, block):
+        """The compared columns of a block, by their kinds."""
+        cells = block.columns(self.places, self.width)
+        if self.kinds.key is None:
+            row = next((row for row, cell in enumerate(cells[-1]) if cell.strip()), None)
+            if row is not None:
+                self.kinds.begin(cells[-1][row], self.path, block.line(row))
+        return [kind.column(each) for kind, each in zip(self.kinds.all(), cells)]
+
+    def sorted(self, columns):
         """Whether these rows are sorted, and come after the last one before them."""
-        ranks = self.order.ranks_of(rows if self.last is None else [self.last, *rows])
-        return all(map(operator.le, ranks, islice(ranks, 1, None)))
+        order = self.kinds.order
+        if self.last is not None and order.fault(self.last, [column[0] for column in columns]) is not None:
+            return False
+        return order.in_order(columns)
 
-    def find_fault(self, frame):
-        """Stops at the first fault in a frame."""
-        before, line_before = self.last, self.last_line
-        for row, cells in enumerate(frame.cells):
-            line = frame.line(row)
-            numbers = self.judge(line, cells)
+    def find_fault(self, block):
+        """Stops at the first fault in a block."""
+        before, cells_before, line_before = self.last, self.last_cells, self.last_line
+        for row in range(block.height):
+            cells, line = block.cells(row), block.line(row)
+            values = self.judge(line, cells, row or self.rows)
             if self.check and before is not None:
-                self.compare(line_before, before, line, numbers)
-            before, line_before = numbers, line
-        raise AssertionError('a frame with a fault has a row with one')
+                self.compare((before, cells_before, line_before), (values, cells, line))
+            before, cells_before, line_before = values, cells, line
 
-    def judge(self, line, cells):
-        """The numbers of a row; stops where it has none."""
+    def judge(self, line, cells, before):
+        """The values of a row; stops where a cell has none."""
         if len(cells) != len(self.header):
             raise Problem(f'{at(self.path, line)}: columns: {len(cells)}, but the header names {len(self.header)}')
-        found = []
-        for column, (name, place) in enumerate(zip(self.order.columns, self.places)):
+        found, kinds = [], self.kinds
+        for column, (name, place) in enumerate(zip(self.names, self.places)):
             try:
-                found.append(number(cells[place]))
+                if column == len(self.names) - 1 and kinds.key is None and cells[place].strip():
+                    kinds.begin(cells[place], self.path, line)
+                found.append(kinds.all()[column].value(cells[place]))
             except ValueError as why:
-                raise Problem(f'{at(self.path, line, name)}: {why}') from None
-            if not self.order.may_stand(column, found[-1]):
-                raise Problem(f'{at(self.path, line, name)}: {found[-1]} is not among the codes of --rank')
+                if kinds.turns(column):
+                    raise Turned(column, self.path, line, cells[place], bool(before)) from None
+                said = kinds.not_of(column, why, cells[place])
+                raise Problem(f'{at(self.path, line, name)}: {said}') from None
+            if not kinds.order.may_stand(column, found[-1]):
+                shown = quoted(found[-1]) if isinstance(found[-1], str) else found[-1]
+                raise Problem(f'{at(self.path, line, name)}: {shown} is not among the codes of --rank')
         return found
 
-    def compare(self, line_before, before, line, row):
-        """Stops where a row should have come before the one before it."""
-        column = self.order.fault(before, row)
-        if column is not None:
-            here, there = ('an empty cell' if each[column] is None else each[column] for each in (row, before))
-            raise Problem(f'{at(self.path, line, self.order.columns[column])}: out of order: {here} comes after {there} '
-                          f'of line {line_before}; rows must be sorted by {self.order}')
+    def compare(self, before, row):
+        """Stops where a row should have come before the one before it; each is its values, its cells and its line."""
+        column = self.kinds.order.fault(before[0], row[0])
+        if column is None:
+            return
+        kind, place = self.kinds.all()[column], self.places[column]
+        here, there = (each[1][place].strip() or 'an empty cell' for each in (row, before))
+        note = ''
+        if isinstance(kind, Text):
+            here, there = (quoted(each[1][place].strip()) if each[0][column] else 'an empty cell' for each in (row, before))
+            note = f' (as text, because of {self.kinds.why[column]})' if column in self.kinds.why and is_number(here, there) else ''
+        raise Disorder(f'{at(self.path, row[2], self.names[column])}: out of order: {here} comes after {there} of line {before[2]}{note}; '
+                      f'rows must be sorted by {self.kinds.order.said(self.names)}, or add --sort')
+
+    def turned(self):
+        """The first cell in a by-column of whole numbers that makes it text, as Turned; None if there is none. Nothing else is judged."""
+        self.again()
+        turning = [column for column in range(len(self.names)) if self.kinds.turns(column)]
+        try:
+            for block in iter(self.records.block, None):
+                for column, cells in zip(turning, block.columns([self.places[column] for column in turning], self.width)):
+                    row = not_whole(cells)
+                    if row is not None:
+                        return Turned(column, self.path, block.line(row), cells[row], True)
+        except (Problem, ValueError):
+            pass
+        return None
 
     def share(self):
-        """How much of the file has been read, from 0 to 1; None where its length is not known, as of a pipe."""
-        return self.file.tell() / self.size if self.size else None
+        """How much of the file has been read, from 0 to 1, by its rows once they have been counted; None where its length is not known."""
+        return self.rows / self.counted if self.counted else self.input.share()
 
 
-def plainly(error):
-    """What the reader of CSV says, in words for a user."""
-    said = str(error)
-    for part, words in (('unexpected end of data', 'a quote is opened and never closed'),
-                        ('new-line character', 'there is a carriage return inside the line'),
-                        ('field larger', 'a cell is too long, or a quote is opened and never closed'),
-                        ('expected after', 'a quote is closed inside a cell')):
-        if part in said:
-            return words
-    return said
+def not_whole(cells):
+    """The first of some cells that is no whole number; None if all are."""
+    try:
+        Whole.column(cells)
+        return None
+    except ValueError:
+        return next(row for row, cell in enumerate(cells) if not is_whole(cell))
+
+
+def is_whole(cell):
+    """Whether a cell is a whole number or empty."""
+    try:
+        Whole.value(cell)
+        return True
+    except ValueError:
+        return False
+
+
+def is_number(*shown):
+    """Whether two texts that are shown in quotes are whole numbers: who sorted them by number is told why this is not the order."""
+    return all(is_whole(each.strip("'")) for each in shown)
+
+

@@ -2,6 +2,7 @@
 import contextlib
 import io
 import os
+import re
 import subprocess
 import sys
 import tempfile
@@ -12,6 +13,11 @@ from ..main import main
 
 PROGRAM = os.path.join(ROOT, 'rowkeeper')
 SEASON = os.path.join(ROOT, 'examples', 'season')
+
+
+# The line at the end of a run that went well.
+COUNTED = re.compile('rowkeeper: ([0-9,]+) of ([0-9,]+) sales? (?:has|have) a notice'
+                     '(?:; ([0-9,]+) (?:has none, it is|have none, the first) in line ([0-9]+))?\n')
 
 
 class Run:
@@ -57,9 +63,17 @@ class Case(unittest.TestCase):
         with open(path, encoding='utf-8', newline='') as file:
             return file.read()
 
+    def went_well(self, run):
+        """The run did what it was to do, and said in one line how many sales have a notice; those numbers and the line."""
+        self.assertEqual(run.status, 0, run.err)
+        counted = COUNTED.fullmatch(run.err)
+        self.assertTrue(counted, run.err)
+        return [None if each is None else int(each.replace(',', '')) for each in counted.groups()]
+
     def refused(self, run, said, status=1):
         """The run ended with one line that says this, and no Python shows through."""
         self.assertEqual(run.status, status, run.err)
         self.assertEqual(run.err.count('\n'), 1, run.err)
         self.assertIn(said, run.err)
         self.assertTrue(run.err.startswith('rowkeeper: '), run.err)
+        self.assertEqual(run.out, '')

@@ -1,4 +1,6 @@
-"""An as-of join in plain Python, over whole tables, by docs/SCOPE.md, 4, 10 and 14, alone: the tests' judge."""
+"""An as-of join in plain Python, over whole tables, by docs/SCOPE.md, 4, 10 and 14, alone: the tests' judge. Cells
+are read here by Python's own readers, never by the command's."""
+import datetime
 
 
 def distance(left, right):
@@ -22,7 +24,8 @@ def choice(left, numbered, strategy):
         return max(numbered, key=lambda each: (each[1][-1], each[0]))[0]
     if strategy == 'forward':
         return min(numbered, key=lambda each: (each[1][-1], each[0]))[0]
-    return min(numbered, key=lambda each: (distance(left[-1], each[1][-1]), -each[1][-1], -each[0]))[0]
+    near = min(distance(left[-1], each[1][-1]) for each in numbered)
+    return max((each for each in numbered if distance(left[-1], each[1][-1]) == near), key=lambda each: (each[1][-1], each[0]))[0]
 
 
 def matches(lefts, rights, strategy='backward', exact=True, tolerance=None):
@@ -62,3 +65,29 @@ def in_order(rows, descending, nulls_last, lists=()):
             place -= 1
         done.insert(place, row)
     return done
+
+
+# The forms of a time, as Python's own reader of them knows them.
+FORMS = [f'%Y-%m-%d{clock}{zone}' for clock in ('', ' %H:%M', 'T%H:%M', ' %H:%M:%S', 'T%H:%M:%S', ' %H:%M:%S.%f', 'T%H:%M:%S.%f')
+         for zone in ('', '%z') if clock or not zone]
+
+
+def moment(cell):
+    """The time in a cell, by strptime; None where it is empty."""
+    text = cell.strip()
+    if not text:
+        return None
+    for form in FORMS:
+        try:
+            return datetime.datetime.strptime(text, form)
+        except ValueError:
+            continue
+    raise ValueError(f'{cell} is no time')
+
+
+def by_values(*columns):
+    """Cells of by-columns of both files: as numbers if all are, else as texts; None where they are empty. A list for each file."""
+    cells = [[cell.strip() for cell in column] for column in columns]
+    there = [cell for column in cells for cell in column if cell]
+    whole = all(cell.lstrip('+-').isdigit() and cell.isascii() and len(cell) - len(cell.lstrip('+-')) < 2 for cell in there)
+    return [[None if not cell else int(cell) if whole else cell for cell in column] for column in cells]

@@ -1,5 +1,6 @@
 """The command from outside: the season, bad input, where the output goes."""
 import os
+import re
 import signal
 import stat
 import subprocess
@@ -23,7 +24,7 @@ class Season(Case):
     def test_priced(self):
         """The output is the file beside the season."""
         run = apart(['join', SALES, NOTICES, *ON])
-        self.assertEqual((run.status, run.err), (0, ''))
+        self.assertEqual(self.went_well(run), [27, 30, 3, 2])
         self.assertEqual(run.out, self.read(PRICED))
 
     def test_from_another_folder_in_another_locale(self):
@@ -35,8 +36,9 @@ class Season(Case):
         """The options, rows, turns and areas are told, and the output stays as it is."""
         run = apart(['join', SALES, NOTICES, *ON, '--explain'])
         self.assertEqual((run.status, run.out), (0, self.read(PRICED)))
-        for said in ('strategy    backward, equal keys match, tolerance none', 'order       performance, then minute; checked',
-                     'sales       30 rows', 'notices     11 rows', '27 sales with a notice, 3 without', 'turns       2 wrote',
+        for said in ('strategy    backward, equal keys match, tolerance none', 'key         minute (a whole number)',
+                     'by          performance (a whole number)', 'order       performance, then minute; checked',
+                     'sales       30 rows', 'notices     11 rows', 'turns       2 wrote',
                      'left area   16,386 words', 'right area  ', 'output      8,194 words'):
             self.assertIn(said, run.err)
 
@@ -47,12 +49,19 @@ class Season(Case):
         run = within(['join', table, table, '--on', 'minute', '--explain'])
         self.assertEqual(run.status, 0)
         self.assertEqual(run.out.splitlines()[1:], [f'7,{row},{rows - 1},7,{rows - 1}' for row in range(rows)])
-        self.assertIn('sales       20,000 rows in 14 frames\n', run.err)
+        self.assertIn('sales       20,000 rows in 15 frames\n', run.err)
 
-    def test_picture(self):
-        """The picture under docs/ is the one that its script draws."""
-        made = subprocess.run([sys.executable, os.path.join(ROOT, 'docs', 'picture')], stdout=subprocess.PIPE, check=True)
-        self.assertEqual(made.stdout.decode('utf-8'), self.read(os.path.join(ROOT, 'docs', 'season.svg')))
+
+class Till(Case):
+    """README's second command: files as a till writes them."""
+
+    def test_priced(self):
+        """The output is the file beside them, and the notes say what was found."""
+        command = re.findall(r'(?m)^    [.]/rowkeeper (join .*)$', self.read(os.path.join(ROOT, 'README.md')))[1]
+        run = apart(command.split(), cwd=ROOT)
+        self.assertEqual((run.status, run.out), (0, self.read(os.path.join(SEASON, 'till_priced.csv'))))
+        self.assertEqual(run.err, 'rowkeeper: examples/season/till.csv: columns are separated by semicolons\n'
+                         'rowkeeper: 5 of 7 sales have a notice; 2 have none, the first in line 7\n')
 
 
 class Help(Case):
@@ -94,11 +103,11 @@ class Usage(Case):
                             ([*join, '--on', 'm', '--by', 'p', '--rank', 'p'], "must be COLUMN=CODES, as band=30,10,20, not 'p'"),
                             ([*join, '--on', 'm', '--by', 'p', '--rank', 'p='], '--rank: there is an empty code'),
                             ([*join, '--on', 'm', '--by', 'p', '--rank', 'p=1,,2'], '--rank: there is an empty code'),
-                            ([*join, '--on', 'm', '--by', 'p', '--rank', 'p=1,two'], "--rank: 'two' is not a whole number"),
-                            ([*join, '--on', 'm', '--by', 'p', '--rank', f'p={2**63}'], 'is beyond 64 bits'),
+                            ([*join, '--on', 'm', '--by', 'p', '--rank', 'p=a,b, a'], '--rank: code a is named twice'),
+                            ([*join, '--on', 'm', '--by', 'p', '--rank', 'p=1,"two'], 'a quote is not closed'),
                             ([*join, '--on', 'm', '--by', 'p', '--rank', 'p=1,2,01'], '--rank: code 1 is named twice'),
                             ([*join, '--on', 'm', '--by', 'p', '--rank', 'p=' + ','.join(map(str, range(65)))], '64 at most'),
-                            ([*join, '--on', 'm', '--by', 'p', '--rank', 'p=1', '--rank', 'p=2'], '--rank: can be said once'),
+                            ([*join, '--on', 'm', '--by', 'p', '--rank', 'p=1', '--rank', 'p=2'], '--rank: is said twice'),
                             ([*join, '--on', 'm', '--strategy', 'nearest', '--no-exact'], 'does not go with'),
                             ([*join, '--on', 'm', '--strategy', 'sideways'], 'sideways'),
                             ([*join, '--on', 'm', '--tolerance', '-1'], '--tolerance'),
@@ -107,9 +116,8 @@ class Usage(Case):
                             ([*join, '--on', 'm', '--tolerance', str(2**63)], 'beyond 64 bits'),
                             ([*join, '--on', 'm', '--strat', 'nearest'], '--strat')):
             with self.subTest(words=words):
-                run = apart(words)
-                self.refused(run, said, 2)
-                self.assertEqual(run.out, '')
+                self.refused(within(words), said, 2)
+        self.refused(apart(join), '--on', 2)
 
 
 class BadFiles(Case):
@@ -125,7 +133,7 @@ class BadFiles(Case):
                 ('performance,hour\n1,5\n', 'line 1, column minute: there is no such column; the columns are performance, hour'),
                 ('performance,minute,minute\n1,5,5\n', 'line 1, column minute: 2 columns have this name'),
                 ('performance,minute\n1,5\n1,soon\n', "line 3, column minute: 'soon' is not a whole number"),
-                (f'performance,minute\n1,5\n{beyond},5\n', f"line 3, column performance: '{beyond}' is beyond 64 bits"),
+                (f'performance,minute\n1,5\n2,{beyond}\n', f"line 3, column minute: '{beyond}' is beyond 64 bits"),
                 ('performance,minute\n1,7\n1,5\n', 'line 3, column minute: out of order: 5 comes after 7 of line 2'),
                 ('performance,minute\n2,5\n1,7\n', 'line 3, column performance: out of order: 1 comes after 2 of line 2'),
                 ('performance,minute\n1,5\n1,\n', 'line 3, column minute: out of order: an empty cell comes after 5'),
@@ -188,7 +196,7 @@ class Tables(Case):
     def priced(self, sales, notices, *words):
         """The output for these two tables."""
         run = within(['join', self.file('s.csv', sales), self.file('n.csv', notices), *words])
-        self.assertEqual((run.status, run.err), (0, ''))
+        self.went_well(run)
         return run.out
 
     def test_no_sales(self):
@@ -263,7 +271,7 @@ class Output(Case):
         self.addCleanup(os.umask, mask)
         for mode in (0o640, 0o604):
             run = within(['join', SALES, NOTICES, *ON, '--output', out])
-            self.assertEqual((run.status, run.out, run.err), (0, '', ''))
+            self.assertEqual((self.went_well(run), run.out), ([27, 30, 3, 2], ''))
             self.assertEqual((self.read(out), os.listdir(self.folder)), (self.read(PRICED), ['out.csv']))
             self.assertTrue(mode == 0o640 or stat.S_IMODE(os.stat(out).st_mode) == mode)
             os.chmod(out, 0o604)

@@ -6,11 +6,14 @@ import unittest
 from unittest import mock
 
 import rowkeeper.library
-from rowkeeper.interface import VERSION, Join
+from rowkeeper.interface import Join
 
 from .. import build
 from ..arguments import parse, parser
-from ..cells import column_numbers, frame_words, number
+from ..cells import Whole, frame_words, number, parted
+from ..input import Input
+from ..judged import Judged
+from ..kinds import Kinds
 from ..order import Order
 from ..page import PAGE
 from ..pricing import Heights
@@ -32,7 +35,7 @@ class Cells(unittest.TestCase):
         for cell, value in (('0', 0), (' 12 ', 12), ('-5', -5), ('+7', 7), ('007', 7), ('-0', 0), ('', None), ('  ', None),
                             ('9223372036854775807', 2**63 - 1), ('-9223372036854775808', -2**63), ('0' * 5000 + '1', 1)):
             self.assertEqual(number(cell), value)
-            self.assertEqual(list(column_numbers([cell, '3'])), [value, 3])
+            self.assertEqual(list(Whole.column([cell, '3'])), [value, 3])
 
     def test_no_numbers(self):
         """What is none, though Python might take it for one."""
@@ -40,14 +43,16 @@ class Cells(unittest.TestCase):
                            ('٣', 'not a whole number'), ('1 2', 'not a whole number'), ('--1', 'not a whole number'),
                            ('9223372036854775808', 'beyond 64 bits'), ('-9223372036854775809', 'beyond 64 bits'),
                            ('9' * 5000, 'beyond 64 bits')):
-            for read in (number, lambda each: column_numbers(['1', each])):
+            for read in (number, lambda each: Whole.column(['1', each]), lambda each: Whole.column(['', each])):
                 with self.assertRaisesRegex(ValueError, said):
                     read(cell)
 
     def test_frame(self):
         """The example of the header file, and no rows."""
-        self.assertEqual(list(frame_words([(7, 12), (7, None)], 2)), [2, 2, 7, 12, 7, 0, 1, 1, 1, 0])
-        self.assertEqual(list(frame_words([], 3)), [0, 3])
+        columns = [parted(Whole.column(cells)) for cells in (['7', '7'], ['12', ''])]
+        self.assertEqual(list(frame_words(columns, 0, 2)), [2, 2, 7, 12, 7, 0, 1, 1, 1, 0])
+        self.assertEqual(list(frame_words(columns, 1, 2)), [1, 2, 7, 0, 1, 0])
+        self.assertEqual(list(frame_words(columns, 1, 1)), [0, 2])
 
 
 class Frames(unittest.TestCase):
@@ -78,8 +83,9 @@ class Orders(unittest.TestCase):
                     for b in rows:
                         before = row_before(b, a, [down], [last])
                         self.assertEqual(order.fault(a, b) is not None, before)
-                        ranks = order.ranks_of([a, b])
-                        self.assertEqual(ranks[1] < ranks[0], before)
+                        columns = list(map(list, zip(a, b)))
+                        ranks = order.ranks_of(columns)
+                        self.assertEqual((ranks[1] < ranks[0], not order.in_order(columns)), (before, before))
 
     def test_list(self):
         """All pairs of rows of listed codes and nulls, in all directions; which other cells may stand where."""
@@ -92,8 +98,9 @@ class Orders(unittest.TestCase):
                     for b in rows:
                         before = row_before(b, a, [False, down], [False, last], [None, codes])
                         self.assertEqual(order.fault(a, b) is not None, before)
-                        ranks = order.ranks_of([a, b])
-                        self.assertEqual(ranks[1] < ranks[0], before)
+                        columns = list(map(list, zip(a, b)))
+                        ranks = order.ranks_of(columns)
+                        self.assertEqual((ranks[1] < ranks[0], not order.in_order(columns)), (before, before))
         self.assertEqual([order.may_stand(column, 20) for column in range(3)], [True, False, True])
         self.assertEqual([order.may_stand(1, cell) for cell in (None, 30, 10)], [True] * 3)
         self.assertEqual([order.lacks([[20], cells, [20]]) for cells in ([], [30, None, 10], [30, 20])], [False, False, True])
@@ -115,44 +122,64 @@ class Orders(unittest.TestCase):
 class Sources(Case):
     """Reading."""
 
-    def source(self, content, by=('p',), check=True):
+    def source(self, content, by=('p',), check=True, words=('m',)):
         """A source over a new file."""
-        source = Source(self.file('t.csv', content), Order(by, 'm'), check)
-        self.addCleanup(source.close)
+        source = Source(Input(self.file('t.csv', content)), [*by, *words], Kinds(Order(by, 'm'), may_be_text=False), check)
+        self.addCleanup(source.input.close)
         return source
 
-    def test_frames(self):
-        """However many rows a frame has, the same rows come."""
-        text = 'p,m,t\n' + ''.join(f'{i // 4},{i},x{i}\n' for i in range(10))
-        for most in (1, 3, 10, 99):
-            source = self.source(text)
-            rows = []
-            while True:
-                frame = source.frame(most)
-                self.assertLessEqual(len(frame.cells), most)
-                if not frame.cells:
-                    break
-                rows += frame.numbers
-            self.assertEqual(rows, [(i // 4, i) for i in range(10)])
-            self.assertEqual(source.rows, 10)
-            self.assertEqual(source.share(), 1.0)
+    def test_blocks(self):
+        """However many bytes a block has, the same rows come, in the same lines."""
+        text = 'p,m,t\n' + ''.join(f'{i // 4},{i},{t}\n' for i, t in enumerate(['x', '"y"', '"a\nb"', 'z', '', '"',  'é'] * 9))
+        text = text.replace(',"\n', ',"q,"\n')
+        wanted = None
+        for size in (1, 7, 50, 1000, 1 << 15):
+            with mock.patch('cli.records.FIRST_BYTES', size), mock.patch('cli.records.MOST_BYTES', size), \
+                    mock.patch('cli.records.FEWEST_BYTES', 1):
+                source, rows = self.source(text), []
+                for block, columns in iter(source.next, None):
+                    lines = [block.line(row) for row in range(block.height)]
+                    rows += list(zip(*columns, block.lines, block.columns([2], 3)[0], lines))
+            self.assertEqual(rows, wanted or rows)
+            wanted = rows
+        self.assertEqual([row[:2] for row in rows], [(i // 4, i) for i in range(63)])
+        self.assertEqual(rows[2:4] + rows[6:7], [(0, 2, '0,2,"a\nb"', 'a\nb', 4), (0, 3, '0,3,z', 'z', 6), (1, 6, '1,6,é', 'é', 9)])
+        self.assertEqual(source.share(), 1.0)
+
+    def test_odd_line_ends(self):
+        """Several carriage returns at the end of a line, one alone at the end of the file, blank lines in pieces of their own: the text of
+        a row has none of them, and a second reading finds the same rows."""
+        text = 'p,m,t\n' + '\n' * 9 + '1,2,x\r\r\n' + '\n' * 50 + '1,3,"y\r"\n\r\n\n1,4,z\n1,5,\r'
+        for size in (1, 8, 1 << 15):
+            with mock.patch('cli.records.FIRST_BYTES', size), mock.patch('cli.records.MOST_BYTES', size), \
+                    mock.patch('cli.records.FEWEST_BYTES', 1):
+                table = Judged(self.source(text))
+                table.read(lambda: None)
+                blocks = [block for block, _ in table.pairs()]
+                cells = [text for block, _ in table.pairs(later=True) for text in block.chosen([0, 1, 2], 3, ',')]
+            self.assertEqual([line for block in blocks for line in block.lines], ['1,2,x', '1,3,"y\r"', '1,4,z', '1,5,'])
+            self.assertEqual([block.line(row) for block in blocks for row in range(block.height)], [11, 62, 65, 66])
+            self.assertEqual(cells, ['1,2,x', '1,3,"y\r"', '1,4,z', '1,5,'])
+            table.close()
 
     def test_kinds_of_text(self):
         """Line ends, a byte order mark, blanks, blank lines, quotes."""
         for text in ('p,m,t\r\n1,2,x\r\n', '\ufeffp,m,t\n1,2,x', 'p, m ,t\n\n1, 2,x\n\n', '"p","m","t"\n"1","2","x"\n'):
-            frame = self.source(text).frame(9)
-            self.assertEqual((frame.numbers, [cells[2] for cells in frame.cells]), ([(1, 2)], ['x']))
+            block, columns = self.source(text).next()
+            self.assertEqual((list(map(list, columns)), block.columns([2], 3)), ([[1], [2]], [['x']]))
 
     def test_quotes_over_lines(self):
         """A cell may run over lines, and lines are still counted right."""
         text = 'p,m,t\n1,1,"a\nb\nc"\n1,2,"d,""e"""\n1,x,f\n'
-        self.assertEqual(self.source(text).frame(2).cells, [['1', '1', 'a\nb\nc'], ['1', '2', 'd,"e"']])
         with self.assertRaisesRegex(Problem, "line 6, column m: 'x' is not"):
-            self.source(text).frame(3)
+            self.source(text).next()
+        block, _ = self.source(text[:-6]).next()
+        self.assertEqual(block.rows, [['1', '1', 'a\nb\nc'], ['1', '2', 'd,"e"']])
+        self.assertEqual(block.lines, ['1,1,"a\nb\nc"', '1,2,"d,""e"""'])
 
     def test_one_column(self):
         """An empty cell in quotes is a row, a blank line is none."""
-        self.assertEqual(self.source('m\n""\n\n3\n', by=()).frame(9).numbers, [(None,), (3,)])
+        self.assertEqual(self.source('m\n""\n\n3\n', by=()).next()[1], [[None, 3]])
 
     def test_first_fault_is_told(self):
         """Of several faults the first in the file is told, wherever frames end."""
@@ -163,16 +190,23 @@ class Sources(Case):
                            ('p,m\n1,1\n1\n1,1,1\n', 'line 3: columns: 1, but the header names 2'),
                            ('p,m\n2,1\n,1\n', 'line 3, column p: out of order: an empty cell comes after 2 of line 2'),
                            ('p,m\n1,1\n1,"2\n1,3\n', 'line 3: the line cannot be read as CSV: a quote is opened')):
-            for most in (1, 2, 9):
-                source = self.source(text)
-                with self.assertRaises(Problem) as caught:
-                    while source.frame(most).cells:
-                        pass
+            for size in (1, 9, 99):
+                with mock.patch('cli.records.FIRST_BYTES', size), mock.patch('cli.records.MOST_BYTES', size):
+                    source = self.source(text)
+                    with self.assertRaises(Problem) as caught:
+                        while source.next():
+                            pass
                 self.assertIn(said, str(caught.exception))
+
+    def test_short_beside_long(self):
+        """A row that lacks a cell is told, also where the next one has a cell more and both together look right."""
+        for text in ('m,t\n1\n2,3,4\n', 'm,t\n1,2,3\n4\n'):
+            with self.assertRaisesRegex(Problem, 'line 2: columns: [13], but the header names 2'):
+                self.source(text, by=()).next()
 
     def test_without_check(self):
         """Rows in any order are taken where no check is wanted."""
-        self.assertEqual(self.source('p,m\n1,2\n1,1\n', check=False).frame(9).numbers, [(1, 2), (1, 1)])
+        self.assertEqual(list(map(list, self.source('p,m\n1,2\n1,1\n', check=False).next()[1])), [[1, 1], [2, 1]])
 
     def test_place(self):
         """Places are told in one line."""
@@ -185,8 +219,8 @@ class Words(unittest.TestCase):
 
     def test_page_tells_every_option(self):
         """No option is missing on the page, and it fits a screen."""
-        join = parser()._subparsers._group_actions[0].choices['join']
-        for action in join._actions:
+        commands = parser()._subparsers._group_actions[0].choices.values()
+        for action in (action for command in commands for action in command._actions):
             for option in action.option_strings:
                 if option not in ('-h', '--help'):
                     self.assertIn(f'  {option} ', PAGE)
@@ -220,13 +254,13 @@ class Shown(unittest.TestCase):
         times = iter(now)
         progress = Progress(stream, lambda: next(times), wanted)
         source = mock.Mock(rows=1234, **{'share.return_value': 0.5})
-        progress.show(source, source)
+        progress.show('reading', source, source)
         progress.clear()
         return stream.getvalue()
 
     def test_only_long_runs_on_a_terminal(self):
         """Nothing is shown of a short run, or where no one looks; at the end the line is gone."""
-        self.assertIn('1,234 sales (50 %)', self.shown(self.Terminal(), [0, 5, 5]))
+        self.assertIn('reading: 1,234 sales (50 %)', self.shown(self.Terminal(), [0, 5, 5]))
         self.assertTrue(self.shown(self.Terminal(), [0, 5, 5]).endswith('\r\033[K'))
         self.assertEqual(self.shown(self.Terminal(), [0, 1]), '')
         self.assertEqual(self.shown(io.StringIO(), [0, 5]), '')

@@ -7,10 +7,12 @@ import unittest
 
 from rowkeeper.interface import STRATEGIES
 
+from ..feed import Feed, Held, streamed
+from ..input import Input
 from ..joined import Join
+from ..kinds import Kinds
 from ..order import Order
-from ..pricing import Heights, Pricing
-from ..progress import Progress
+from ..pricing import Heights, Layout, Matching, Priced
 from ..source import Source
 from .command import Case, within
 from .judge import in_order, matches
@@ -95,20 +97,20 @@ class RandomTables(Case):
         for seed in range(TABLES):
             r = random.Random(seed)
             tables = Tables(r)
-            order = Order(tables.by, 'm', tables.descending, tables.nulls_last, tables.rank)
-            join = Join(order, tables.strategy, tables.exact, tables.tolerance, tables.check, right_rows=r.choice((0, 1, 5)))
-            sales, notices = (Source(path, order, tables.check) for path in self.files(tables, r))
-            out = io.StringIO(newline='')
+            kinds = Kinds(Order(tables.by, 'm', tables.descending, tables.nulls_last, tables.rank))
+            sales, notices = (Source(Input(path), [*tables.by, 'm'], kinds, tables.check) for path in self.files(tables, r))
+            join = Join(kinds.order, tables.strategy, tables.exact, tables.tolerance, tables.check, right_rows=r.choice((0, 1, 5)))
+            out, layout = io.BytesIO(), Layout(sales, notices)
+            held, priced = Held(layout.texts), Priced(out, layout)
             heights = Heights(r.randrange(1, 6), r.choice((1, 100)), r.randrange(1, 6))
-            pricing = Pricing(sales, notices, join, csv.writer(out), Progress(io.StringIO()), heights, r.randrange(1, 6))
+            feeds = [Feed(streamed(each, each.next(), lambda: None)) for each in (sales, notices)]
             with self.subTest(seed=seed):
-                pricing.run()
-                tables.judge(self, out.getvalue())
-                self.assertEqual(sales.rows, len(tables.sales))
-                self.assertEqual(pricing.matched, len(tables.matches) - tables.matches.count(None))
-                self.assertEqual(len(pricing.kept.rows), join.held)
+                Matching(join, *feeds, held, priced.part(held), heights, r.randrange(1, 6)).run(lambda: None)
+                tables.judge(self, out.getvalue().decode('utf-8'))
+                self.assertEqual((priced.sales, priced.matched), (len(tables.sales), len(tables.matches) - tables.matches.count(None)))
+                self.assertLessEqual(join.held, sum(block.height for block in held.blocks))
             grown += join.grown
-            sales.close(), notices.close()
+            sales.input.close(), notices.input.close()
         self.assertGreater(grown, TABLES // 4)
 
     def test_command(self):
@@ -117,9 +119,11 @@ class RandomTables(Case):
             r = random.Random(seed)
             tables = Tables(r)
             with self.subTest(seed=seed):
-                run = within(['join', *self.files(tables, r), *tables.words()])
-                self.assertEqual((run.status, run.err), (0, ''))
+                run = within(['join', *self.files(tables, r), *tables.words(), *r.choice(([], ['--stream'], ['--sort']))])
+                counted = self.went_well(run)
                 tables.judge(self, run.out)
+                missing = tables.matches.count(None)
+                self.assertEqual(counted[:3], [len(tables.matches) - missing, len(tables.matches), missing or None])
 
     def test_out_of_order(self):
         """Two neighbouring rows changed over: the line and the column are told, whichever file it is."""
@@ -149,7 +153,7 @@ class RandomTables(Case):
             paths = [self.file(name, 'p,m\n' + ''.join(f'{p},{m}\n' for p, m in table))
                      for name, table in (('s.csv', sales), ('n.csv', notices))]
             run = within(['join', *paths, '--on', 'm', '--by', 'p'])
-            self.assertEqual((run.status, run.err), (0, ''))
+            self.went_well(run)
             found = [line.split(',')[2] for line in run.out.splitlines()[1:]]
             self.assertEqual(found, ['' if number is None else str(number) for number in walk(sales, notices)])
 

@@ -4,7 +4,7 @@ import io
 import os
 import random
 
-from .command import SEASON, Case, apart
+from .command import SEASON, Case, within
 
 ON = ('--on', 'minute', '--by', 'performance')
 SALES, NOTICES = (os.path.join(SEASON, name) for name in ('sales.csv', 'notices.csv'))
@@ -36,8 +36,8 @@ class Rivals(Case):
 
     def priced(self, name, table):
         """The sales priced by these notices: for each performance its rows, each notice by its place among its own."""
-        run = apart(['join', SALES, self.file(name, text(table)), *ON, *self.strategy])
-        self.assertEqual((run.status, run.err), (0, ''))
+        run = within(['join', SALES, self.file(name, text(table)), *ON, *self.strategy])
+        self.went_well(run)
         found = {}
         for row in rows(run.out):
             own = [number for number, notice in enumerate(table) if notice[0] == row[0]]

@@ -3,10 +3,12 @@ another one. Everything that needs the library asks here.
 
 A file in build/ appears whole, under its own name, by a rename: two runs at the same time do no harm. Beside it a file with the
 ending .from holds the sum of what it was made of; if that is another one, it is made anew. No time of a file counts."""
+import contextlib
 import hashlib
 import os
 import re
 import shutil
+import signal
 import subprocess
 import tempfile
 
@@ -22,17 +24,29 @@ def soname():
         return 'librowkeeper.so.' + re.search(r'(?m)^abi (\d+)$', file.read()).group(1)
 
 
+def ran(command):
+    """Runs a command to its end: its status and what it printed on both streams. If a signal or anything else ends the wait, the
+    command is ended too, with all that it started: they are a group of their own."""
+    running = subprocess.Popen(command, stdout=subprocess.PIPE, stderr=subprocess.PIPE, stdin=subprocess.DEVNULL, start_new_session=True)
+    with running:
+        try:
+            return (*running.communicate(), running.returncode)
+        except BaseException:
+            with contextlib.suppress(ProcessLookupError):
+                os.killpg(running.pid, signal.SIGKILL)
+            raise
+
+
 def output_of(command, what):
     """What a command prints; if it fails, its last line is the reason."""
     try:
-        ran = subprocess.run(command, stdout=subprocess.PIPE, stderr=subprocess.PIPE, stdin=subprocess.DEVNULL)
+        out, err, status = ran(command)
     except OSError as error:
         raise Missing(f'{what}: {command[0]}: {error.strerror or error}') from None
-    if ran.returncode != 0:
-        said = ran.stderr.decode('utf-8', 'replace').split('\n')
-        reason = [line for line in said if line.strip()]
-        raise Missing(f'{what}: {reason[-1] if reason else "status " + str(ran.returncode)}')
-    return ran.stdout.decode('utf-8', 'replace').strip()
+    if status != 0:
+        reason = [line for line in err.decode('utf-8', 'replace').split('\n') if line.strip()]
+        raise Missing(f'{what}: {reason[-1] if reason else "status " + str(status)}')
+    return out.decode('utf-8', 'replace').strip()
 
 
 def compiler():

@@ -1,0 +1,95 @@
+"""What the compared columns hold, in both files alike: a by-column whole numbers or text, the key whole numbers or times."""
+from .cells import MOST, Text, Time, Whole, kind_of, number
+from .problem import BAD_USAGE, Problem, at, quoted
+from .times import UNITS
+
+
+class Turned(Exception):
+    """A by-column of whole numbers has a cell that is none: the column is text."""
+
+    def __init__(self, column, path, line, cell, after_numbers):
+        super().__init__(column)
+        self.column, self.after_numbers = column, after_numbers
+        self.why = f'{quoted(cell)} in {at(path, line)}'
+
+
+def listed_codes(texts):
+    """The codes of a list: whole numbers if all are, else texts."""
+    try:
+        return [number(text) for text in texts]
+    except ValueError:
+        return [text.strip() for text in texts]
+
+
+class Kinds:
+    """The kinds of an order's columns. The key's is that of the first cell that is met, in either file. `notes` are for the user, if all
+    goes well."""
+
+    def __init__(self, order, tolerance=None, may_be_text=True):
+        self.order, self.tolerance, self.may_be_text = order, tolerance, may_be_text
+        self.key, self.begun, self.why, self.notes = None, None, {}, []
+        self.by = [Whole() for _ in order.descending]
+        if order.ranks is not None and any(isinstance(code, str) for code in order.ranks[1]):
+            self.by[order.ranks[0]] = Text(order.ranks[1])
+
+    def all(self):
+        """The kind of each column."""
+        return [*self.by, self.key or Whole()]
+
+    def turn(self, turned):
+        """Takes a by-column for text from now on. What was read of it as numbers must be read again."""
+        self.by = [Text() if isinstance(kind, Text) else kind for kind in self.by]
+        self.by[turned.column] = Text()
+        self.why[turned.column] = turned.why
+        if self.order.ranks is not None and isinstance(self.by[self.order.ranks[0]], Text):
+            self.by[self.order.ranks[0]].meet(self.order.ranks[1])
+
+    def turns(self, column):
+        """Whether a by-column of whole numbers may become one of text: one with a list of numbers may not."""
+        return self.may_be_text and column < len(self.by) and isinstance(self.by[column], Whole) and not self.order.has_list(column)
+
+    def begin(self, cell, path, line):
+        """Settles the kind of the key by its first cell. ValueError if it is of none."""
+        self.key = kind_of(cell)
+        self.begun = at(path, line)
+        self.distance()
+
+    def distance(self):
+        """The tolerance in the key's own numbers, or None. A Problem if it is of another kind; where no key is known any will do."""
+        if self.tolerance is None:
+            return None
+        count, unit = self.tolerance
+        if self.key is not None and isinstance(self.key, Time) != bool(unit):
+            here = 'times: --tolerance 2h, with s, m, h or d' if isinstance(self.key, Time) else 'whole numbers: --tolerance 120'
+            raise Problem(f'--tolerance {count}{unit}: does not go with {self.order.columns[-1]}, which holds {here}', BAD_USAGE)
+        if count * UNITS.get(unit, 1) > MOST:
+            raise Problem(f'--tolerance {count}{unit}: is beyond 64 bits of microseconds', BAD_USAGE)
+        return count * UNITS.get(unit, 1)
+
+    def not_of(self, column, why, cell):
+        """What is said of a cell that is not of its column's kind."""
+        if self.order.has_list(column):
+            return f'{quoted(cell)} is not among the codes of --rank'
+        if column < len(self.by):
+            return f'{why}, as --stream wants it of --by columns'
+        return f'{why}, as the column has them from {self.begun} on' if isinstance(self.key, Time) or self.is_time(cell) else str(why)
+
+    @staticmethod
+    def is_time(cell):
+        """Whether a cell is a time."""
+        try:
+            return isinstance(kind_of(cell), Time)
+        except ValueError:
+            return False
+
+    def codes(self):
+        """For each column of text the codes of its numbers, in text order; None for the others."""
+        return [kind.codes() if isinstance(kind, Text) else None for kind in self.all()]
+
+    def coded_order(self):
+        """The order over the numbers that are handed in: those of a list of texts are their codes."""
+        if self.order.ranks is None or not isinstance(self.by[self.order.ranks[0]], Text):
+            return self.order
+        kind = self.by[self.order.ranks[0]]
+        codes = kind.codes()
+        return self.order.coded([codes[kind.known[text]] for text in self.order.ranks[1]])
