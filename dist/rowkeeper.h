@@ -30,6 +30,10 @@
  *     rowkeeper_run         makes turns, up to a given number, and writes their matches one after the other
  *     rowkeeper_spans       without a join: lists which points lie inside the bounds of which intervals, as a pass
  *                           covers performances
+ *     rowkeeper_merge       without a join: merges two sorted books of notices into one sorted book, the house's rows
+ *                           first where they compare equal
+ *     rowkeeper_standing    without a join: tells which notices of a sorted book stand, and for those that do not
+ *                           which notice is the last of its group and key
  *     rowkeeper_version     the version of the library, to compare with ROWKEEPER_VERSION_NUMBER
  */
 /* ---- tools/interface: end of list */
@@ -59,6 +63,9 @@
  * (0 to 8 of them). Two left rows with one by-column, (7, 12) and (7, null):
  *
  *     2, 2,   7, 12,  7, 0,   1, 1,  1, 0
+ *
+ * A table is words of the same form with any number of rows. rowkeeper_merge and rowkeeper_standing take tables of right rows,
+ * books of notices.
  *
  * ORDER
  *
@@ -181,8 +188,8 @@ typedef char rowkeeper_lengths_have_64_bits[sizeof(size_t) == 8 ? 1 : -1];
 /* ---- tools/interface writes: constants */
 /* The version that this header is of: as text, and as a number that grows from version to version
    (1,000,000 × major + 1,000 × minor + patch). */
-#define ROWKEEPER_VERSION "0.3.0"
-#define ROWKEEPER_VERSION_NUMBER 3000
+#define ROWKEEPER_VERSION "0.4.0"
+#define ROWKEEPER_VERSION_NUMBER 4000
 
 /* The rows that a frame can have at most. */
 #define ROWKEEPER_MOST_ROWS 4096
@@ -215,6 +222,8 @@ typedef char rowkeeper_lengths_have_64_bits[sizeof(size_t) == 8 ? 1 : -1];
 #define ROWKEEPER_RUN_WORDS(turns, rows, carried) ((size_t)(turns) * ROWKEEPER_OUTPUT_WORDS(rows, carried))
 /* What so many pairs of rowkeeper_spans take. There are at most rows of points × rows of intervals of them. */
 #define ROWKEEPER_SPANS_WORDS(pairs) (2 + 4 * (size_t)(pairs))
+/* What rowkeeper_standing writes for a book of so many rows. */
+#define ROWKEEPER_STANDING_WORDS(rows) (2 + 4 * (size_t)(rows))
 
 /* ---- tools/interface writes: enumerations */
 /* options.strategy */
@@ -237,13 +246,14 @@ enum { ROWKEEPER_WROTE = 0, ROWKEEPER_WANTS_RIGHT = 1, ROWKEEPER_IDLE = 2, ROWKE
 enum { ROWKEEPER_TURNS_USED = 0 };
 
 /* refusal. If several apply, the first in checking order is reported; that order is:
-   1, 10, 11, 2 to 5, 12, 16, 6 to 9. */
+   1, 10, 11, 2 to 5, 12 to 14, 16, 6 to 9. */
 enum {
     /* Not refused. */
     ROWKEEPER_ACCEPTED = 0,
     /* Opening: by above 4, strategy above 2, tolerance below -1, Nearest without equality, check above 2, or a flag, of which
        ranks.given is one, that is neither 0 nor 1. There is no join then: every call refuses by 2 what is returned beside the
-       refusal, except that a run of no turns tries nothing and so refuses nothing. Spans: a flag that is neither 0 nor 1. */
+       refusal, except that a run of no turns tries nothing and so refuses nothing. A merge and standing: the same of their
+       options. Spans: a flag that is neither 0 nor 1. */
     ROWKEEPER_BAD_OPTIONS = 1,
     /* The join is inconsistent or does not fit its areas: another layout word, options as in 1, 10 or 11, a list of ranks with
        other bytes in `rising` than opening puts there, base + held above R, queue_start + queue_words above the left area,
@@ -255,9 +265,11 @@ enum {
        is Done; a turn if the node is Done. */
     ROWKEEPER_CLOSED = 4,
     /* The words are not a frame of that side's columns. At a turn: those that wait are not. Spans: the points are not a frame of one
-       column, or the intervals not one of two. */
+       column, or the intervals not one of two. A merge and standing: a book is not a table of the right side's columns; a table
+       may have any number of rows. */
     ROWKEEPER_BAD_FRAME = 5,
-    /* No room: for the frame in the left area, for its rows in the right area, or for the matches or pairs in the output. */
+    /* No room: for the frame in the left area, for its rows in the right area, or for the matches, pairs, rows or notices in the
+       output. */
     ROWKEEPER_NO_ROOM = 6,
     /* The numbers are used up: right rows past 2^63 - 1, or a turn at sequence 2^64 - 2. */
     ROWKEEPER_USED_UP = 7,
@@ -265,14 +277,18 @@ enum {
     ROWKEEPER_LEFT_ORDER = 8,
     /* Check on or strict: right rows are out of order. The join is marked failed. */
     ROWKEEPER_RIGHT_ORDER = 9,
-    /* Opening: carried above 8. There is no join then, as with 1. */
+    /* Opening: carried above 8. There is no join then, as with 1. A merge and standing: the same of their options. */
     ROWKEEPER_TOO_MANY_CARRIED = 10,
     /* Opening, with ranks.given 1: ranks.count is 0 or above 64, a code stands twice among the first ranks.count, or
-       ranks.column is not below by. There is no join then, as with 1. */
+       ranks.column is not below by. There is no join then, as with 1. A merge and standing: the same of their options. */
     ROWKEEPER_BAD_RANKS = 11,
     /* With a list of ranks: its column has a value in the frame that is not on the list. A null is no value. At a turn: in the
-       frame that waits first. Comes straight after 5. */
+       frame that waits first. A merge and standing: in a book. Comes straight after 5. */
     ROWKEEPER_UNKNOWN_CODE = 12,
+    /* Standing: the place is none of the carried columns. */
+    ROWKEEPER_BAD_COLUMNS = 13,
+    /* A merge and standing: a book is not sorted as the options say. */
+    ROWKEEPER_UNSORTED = 14,
     /* Spans alone: a point is null, or greater than the next. */
     ROWKEEPER_BAD_POINTS = 16,
     /* The greatest number of a refusal in this version. Later versions may have greater ones. */
@@ -288,7 +304,7 @@ ROWKEEPER_INLINE const char *rowkeeper_refusal_text(uint64_t refusal) {
     case ROWKEEPER_BAD_JOIN: return "the join is inconsistent, or does not fit its areas";
     case ROWKEEPER_FAILED: return "an earlier turn found rows out of order";
     case ROWKEEPER_CLOSED: return "the call comes at the wrong time";
-    case ROWKEEPER_BAD_FRAME: return "the words are not a frame with the columns that the call expects";
+    case ROWKEEPER_BAD_FRAME: return "the words are not a frame or table with the columns that the call expects";
     case ROWKEEPER_NO_ROOM: return "there is no room in an area or in the output";
     case ROWKEEPER_USED_UP: return "the numbers of rows or turns are used up";
     case ROWKEEPER_LEFT_ORDER: return "left rows are out of order";
@@ -296,6 +312,8 @@ ROWKEEPER_INLINE const char *rowkeeper_refusal_text(uint64_t refusal) {
     case ROWKEEPER_TOO_MANY_CARRIED: return "there are more than 8 carried columns";
     case ROWKEEPER_BAD_RANKS: return "the list of ranks is empty or too long, has a code twice or is for no by-column";
     case ROWKEEPER_UNKNOWN_CODE: return "the by-column with a list of ranks has a value that is not on the list";
+    case ROWKEEPER_BAD_COLUMNS: return "there is no such column";
+    case ROWKEEPER_UNSORTED: return "the table is not sorted";
     case ROWKEEPER_BAD_POINTS: return "a point is null, or greater than the next";
     default: return "no refusal of this version has this number";
     }
@@ -481,6 +499,55 @@ rowkeeper_ran rowkeeper_run(rowkeeper_join join, size_t turns, const int64_t *le
 rowkeeper_written rowkeeper_spans(const int64_t *points, size_t point_words, const int64_t *intervals,
                                   size_t interval_words, uint64_t lower_inclusive, uint64_t upper_inclusive,
                                   int64_t *out, size_t out_words);
+
+/* Merges two sorted tables of right rows, a house's book and its festival's, into one sorted table: every row of both and no
+   other, in the order that each book has them, and of rows that compare equal the house's first, whatever they carry. Of the
+   options only by, descending, nulls_last, carried and ranks say how rows lie and compare; the others must be valid all the same.
+   Both books have by + 1 + carried columns and any number of rows, n and m. The output has n + m, the number of columns,
+   then the values, then the marks: ROWKEEPER_RIGHT_FRAME_WORDS(n + m, by, carried) words; those behind them are untouched, and `rows`
+   is n + m. What is written can be handed on as a book, or cut in frames for a join.
+   Refused by 1, 10, 11, 5, 12, 14 and 6, in this order: options that opening would refuse; a book that is no table of these columns; a value
+   that the list of ranks lacks; a book that is not sorted; too short an output. Both books must pass a number before the next is
+   looked at. They are only read in every case.
+   A call passes both books twice and compares one pair of rows for each row that it writes.
+   Two notices of a house and one of its festival, by minute and price:
+
+       static const int64_t house[] = {2, 2, 10, 1800, 30, 2500, 1, 1, 1, 1}, festival[] = {1, 2, 20, 2200, 1, 1};
+       rowkeeper_options options = {0};
+       int64_t out[14];
+       options.tolerance = ROWKEEPER_NO_TOLERANCE;
+       options.carried = 1;
+       rowkeeper_written w = rowkeeper_merge(options, house, 10, festival, 6, out, 14);
+
+   w is {0, 3} and out is 3, 2, 10, 1800, 20, 2200, 30, 2500, 1, 1, 1, 1, 1, 1. */
+rowkeeper_written rowkeeper_merge(rowkeeper_options options, const int64_t *house, size_t house_words,
+                                  const int64_t *festival, size_t festival_words, int64_t *out, size_t out_words);
+
+/* Tells which notices of a sorted table of right rows stand. A notice is corrected by a later one of the same group and key, so
+   of each group and key the last row stands, unless it withdraws: its carried column `place`, counted from 0, is 1. Null keys
+   and null groups never stand. Of the options only by, descending, nulls_last, carried and ranks say how rows lie and
+   compare; the others must be valid all the same.
+   The output has n, 2, then two values for each row of the book, then 2n marks: 1 and null if the row stands; else 0 and the
+   number, from 0, of the last row of its group and key, which of a last row that withdraws is its own; 0 and null if its key or
+   a by-value is null. These are ROWKEEPER_STANDING_WORDS(n) words; those behind them are untouched, and `rows` is n. The rows
+   that stand, in order, are a sorted book again; if no row of the book has 1 in that column, Backward and Nearest pick the
+   same notices from it as from the whole book. Forward may not: it takes the first of equal rows.
+   Refused by 1, 10, 11, 5, 12 to 14 and 6, in this order: options that opening would refuse; a book that is no table of the right side's columns;
+   a value that the list of ranks lacks; a place that is not below carried; a book that is not sorted; too short an output. The
+   book is only read in every case.
+   A call passes the book twice and compares each row with the next one twice.
+   A notice at minute 10, its correction, and one at minute 20 that withdraws itself:
+
+       static const int64_t book[] = {3, 2, 10, 0, 10, 0, 20, 1, 1, 1, 1, 1, 1, 1};
+       rowkeeper_options options = {0};
+       int64_t out[14];
+       options.tolerance = ROWKEEPER_NO_TOLERANCE;
+       options.carried = 1;
+       rowkeeper_written w = rowkeeper_standing(options, book, 14, 0, out, 14);
+
+   w is {0, 3} and out is 3, 2, 0, 1, 1, 0, 0, 2, 1, 1, 1, 0, 1, 1: row 0 names row 1, which stands; row 2 names itself. */
+rowkeeper_written rowkeeper_standing(rowkeeper_options options, const int64_t *book, size_t book_words, uint64_t place,
+                                     int64_t *out, size_t out_words);
 
 /* The version of the library as a number, 1,000,000 × major + 1,000 × minor + patch: ROWKEEPER_VERSION_NUMBER of the header
    that it came with. Whether a saved join is read does not depend on the version but on its layout word: see THE JOIN. */

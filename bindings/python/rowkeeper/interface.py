@@ -3,8 +3,8 @@ import ctypes
 from ctypes import c_int64, c_size_t, c_uint8, c_uint64, c_void_p
 
 # The version of the library that these declarations are of.
-VERSION = '0.3.0'
-VERSION_NUMBER = 3000
+VERSION = '0.4.0'
+VERSION_NUMBER = 4000
 
 # The name of its shared object, which has another number if a host must be compiled anew.
 SONAME = 'librowkeeper.so.2'

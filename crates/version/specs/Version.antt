@@ -7,4 +7,4 @@ versionOf major minor patch = major * 1_000_000 + minor * 1_000 + patch
 
 -- The version of this library: 0.2.0.
 abbrev pub versionNow : ℕ
-versionNow = versionOf 0 3 0
+versionNow = versionOf 0 4 0

@@ -2,8 +2,8 @@
 ghost use mathlib.Core.Path.{_≡_};
 ghost use Rattle.version.specs.Version.{versionNow};
 
-// Version 0.3.0: major × 1,000,000 + minor × 1,000 + patch.
-const NUMBER: u64 = 3000;
+// Version 0.4.0: major × 1,000,000 + minor × 1,000 + patch.
+const NUMBER: u64 = 4000;
 
 // The version of this library as a number: major × 1,000,000 + minor × 1,000 + patch.
 pub fn version_now() -> u64
