@@ -29,8 +29,8 @@ def using(kind):
 
 
 def column(cells):
-    """A column of cells, None for a null."""
-    values = array('q', [cell or 0 for cell in cells])
+    """A column of cells, None for a null, which has another number than 0 beneath it."""
+    values = array('q', [9 if cell is None else cell for cell in cells])
     return Column(values, bytes(cell is not None for cell in cells)) if None in cells else values
 
 
