@@ -175,7 +175,7 @@ class Notices:
         told_of = called(rowkeeper.standing, self.run.kinds.coded_order(), self.book(table).words(), 0)
         self.stands, self.last = bytearray(len(self.numbers)), array('q', bytes(8 * len(self.numbers)))
         for number, stands, last in zip(self.numbers, told_of.stands, told_of.last):
-            self.stands[number], self.last[number] = stands, self.numbers[last] if last >= 0 else -1
+            self.stands[number], self.last[number] = int(stands), self.numbers[last] if last >= 0 else -1
 
     def written(self, block, first):
         """What is written of a block that begins with this row: the notices that stand, or all with what is known of them."""
