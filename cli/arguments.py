@@ -95,21 +95,28 @@ def prefix(text):
     return text
 
 
-def add_files(command):
-    """What every command takes: the two files, their columns, how they are written and sorted."""
-    command.add_argument('sales', metavar='SALES.csv')
-    command.add_argument('notices', metavar='NOTICES.csv')
-    for option in ('--on', '--left-on', '--right-on'):
-        command.add_argument(option, action=Once, metavar='COLUMN')
-    for option in ('--by', '--left-by', '--right-by', '--descending', '--nulls-last'):
+def add_common(command):
+    """What every command takes: the columns, how files are written and sorted, and where the output goes."""
+    command.add_argument('--on', action=Once, metavar='COLUMN')
+    for option in ('--by', '--descending', '--nulls-last'):
         command.add_argument(option, action='append', default=[], metavar='COLUMN')
     command.add_argument('--rank', type=ranks, action=Once, metavar='COLUMN=CODES')
-    command.add_argument('--strict', '--check', dest='check', action='store_true', default=True)
-    command.add_argument('--no-check', dest='check', action='store_false')
     command.add_argument('--sort', action='store_true')
     command.add_argument('--separator', type=separator, action=Once, metavar='SIGN')
     command.add_argument('--encoding', action=Once, metavar='NAME')
     command.add_argument('-o', '--output', action=Once, metavar='FILE')
+
+
+def add_files(command):
+    """What the commands over sales take: both files, and what each calls its columns."""
+    command.add_argument('sales', metavar='SALES.csv')
+    command.add_argument('notices', metavar='NOTICES.csv')
+    for option in ('--left-on', '--right-on'):
+        command.add_argument(option, action=Once, metavar='COLUMN')
+    for option in ('--left-by', '--right-by'):
+        command.add_argument(option, action='append', default=[], metavar='COLUMN')
+    command.add_argument('--strict', '--check', dest='check', action='store_true', default=True)
+    command.add_argument('--no-check', dest='check', action='store_false')
 
 
 def add_join(join):
@@ -132,15 +139,31 @@ def add_picture(picture):
                          fail_unmatched=False, explain=False)
 
 
+def add_merge(merge):
+    """What `rowkeeper merge` takes besides. The library merges sorted books alone, so the order is always looked at."""
+    merge.add_argument('house', metavar='HOUSE.csv')
+    merge.add_argument('festival', metavar='FESTIVAL.csv')
+    merge.set_defaults(check=True)
+
+
+def add_standing(standing):
+    """What `rowkeeper standing` takes besides."""
+    standing.add_argument('notices', metavar='NOTICES.csv')
+    standing.add_argument('--withdrawn', action=Once, metavar='COLUMN')
+    standing.add_argument('--all', action='store_true')
+    standing.set_defaults(check=True)
+
+
 def parser():
     """The commands and their options, as the page tells them."""
     top = Parser(prog='rowkeeper', allow_abbrev=False)
     top.add_argument('--version', action='version', version=f'rowkeeper {VERSION}')
     commands = top.add_subparsers(dest='command', metavar='COMMAND', parser_class=Parser)
-    for name, add in (('join', add_join), ('picture', add_picture)):
+    for name, adds in (('join', (add_files, add_join)), ('picture', (add_files, add_picture)), ('merge', (add_merge,)),
+                       ('standing', (add_standing,))):
         command = commands.add_parser(name, allow_abbrev=False)
-        add_files(command)
-        add(command)
+        for add in (*adds, add_common):
+            add(command)
     return top
 
 
@@ -156,10 +179,11 @@ def one_side(left, right, both, what):
 def judge_columns(args):
     """Settles which columns are compared: `left` and `right` are the by-columns and the key of each file."""
     some = lambda name: [] if name is None else [name]
-    on = one_side(some(args.left_on), some(args.right_on), some(args.on), 'on')
+    own = lambda name: getattr(args, name, None)
+    on = one_side(some(own('left_on')), some(own('right_on')), some(args.on), 'on')
     if not on[0]:
         raise Problem('--on: say which column is compared; rowkeeper --help tells more', BAD_USAGE)
-    by = one_side(args.left_by, args.right_by, args.by, 'by')
+    by = one_side(own('left_by') or [], own('right_by') or [], args.by, 'by')
     if len(by[0]) > MOST_BY:
         raise Problem(f'--by: {len(by[0])} columns, but there can be {MOST_BY} at most', BAD_USAGE)
     args.left, args.right = [*by[0], *on[0]], [*by[1], *on[1]]
@@ -185,21 +209,28 @@ def judge_rank(args):
         raise Problem(f'--rank: code {twice} is named twice', BAD_USAGE)
 
 
-def judge(args):
-    """Stops at options that do not go together."""
-    judge_columns(args)
-    if args.rank is not None:
-        judge_rank(args)
+def judge_sales(args):
+    """Stops at options of the commands over sales that do not go together."""
     pairs = (('--no-exact', '--strategy nearest', not args.exact and args.strategy == 'nearest'),
              ('--stream', '--sort', args.stream and args.sort),
              ('--matched-only', '--fail-unmatched', args.matched_only and args.fail_unmatched))
     for option, other, both in pairs:
         if both:
             raise Problem(f'{option}: does not go with {other}', BAD_USAGE)
-    if args.sales == DASH and args.notices == DASH:
-        raise Problem('-: standard input can be one of the two files, not both', BAD_USAGE)
     args.strategy = args.strategy or STRATEGIES[0]
     args.columns = [args.price] if args.command == 'picture' else args.columns
+
+
+def judge(args):
+    """Stops at options that do not go together."""
+    judge_columns(args)
+    if args.rank is not None:
+        judge_rank(args)
+    if 'sales' in args:
+        judge_sales(args)
+    files = [getattr(args, name) for name in ('sales', 'notices', 'house', 'festival') if name in args]
+    if files.count(DASH) > 1:
+        raise Problem('-: standard input can be one of the two files, not both', BAD_USAGE)
     args.encoding = known_encoding('utf-8' if args.encoding is None else args.encoding)
 
 

@@ -4,6 +4,7 @@ import os
 import signal
 
 from .arguments import parse
+from .books import merge, standing
 from .join import price
 from .picture import picture
 from .problem import BAD_INPUT, DONE, Problem, reason, say
@@ -31,7 +32,7 @@ def main(words):
     """Runs the command; its status."""
     try:
         args = parse(words)
-        {'join': price, 'picture': picture}[args.command](args)
+        {'join': price, 'picture': picture, 'merge': merge, 'standing': standing}[args.command](args)
     except Problem as problem:
         say(problem)
         return problem.status

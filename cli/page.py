@@ -5,6 +5,8 @@ from rowkeeper.interface import VERSION
 
 SHORT = '''usage: rowkeeper join SALES.csv NOTICES.csv --on KEY [--by COLUMN] [options]
        rowkeeper picture SALES.csv NOTICES.csv --on KEY --price COLUMN [options]
+       rowkeeper merge HOUSE.csv FESTIVAL.csv --on KEY [--by COLUMN] [options]
+       rowkeeper standing NOTICES.csv --on KEY [--withdrawn COLUMN] [options]
        rowkeeper --help | --version
 '''
 
@@ -51,11 +53,11 @@ WHAT GOES IN
   -                    as a file's name: standard input
   --separator SIGN     what stands between the columns of both files: ';', tab.
                        Else ',' or, if the columns are found by it, ';' or tab.
-                       What comes out is separated as the sales are
+                       What comes out is separated as the first is
   --encoding NAME      the files are in this encoding, as cp1252, and not in
                        UTF-8. A file that begins with a byte order mark (UTF-8
                        or UTF-16) says it itself. What comes out is UTF-8, with
-                       a mark if the sales have one or are in another encoding
+                       a mark if the first has one or is in another encoding
 
 WHICH NOTICE
   --on COLUMN          the column that is compared, as the minute of the sale
@@ -113,6 +115,32 @@ A PICTURE
   them, as SVG: up to 40 performances, 50,000 rows a file. It takes the options
   on columns, files, sorting and -o.
   --price COLUMN       the column of the notices that is drawn, as 1800 or 12.50
+
+TWO BOOKS AS ONE
+  rowkeeper merge HOUSE.csv FESTIVAL.csv --on minute --by performance
+
+  makes two sorted books of notices one: every row of both as it came in, and of
+  rows that are equal in the --by and --on columns the house's first. Both books
+  have the same columns. If the festival has them in another order, or with
+  another separator, its rows come out as the house has them.
+
+WHICH NOTICES STAND
+  rowkeeper standing NOTICES.csv --on minute --by performance \\
+      --withdrawn withdrawn
+
+  writes the notices that stand: of each performance and minute the last one,
+  unless it withdraws itself. The others are corrected, or withdrawn, by that
+  last one. A notice whose minute or performance is not known does not stand.
+  --withdrawn COLUMN   1 in this column withdraws, 0 or an empty cell does not;
+                       without this option none is withdrawn
+  --all                write all notices, each with two more columns: stands,
+                       which is yes or no, and last_line, the line of the notice
+                       by which it is corrected or withdrawn (its own if it
+                       withdraws itself)
+
+  Both commands take the options on columns (--on, --by), files, sorting and -o.
+  With --sort a merged book comes out sorted, and the notices that stand come
+  out in their own order. Memory goes by the rows, about 200 bytes each.
 
 WHEN SOMETHING IS WRONG
   One line says what, with file, line and column, and the status is 1 for the

@@ -68,6 +68,13 @@ class Matching:
                 show()
 
 
+def free(name, taken, prefix):
+    """A column's name, with the prefix in front as often as it takes to be none of those that are taken."""
+    while name in taken:
+        name = prefix + name
+    return name
+
+
 class Layout:
     """The columns of the output: those of the sales; the notice's number; and the notice's own, all but the by-columns, which are
     those of the sale, or those that are chosen. A name that is taken gets the prefix in front."""
@@ -79,9 +86,7 @@ class Layout:
             [notices.place(name) for name in chosen]
         self.names = list(sales.header)
         for name in [f'{prefix}row'] + [notices.header[place] for place in self.places]:
-            while name in self.names:
-                name = prefix + name
-            self.names.append(name)
+            self.names.append(free(name, self.names, prefix))
         self.nothing = self.separator * (1 + len(self.places))
 
     def header(self):

@@ -9,19 +9,20 @@ PATIENCE, PACE = 2.0, 0.25
 class Progress:
     """One line that is written over itself."""
 
-    def __init__(self, stream=None, clock=time.monotonic, wanted=True):
-        """Not wanted: the rows themselves go to the terminal."""
+    def __init__(self, stream=None, clock=time.monotonic, wanted=True, said=('sales', 'notices')):
+        """Not wanted: the rows themselves go to the terminal. `said` is what the rows of each file are called."""
+        self.said = said
         self.stream = sys.stderr if stream is None else stream
         self.clock = clock
         self.due = clock() + PATIENCE if wanted and self.stream is not None and self.stream.isatty() else None
         self.shown = False
 
-    def show(self, stage, sales, notices):
+    def show(self, stage, *sources):
         """Shows what is being done and the rows read so far, where it is time to."""
         if self.due is None or self.clock() < self.due:
             return
         self.due, self.shown = self.clock() + PACE, True
-        self.stream.write(f'\r\033[Krowkeeper: {stage}: {told("sales", sales)}, {told("notices", notices)}')
+        self.stream.write(f'\r\033[Krowkeeper: {stage}: {", ".join(map(told, self.said, sources))}')
         self.stream.flush()
 
     def clear(self):

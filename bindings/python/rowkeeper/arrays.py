@@ -56,17 +56,35 @@ def is_high(array):
     return array.dtype == numpy.uint64 and array.size and int(array.max()) >= 2**63
 
 
+def time_of(array):
+    """The kind and unit of an array's times, or None where it has none."""
+    return array.dtype.newbyteorder('=') if array.dtype.kind in 'mM' else None
+
+
+def alike(columns, names):
+    """Columns in numbers that compare as they do, each with which of them are there, or None."""
+    found = [numbers(*pair) for pair in zip(columns, names)]
+    first, high = found[0][0], any(is_high(array) for array, _ in found)
+    for (array, _), name in zip(found[1:], names[1:]):
+        if time_of(first) != time_of(array):
+            raise ValueError(f'{names[0]} has the dtype {first.dtype} and {name} {array.dtype}: times of one kind and unit are wanted')
+        if high and first.dtype != array.dtype:
+            raise ValueError(f'{names[0]} and {name}: one has numbers above 64 bits with a sign, and the other has a sign')
+    return [((shifted if high else whole)(array), valid) for array, valid in found]
+
+
 def paired(left, right, names):
     """Two columns, one of each side, in numbers that compare as they do; with which of them are there."""
-    (one, one_valid), (other, other_valid) = (numbers(*pair) for pair in zip((left, right), names))
-    times = [each.dtype.newbyteorder('=') if each.dtype.kind in 'mM' else None for each in (one, other)]
-    if times[0] != times[1]:
-        raise ValueError(f'{names[0]} has the dtype {one.dtype} and {names[1]} {other.dtype}: times of one kind and unit are wanted')
-    if is_high(one) or is_high(other):
-        if one.dtype != other.dtype:
-            raise ValueError(f'{names[0]} and {names[1]}: one has numbers above 64 bits with a sign, and the other has a sign')
-        return shifted(one), one_valid, shifted(other), other_valid
-    return whole(one), one_valid, whole(other), other_valid
+    one, other = alike((left, right), names)
+    return (*one, *other)
+
+
+def signed(column, name):
+    """A column in its own numbers, with which of them are there, or None."""
+    array, valid = numbers(column, name)
+    if is_high(array):
+        raise ValueError(f'{name} has numbers above 64 bits with a sign')
+    return whole(array), valid
 
 
 def both(valid, other):
@@ -194,3 +212,50 @@ class Nothing:
     def positions(rows):
         """-1 for each left row."""
         return numpy.full(rows, -1, dtype='i8')
+
+
+def table_words(columns):
+    """Columns of one length, each with which of its rows are there, or None, as a table in words."""
+    rows, width = len(columns[0][0]), len(columns)
+    words = numpy.ones(2 + 2 * rows * width, dtype='i8')
+    words[:2] = rows, width
+    values, marks = words[2:].reshape(2, rows, width)
+    for place, (cells, valid) in enumerate(columns):
+        values[:, place] = cells if valid is None else numpy.where(valid, cells, 0)
+        if valid is not None:
+            marks[:, place] = valid
+    return words
+
+
+def cells_of(words, place):
+    """A column of a table in words: its values, and which of them are there, or None if all are."""
+    rows, width = words[0], words[1]
+    values, marks = numpy.frombuffer(words, dtype='i8')[2:].reshape(2, rows, width)
+    valid = marks[:, place].astype(bool)
+    return values[:, place].copy(), None if valid.all() else valid
+
+
+def notices_of(words):
+    """Which rows of a book stand, and the row that is the last of its group and key for each that does not, or -1."""
+    values, marks = numpy.frombuffer(words, dtype='i8')[2:].reshape(2, words[0], 2)
+    return values[:, 0].astype(bool), values[:, 1] + marks[:, 1] - 1
+
+
+def pairs_of(numbered, interval, point):
+    """Pairs that a call listed, in two columns: it was handed the intervals and the points from these on."""
+    found = numpy.frombuffer(numbered, dtype='i8')
+    return found[::2] + interval, found[1::2] + point
+
+
+def joined(parts):
+    """Parts of two columns, one behind the other."""
+    return [numpy.concatenate([part[side] for part in parts] or [numpy.empty(0, dtype='i8')]) for side in (0, 1)]
+
+
+def by_intervals(parts):
+    """Parts that have the same intervals beside other points, as one, interval by interval."""
+    intervals, points = joined(parts)
+    if len(parts) < 2:
+        return intervals, points
+    order = numpy.argsort(intervals, kind='stable')
+    return intervals[order], points[order]

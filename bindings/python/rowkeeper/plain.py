@@ -2,7 +2,7 @@
 loops of the interpreter's own functions."""
 import operator
 from array import array
-from itertools import compress, count, islice, repeat
+from itertools import chain, compress, count, islice, repeat
 
 from .columns import WANTED, parted, same_length, unsorted
 from .interface import MOST_ROWS
@@ -29,15 +29,29 @@ def numbers(column, name):
     return (view if unsigned else array('q', view)), unsigned, valid
 
 
+def alike(columns, names):
+    """Columns in numbers that compare as they do, each with which of them are there, or None."""
+    found = [numbers(*pair) for pair in zip(columns, names)]
+    high = all(unsigned for _, unsigned, _ in found)
+    try:
+        return [(array('q', map(LOWEST.__add__, values) if high else values), valid) for values, _, valid in found]
+    except OverflowError:
+        raise ValueError(f'{" and ".join(names)}: one has numbers above 64 bits with a sign, and the other has a sign') from None
+
+
 def paired(left, right, names):
     """Two columns, one of each side, in numbers that compare as they do; with which of them are there."""
-    (one, one_high, one_valid), (other, other_high, other_valid) = (numbers(*pair) for pair in zip((left, right), names))
-    if one_high and other_high:
-        one, other = (array('q', map(LOWEST.__add__, each)) for each in (one, other))
+    one, other = alike((left, right), names)
+    return (*one, *other)
+
+
+def signed(column, name):
+    """A column in its own numbers, with which of them are there, or None."""
+    values, _, valid = numbers(column, name)
     try:
-        return array('q', one), one_valid, array('q', other), other_valid
+        return array('q', values), valid
     except OverflowError:
-        raise ValueError(f'{names[0]} and {names[1]}: one has numbers above 64 bits with a sign, and the other has a sign') from None
+        raise ValueError(f'{name} has numbers above 64 bits with a sign') from None
 
 
 def both(valid, other):
@@ -135,3 +149,48 @@ class Nothing:
     def positions(rows):
         """-1 for each left row."""
         return array('q', [-1]) * rows
+
+
+def table_words(columns):
+    """Columns of one length, each with which of its rows are there, or None, as a table in words."""
+    rows, width = len(columns[0][0]), len(columns)
+    size = rows * width
+    words = array('q', [rows, width]) + array('q', [1]) * (2 * size)
+    for place, (cells, valid) in enumerate(columns, 2):
+        words[place:2 + size:width] = cells if valid is None else array('q', map(operator.mul, cells, valid))
+        if valid is not None:
+            words[place + size:2 + 2 * size:width] = array('q', iter(valid))
+    return words
+
+
+def cells_of(words, place):
+    """A column of a table in words: its values, and which of them are there, or None if all are."""
+    size, width = words[0] * words[1], words[1]
+    valid = bytes(iter(words[2 + size + place::width]))
+    return array('q', words[2 + place:2 + size:width]), None if all(valid) else valid
+
+
+def notices_of(words):
+    """Which rows of a book stand, and the row that is the last of its group and key for each that does not, or -1."""
+    size = 2 * words[0]
+    found = map(operator.add, words[3:2 + size:2], words[3 + size::2])
+    return bytes(iter(words[2:2 + size:2])), array('q', map((-1).__add__, found))
+
+
+def pairs_of(numbered, interval, point):
+    """Pairs that a call listed, in two columns: it was handed the intervals and the points from these on."""
+    return array('q', map(interval.__add__, numbered[::2])), array('q', map(point.__add__, numbered[1::2]))
+
+
+def joined(parts):
+    """Parts of two columns, one behind the other."""
+    return [array('q', chain.from_iterable(part[side] for part in parts)) for side in (0, 1)]
+
+
+def by_intervals(parts):
+    """Parts that have the same intervals beside other points, as one, interval by interval."""
+    intervals, points = joined(parts)
+    if len(parts) < 2:
+        return intervals, points
+    order = sorted(range(len(intervals)), key=intervals.__getitem__)
+    return pick(intervals, order), pick(points, order)

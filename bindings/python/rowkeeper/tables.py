@@ -1,0 +1,196 @@
+"""The calls over whole tables, without a join: which points lie inside which intervals, two sorted books as one, and which notices of
+a book stand."""
+import collections
+from array import array
+
+from . import asof_join
+from . import interface as c
+from .columns import Column
+from .join import Refused, expect, number_or_bad, options
+from .lent import WORD, Area, lent
+from .library import library
+
+# The pairs that the output of one call of spans has room for: those of 16 intervals with any points of a frame.
+PAIRS = 16 * c.MOST_ROWS
+
+Spans = collections.namedtuple('Spans', 'intervals points')
+Spans.__doc__ = """Which points lie inside which intervals, in two columns of 64-bit numbers: the row of an interval, and the row of a point
+that lies inside it."""
+Standing = collections.namedtuple('Standing', 'stands last')
+Standing.__doc__ = """For each row of a book whether it stands (an array of bool of numpy if it is there, else bytes of 0 and 1), and, if it does
+not, the row that is the last of its group and key, its own if that row withdraws; -1 if it stands, and if its key or a by-value is
+null."""
+
+
+class Table:
+    """A table of whole numbers in the library's words. It is made from columns, the by-columns in order, the key and what is carried:
+    anything with the buffer protocol of whole numbers, an array of numpy, or a Column, which can have nulls. Times of numpy are taken as
+    the whole numbers that they are stored as.
+
+    >>> table = Table([array('q', [10, 20]), Column(array('q', [1800, 0]), b'\\1\\0')])
+    >>> list(table.words), table.rows()
+    ([2, 2, 10, 1800, 20, 0, 1, 1, 1, 0], [(10, 1800), (20, None)])
+    """
+
+    def __init__(self, columns):
+        if not isinstance(columns, (list, tuple)) or not columns:
+            raise ValueError('a table is made from a list of columns, and has a key at least')
+        tools, names = asof_join.tools(), [f'column {place}' for place in range(len(columns))]
+        found = [tools.signed(*pair) for pair in zip(columns, names)]
+        for name, (values, _) in zip(names, found):
+            if len(values) != len(found[0][0]):
+                raise ValueError(f'{name} has {len(values)} rows, and column 0 has {len(found[0][0])}')
+        self._see(tools.table_words(found))
+
+    def _see(self, words):
+        """Takes words that are a table for its own."""
+        self.words = memoryview(words).cast('B').cast('q')
+        self.columns = self.words[1]
+
+    @classmethod
+    def _seen(cls, words):
+        """A table in words that the library wrote."""
+        table = cls.__new__(cls)
+        table._see(words)
+        return table
+
+    def __len__(self):
+        """How many rows."""
+        return self.words[0]
+
+    def column(self, place):
+        """A column, from 0: its values and which of them are there, or None if all are. Both are copies."""
+        if not 0 <= place < self.columns:
+            raise IndexError(f'the table has {self.columns} columns, and {place} is none of them')
+        return Column(*asof_join.tools().cells_of(self.words, place))
+
+    def rows(self):
+        """The rows as tuples; None is a null."""
+        cells = 2 + len(self) * self.columns
+        flat = iter([value if mark else None for value, mark in zip(self.words[2:cells], self.words[cells:])])
+        return list(zip(*[flat] * self.columns))
+
+    def frames(self):
+        """The table as frames of a join, of 4,096 rows each, save the last."""
+        cells, most = len(self) * self.columns, c.MOST_ROWS * self.columns
+        for first in range(0, cells, most):
+            end = min(cells, first + most)
+            frame = array('q', [(end - first) // self.columns, self.columns])
+            for start in (2, 2 + cells):
+                frame.frombytes(self.words[start + first:start + end].cast('B'))
+            yield frame
+
+
+def words_of(table):
+    """The words of a table: those of a Table, of a list of columns, or any with the buffer protocol."""
+    if isinstance(table, (list, tuple)):
+        table = Table(table)
+    return table.words if isinstance(table, Table) else table
+
+
+def judged_options(words, by, descending, nulls_last, carried, ranks):
+    """The options of a call over tables. Where nothing is said of carried columns, they are all that a table's words have behind the
+    key; words that are no table are refused by the call."""
+    if carried is None:
+        width = memoryview(words).cast('B').cast('q')[1] if memoryview(words).nbytes >= 2 * WORD else 0
+        carried = max(0, width - by - 1)
+    return options(by=by, descending=descending, nulls_last=nulls_last, carried=carried, ranks=ranks)
+
+
+def merge(house, festival, by=0, descending=(), nulls_last=(), carried=None, ranks=None):
+    """Merges two sorted books into one sorted Table: every row of both, in the order that each book has them, and of rows that compare
+    equal the house's first, whatever they carry. A book is a Table, a list of columns, or a table's words by the buffer protocol.
+    Rows are compared by `by` by-columns and the key, as those of a Join are; the columns behind these, up to 8, are carried, and
+    the options are named as a Join names them.
+
+    ValueError says what is wrong with a column; Refused, by the library's number, what is wrong with options, with words, or that a
+    book is not sorted (14).
+
+    >>> merge([array('q', [10, 30]), array('q', [1800, 2500])], [array('q', [20]), array('q', [2200])]).rows()
+    [(10, 1800), (20, 2200), (30, 2500)]
+    """
+    house, festival = words_of(house), words_of(festival)
+    with lent(house, 'house') as one, lent(festival, 'festival') as other:
+        given = judged_options(house, by, descending, nulls_last, carried, ranks)
+        output = Area(max(0, one[1] + other[1] - 2))
+        expect(library().rowkeeper_merge(given, *one, *other, *output.lent()).refusal)
+    return Table._seen(output.words())
+
+
+def standing(book, withdrawn, by=0, descending=(), nulls_last=(), carried=None, ranks=None):
+    """Tells which notices of a sorted book stand, as Standing. A notice is corrected by a later one of the same group and key: the last
+    of each stands, unless its carried column `withdrawn`, from 0, is 1. Books and options are those of `merge`; a column that is not
+    there is refused by 13.
+
+    A notice at minute 10, its correction, and one at minute 20 that withdraws itself:
+
+    >>> found = standing([array('q', [10, 10, 20]), array('q', [0, 0, 1])], 0)
+    >>> list(map(int, found.stands)), list(map(int, found.last))
+    ([0, 1, 0], [1, -1, 2])
+    """
+    book = words_of(book)
+    with lent(book, 'book') as words:
+        given = judged_options(book, by, descending, nulls_last, carried, ranks)
+        width = min(given.by, c.MOST_BY) + 1 + min(given.carried, c.MOST_CARRIED)
+        output = Area(2 + 4 * (words[1] // (2 * width)))
+        written = library().rowkeeper_standing(given, *words, number_or_bad(withdrawn), *output.lent())
+        expect(written.refusal)
+    return Standing(*asof_join.tools().notices_of(output.words()[:2 + 4 * written.rows]))
+
+
+class Covering:
+    """The points in frames, and intervals that are handed in beside each of them, so many at once that their pairs have room."""
+
+    def __init__(self, points, bounds, flags):
+        self.tools, self.bounds, self.flags = asof_join.tools(), bounds, flags
+        self.frames = [(first, self.tools.table_words([(points[first:first + c.MOST_ROWS], None)]))
+                       for first in range(0, len(points), c.MOST_ROWS)]
+        self.output = Area(2 + 4 * PAIRS)
+
+    def pairs(self, first, height):
+        """The pairs of so many intervals from one on, by the intervals. Refused by 6 if there are too many."""
+        part = [(values[first:first + height], None if valid is None else valid[first:first + height]) for values, valid in self.bounds]
+        found = []
+        with lent(self.tools.table_words(part), 'intervals') as intervals:
+            for start, frame in self.frames:
+                with lent(frame, 'points') as points:
+                    written = library().rowkeeper_spans(*points, *intervals, *self.flags, *self.output.lent())
+                expect(written.refusal)
+                if written.rows:
+                    found.append(self.tools.pairs_of(self.output.words()[2:2 + 2 * written.rows], first, start))
+        return self.tools.by_intervals(found)
+
+    def all(self):
+        """The pairs of all intervals. Where they find no room, half as many intervals are tried: 16 always do."""
+        found, first, height = [], 0, c.MOST_ROWS
+        while first < len(self.bounds[0][0]):
+            try:
+                found.append(self.pairs(first, height))
+                first, height = first + height, min(c.MOST_ROWS, 2 * height)
+            except Refused as refused:
+                if refused.number != c.NO_ROOM:
+                    raise
+                height //= 2
+        return self.tools.joined(found)
+
+
+def spans(points, lower, upper, lower_inclusive=True, upper_inclusive=True):
+    """Lists which points lie inside the bounds of which intervals, as a pass is good for the performances between two minutes: Spans,
+    interval by interval, and for each in the points' order. Points ascend, and none is null; intervals are in any order, and one
+    with a null bound has nothing inside. The flags say whether a bound is itself inside. Columns are of any length and kind that
+    `asof` takes.
+
+    ValueError, before anything is listed, says what is wrong with a column.
+
+    >>> found = spans(array('q', [1, 10, 20, 30]), array('q', [10]), array('q', [30]), upper_inclusive=False)
+    >>> list(zip(map(int, found.intervals), map(int, found.points)))
+    [(0, 1), (0, 2)]
+    """
+    tools = asof_join.tools()
+    (points, there), *bounds = tools.alike([points, lower, upper], ['points', 'lower', 'upper'])
+    if len(bounds[0][0]) != len(bounds[1][0]):
+        raise ValueError(f'upper has {len(bounds[1][0])} rows, and lower has {len(bounds[0][0])}')
+    if there is not None and not all(there):
+        raise ValueError(f'points has a null: row {list(there).index(0)}')
+    tools.check_order(points, None, None, 'points')
+    return Spans(*Covering(points, bounds, (bool(lower_inclusive), bool(upper_inclusive))).all())

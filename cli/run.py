@@ -1,0 +1,50 @@
+"""What every run over files has: its sources, what their columns hold, and where it writes."""
+import codecs
+import contextlib
+import sys
+
+from .input import Input
+from .judged import Judged, judge
+from .kinds import Kinds
+from .order import Order
+from .problem import say
+from .progress import Progress
+from .source import Source
+
+
+class Run:
+    """A run over one or two files, with what it opens on a stack that closes it all. `said` is what progress calls the rows of each."""
+
+    def __init__(self, args, stack, said, tolerance=None, streamed=False):
+        self.args, self.stack, self.streamed, self.sources = args, stack, streamed, []
+        quiet = args.output is None and sys.stdout is not None and sys.stdout.isatty()
+        self.progress = Progress(wanted=not (quiet and streamed), said=said)
+        stack.callback(self.progress.clear)
+        order = Order(args.left[:-1], args.left[-1], args.descending, args.nulls_last, args.rank)
+        self.kinds = Kinds(order, tolerance, may_be_text=not streamed)
+
+    def source(self, path, names):
+        """One of the tables, with its header read."""
+        opened = self.stack.enter_context(contextlib.closing(Input(path, self.args.encoding, self.streamed)))
+        self.sources.append(Source(opened, names, self.kinds, self.args.check and not self.args.sort, self.args.separator))
+        return self.sources[-1]
+
+    def show(self, stage):
+        """What shows the progress of a stage."""
+        return lambda: self.progress.show(stage, *self.sources)
+
+    def judged(self):
+        """All tables, read to their ends."""
+        tables = [self.stack.enter_context(contextlib.closing(Judged(each))) for each in self.sources]
+        judge(tables, self.kinds, self.progress)
+        return tables
+
+    def begun(self, target):
+        """The output, when its first line is due; notes come before it. It has a mark where the first file has one or was converted."""
+        self.progress.clear()
+        for note in self.kinds.notes:
+            say(note)
+        file = self.stack.enter_context(target)
+        if self.sources[0].input.marked or self.sources[0].input.converted:
+            file.write(codecs.BOM_UTF8)
+        return file
