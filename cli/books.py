@@ -103,8 +103,10 @@ def places_in(house, festival):
 
 
 def put(file, lines):
-    """Writes lines."""
-    file.write(''.join(f'{line}\n' for line in lines).encode('utf-8'))
+    """Writes lines, so many at once that they need little memory."""
+    rest = iter(lines)
+    for part in iter(lambda: list(islice(rest, ROWS)), []):
+        file.write(''.join(f'{line}\n' for line in part).encode('utf-8'))
 
 
 def merge(args):
@@ -121,10 +123,9 @@ def merge(args):
         merged = called(rowkeeper.merge, run.kinds.coded_order(), *(book.columns.words() for book in books))
         first, numbers = len(books[0].columns), merged.words[1 + merged.columns:2 + rows * merged.columns:merged.columns]
         of_house, of_festival = (book.texts() for book in books)
-        file, rest = run.begun(target), iter(numbers)
+        file = run.begun(target)
         put(file, [written(house.header, house.separator)])
-        for part in iter(lambda: list(islice(rest, ROWS)), []):
-            put(file, [next(of_house if number < first else of_festival) for number in part])
+        put(file, (next(of_house if number < first else of_festival) for number in numbers))
     say(f'{rows:,} notice{"" if rows == 1 else "s"}: {first:,} of {named(house.path)}, {rows - first:,} of {named(festival.path)}')
 
 
