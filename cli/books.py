@@ -14,7 +14,7 @@ from .problem import Problem, at, named, quoted, say
 from .records import written
 from .run import Run
 from .sink import sink
-from .sorting import Side, Texts
+from .sorting import Side, Texts, encoded
 
 # The columns that `standing --all` writes behind each notice, and what it writes where another column has their name.
 STANDS, LAST_LINE, PREFIX = 'stands', 'last_line', 'notice_'
@@ -75,7 +75,7 @@ class Book:
         self.kept, self.places, side = close(Texts()), [array('Q'), array('Q')], Side(self.order, self.table, 3)
         close(side.sorter)
         for block, columns in self.table.pairs():
-            side.take(columns, block.height, *self.kept.keep(texts(block, *self.how)))
+            side.take(columns, block.height, *self.kept.keep(encoded(texts(block, *self.how))))
         self.kept.written()
         for rows, columns in side.pairs(ROWS):
             for place, more in zip(self.places, rows.known[1:]):
@@ -85,9 +85,9 @@ class Book:
     def texts(self):
         """The text of each row, in order."""
         if self.run.args.sort:
-            yield from map(self.kept.at, *self.places)
+            yield from (text.decode('utf-8') for text in map(self.kept.at, *self.places))
             return
-        for block, _ in self.table.pairs():
+        for block in self.table.again():
             yield from texts(block, *self.how)
             self.run.show('writing')()
 
@@ -214,7 +214,7 @@ def standing(args):
         notices.judge(table)
         file, first = run.begun(target), 0
         put(file, [notices.header()])
-        for block, _ in table.pairs():
+        for block in table.again():
             put(file, notices.written(block, first))
             first += block.height
             run.show('writing')()
