@@ -96,15 +96,19 @@ def prefix(text):
 
 
 def add_common(command):
-    """What every command takes: the columns, how files are written and sorted, and where the output goes."""
+    """What every command takes: the column that is compared, how files are written and sorted, and where the output goes."""
     command.add_argument('--on', action=Once, metavar='COLUMN')
-    for option in ('--by', '--descending', '--nulls-last'):
-        command.add_argument(option, action='append', default=[], metavar='COLUMN')
-    command.add_argument('--rank', type=ranks, action=Once, metavar='COLUMN=CODES')
     command.add_argument('--sort', action='store_true')
     command.add_argument('--separator', type=separator, action=Once, metavar='SIGN')
     command.add_argument('--encoding', action=Once, metavar='NAME')
     command.add_argument('-o', '--output', action=Once, metavar='FILE')
+
+
+def add_groups(command):
+    """What the commands over sales and notices take: the by-columns, and how they are sorted."""
+    for option in ('--by', '--descending', '--nulls-last'):
+        command.add_argument(option, action='append', default=[], metavar='COLUMN')
+    command.add_argument('--rank', type=ranks, action=Once, metavar='COLUMN=CODES')
 
 
 def add_files(command):
@@ -154,13 +158,23 @@ def add_standing(standing):
     standing.set_defaults(check=True)
 
 
+def add_passes(passes):
+    """What `rowkeeper passes` takes besides. The library takes times of performances that ascend alone, and knows no groups here."""
+    passes.add_argument('passes', metavar='PASSES.csv')
+    passes.add_argument('performances', metavar='PERFORMANCES.csv')
+    for option, place in (('--from', 'lower'), ('--to', 'upper')):
+        passes.add_argument(option, dest=place, action=Once, required=True, metavar='COLUMN')
+        passes.add_argument(f'--exclude-{option[2:]}', dest=f'{place}_inclusive', action='store_false')
+    passes.set_defaults(check=True, by=[], descending=[], nulls_last=[], rank=None)
+
+
 def parser():
     """The commands and their options, as the page tells them."""
     top = Parser(prog='rowkeeper', allow_abbrev=False)
     top.add_argument('--version', action='version', version=f'rowkeeper {VERSION}')
     commands = top.add_subparsers(dest='command', metavar='COMMAND', parser_class=Parser)
-    for name, adds in (('join', (add_files, add_join)), ('picture', (add_files, add_picture)), ('merge', (add_merge,)),
-                       ('standing', (add_standing,))):
+    for name, adds in (('join', (add_files, add_join, add_groups)), ('picture', (add_files, add_picture, add_groups)),
+                       ('merge', (add_merge, add_groups)), ('standing', (add_standing, add_groups)), ('passes', (add_passes,))):
         command = commands.add_parser(name, allow_abbrev=False)
         for add in (*adds, add_common):
             add(command)
@@ -228,7 +242,7 @@ def judge(args):
         judge_rank(args)
     if 'sales' in args:
         judge_sales(args)
-    files = [getattr(args, name) for name in ('sales', 'notices', 'house', 'festival') if name in args]
+    files = [getattr(args, name) for name in ('sales', 'notices', 'house', 'festival', 'passes', 'performances') if name in args]
     if files.count(DASH) > 1:
         raise Problem('-: standard input can be one of the two files, not both', BAD_USAGE)
     args.encoding = known_encoding('utf-8' if args.encoding is None else args.encoding)

@@ -14,7 +14,7 @@ from .problem import Problem, at, named, quoted, say
 from .records import written
 from .run import Run
 from .sink import sink
-from .sorting import Side, Texts
+from .sorting import Side, Texts, encoded
 
 # The columns that `standing --all` writes behind each notice, and what it writes where another column has their name.
 STANDS, LAST_LINE, PREFIX = 'stands', 'last_line', 'notice_'
@@ -75,7 +75,7 @@ class Book:
         self.kept, self.places, side = close(Texts()), [array('Q'), array('Q')], Side(self.order, self.table, 3)
         close(side.sorter)
         for block, columns in self.table.pairs():
-            side.take(columns, block.height, *self.kept.keep(texts(block, *self.how)))
+            side.take(columns, block.height, *self.kept.keep(encoded(texts(block, *self.how))))
         self.kept.written()
         for rows, columns in side.pairs(ROWS):
             for place, more in zip(self.places, rows.known[1:]):
@@ -85,9 +85,9 @@ class Book:
     def texts(self):
         """The text of each row, in order."""
         if self.run.args.sort:
-            yield from map(self.kept.at, *self.places)
+            yield from (text.decode('utf-8') for text in map(self.kept.at, *self.places))
             return
-        for block, _ in self.table.pairs():
+        for block in self.table.again():
             yield from texts(block, *self.how)
             self.run.show('writing')()
 
@@ -103,8 +103,10 @@ def places_in(house, festival):
 
 
 def put(file, lines):
-    """Writes lines."""
-    file.write(''.join(f'{line}\n' for line in lines).encode('utf-8'))
+    """Writes lines, so many at once that they need little memory."""
+    rest = iter(lines)
+    for part in iter(lambda: list(islice(rest, ROWS)), []):
+        file.write(''.join(f'{line}\n' for line in part).encode('utf-8'))
 
 
 def merge(args):
@@ -121,10 +123,9 @@ def merge(args):
         merged = called(rowkeeper.merge, run.kinds.coded_order(), *(book.columns.words() for book in books))
         first, numbers = len(books[0].columns), merged.words[1 + merged.columns:2 + rows * merged.columns:merged.columns]
         of_house, of_festival = (book.texts() for book in books)
-        file, rest = run.begun(target), iter(numbers)
+        file = run.begun(target)
         put(file, [written(house.header, house.separator)])
-        for part in iter(lambda: list(islice(rest, ROWS)), []):
-            put(file, [next(of_house if number < first else of_festival) for number in part])
+        put(file, (next(of_house if number < first else of_festival) for number in numbers))
     say(f'{rows:,} notice{"" if rows == 1 else "s"}: {first:,} of {named(house.path)}, {rows - first:,} of {named(festival.path)}')
 
 
@@ -213,7 +214,7 @@ def standing(args):
         notices.judge(table)
         file, first = run.begun(target), 0
         put(file, [notices.header()])
-        for block, _ in table.pairs():
+        for block in table.again():
             put(file, notices.written(block, first))
             first += block.height
             run.show('writing')()

@@ -1,4 +1,5 @@
 """What the cells of a compared column may be: whole numbers, times, text. Each kind reads a cell, and a column of cells."""
+import contextlib
 import re
 from array import array
 
@@ -11,8 +12,8 @@ LEAST, MOST = -2**63, 2**63 - 1
 # The most digits that such a number has.
 DIGITS = 19
 
-# How often each cell of a column stands there where it is read once for all.
-OFTEN = 4
+# How often each cell of a column stands there where it is read once for all, and how many different times are remembered.
+OFTEN, REMEMBERED = 4, 20000
 
 WHOLE = re.compile(r'([+-]?)0*([0-9]+)')
 
@@ -63,7 +64,7 @@ class Time:
 
     def __init__(self, zoned):
         self.zoned = zoned
-        self.days, self.clocks = Days(), Clocks(zoned)
+        self.days, self.clocks, self.known = Days(), Clocks(zoned), {}
         self.said = 'a time with a zone' if zoned else 'a date or time without a zone'
 
     def value(self, cell):
@@ -77,9 +78,15 @@ class Time:
             raise ValueError(f'{quoted(cell)} is not {self.said}') from None
 
     def column(self, cells):
-        """The microseconds of a column, None for each null."""
-        days, clocks = self.days, self.clocks
+        """The microseconds of a column, None for each null. A cell that was met before is not read again, until too many have been
+        met: then times hardly ever come again."""
+        days, clocks, known = self.days, self.clocks, self.known
         try:
+            if len(known) < REMEMBERED:
+                with contextlib.suppress(KeyError):
+                    return array('q', map(known.__getitem__, cells))
+                known.update({cell: days[cell[:DATE_LENGTH]] + clocks[cell[DATE_LENGTH:]] for cell in set(cells) - known.keys()})
+                return array('q', map(known.__getitem__, cells))
             return array('q', [days[cell[:DATE_LENGTH]] + clocks[cell[DATE_LENGTH:]] for cell in cells])
         except ValueError:
             return [self.value(cell) for cell in cells]
@@ -111,9 +118,12 @@ class Text:
             self.known.setdefault(text, len(self.known))
 
     def numbers(self, column):
-        """The numbers of a column of texts."""
-        self.meet(set(column) - self.known.keys() - {None})
-        return [None if text is None else self.known[text] for text in column] if None in column else \
+        """The numbers of a column of texts: at once if all were met before and none is null."""
+        with contextlib.suppress(KeyError):
+            return array('q', map(self.known.__getitem__, column))
+        different = set(column)
+        self.meet(different - self.known.keys() - {None})
+        return [None if text is None else self.known[text] for text in column] if None in different else \
             array('q', map(self.known.__getitem__, column))
 
     def codes(self):

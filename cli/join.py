@@ -43,13 +43,13 @@ class Pricing(Run):
         order, join = self.kinds.coded_order(), self.join()
         sorting = self.stack.enter_context(contextlib.closing(Sorting(order, self.layout, (sales, notices))))
         show = self.show('sorting')
-        sorting.take_sales(sales.pairs(), show)
+        sorting.take_sales(sales.pairs(later=True), show)
         sorting.take_notices(notices.pairs(), show)
         feeds = [Feed(each.pairs(ROWS)) for each in (sorting.sales, sorting.notices)]
         self.matching = Matching(join, *feeds, sorting.held, sorting.found)
         self.matching.run(self.show('matching'))
         self.priced = self.begin()
-        sorting.write(sales.pairs(), self.priced, self.show('writing'))
+        sorting.write(sales.again(), self.priced, self.show('writing'))
 
     def by_streaming(self):
         """Writes rows as soon as they are matched. With the check on, the rest of the notices is read too: one that is out of order

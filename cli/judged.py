@@ -62,13 +62,24 @@ class Judged:
         words.frombytes(self.kept.read(WORD * height))
         return words
 
+    def start(self):
+        """Goes back to the first row: how many there are is known now."""
+        self.source.again()
+        self.source.counted = sum(height for _, height, _ in self.blocks)
+
+    def again(self):
+        """The blocks again, from the first on, without their columns."""
+        self.start()
+        for how, height, _ in self.blocks:
+            self.source.rows += height
+            yield self.source.records.exactly(*how)
+
     def pairs(self, later=False):
         """The blocks again, from the first on, each with its columns in numbers: values and marks; text by codes in text order.
         `later`: the text of a block is read when it is wanted."""
-        self.source.again()
-        self.source.counted = sum(height for _, height, _ in self.blocks)
+        self.start()
         self.kept.seek(0)
-        codes, place = self.source.kinds.codes(), self.source.header_size
+        codes, place = [code and code.tolist() for code in self.source.kinds.codes()], self.source.header_size
         for how, height, nulls in self.blocks:
             columns = []
             for code, null in zip(codes, nulls):

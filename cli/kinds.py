@@ -22,11 +22,11 @@ def listed_codes(texts):
 
 
 class Kinds:
-    """The kinds of an order's columns. The key's is that of the first cell that is met, in either file. `notes` are for the user, if all
-    goes well."""
+    """The kinds of an order's columns. The key's is that of the first cell that is met, in either file; a file may have several columns
+    of it, behind the by-columns. `notes` are for the user, if all goes well."""
 
-    def __init__(self, order, tolerance=None, may_be_text=True):
-        self.order, self.tolerance, self.may_be_text = order, tolerance, may_be_text
+    def __init__(self, order, tolerance=None, may_be_text=True, keys=1):
+        self.order, self.tolerance, self.may_be_text, self.keys = order, tolerance, may_be_text, keys
         self.key, self.begun, self.why, self.notes = None, None, {}, []
         self.by = [Whole() for _ in order.descending]
         if order.ranks is not None and any(isinstance(code, str) for code in order.ranks[1]):
@@ -34,7 +34,7 @@ class Kinds:
 
     def all(self):
         """The kind of each column."""
-        return [*self.by, self.key or Whole()]
+        return [*self.by, *[self.key or Whole()] * self.keys]
 
     def turn(self, turned):
         """Takes a by-column for text from now on. What was read of it as numbers must be read again."""

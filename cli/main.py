@@ -6,6 +6,7 @@ import signal
 from .arguments import parse
 from .books import merge, standing
 from .join import price
+from .passes import cover
 from .picture import picture
 from .problem import BAD_INPUT, DONE, Problem, reason, say
 
@@ -32,7 +33,7 @@ def main(words):
     """Runs the command; its status."""
     try:
         args = parse(words)
-        {'join': price, 'picture': picture, 'merge': merge, 'standing': standing}[args.command](args)
+        {'join': price, 'picture': picture, 'merge': merge, 'standing': standing, 'passes': cover}[args.command](args)
     except Problem as problem:
         say(problem)
         return problem.status

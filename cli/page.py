@@ -7,6 +7,8 @@ SHORT = '''usage: rowkeeper join SALES.csv NOTICES.csv --on KEY [--by COLUMN] [o
        rowkeeper picture SALES.csv NOTICES.csv --on KEY --price COLUMN [options]
        rowkeeper merge HOUSE.csv FESTIVAL.csv --on KEY [--by COLUMN] [options]
        rowkeeper standing NOTICES.csv --on KEY [--withdrawn COLUMN] [options]
+       rowkeeper passes PASSES.csv PERFORMANCES.csv --from COLUMN --to COLUMN
+           --on COLUMN [options]
        rowkeeper --help | --version
 '''
 
@@ -141,6 +143,28 @@ WHICH NOTICES STAND
   Both commands take the options on columns (--on, --by), files, sorting and -o.
   With --sort a merged book comes out sorted, and the notices that stand come
   out in their own order. Memory goes by the rows, about 200 bytes each.
+
+WHICH PERFORMANCES A PASS COVERS
+  rowkeeper passes PASSES.csv PERFORMANCES.csv --from valid_from \\
+      --to valid_to --on starts
+
+  writes a row for each pass and each performance that it covers: all columns
+  of the pass, then all of the performance, as they came in. A name that the
+  passes have already gets 'performance_' in front. Rows come in the order of
+  the passes, and for each pass in that of the performances. A line at the end
+  counts the rows and the passes that cover a performance.
+  --from COLUMN        the column of the passes with the first time of each
+  --to COLUMN          the column with the last time
+  --on COLUMN          the column of the performances with the time of each
+  --exclude-from       a performance at the first time itself is not covered
+  --exclude-to         a performance at the last time itself is not covered
+
+  The three columns hold whole numbers, or all of them dates and times; a date
+  is its midnight, also in --to. A pass without one of its times covers nothing,
+  and so does one whose last time is before its first. Every performance has its
+  time, and they are sorted by it; or say --sort, and they come out in their own
+  order all the same. Passes are in any order. It takes the options on files and
+  -o. Memory goes by the performances, and by the rows of some passes at once.
 
 WHEN SOMETHING IS WRONG
   One line says what, with file, line and column, and the status is 1 for the

@@ -94,7 +94,8 @@ class Block:
         """The cells of these columns as text for the output, for each record: cut from its text where they are its last ones."""
         dropped = width - len(places)
         if self.text is not None and separator == self.separator and places == list(range(dropped, width)):
-            cut = [line.split(separator, dropped) for line in self.lines] if dropped else [[line] for line in self.lines]
+            cut = [line.partition(separator) if dropped == 1 else line.split(separator, dropped) for line in self.lines] if dropped else \
+                [[line] for line in self.lines]
             if not self.quoted or not any(QUOTE in cell for place in range(dropped) for cell in {cells[place] for cells in cut}):
                 return [cells[-1] for cells in cut]
         columns = self.columns(places, width)

@@ -13,20 +13,22 @@ from .source import Source
 
 
 class Run:
-    """A run over one or two files, with what it opens on a stack that closes it all. `said` is what progress calls the rows of each."""
+    """A run over one or two files, with what it opens on a stack that closes it all. `said` is what progress calls the rows of each,
+    `keys` how many columns of the key's kind a file has at most."""
 
-    def __init__(self, args, stack, said, tolerance=None, streamed=False):
+    def __init__(self, args, stack, said, tolerance=None, streamed=False, keys=1):
         self.args, self.stack, self.streamed, self.sources = args, stack, streamed, []
         quiet = args.output is None and sys.stdout is not None and sys.stdout.isatty()
         self.progress = Progress(wanted=not (quiet and streamed), said=said)
         stack.callback(self.progress.clear)
         order = Order(args.left[:-1], args.left[-1], args.descending, args.nulls_last, args.rank)
-        self.kinds = Kinds(order, tolerance, may_be_text=not streamed)
+        self.kinds = Kinds(order, tolerance, may_be_text=not streamed, keys=keys)
 
-    def source(self, path, names):
-        """One of the tables, with its header read."""
+    def source(self, path, names, ordered=True):
+        """One of the tables, with its header read. One that is not `ordered` may have its rows in any order."""
         opened = self.stack.enter_context(contextlib.closing(Input(path, self.args.encoding, self.streamed)))
-        self.sources.append(Source(opened, names, self.kinds, self.args.check and not self.args.sort, self.args.separator))
+        check = ordered and self.args.check and not self.args.sort
+        self.sources.append(Source(opened, names, self.kinds, check, self.args.separator))
         return self.sources[-1]
 
     def show(self, stage):

@@ -45,14 +45,15 @@ class Source:
 
     def find_header(self, separators):
         """Reads the header by the first separator with which it has all columns that are wanted, or by the first of all."""
-        found, separator = self.read_header(separators[0]), separators[0]
-        if not set(self.names) <= set(found[0]):
-            for other in separators[1:]:
-                with contextlib.suppress(Problem):
-                    if set(self.names) <= set(self.read_header(other)[0]):
-                        found, separator = self.read_header(other), other
-                        self.kinds.notes.append(f'{named(self.path)}: columns are separated by {SAID[other]}')
-                        break
+        for separator in separators:
+            with contextlib.suppress(Problem):
+                found = self.read_header(separator)
+                if set(self.names) <= set(found[0]):
+                    break
+        else:
+            found, separator = self.read_header(separators[0]), separators[0]
+        if separator != separators[0]:
+            self.kinds.notes.append(f'{named(self.path)}: columns are separated by {SAID[separator]}')
         self.header, self.header_line, self.header_size, self.header_end = found
         self.records.separator = self.separator = separator
         self.places = [self.place(name) for name in self.names]
@@ -89,9 +90,10 @@ class Source:
         """The compared columns of a block, by their kinds."""
         cells = block.columns(self.places, self.width)
         if self.kinds.key is None:
-            row = next((row for row, cell in enumerate(cells[-1]) if cell.strip()), None)
+            keys = enumerate(zip(*cells[len(self.kinds.by):]))
+            row, cell = next(((row, cell) for row, each in keys for cell in each if cell.strip()), (None, None))
             if row is not None:
-                self.kinds.begin(cells[-1][row], self.path, block.line(row))
+                self.kinds.begin(cell, self.path, block.line(row))
         return [kind.column(each) for kind, each in zip(self.kinds.all(), cells)]
 
     def sorted(self, columns):
@@ -118,7 +120,7 @@ class Source:
         found, kinds = [], self.kinds
         for column, (name, place) in enumerate(zip(self.names, self.places)):
             try:
-                if column == len(self.names) - 1 and kinds.key is None and cells[place].strip():
+                if column >= len(kinds.by) and kinds.key is None and cells[place].strip():
                     kinds.begin(cells[place], self.path, line)
                 found.append(kinds.all()[column].value(cells[place]))
             except ValueError as why:

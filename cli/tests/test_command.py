@@ -69,7 +69,7 @@ class Help(Case):
 
     def test_page(self):
         """However help is asked for, the page comes."""
-        for words in (['--help'], ['-h'], ['join', '--help'], ['merge', '--help'], ['standing', '-h']):
+        for words in (['--help'], ['-h'], ['join', '--help'], ['merge', '--help'], ['standing', '-h'], ['passes', '-h']):
             run = apart(words)
             self.assertEqual((run.status, run.out, run.err), (0, PAGE, ''))
 
@@ -93,7 +93,7 @@ class Usage(Case):
     def test_words(self):
         """Each case says what is wrong with the words."""
         join = ['join', 'none.csv', 'none.csv']
-        for words, said in (([], 'say what to do'), (['mend'], "'mend'"), (['merge', 'a'], 'FESTIVAL.csv'), (['standing'], 'NOTICES.csv'), (['join'], 'SALES.csv'), (join, '--on'),
+        for words, said in (([], 'say what to do'), (['mend'], "'mend'"), (['merge', 'a'], 'FESTIVAL.csv'), (['standing'], 'NOTICES.csv'), (['passes'], 'PASSES.csv'), (['join'], 'SALES.csv'), (join, '--on'),
                             ([*join, '--on', 'm', '--by', 'm'], 'column m is named twice'),
                             ([*join, '--on', 'm', *'--by a --by b --by c --by d --by e'.split()], '4 at most'),
                             ([*join, '--on', 'm', '--descending', 'm'], '--descending: m is not a --by column'),

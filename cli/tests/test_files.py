@@ -36,6 +36,13 @@ class Files(Case):
                      'no such column; the columns are performance;minute;seat')
         self.refused(self.run_over(sales.format('|'), notices.format('|'), *ON), 'there is no such column')
 
+    def test_header_in_quotes(self):
+        """Names in quotes with semicolons or tabs between them cannot be read by commas, and are read by these."""
+        for sign in ';\t':
+            run = self.run_over('"performance"{0}"minute"\n"1"{0}"5"\n'.format(sign), '"performance"{0}"minute"\n"1"{0}"4"\n'.format(sign), *ON)
+            self.assertEqual((run.status, run.out.splitlines()[1:]), (0, ['"1"{0}"5"{0}0{0}4'.format(sign)]), run.err)
+        self.refused(self.run_over('"performance"|"minute"\n', 'performance,minute\n', *ON), 's.csv, line 1: the line cannot be read as CSV')
+
     def test_groups_in_quotes(self):
         """A notice's by-cell with a separator or a quote in it is cut off as a whole, wherever it stands."""
         for sales, notices in (('p,m\n"a,b",5\n', 'p,m,x\n"a,b",4,"c,d"\n'), ('p,m\n"a,b",5\n', 'm,x,p\n4,"c,d","a,b"\n'),

@@ -6,6 +6,8 @@ import io
 import os
 import random
 import unittest
+from itertools import chain
+from unittest import mock
 
 from rowkeeper.interface import STRATEGIES
 
@@ -58,6 +60,20 @@ class Times(unittest.TestCase):
         values = kind.column(cells)
         self.assertEqual([value - values[0] for value in values], list(range(0, 1000000, 7)))
         self.assertLess(len(kind.clocks), len(cells))
+
+    def test_times_that_come_again(self):
+        """Columns of new cells and known ones, as Python's own reader has them: all remembered, some or none; a null and a cell that is
+        no time among known ones are seen."""
+        start, micro = datetime.datetime(1970, 1, 1), datetime.timedelta(microseconds=1)
+        columns = [[f'2026-01-{1 + (row * step) % 28:02} 19:{row % 3}0' for row in range(40)] for step in (1, 0, 3, 5, 1)]
+        for most, known in ((0, 0), (30, len(set(columns[0]))), (20000, len(set(chain(*columns))))):
+            with mock.patch('cli.cells.REMEMBERED', most):
+                kind = Time(False)
+                for cells in columns:
+                    self.assertEqual(list(kind.column(cells)), [(moment(cell) - start) // micro for cell in cells])
+                self.assertEqual(len(kind.known), known)
+                self.assertEqual(kind.column([columns[0][0], ' '])[1], None)
+                self.assertRaises(ValueError, kind.column, [columns[0][0], '2026-01-32'])
 
     def test_codes(self):
         """Codes are in text order, and the same for the same text."""

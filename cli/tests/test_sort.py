@@ -5,7 +5,8 @@ from unittest import mock
 
 from ..cells import parted
 from ..order import Order
-from ..sorting import Coding, Sorter
+from ..feed import Part
+from ..sorting import Coding, HeldTexts, Rows, Sorter, decoded, encoded
 from .command import Case, within
 from .judge import in_order, matches
 
@@ -22,10 +23,40 @@ class Sorts(Case):
                 sorter = Sorter(3)
                 for first in range(0, len(rows), 9):
                     sorter.add([array('Q', column) for column in zip(*rows[first:first + 9])])
-                found = [row for columns in sorter.columns(50) for row in zip(*columns)]
+                found = [row for columns, tails in sorter.columns(50) for row in zip(*columns) if tails is None]
                 self.assertEqual(found, sorted(rows))
                 self.assertEqual(bool(sorter.runs), run <= 2000)
                 sorter.close()
+
+    def test_texts(self):
+        """Rows with texts, none of them and long ones too, in runs that end by their rows or by their bytes."""
+        r = random.Random(4)
+        rows = [(r.randrange(50), number, bytes(r.choice(b'ab\n') for _ in range(r.choice((0, 1, 3, 90))))) for number in range(700)]
+        for run, run_bytes, merged_bytes, runs in ((5, 9999, 9999, 78), (9999, 600, 50, 34), (9999, 99999, 9999, 0)):
+            with mock.patch.multiple('cli.sorting', RUN=run, RUN_BYTES=run_bytes, MERGED_BYTES=merged_bytes):
+                sorter = Sorter(2, tails=True)
+                for first in range(0, len(rows), 9):
+                    keys, numbers, texts = zip(*rows[first:first + 9])
+                    sorter.add([array('Q', keys), array('Q', numbers)], texts)
+                found = [row for columns, texts in sorter.columns(50) for row in zip(*columns, texts)]
+                self.assertEqual(found, sorted(rows))
+                self.assertAlmostEqual(len(sorter.runs), runs, delta=8)
+                sorter.close()
+
+    def test_held(self):
+        """The texts of notices: those that came last from memory, others from the file, near to each other or not."""
+        texts = [f'{number} é\n' * (number % 4) for number in range(300)]
+        for near, window in ((16384, 1 << 20), (40, 1 << 20), (40, 100), (1, 1)):
+            with mock.patch.multiple('cli.sorting', NEAR=near, WINDOW=window):
+                held = HeldTexts()
+                for first in range(0, 300, 30):
+                    block = Rows([array('Q', range(30))], encoded(texts[first:first + 30]))
+                    for ends in ((0, 11), (11, 30)):
+                        held.add(Part(block, [(array('q', range(30)), None)], *ends))
+                    held.drop(first // 2)
+                    for numbers in ([], [first // 2], [first + 29], [first // 2, first + 3, first + 3, first + 29]):
+                        self.assertEqual(decoded(held.at(numbers)), [texts[number] for number in numbers])
+                held.texts.close()
 
     def test_coding(self):
         """Columns in numbers sort as the judge sorts them, and come back as they were: all directions, nulls, a list, the ends."""
@@ -40,7 +71,7 @@ class Sorts(Case):
             self.assertEqual([(values, marks if marks and 0 in marks else None) for values, marks in coding.columns(words)], columns)
             sorter = Sorter(coding.width + 1)
             sorter.add([*words, array('Q', range(20))])
-            found = [number for columns in sorter.columns(50) for number in columns[-1]]
+            found = [number for columns, _ in sorter.columns(50) for number in columns[-1]]
             wanted = in_order([(*row, number) for number, row in enumerate(rows)], [down, False], [last, False], [codes, None])
             self.assertEqual(found, [row[-1] for row in wanted])
 
