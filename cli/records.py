@@ -1,6 +1,7 @@
 """A CSV file's records in blocks. Where a piece of the file has one record a line, it is cut at the line ends and the separators
 alone; else it goes through Python's reader of CSV, record by record."""
 import csv
+import re
 import zlib
 from itertools import compress
 
@@ -35,6 +36,12 @@ def written(cells, separator):
         return text
     return separator.join([f'"{cell.replace(QUOTE, QUOTE * 2)}"' if QUOTE in cell or separator in cell or '\n' in cell or '\r' in cell else cell
                            for cell in cells])
+
+
+def as_written(separator):
+    """What finds the cells of a record as they stand in its text, with their quotes."""
+    sign = re.escape(separator)
+    return re.compile(f'(?:^|{sign})("(?:[^"]|"")*"|[^{sign}]*)')
 
 
 def plain(data):
@@ -91,7 +98,8 @@ class Block:
         return [flat[place::width + 1] for place in places]
 
     def chosen(self, places, width, separator):
-        """The cells of these columns as text for the output, for each record: cut from its text where they are its last ones."""
+        """The cells of these columns as text for the output, for each record: with the quotes that they have here, if the output has
+        the same separator; cut from the record's text where they are its last ones."""
         dropped = width - len(places)
         if self.text is not None and separator == self.separator and places == list(range(dropped, width)):
             cut = [line.partition(separator) if dropped == 1 else line.split(separator, dropped) for line in self.lines] if dropped else \
@@ -101,7 +109,10 @@ class Block:
         columns = self.columns(places, width)
         if not self.quoted and (separator == self.separator or separator not in self.text):
             return columns[0] if len(columns) == 1 else list(map(separator.join, zip(*columns)))
-        return [written(cells, separator) for cells in zip(*columns)]
+        if separator != self.separator:
+            return [written(cells, separator) for cells in zip(*columns)]
+        cut = map(as_written(separator).findall, self.lines)
+        return [separator.join([cells[place] for place in places]) for cells in cut]
 
 
 class Records:

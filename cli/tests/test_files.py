@@ -40,7 +40,7 @@ class Files(Case):
         """Names in quotes with semicolons or tabs between them cannot be read by commas, and are read by these."""
         for sign in ';\t':
             run = self.run_over('"performance"{0}"minute"\n"1"{0}"5"\n'.format(sign), '"performance"{0}"minute"\n"1"{0}"4"\n'.format(sign), *ON)
-            self.assertEqual((run.status, run.out.splitlines()[1:]), (0, ['"1"{0}"5"{0}0{0}4'.format(sign)]), run.err)
+            self.assertEqual((run.status, run.out.splitlines()[1:]), (0, ['"1"{0}"5"{0}0{0}"4"'.format(sign)]), run.err)
         self.refused(self.run_over('"performance"|"minute"\n', 'performance,minute\n', *ON), 's.csv, line 1: the line cannot be read as CSV')
 
     def test_groups_in_quotes(self):
@@ -51,6 +51,19 @@ class Files(Case):
                 run = self.run_over(sales, notices, '--on', 'm', '--by', 'p', *words)
                 self.went_well(run)
                 self.assertEqual(run.out, f'p,m,notice_row,notice_m,x\n{sales.splitlines()[1]},0,4,"c,d"\n')
+
+    def test_quotes_kept(self):
+        """A notice's cells come out with the quotes that they came with, whatever stands in the rows beside them; with others where
+        the sales have another separator."""
+        sales, beside = 'p,m\n1,5\n2,5\n', ('', '2,4,y\n', '"2",4,y\n', '2,4,"y\nz"\n', '2,4,"y\r\nz"\n\n')
+        for last in beside:
+            for words in ((), ('--sort',), ('--stream',)):
+                run = self.run_over(sales, 'p,m,x\n1,4,"c"\n' + last, '--on', 'm', '--by', 'p', *words)
+                self.assertEqual((run.status, run.out.splitlines()[1:2]), (0, ['1,5,0,4,"c"']), run.err)
+        run = self.run_over(sales, 'm,x,p\n"4","","1"\n', '--on', 'm', '--by', 'p')
+        self.assertEqual((run.status, run.out.splitlines()[1:2]), (0, ['1,5,0,"4",""']), run.err)
+        run = self.run_over(sales.replace(',', ';'), 'p,m,x\n1,4,"c"\n2,4,"d;e"\n', '--on', 'm', '--by', 'p')
+        self.assertEqual((run.status, run.out.splitlines()[1:]), (0, ['1;5;0;4;c', '2;5;1;4;"d;e"']), run.err)
 
     def test_encodings(self):
         """cp1252 by name, UTF-16 by its mark; a mark of the sales is kept, one of the notices is not carried."""
