@@ -1,6 +1,6 @@
 -- The choices of an answer, laid at its first places: they are read back there, and spread they are the answer's cells. Assumes nothing.
 use mathlib.Core.Path.{_≡_, refl, sym, ap, subst, _∙_}
-use mathlib.Core.Bool.{true, false}
+use mathlib.Core.Bool.{Bool, true, false, cond}
 use mathlib.Core.List.{List, [], _∷_, map}
 use Prim.Native.Nat.{ℕ, suc, _+_, _*_, _≤_, _<_}
 use native.Mathlib.Decide.{ℕ-discrete}
@@ -26,7 +26,8 @@ use Rattle.matching.specs.declared.Choice.the-variants.{Row, Nothing}
 use Rattle.matching.proofs.AnswerRows.{answer-wide, answer-count}
 use Rattle.matching.proofs.FromLaws.{From, AllFrom, frame-from}
 use Rattle.matching.proofs.GroupLaws.{frame-length}
-use Rattle.carrying.specs.Spread.{choiceAt, choicesFrom, spread, Spreads, Numbered, SpreadIn}
+use Rattle.carrying.specs.Spread.{choiceAt, choicesFrom, spread, Numbered, SpreadIn}
+use Rattle.options.proofs.ColumnLaws.{columns-some}
 
 -- The cell that a choice is written as.
 abbrev choiceCell : Choice → Cell
@@ -50,12 +51,20 @@ flat-length c (r ∷ rs) h =
     let d = flat-length c rs (h .1) in
     omega arith
 
--- If nothing is carried, a row is the cell of its choice.
-module _ (o : Options) (i : ℕ) (rights : Rows) (p : o .carried ≡ 0) where
+-- An answer of one column carries nothing and has no distance.
+one-column : (o : Options) → answerColumns o ≡ 1 → (o .carried ≡ 0) × (o .«with_distance» ≡ false)
+one-column o e = go (o .«with_distance») e
+  where
+    go : (b : Bool) → cond b (suc (suc (o .carried))) (suc (o .carried)) ≡ 1 → (o .carried ≡ 0) × (b ≡ false)
+    go true e = absurd (omega arith)
+    go false e = (omega arith, refl)
+
+-- If nothing is carried and no distance is written, a row is the cell of its choice.
+module _ (o : Options) (i : ℕ) (rights : Rows) (p : o .carried ≡ 0) (d : o .«with_distance» ≡ false) where
   plain-row : (x : List Cell) (k : Choice) → answerRow o i rights x k ≡ choiceCell k ∷ []
   unfolding answerRow cellsFrom
-  plain-row x (Row k) = rw p
-  plain-row x Nothing = rw p
+  plain-row x (Row k) = rw (d, p)
+  plain-row x Nothing = rw (d, p)
 
   plain-cells : (xs : Rows) (ks : List Choice) → length xs ≡ length ks → flat (answerRows o i rights xs ks) ≡ map choiceCell ks
   unfolding flat answerRows
@@ -132,7 +141,7 @@ module _ (o : Options) (wl nl : ℕ) (lv lm : Words) (wr nr : ℕ) (rv rm : Word
   choices = matchFrame o number held left
 
   numbers-in : nl ≤ m
-  numbers-in = omega (arith, le-mul-of-pos-right {m = answerColumns o} nl (omega arith), h .within)
+  numbers-in = omega (arith, le-mul-of-pos-right {m = answerColumns o} nl (columns-some o), h .within)
 
   -- There is room for the numbers alone.
   pub frame-room : FrameRoom o wl nl lv lm wr nr rv rm number m out
@@ -148,12 +157,13 @@ module _ (o : Options) (wl nl : ℕ) (lv lm : Words) (wr nr : ℕ) (rv rm : Word
       ∙ ap (λ (z : ℕ). z * answerColumns o) (answer-count o number held left choices (sym (frame-length o number held left)) ∙ choices-count)
 
   -- The numbers laid may be spread.
-  pub spread-in : (out₁ : Words) → length out₁ ≡ length out → out₁ ≡ lay m 0 choices out → SpreadIn o nl wr nr rv rm number m out₁
+  pub spread-in : (out₁ : Words) → length out₁ ≡ length out → out₁ ≡ lay m 0 choices out → SpreadIn o nl wl lv lm wr nr rv rm number m out₁
   spread-in out₁ l e =
       let n = numbers-in in
       let c = choices-count in
       let f : AllFrom number (number + nr) choices = rw (rows-length wr nr rv rm) at (frame-from o number held left) in
       record {
+        left = h .left;
         right = h .right;
         carried = h .carried;
         wide = h .wide;
@@ -164,7 +174,7 @@ module _ (o : Options) (wl nl : ℕ) (lv lm : Words) (wr nr : ℕ) (rv rm : Word
       }
 
   -- Spread, they are the answer's cells.
-  pub answer-spread : (out₁ out₂ : Words) → out₁ ≡ lay m 0 choices out → Spreads o number held nl m out₁ out₂ → out₂ ≡ layCells m 0 (flat (frameAnswer o number held left)) out
+  pub answer-spread : (out₁ out₂ : Words) → out₁ ≡ lay m 0 choices out → out₂ ≡ spread o number held left m out₁ → out₂ ≡ layCells m 0 (flat (frameAnswer o number held left)) out
   unfolding spread
   answer-spread out₁ out₂ e s =
       let n = numbers-in in
@@ -174,15 +184,17 @@ module _ (o : Options) (wl nl : ℕ) (lv lm : Words) (wr nr : ℕ) (rv rm : Word
       let w = cells-count in
       let v = length-map choices choiceCell in
       let t = h .within in
-      s left (rows-length wl nl lv lm)
+      let u = le-mul-of-pos-right {m = answerColumns o} nl (columns-some o) in
+      s
       ∙ ap (λ (z : List Choice). layCells m 0 (flat (answerRows o number held left z)) out₁) b
       ∙ ap (layCells m 0 (flat (frameAnswer o number held left))) (e ∙ lay-cells m 0 choices out)
       ∙ lay-over m 0 (flat (frameAnswer o number held left)) (map choiceCell choices) out (omega arith) (omega arith)
 
-  -- If nothing is carried, they are so as they stand.
-  pub answer-plain : (out₁ : Words) → o .carried ≡ 0 → out₁ ≡ lay m 0 choices out → out₁ ≡ layCells m 0 (flat (frameAnswer o number held left)) out
+  -- If an answer has one column, they are so as they stand.
+  pub answer-plain : (out₁ : Words) → answerColumns o ≡ 1 → out₁ ≡ lay m 0 choices out → out₁ ≡ layCells m 0 (flat (frameAnswer o number held left)) out
   answer-plain out₁ p e =
-      e ∙ lay-cells m 0 choices out ∙ ap (λ (z : List Cell). layCells m 0 z out) (sym (plain-cells o number held p left choices (sym (frame-length o number held left))))
+      let q = one-column o p in
+      e ∙ lay-cells m 0 choices out ∙ ap (λ (z : List Cell). layCells m 0 z out) (sym (plain-cells o number held (q .0) (q .1) left choices (sym (frame-length o number held left))))
 
   -- With the head words they are the answer.
   pub answer-whole : (c : ℕ) (out₁ out₂ : Words) → m ≡ nl * c → c ≡ answerColumns o → out₁ ≡ layCells m 0 (flat (frameAnswer o number held left)) out → out₂ ≡ set (set out₁ 0 (pos nl)) 1 (pos c)

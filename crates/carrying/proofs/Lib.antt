@@ -1,3 +1,4 @@
 pub mod SpreadLaws
 pub mod LaidLaws
 pub mod TermLaws
+pub mod DistanceLaws

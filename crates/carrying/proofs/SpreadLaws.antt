@@ -3,7 +3,7 @@ use mathlib.Core.Path.{_≡_, refl, sym, ap, _∙_}
 use mathlib.Core.Bool.{Bool, true, false, cond}
 use mathlib.Core.List.{List, [], _∷_, _++_, map}
 use Prim.Native.Nat.{ℕ, zero, suc, _+_, _-_, _*_, _^_, _≤_, _<_}
-use native.Mathlib.Nat.{add-zero, add-mul, sub-zero}
+use native.Mathlib.Nat.{add-zero, add-mul, sub-zero, le-mul-of-pos-right}
 use native.Mathlib.Numerals.{add-one}
 use native.Mathlib.Omega.{arith}
 use lib.Dec.{T}
@@ -13,16 +13,19 @@ use lib.ListN.{length, getD, set, replicate, length-append, length-replicate}
 use Rattle.frames.specs.Cells.{Cell, null, value, valueWord, markWord, isZero, rowsOf, rowFrom, Rows, Words}
 use Rattle.options.specs.Options.{columns, rightColumns, answerColumns}
 use Rattle.options.specs.declared.Options.{Options}
+use Rattle.frames.proofs.WordLaws.{rows-length}
+use Rattle.options.proofs.ColumnLaws.{columns-some}
+use Rattle.order.specs.Order.{keyOf, distance}
 use Rattle.order.specs.Requires.{cellAt}
 use Rattle.order.proofs.RowLaws.{row-cell, rows-from, row-room}
 use Rattle.tables.specs.Lay.{flat, layCells}
 use Rattle.tables.proofs.LayLaws.{lay-append, lay-keeps, lay-order, value-apart, mark-apart}
-use Rattle.matching.specs.Answer.{cellsFrom, answerRow, answerRows}
+use Rattle.matching.specs.Answer.{cellsFrom, distanceCell, lastColumn, answerRow, answerRows}
 use Rattle.matching.specs.declared.Choice.{Choice}
 use Rattle.matching.specs.declared.Choice.the-variants.{Row, Nothing}
 use Rattle.matching.proofs.FromLaws.{From}
-use Rattle.carrying.specs.Loops.{cellsAt, rowWith, RightIn, RowSpread}
-use Rattle.carrying.specs.Spread.{choiceAt, choicesFrom, spread, Spreads, Numbered, SpreadIn}
+use Rattle.carrying.specs.Loops.{cellsAt, lastAt, rowWith, rowsWith, RightIn, RowSpread}
+use Rattle.carrying.specs.Spread.{choiceAt, choicesFrom, spread, Numbered, SpreadIn}
 
 -- ---- cells one by one: j of p are laid, from cell k on
 module _ (m : ℕ) (vs ms : Words) (q p k : ℕ) where
@@ -64,11 +67,20 @@ cells-length q zero vs ms = refl
 cells-length q (suc p) vs ms = ap suc (cells-length (suc q) p vs ms)
 
 -- ---- the row of a choice, by words and by rows
+last-length : (o : Options) (v : Cell) (q : ℕ) (vs ms : Words) → suc (o .carried + length (lastAt o v q vs ms)) ≡ answerColumns o
+last-length o v q vs ms = go (o .«with_distance»)
+  where
+    go : (b : Bool) → suc (o .carried + length (cond b (distanceCell (distance (cellAt (q + o .by) vs ms) v) ∷ []) [])) ≡ cond b (suc (suc (o .carried))) (suc (o .carried))
+    go true = omega arith
+    go false = omega arith
+
 module _ (o : Options) (number w : ℕ) (vs ms : Words) where
-  pub row-length : (k : Choice) → length (rowWith o number w vs ms k) ≡ answerColumns o
+  pub row-length : (v : Cell) (k : Choice) → length (rowWith o number w vs ms v k) ≡ answerColumns o
   unfolding rowWith
-  row-length (Row k) = ap suc (cells-length ((k - number) * w + columns o) (o .carried) vs ms)
-  row-length Nothing = length-replicate (answerColumns o) null
+  row-length v (Row k) =
+      let q : ℕ = (k - number) * w in
+      omega (arith, length-append (cellsAt (q + columns o) (o .carried) vs ms) (lastAt o v q vs ms), cells-length (q + columns o) (o .carried) vs ms, last-length o v q vs ms)
+  row-length v Nothing = length-replicate (answerColumns o) null
 
   cells-from : (i j p : ℕ) → j + p ≤ w → i * w + w ≤ length vs → cellsFrom j p (rowFrom w (i * w) vs ms) ≡ cellsAt (i * w + j) p vs ms
   unfolding cellsFrom cellsAt
@@ -78,29 +90,32 @@ module _ (o : Options) (number w : ℕ) (vs ms : Words) where
       rw (row-cell w (i * w) j vs ms (omega arith) (omega arith), ← z) (ap (λ (r : List Cell). cellAt (i * w + j) vs ms ∷ r) (cells-from i (suc j) p (omega arith) l))
 
   module _ (nr : ℕ) (wide : rightColumns o ≤ w) (there : nr * w ≤ length vs) where
-    row-words : (x : List Cell) (k : Choice) → From number (number + nr) k → answerRow o number (rowsOf w nr vs ms) x k ≡ rowWith o number w vs ms k
+    row-words : (x : List Cell) (v : Cell) (k : Choice) → keyOf o x ≡ v → From number (number + nr) k → answerRow o number (rowsOf w nr vs ms) x k ≡ rowWith o number w vs ms v k
     unfolding rowWith answerRow
-    row-words x (Row k) h =
+    row-words x v (Row k) e h =
         let i : ℕ = k - number in
         let a = h .0 in
         let b = h .1 in
         let l = row-room i nr w (omega arith) in
-        ap (λ (r : List Cell). value (pos k) ∷ cellsFrom (columns o) (o .carried) r) (rows-from w nr i vs ms (omega arith))
-        ∙ ap (λ (r : List Cell). value (pos k) ∷ r) (cells-from i (columns o) (o .carried) (omega arith) (omega arith))
-    row-words x Nothing h = refl
+        ap (λ (r : List Cell). value (pos k) ∷ cellsFrom (columns o) (o .carried) r ++ lastColumn o x r) (rows-from w nr i vs ms (omega arith))
+        ∙ ap (λ (y : Cell). value (pos k) ∷ cellsFrom (columns o) (o .carried) (rowFrom w (i * w) vs ms) ++ cond (o .«with_distance») (distanceCell (distance y (keyOf o x)) ∷ []) []) (row-cell w (i * w) (o .by) vs ms (omega arith) (omega arith))
+        ∙ ap (λ (y : Cell). value (pos k) ∷ cellsFrom (columns o) (o .carried) (rowFrom w (i * w) vs ms) ++ cond (o .«with_distance») (distanceCell (distance (cellAt (i * w + o .by) vs ms) y) ∷ []) []) e
+        ∙ ap (λ (r : List Cell). value (pos k) ∷ r ++ lastAt o v (i * w) vs ms) (cells-from i (columns o) (o .carried) (omega arith) (omega arith))
+    row-words x v Nothing e h = refl
 
-    -- All rows of n choices, whatever the left rows are.
-    pub rows-words : (m n i : ℕ) (out : Words) (lefts : Rows) → length lefts ≡ n → ((j : ℕ) → i ≤ j → j < i + n → From number (number + nr) (choiceAt m out j))
-        → answerRows o number (rowsOf w nr vs ms) lefts (choicesFrom m out i n) ≡ map (rowWith o number w vs ms) (choicesFrom m out i n)
-    unfolding answerRows choicesFrom
-    rows-words m zero i out [] e h = refl
-    rows-words m zero i out (x ∷ xs) e h = absurd (omega arith)
-    rows-words m (suc n) i out [] e h = absurd (omega arith)
-    rows-words m (suc n) i out (x ∷ xs) e h =
-        let r = row-words x (choiceAt m out i) (h i (omega arith) (omega arith)) in
-        let rs = rows-words m n (suc i) out xs (omega arith) (λ j a b. h j (omega arith) (omega arith)) in
+    -- All rows of n choices, by the keys of the left rows.
+    pub rows-words : (key : ℕ → Cell) (m n i : ℕ) (out : Words) (lefts : Rows) → length lefts ≡ n → ((j : ℕ) → j < n → keyOf o (getD lefts j []) ≡ key (i + j)) → ((j : ℕ) → i ≤ j → j < i + n → From number (number + nr) (choiceAt m out j))
+        → answerRows o number (rowsOf w nr vs ms) lefts (choicesFrom m out i n) ≡ rowsWith o number w vs ms key m out i n
+    unfolding answerRows choicesFrom rowsWith
+    rows-words key m zero i out [] e g h = refl
+    rows-words key m zero i out (x ∷ xs) e g h = absurd (omega arith)
+    rows-words key m (suc n) i out [] e g h = absurd (omega arith)
+    rows-words key m (suc n) i out (x ∷ xs) e g h =
+        let here : i + 0 ≡ i = omega arith in
+        let r = row-words x (key i) (choiceAt m out i) (rw here at (g 0 (omega arith))) (h i (omega arith) (omega arith)) in
+        let rs = rows-words key m n (suc i) out xs (omega arith) (λ j b. let z : i + suc j ≡ suc i + j = omega arith in rw z at (g (suc j) (omega arith))) (λ j a b. h j (omega arith) (omega arith)) in
         ap (λ (z : List Cell). z ∷ answerRows o number (rowsOf w nr vs ms) xs (choicesFrom m out (suc i) n)) r
-        ∙ ap (λ (z : Rows). rowWith o number w vs ms (choiceAt m out i) ∷ z) rs
+        ∙ ap (λ (z : Rows). rowWith o number w vs ms (key i) (choiceAt m out i) ∷ z) rs
 
 -- What is said of the words of a choice is said of the choice.
 pub numbered-from : (number nr m : ℕ) (out : Words) (i : ℕ) → Numbered number nr m out i → From number (number + nr) (choiceAt m out i)
@@ -117,52 +132,57 @@ pub whole-fits : (z : ℤ) → z ≡ pos (natAbs z) → mag z < 2 ^ 63 → T (no
 whole-fits (pos n) e h = (tt, h)
 whole-fits (negsuc n) e h = let z : _≡_ {A = ℕ} 0 1 = cc in absurd (omega arith)
 
-module _ (o : Options) (number w : ℕ) (vs ms : Words) (m k : ℕ) (out : Words) (x : Choice) where
-  -- A number, and behind it what its right row carries from place q on.
-  pub row-chosen : (r q : ℕ) (out₁ out₂ : Words) → x ≡ Row r → q ≡ (r - number) * w + o .by + 1 → out₁ ≡ set (set out (2 + k) (pos r)) (2 + m + k) (pos 1)
-      → out₂ ≡ layCells m (k + 1) (cellsAt q (o .carried) vs ms) out₁ → out₂ ≡ layCells m k (rowWith o number w vs ms x) out
+module _ (o : Options) (number w : ℕ) (vs ms : Words) (v : Cell) (m k : ℕ) (out : Words) (x : Choice) where
+  -- A number, behind it what its right row carries, and last the distance.
+  pub row-chosen : (r q : ℕ) (out₁ out₂ out₃ : Words) → x ≡ Row r → q ≡ (r - number) * w → out₁ ≡ set (set out (2 + k) (pos r)) (2 + m + k) (pos 1)
+      → out₂ ≡ layCells m (k + 1) (cellsAt (q + o .by + 1) (o .carried) vs ms) out₁ → out₃ ≡ layCells m (k + 1 + o .carried) (lastAt o v q vs ms) out₂ → out₃ ≡ layCells m k (rowWith o number w vs ms v x) out
   unfolding layCells rowWith
-  row-chosen r q out₁ out₂ e p a b =
-      let z : (r - number) * w + columns o ≡ q = omega arith in
-      rw (b, a, e, add-one k, z)
+  row-chosen r q out₁ out₂ out₃ e p a b d =
+      let place : ℕ = (r - number) * w in
+      let cells : List Cell = cellsAt (place + columns o) (o .carried) vs ms in
+      let last : List Cell = lastAt o v place vs ms in
+      let first : Words = set (set out (2 + k) (pos r)) (2 + m + k) (pos 1) in
+      let z : q + o .by + 1 ≡ place + columns o = omega arith in
+      let y : k + 1 + o .carried ≡ suc k + length cells = omega (arith, cells-length (place + columns o) (o .carried) vs ms) in
+      let carried : out₂ ≡ layCells m (suc k) cells first =
+      b ∙ ap (λ (t : ℕ). layCells m (k + 1) (cellsAt t (o .carried) vs ms) out₁) z ∙ ap (λ (t : ℕ). layCells m t cells out₁) (add-one k) ∙ ap (layCells m (suc k) cells) a in
+      let all : out₃ ≡ layCells m (suc k + length cells) last (layCells m (suc k) cells first) =
+      d ∙ ap (λ (t : ℕ). layCells m (k + 1 + o .carried) (lastAt o v t vs ms) out₂) p ∙ ap (λ (t : ℕ). layCells m t last out₂) y ∙ ap (layCells m (suc k + length cells) last) carried in
+      let row : layCells m k (rowWith o number w vs ms v (Row r)) out ≡ layCells m (suc k + length cells) last (layCells m (suc k) cells first) = lay-append m (suc k) cells last first in
+      all ∙ sym row ∙ ap (λ (t : Choice). layCells m k (rowWith o number w vs ms v t) out) (sym e)
 
-  pub row-none : (c : ℕ) (out₁ : Words) → x ≡ Nothing → c ≡ answerColumns o → out₁ ≡ layCells m k (replicate c null) out → out₁ ≡ layCells m k (rowWith o number w vs ms x) out
+  pub row-none : (c : ℕ) (out₁ : Words) → x ≡ Nothing → c ≡ answerColumns o → out₁ ≡ layCells m k (replicate c null) out → out₁ ≡ layCells m k (rowWith o number w vs ms v x) out
   unfolding rowWith
   row-none c out₁ e p a = rw (a, e, p)
 
 -- ---- rows from the last one on
-module _ (o : Options) (number w : ℕ) (vs ms : Words) (m n : ℕ) (out : Words) where
+module _ (o : Options) (number w : ℕ) (vs ms : Words) (key : ℕ → Cell) (m n : ℕ) (out : Words) where
   -- The cells of the rows from row i on.
   abbrev pub cellsOn : ℕ → List Cell
-  cellsOn i = flat (map (rowWith o number w vs ms) (choicesFrom m out i (n - i)))
+  cellsOn i = flat (rowsWith o number w vs ms key m out i (n - i))
 
   -- The output if the rows from row i on are spread.
   abbrev pub spreadOn : ℕ → Words
   spreadOn i = layCells m (i * answerColumns o) (cellsOn i) out
 
-  cells-on : (i : ℕ) → i < n → cellsOn i ≡ rowWith o number w vs ms (choiceAt m out i) ++ cellsOn (i + 1)
-  unfolding flat choicesFrom
+  cells-on : (i : ℕ) → i < n → cellsOn i ≡ rowWith o number w vs ms (key i) (choiceAt m out i) ++ cellsOn (i + 1)
+  unfolding flat rowsWith
   cells-on i h =
       let z : n - i ≡ suc (n - (i + 1)) = omega arith in
       rw (z, add-one i)
 
-  flat-wide : (ks : List Choice) → length (flat (map (rowWith o number w vs ms) ks)) ≡ length ks * answerColumns o
-  unfolding flat
-  flat-wide [] = omega arith
-  flat-wide (k ∷ ks) =
-      length-append (rowWith o number w vs ms k) (flat (map (rowWith o number w vs ms) ks))
-      ∙ (let a = row-length o number w vs ms k in let b = flat-wide ks in omega arith)
-
-  choices-length : (i k : ℕ) → length (choicesFrom m out i k) ≡ k
-  unfolding choicesFrom
-  choices-length i zero = refl
-  choices-length i (suc k) = ap suc (choices-length (suc i) k)
+  flat-wide : (i k : ℕ) → length (flat (rowsWith o number w vs ms key m out i k)) ≡ k * answerColumns o
+  unfolding flat rowsWith
+  flat-wide i zero = omega arith
+  flat-wide i (suc k) =
+      length-append (rowWith o number w vs ms (key i) (choiceAt m out i)) (flat (rowsWith o number w vs ms key m out (suc i) k))
+      ∙ (let a = row-length o number w vs ms (key i) (choiceAt m out i) in let b = flat-wide (suc i) k in omega arith)
 
   cells-wide : (i : ℕ) → length (cellsOn i) ≡ (n - i) * answerColumns o
-  cells-wide i = flat-wide (choicesFrom m out i (n - i)) ∙ ap (λ (z : ℕ). z * answerColumns o) (choices-length i (n - i))
+  cells-wide i = flat-wide i (n - i)
 
   pub spread-none : spreadOn n ≡ out
-  unfolding flat choicesFrom layCells
+  unfolding flat rowsWith layCells
   spread-none = let z : n - n ≡ 0 = omega arith in rw z
 
   module _ (within : n * answerColumns o ≤ m) where
@@ -175,7 +195,7 @@ module _ (o : Options) (number w : ℕ) (vs ms : Words) (m n : ℕ) (out : Words
         omega arith
 
     before : (i j : ℕ) → j < i → j < i * answerColumns o
-    before i j h = let k : ℕ = i * o .carried in let z : i * answerColumns o ≡ i + k = omega arith in omega arith
+    before i j h = omega (arith, le-mul-of-pos-right {m = answerColumns o} i (columns-some o))
 
     -- The words of the choice of a row before them are as they were.
     pub number-kept : (i j : ℕ) → i ≤ n → j < i → getD (spreadOn i) (2 + j) (pos 0) ≡ getD out (2 + j) (pos 0)
@@ -185,12 +205,12 @@ module _ (o : Options) (number w : ℕ) (vs ms : Words) (m n : ℕ) (out : Words
     mark-kept i j h l = lay-keeps m (i * answerColumns o) (cellsOn i) out (2 + m + j) (mark-apart m (i * answerColumns o) (length (cellsOn i)) j (before i j l) (fits i h))
 
     -- One row more, before them.
-    pub spread-more : (i : ℕ) (now : Words) → i < n → now ≡ spreadOn (i + 1) → layCells m (i * answerColumns o) (rowWith o number w vs ms (choiceAt m now i)) now ≡ spreadOn i
+    pub spread-more : (i : ℕ) (now : Words) → i < n → now ≡ spreadOn (i + 1) → layCells m (i * answerColumns o) (rowWith o number w vs ms (key i) (choiceAt m now i)) now ≡ spreadOn i
     spread-more i now h e =
         let c : ℕ = answerColumns o in
-        let r : List Cell = rowWith o number w vs ms (choiceAt m out i) in
+        let r : List Cell = rowWith o number w vs ms (key i) (choiceAt m out i) in
         let k : choiceAt m now i ≡ choiceAt m out i = rw (e, number-kept (i + 1) i (omega arith) (omega arith), mark-kept (i + 1) i (omega arith) (omega arith)) in
-        let l : length r ≡ c = row-length o number w vs ms (choiceAt m out i) in
+        let l : length r ≡ c = row-length o number w vs ms (key i) (choiceAt m out i) in
         let z : (i + 1) * c ≡ i * c + length r = omega arith in
         let f : (i + 1) * c + length (cellsOn (i + 1)) ≤ m = fits (i + 1) (omega arith) in
         rw (k, e) (
@@ -200,7 +220,11 @@ module _ (o : Options) (number w : ℕ) (vs ms : Words) (m n : ℕ) (out : Words
         ∙ ap (λ (q : List Cell). layCells m (i * c) q out) (sym (cells-on i h))
         )
 
-module _ (o : Options) (n w nr : ℕ) (vs ms : Words) (number m : ℕ) (out : Words) (h : SpreadIn o n w nr vs ms number m out) where
+module _ (o : Options) (n wl : ℕ) (lv lm : Words) (w nr : ℕ) (vs ms : Words) (number m : ℕ) (out : Words) (h : SpreadIn o n wl lv lm w nr vs ms number m out) where
+  -- The keys of the left rows.
+  abbrev pub keyIn : ℕ → Cell
+  keyIn i = cellAt (i * wl + o .by) lv lm
+
   -- A right number that is there has its words there.
   right-in : (x : Choice) → From number (number + nr) x → RightIn o w vs ms number x
   right-in (Row k) f =
@@ -216,17 +240,20 @@ module _ (o : Options) (n w nr : ℕ) (vs ms : Words) (number m : ℕ) (out : Wo
   right-in Nothing f = tt
 
   -- Row i may be spread, if those behind it are.
-  pub row-asked : (i : ℕ) (now : Words) → i < n → length now ≡ length out → now ≡ spreadOn o number w vs ms m n out (i + 1) → RowSpread o i w vs ms number m now
+  pub row-asked : (i : ℕ) (now : Words) → i < n → length now ≡ length out → now ≡ spreadOn o number w vs ms keyIn m n out (i + 1) → RowSpread o i wl lv lm w vs ms number m now
   row-asked i now l g e =
       let c : ℕ = answerColumns o in
       let t : i * c + c ≤ n * c = row-room i n c l in
       let f = h .within in
       let d = h .room in
       let s = h .chosen i l in
-      let v : getD now (2 + i) (pos 0) ≡ getD out (2 + i) (pos 0) = rw e (number-kept o number w vs ms m n out f (i + 1) i (omega arith) (omega arith)) in
-      let z : getD now (2 + m + i) (pos 0) ≡ getD out (2 + m + i) (pos 0) = rw e (mark-kept o number w vs ms m n out f (i + 1) i (omega arith) (omega arith)) in
+      let v : getD now (2 + i) (pos 0) ≡ getD out (2 + i) (pos 0) = rw e (number-kept o number w vs ms keyIn m n out f (i + 1) i (omega arith) (omega arith)) in
+      let z : getD now (2 + m + i) (pos 0) ≡ getD out (2 + m + i) (pos 0) = rw e (mark-kept o number w vs ms keyIn m n out f (i + 1) i (omega arith) (omega arith)) in
       let b : i < i * c + c = before-own i in
+      let x : i * wl + wl ≤ n * wl = row-room i n wl l in
+      let u = h .left in
       record {
+        left = record { values = omega (arith, u .wide, u .values); marks = omega (arith, u .wide, u .marks) };
         few = h .right .few .by;
         carried = h .carried;
         there = omega arith;
@@ -235,13 +262,20 @@ module _ (o : Options) (n w nr : ℕ) (vs ms : Words) (number m : ℕ) (out : Wo
       }
     where
       before-own : (i : ℕ) → i < i * answerColumns o + answerColumns o
-      before-own i = let k : ℕ = i * o .carried in let z : i * answerColumns o ≡ i + k = omega arith in omega arith
+      before-own i = omega (arith, le-mul-of-pos-right {m = answerColumns o} i (columns-some o), columns-some o)
 
-  -- All rows spread are what is asked for, whatever the left rows are.
-  pub spread-all : (now : Words) → now ≡ spreadOn o number w vs ms m n out 0 → Spreads o number (rowsOf w nr vs ms) n m out now
+  -- All rows spread are what is asked for.
+  pub spread-all : (now : Words) → now ≡ spreadOn o number w vs ms keyIn m n out 0 → now ≡ spread o number (rowsOf w nr vs ms) (rowsOf wl n lv lm) m out
   unfolding spread
-  spread-all now e lefts l =
+  spread-all now e =
       let z : n - 0 ≡ n = omega arith in
       let y : 0 * answerColumns o ≡ 0 = omega arith in
-      let r = rows-words o number w vs ms nr (h .wide) (h .right .values) m n 0 out lefts l (λ j a b. numbered-from number nr m out j (h .chosen j (omega arith))) in
+      let l = rows-length wl n lv lm in
+      let r = rows-words o number w vs ms nr (h .wide) (h .right .values) keyIn m n 0 out (rowsOf wl n lv lm) l left-key (λ j a b. numbered-from number nr m out j (h .chosen j (omega arith))) in
       e ∙ rw (z, y, l) (ap (λ (q : Rows). layCells m 0 (flat q) out) (sym r))
+    where
+      left-key : (j : ℕ) → j < n → keyOf o (getD (rowsOf wl n lv lm) j []) ≡ keyIn (0 + j)
+      left-key j g =
+          let x : j * wl + wl ≤ n * wl = row-room j n wl g in
+          let z : j ≡ 0 + j = omega arith in
+          ap (keyOf o) (rows-from wl n j lv lm g) ∙ row-cell wl (j * wl) (o .by) lv lm (h .left .wide) (omega (arith, h .left .values, h .left .wide)) ∙ ap keyIn z

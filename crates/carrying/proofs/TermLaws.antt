@@ -1,5 +1,5 @@
 -- Of spreading rows, options with a list and without one are the same. Assumes nothing.
-use mathlib.Core.Path.{_≡_, ap, _∙_}
+use mathlib.Core.Path.{_≡_, ap}
 use mathlib.Core.List.{List}
 use Prim.Native.Nat.{ℕ}
 use lib.ListN.{length}
@@ -9,11 +9,12 @@ use Rattle.options.specs.declared.Terms.{Terms}
 use Rattle.order.proofs.TermLaws.{rows-terms}
 use Rattle.tables.specs.Lay.{flat, layCells}
 use Rattle.matching.proofs.TermLaws.{answers-terms}
-use Rattle.carrying.specs.Spread.{choicesFrom, spread, Spreads, SpreadIn}
+use Rattle.carrying.specs.Spread.{choicesFrom, spread, SpreadIn}
 
 module _ (t : Terms) (codes : Words) (rising : List ℕ) where
-  pub spread-in-terms : (n wr nr : ℕ) (rv rm : Words) (number m : ℕ) (out : Words) → SpreadIn (withList t codes rising) n wr nr rv rm number m out → SpreadIn (withoutList t) n wr nr rv rm number m out
-  spread-in-terms n wr nr rv rm number m out h = record {
+  pub spread-in-terms : (n wl : ℕ) (lv lm : Words) (wr nr : ℕ) (rv rm : Words) (number m : ℕ) (out : Words) → SpreadIn (withList t codes rising) n wl lv lm wr nr rv rm number m out → SpreadIn (withoutList t) n wl lv lm wr nr rv rm number m out
+  spread-in-terms n wl lv lm wr nr rv rm number m out h = record {
+    left = rows-terms t codes rising wl n lv lm (h .left);
     right = rows-terms t codes rising wr nr rv rm (h .right);
     carried = h .carried;
     wide = h .wide;
@@ -23,9 +24,6 @@ module _ (t : Terms) (codes : Words) (rising : List ℕ) where
     chosen = h .chosen;
   }
 
-  spread-terms : (number : ℕ) (rights lefts : Rows) (m : ℕ) (out : Words) → spread (withoutList t) number rights lefts m out ≡ spread (withList t codes rising) number rights lefts m out
+  pub spread-terms : (number : ℕ) (rights lefts : Rows) (m : ℕ) (out : Words) → spread (withoutList t) number rights lefts m out ≡ spread (withList t codes rising) number rights lefts m out
   unfolding spread
   spread-terms number rights lefts m out = ap (λ (rs : Rows). layCells m 0 (flat rs) out) (answers-terms t codes rising number rights lefts (choicesFrom m out 0 (length lefts)))
-
-  pub spreads-terms : (number : ℕ) (rights : Rows) (n m : ℕ) (out out′ : Words) → Spreads (withoutList t) number rights n m out out′ → Spreads (withList t codes rising) number rights n m out out′
-  spreads-terms number rights n m out out′ h lefts e = h lefts e ∙ spread-terms number rights lefts m out

@@ -1,14 +1,16 @@
 -- What the inner functions of this crate ask of what they are handed, and what they write. Assumes nothing.
 use mathlib.Core.Path.{_≡_}
-use mathlib.Core.Bool.{false}
-use mathlib.Core.List.{List, [], _∷_}
+use mathlib.Core.Bool.{false, cond}
+use mathlib.Core.List.{List, [], _∷_, _++_}
 use Prim.Native.Nat.{ℕ, zero, suc, _+_, _-_, _*_, _^_, _≤_, _<_}
 use lib.IntN.{pos, natAbs}
 use lib.ListN.{length, getD, replicate}
-use Rattle.frames.specs.Cells.{Cell, null, value, isZero, Words}
+use Rattle.frames.specs.Cells.{Cell, null, value, isZero, Rows, Words}
 use Rattle.options.specs.Options.{columns, rightColumns, answerColumns}
 use Rattle.options.specs.declared.Options.{Options}
-use Rattle.order.specs.Requires.{cellAt}
+use Rattle.order.specs.Order.{distance}
+use Rattle.order.specs.Requires.{cellAt, CellIn}
+use Rattle.matching.specs.Answer.{distanceCell}
 use Rattle.matching.specs.declared.Choice.{Choice}
 use Rattle.matching.specs.declared.Choice.the-variants.{Row, Nothing}
 use Rattle.carrying.specs.Spread.{choiceAt}
@@ -18,10 +20,19 @@ unfoldable pub cellsAt : ℕ → ℕ → Words → Words → List Cell
 cellsAt q zero vs ms = []
 cellsAt q (suc p) vs ms = cellAt q vs ms ∷ cellsAt (suc q) p vs ms
 
--- SCOPE 12.5: the row of an answer by the words of the right rows, which are w wide and of which the first has this number.
-unfoldable pub rowWith : Options → ℕ → ℕ → Words → Words → Choice → List Cell
-rowWith o number w vs ms (Row k) = value (pos k) ∷ cellsAt ((k - number) * w + columns o) (o .carried) vs ms
-rowWith o number w vs ms Nothing = replicate (answerColumns o) null
+-- The distance of the left key v from the key of a right row, whose words start at place q; or no cell, if the join does not add it.
+abbrev pub lastAt : Options → Cell → ℕ → Words → Words → List Cell
+lastAt o v q vs ms = cond (o .«with_distance») (distanceCell (distance (cellAt (q + o .by) vs ms) v) ∷ []) []
+
+-- SCOPE 12.5: the row of an answer for a left row with the key v, by the words of the right rows, which are w wide and of which the first has this number.
+unfoldable pub rowWith : Options → ℕ → ℕ → Words → Words → Cell → Choice → List Cell
+rowWith o number w vs ms v (Row k) = value (pos k) ∷ cellsAt ((k - number) * w + columns o) (o .carried) vs ms ++ lastAt o v ((k - number) * w) vs ms
+rowWith o number w vs ms v Nothing = replicate (answerColumns o) null
+
+-- The rows of k choices from place i of an answer of m cells on; row j has the left key `key j`.
+unfoldable pub rowsWith : Options → ℕ → ℕ → Words → Words → (ℕ → Cell) → ℕ → Words → ℕ → ℕ → Rows
+rowsWith o number w vs ms key m out i zero = []
+rowsWith o number w vs ms key m out i (suc k) = rowWith o number w vs ms (key i) (choiceAt m out i) ∷ rowsWith o number w vs ms key m out (suc i) k
 
 -- Cells k .. k + p of an answer of m cells are there, and the output has room for all.
 pub record CellsRoom (m k p : ℕ) (out : Words) : Type 0 where
@@ -44,8 +55,9 @@ abbrev pub RightIn : Options → ℕ → Words → Words → ℕ → Choice → 
 RightIn o w vs ms number (Row k) = (number ≤ k) × (k < 2 ^ 63) × CellsIn ((k - number) * w) (rightColumns o) vs ms
 RightIn o w vs ms number Nothing = Unit {0}
 
--- Row i of an answer of m cells is there, and so is what is written of its choice.
-pub record RowSpread (o : Options) (i w : ℕ) (vs ms : Words) (number m : ℕ) (out : Words) : Type 0 where
+-- Row i of an answer of m cells is there, and so are the left row's key and what is written of its choice.
+pub record RowSpread (o : Options) (i wl : ℕ) (lv lm : Words) (w : ℕ) (vs ms : Words) (number m : ℕ) (out : Words) : Type 0 where
+  pub left : CellIn (i * wl + o .by) lv lm
   pub few : o .by ≤ 4
   pub carried : o .carried ≤ 8
   pub there : i * answerColumns o + answerColumns o ≤ m

@@ -27,18 +27,15 @@ choicesFrom m out i (suc n) = choiceAt m out i ∷ choicesFrom m out (suc i) n
 unfoldable pub spread : Options → ℕ → Rows → Rows → ℕ → Words → Words
 spread o number rights lefts m out = layCells m 0 (flat (answerRows o number rights lefts (choicesFrom m out 0 (length lefts)))) out
 
--- The output afterwards, whatever the n left rows are: no cell of an answer is read off them.
-abbrev pub Spreads : Options → ℕ → Rows → ℕ → ℕ → Words → Words → Type 0
-Spreads o number rights n m out out′ = (lefts : Rows) → length lefts ≡ n → out′ ≡ spread o number rights lefts m out
-
 -- A choice that stands at place i is none, or the number of a right row that is there.
 pub record Numbered (number nr m : ℕ) (out : Words) (i : ℕ) : Type 0 where
   pub whole : isZero (getD out (2 + m + i) (pos 0)) ≡ false → getD out (2 + i) (pos 0) ≡ pos (natAbs (getD out (2 + i) (pos 0)))
   pub from : isZero (getD out (2 + m + i) (pos 0)) ≡ false → number ≤ natAbs (getD out (2 + i) (pos 0))
   pub below : isZero (getD out (2 + m + i) (pos 0)) ≡ false → natAbs (getD out (2 + i) (pos 0)) < number + nr
 
--- n choices stand there; the right rows are there with what they carry, and so is the room for all cells of n rows.
-pub record SpreadIn (o : Options) (n wr nr : ℕ) (rv rm : Words) (number m : ℕ) (out : Words) : Type 0 where
+-- n choices stand there; the left rows are there, the right rows with what they carry, and the room for all cells of n rows.
+pub record SpreadIn (o : Options) (n wl : ℕ) (lv lm : Words) (wr nr : ℕ) (rv rm : Words) (number m : ℕ) (out : Words) : Type 0 where
+  pub left : RowsIn o wl n lv lm
   pub right : RowsIn o wr nr rv rm
   pub carried : o .carried ≤ 8
   pub wide : rightColumns o ≤ wr

@@ -6,11 +6,12 @@ use options::is_ranked;
 use order::Order;
 ghost use mathlib.Core.Path.{_≡_};
 ghost use mathlib.Core.List.{[]};
-ghost use Prim.Native.Nat.{ℕ, _+_, _<_};
+ghost use Prim.Native.Nat.{ℕ, _+_, _≤_, _<_};
 ghost use Rattle.frames.specs.Cells.{rowFrom};
 ghost use Rattle.options.specs.Options.{withList, byRule};
 ghost use Rattle.order.specs.Order.{cmpCell, cmpGroup, cmpRow};
 ghost use Rattle.order.specs.Requires.{cellAt, CellIn, RowAt};
+ghost use Rattle.compare.specs.Requires.{GroupAt};
 
 // The cell at place ka of the one side, and that at place kb of the other, of a column without a list.
 fn cmp_at(
@@ -42,7 +43,7 @@ fn cmp_column(
     codes: &[i64],
     rising: &[u8],
 ) -> Order
-    requires { ⌜ RowAt (withList o (now codes) (now rising)) pa (now va) (now ma) × RowAt (withList o (now codes) (now rising)) pb (now vb) (now mb) × (j < o .by) ⌝ }
+    requires { ⌜ GroupAt (withList o (now codes) (now rising)) pa (now va) (now ma) × GroupAt (withList o (now codes) (now rising)) pb (now vb) (now mb) × (j < o .by) ⌝ }
     ensures { λ r. ⌜ r ≡ cmpCell (byRule (withList o (now (codes .entry)) (now (rising .entry))) j) (cellAt (pa + j) (now (va .entry)) (now (ma .entry))) (cellAt (pb + j) (now (vb .entry)) (now (mb .entry))) ⌝ }
 {
     let descending = o.descending;
@@ -65,6 +66,34 @@ fn cmp_column(
     cmp_at(va, ma, a, vb, mb, b, descending[j], last[j])
 }
 
+// The by-values at pa and pb, whatever stands behind them.
+pub fn cmp_by(
+    va: &[i64],
+    ma: &[i64],
+    pa: usize,
+    vb: &[i64],
+    mb: &[i64],
+    pb: usize,
+    o: Terms,
+    codes: &[i64],
+    rising: &[u8],
+) -> Order
+    requires { ⌜ GroupAt (withList o (now codes) (now rising)) pa (now va) (now ma) × GroupAt (withList o (now codes) (now rising)) pb (now vb) (now mb) ⌝ }
+    ensures { λ r. ⌜ ((wa wb : ℕ) → o .by ≤ wa → o .by ≤ wb → r ≡ cmpGroup (withList o (now (codes .entry)) (now (rising .entry))) (rowFrom wa pa (now (va .entry)) (now (ma .entry))) (rowFrom wb pb (now (vb .entry)) (now (mb .entry)))) ⌝ }
+{
+    let by = o.by;
+    let mut j = 0;
+    while j < by {
+        let r = cmp_column(va, ma, pa, vb, mb, pb, j, o, codes, rising);
+        match r {
+            Order::Equal => {}
+            _ => return r,
+        }
+        j += 1;
+    }
+    Order::Equal
+}
+
 // The groups of the rows at pa and pb, whatever the rows' widths.
 pub fn cmp_group(
     va: &[i64],
@@ -80,17 +109,7 @@ pub fn cmp_group(
     requires { ⌜ RowAt (withList o (now codes) (now rising)) pa (now va) (now ma) × RowAt (withList o (now codes) (now rising)) pb (now vb) (now mb) ⌝ }
     ensures { λ r. ⌜ ((wa wb : ℕ) → o .by < wa → o .by < wb → r ≡ cmpGroup (withList o (now (codes .entry)) (now (rising .entry))) (rowFrom wa pa (now (va .entry)) (now (ma .entry))) (rowFrom wb pb (now (vb .entry)) (now (mb .entry)))) ⌝ }
 {
-    let by = o.by;
-    let mut j = 0;
-    while j < by {
-        let r = cmp_column(va, ma, pa, vb, mb, pb, j, o, codes, rising);
-        match r {
-            Order::Equal => {}
-            _ => return r,
-        }
-        j += 1;
-    }
-    Order::Equal
+    cmp_by(va, ma, pa, vb, mb, pb, o, codes, rising)
 }
 
 // The rows at pa and pb: by group, then by key.

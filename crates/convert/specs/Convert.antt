@@ -26,7 +26,7 @@ encodeRow r = record { some = flagCode (r .some); values = r .values; marks = r 
 -- ---- the join
 -- The first word of a join: the bytes "rowkeep", then the layout's version. Joins of another layout have another first word (SCOPE 16.5).
 abbrev pub layoutNow : ℕ
-layoutNow = 0x726f_776b_6565_7003
+layoutNow = 0x726f_776b_6565_7004
 
 -- A join that the library could have written: this layout, one of the three states, and flags that are 0 or 1.
 unfoldable pub isJoin : HostJoin → Bool

@@ -18,7 +18,7 @@ ghost use mathlib.Core.Bool.{true};
 ghost use Rattle.convert.specs.Convert.{rowOf, encodeRow, isJoin, joinOf, encode};
 
 // The layout of a join in numbers: its first word. The bytes "rowkeep", then the layout's version.
-pub const LAYOUT: u64 = 0x726f_776b_6565_7003;
+pub const LAYOUT: u64 = 0x726f_776b_6565_7004;
 
 // A row that a side remembers, where some is 1.
 #[repr(C)]

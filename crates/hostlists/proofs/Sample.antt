@@ -36,6 +36,7 @@ h = record {
   «nulls_last» = 0 ∷ 0 ∷ 0 ∷ 0 ∷ [];
   carried = 0;
   ranks = none-given;
+  «with_distance» = 0;
 }
 
 -- The numbers of what a call returned, without its join.
@@ -103,6 +104,7 @@ carrying = record {
   «nulls_last» = 0 ∷ 0 ∷ 0 ∷ 0 ∷ [];
   carried = 1;
   ranks = none-given;
+  «with_distance» = 0;
 }
 
 unfoldable pub prices : List HostCall

@@ -25,22 +25,25 @@ pub record OptionsParts (h : HostOptions) : Type 0 where
   pub descending : areFlags (h .descending) ≡ true
   pub nulls : areFlags (h .«nulls_last») ≡ true
   pub given : isFlag (h .ranks .given) ≡ true
+  pub distance : isFlag (h .«with_distance») ≡ true
 
 pub options-parts : (h : HostOptions) → isOptions h ≡ true → OptionsParts h
 unfolding isOptions
 options-parts h e =
     let flags = areFlags (h .descending) && areFlags (h .«nulls_last») in
-    let p = and-both (ltb (h .strategy) 256 && (isFlag (h .«allow_eq») && isCode (h .check))) (flags && isFlag (h .ranks .given)) e in
+    let last = isFlag (h .ranks .given) && isFlag (h .«with_distance») in
+    let p = and-both (ltb (h .strategy) 256 && (isFlag (h .«allow_eq») && isCode (h .check))) (flags && last) e in
     let q = and-both (ltb (h .strategy) 256) (isFlag (h .«allow_eq») && isCode (h .check)) (p .0) in
     let r = and-both (isFlag (h .«allow_eq»)) (isCode (h .check)) (q .1) in
-    let t = and-both flags (isFlag (h .ranks .given)) (p .1) in
+    let t = and-both flags last (p .1) in
+    let u = and-both (isFlag (h .ranks .given)) (isFlag (h .«with_distance»)) (t .1) in
     let s = and-both (areFlags (h .descending)) (areFlags (h .«nulls_last»)) (t .0) in
-    record { byte = ltb-true (h .strategy) 256 (q .0); eq = r .0; check = r .1; descending = s .0; nulls = s .1; given = t .1 }
+    record { byte = ltb-true (h .strategy) 256 (q .0); eq = r .0; check = r .1; descending = s .0; nulls = s .1; given = u .0; distance = u .1 }
 
 pub options-is : (o : Options) → o .strategy < 256 → isOptions (encodeOptions o) ≡ true
 unfolding isOptions
 options-is o b =
-    rw (lt-ltb (o .strategy) 256 b, flag-is (o .«allow_eq»), check-is (o .check), flags-are (o .descending), flags-are (o .«nulls_last»), flag-is (o .ranks .given))
+    rw (lt-ltb (o .strategy) 256 b, flag-is (o .«allow_eq»), check-is (o .check), flags-are (o .descending), flags-are (o .«nulls_last»), flag-is (o .ranks .given), flag-is (o .«with_distance»))
 
 -- A list is told by its numbers and its places.
 pub ranks-same : (k : Ranks) → keptRanks (encodeRanks k) (k .rising) ≡ k
@@ -51,12 +54,12 @@ ranks-numbers h k e s = rw (← s) (rw (flag-there (h .given) e))
 
 -- Options are told by their numbers and their list.
 pub options-same : (o : Options) (k : Ranks) → k ≡ o .ranks → optionsWith (encodeOptions o) k ≡ o
-options-same o k s = rw (s, flag-back (o .«allow_eq»), check-back (o .check), flags-back (o .descending), flags-back (o .«nulls_last»))
+options-same o k s = rw (s, flag-back (o .«allow_eq»), check-back (o .check), flags-back (o .descending), flags-back (o .«nulls_last»), flag-back (o .«with_distance»))
 
 pub numbers-same : (h : HostOptions) (k : Ranks) → isOptions h ≡ true → encodeRanks k ≡ h .ranks → encodeOptions (optionsWith h k) ≡ h
 numbers-same h k e s =
     let p = options-parts h e in
-    rw (s, flag-there (h .«allow_eq») (p .eq), check-there (h .check) (p .check), flags-there (h .descending) (p .descending), flags-there (h .«nulls_last») (p .nulls))
+    rw (s, flag-there (h .«allow_eq») (p .eq), check-there (h .check) (p .check), flags-there (h .descending) (p .descending), flags-there (h .«nulls_last») (p .nulls), flag-there (h .«with_distance») (p .distance))
 
 -- The numbers of the list that a host gives are those given.
 pub given-numbers : (h : HostRanks) → isFlag (h .given) ≡ true → encodeRanks (givenRanks h) ≡ h

@@ -15,7 +15,7 @@ use Rattle.hostoptions.specs.declared.HostOptions.{HostOptions}
 unfoldable pub isOptions : HostOptions → Bool
 isOptions h =
     (ltb (h .strategy) 256 && (isFlag (h .«allow_eq») && isCode (h .check)))
-    && ((areFlags (h .descending) && areFlags (h .«nulls_last»)) && isFlag (h .ranks .given))
+    && ((areFlags (h .descending) && areFlags (h .«nulls_last»)) && (isFlag (h .ranks .given) && isFlag (h .«with_distance»)))
 
 -- The list of ranks that such numbers tell, with its places in rising order where they are kept.
 abbrev pub keptRanks : HostRanks → List ℕ → Ranks
@@ -41,6 +41,7 @@ optionsWith h k = record {
   «nulls_last» = flagsOf (h .«nulls_last»);
   carried = h .carried;
   ranks = k;
+  «with_distance» = flagOf (h .«with_distance»);
 }
 
 -- The options that a host gives.
@@ -59,6 +60,7 @@ encodeOptions o = record {
   «nulls_last» = flagCodes (o .«nulls_last»);
   carried = o .carried;
   ranks = encodeRanks (o .ranks);
+  «with_distance» = flagCode (o .«with_distance»);
 }
 
 -- Numbers that no options encode are none.

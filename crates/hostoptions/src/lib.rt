@@ -37,6 +37,7 @@ pub struct HostOptions {
     pub nulls_last: [u64; 4],
     pub carried: usize,
     pub ranks: HostRanks,
+    pub with_distance: u64,
 }
 
 // Whether the numbers tell options.
@@ -47,7 +48,7 @@ pub fn is_options(h: HostOptions) -> bool
     let n = h.nulls_last;
     let strategy = h.strategy < 256;
     let flags = both(is_flag(h.allow_eq), is_code(h.check));
-    let given = is_flag(h.ranks.given);
+    let given = both(is_flag(h.ranks.given), is_flag(h.with_distance));
     both(
         both(strategy, flags),
         both(both(are_flags(d), are_flags(n)), given),
@@ -87,6 +88,7 @@ pub fn options_with(h: HostOptions, k: Ranks) -> Options
         nulls_last: nulls_last,
         carried: h.carried,
         ranks: k,
+        with_distance: flag_of(h.with_distance),
     }
 }
 
@@ -133,5 +135,6 @@ pub fn encode_options(o: Options) -> HostOptions
         nulls_last: nulls_last,
         carried: o.carried,
         ranks: ranks,
+        with_distance: flag_code(o.with_distance),
     }
 }

@@ -2,13 +2,13 @@
 use mathlib.Core.Path.{_≡_, refl, sym, ap, _∙_}
 use mathlib.Core.Bool.{Bool, true, false, cond, not}
 use mathlib.Core.List.{List, [], _∷_, map}
-use Prim.Native.Nat.{ℕ, _+_}
+use Prim.Native.Nat.{ℕ, suc, _+_}
 use native.Mathlib.Omega.{arith}
 use borrow.Author.Tests.{lt-ltb}
 use lib.IntN.{pos}
-use lib.ListN.{length, take, getD}
+use lib.ListN.{length, take, getD, replicate}
 use lib.Seq.{take-all}
-use Rattle.frames.specs.Cells.{Cell, Rows, Words}
+use Rattle.frames.specs.Cells.{Cell, null, Rows, Words}
 use Rattle.options.specs.Options.{columns, refusedOptions}
 use Rattle.order.specs.Order.{cmpGroup, isEqual, sorted}
 use Rattle.options.specs.declared.Options.{Options}
@@ -26,7 +26,7 @@ use Rattle.matching.proofs.PickedLaw.{picked-row}
 use Rattle.lists.specs.Lists.{Call, Entry, leftFrames, rowsIn}
 use Rattle.lists.specs.WholeTables.{asWritten, dueOver, all, lefts, rights, turnedRows}
 use Rattle.lists.proofs.WholeTableTheorem.{whole-table-theorem}
-use Rattle.isolation.specs.Isolation.{inGroup, ofGroup, writtenFor, Own, place, ownBefore, ownAt, own, ownChoice, Alone, Finished, Isolation}
+use Rattle.isolation.specs.Isolation.{inGroup, ofGroup, writtenFor, Own, none, place, ownBefore, ownAt, own, ownChoice, Alone, Finished, Isolation}
 use Rattle.isolation.proofs.PlaceLaws.{choiceBy, those, choose-those, tolerate-by}
 
 is-equal : (z : Order) → isEqual z ≡ true → z ≡ Equal
@@ -70,12 +70,18 @@ module _ (o : Options) (g : List Cell) (R : Rows) (x : List Cell) (e : inGroup o
       let m : cmpGroup o (getD R n []) g ≡ Equal = same-right (cmpGroup-is o) (getD R n []) x g same ∙ may-out o x (getD R n []) (q .0) .group in
       rw (lt-ltb n (length R) (p .there), m)
 
+  -- No match is null in its first column, however many there are.
+  own-none : (d : Bool) → own o g R (asWritten (replicate (cond d (suc (suc (o .carried))) (suc (o .carried))) null)) ≡ none
+  unfolding own
+  own-none true = refl
+  own-none false = refl
+
   own-is : sorted o R ≡ true → own o g R (dueOver o R x) ≡ ownChoice (wholeTable o (ofGroup o g R) x)
   unfolding own answerRow
   own-is s = by (wholeTable o R x) refl own-match
     where
       by : (m : Choice) → wholeTable o R x ≡ m → choiceBy (ownBefore o g R) m ≡ wholeTable o (ofGroup o g R) x → own o g R (asWritten (answerRow o 0 R x m)) ≡ ownChoice (wholeTable o (ofGroup o g R) x)
-      by Nothing h q = rw (← q)
+      by Nothing h q = rw (← q) (own-none (o .«with_distance»))
       by (Row n) h q = own-row s n h ∙ ap ownChoice q
 
 -- For each left row of the group.

@@ -101,7 +101,7 @@ module _ (o : Options) (c : ℕ) (f : Words) where
   unranked-lacks e = rw e
 
   -- Of values and marks as they are lent: they have the ranked column, since it is a by-column.
-  pub column-there : o .by < c → isTable c f ≡ true → Good (o .by) (o .ranks) → (n e : ℕ) → n ≡ rowCount f → e ≡ 2 + n * c
+  pub column-there : o .by ≤ c → isTable c f ≡ true → Good (o .by) (o .ranks) → (n e : ℕ) → n ≡ rowCount f → e ≡ 2 + n * c
       → ColumnIn (o .ranks .column) c n (take (e - 2) (drop 2 f)) (take (length f - e) (drop e f))
   column-there wide table good n e count at =
       let l = parts-fit c f table n count in

@@ -4,7 +4,7 @@ use options::Terms;
 use ranking::place_of;
 ghost use mathlib.Core.Path.{_≡_};
 ghost use mathlib.Core.Bool.{true};
-ghost use Prim.Native.Nat.{_<_};
+ghost use Prim.Native.Nat.{_≤_, _<_};
 ghost use lib.ListN.{length};
 ghost use Rattle.frames.specs.Cells.{rowsOf};
 ghost use Rattle.frames.specs.Frame.{frameRows, isTable};
@@ -56,7 +56,7 @@ fn any_unlisted(
 
 // Whether a table of c columns has a value in the ranked column that the list lacks.
 pub fn lacks_code(table: &[i64], c: usize, o: Terms, codes: &[i64], rising: &[u8]) -> bool
-    requires { ⌜ Few (withList o (now codes) (now rising)) × (o .by < c) × (isTable c (now table) ≡ true) ⌝ }
+    requires { ⌜ Few (withList o (now codes) (now rising)) × (o .by ≤ c) × (isTable c (now table) ≡ true) ⌝ }
     ensures { λ r. ⌜ r ≡ lacksCode (withList o (now (codes .entry)) (now (rising .entry))) (frameRows c (now (table .entry))) ⌝ }
 {
     if !o.given {

@@ -3,13 +3,13 @@ use mathlib.Core.Path.{_≡_, refl}
 use mathlib.Core.Bool.{true, false}
 use mathlib.Core.List.{List, [], _∷_, _++_, map}
 use mathlib.Core.Option.{Option, none, some}
-use Prim.Native.Nat.{ℕ, _*_}
+use Prim.Native.Nat.{ℕ, _-_, _*_, _^_}
 use lib.IntN.{pos, negsuc}
 use lib.ListN.{length, replicate}
-use Rattle.frames.specs.Cells.{null, value, Words}
+use Rattle.frames.specs.Cells.{Cell, null, value, Words}
 use Rattle.ranks.specs.Ranks.{badRanks}
 use Rattle.options.specs.Options.{badOptions}
-use Rattle.order.proofs.Samples.{options, plain, carrying, checking, row, keys, frameOf}
+use Rattle.order.proofs.Samples.{options, plain, carrying, checking, distancing, row, keys, frameOf}
 use Rattle.options.specs.declared.Options.{Options}
 use Rattle.options.specs.declared.Check.the-variants.{Strict}
 use Rattle.callrules.specs.Judged.{openAnswer}
@@ -22,6 +22,10 @@ frame1 ks = frameOf 1 (keys ks)
 
 abbrev frame2 : List (List ℕ) → Words
 frame2 rs = frameOf 2 (map row rs)
+
+-- A row of the least key that there is.
+abbrev least : List Cell
+least = value (negsuc (2 ^ 63 - 1)) ∷ []
 
 -- A match: none, or a right number.
 abbrev numbers : List (Option ℕ) → Words
@@ -126,6 +130,13 @@ cases =
     ∷ case (carrying 1 (plain 0 true)) 40 (priced ∷ end ∷ left (frame1 (5 ∷ 10 ∷ 20 ∷ 35 ∷ [])) ∷ turn (space 17) ∷ turn (space 18) ∷ [])
     (ok ∷ ok ∷ ok ∷ refused 6
     ∷ wrote 0 (map pos (4 ∷ 2 ∷ 0 ∷ 0 ∷ 0 ∷ 1800 ∷ 2 ∷ 0 ∷ 3 ∷ 2500 ∷ 0 ∷ 0 ∷ 1 ∷ 1 ∷ 1 ∷ 0 ∷ 1 ∷ 1 ∷ [])) ∷ []) 3 1
+    -- SCOPE 21.13
+    ∷ case (distancing (carrying 1 (plain 0 true))) 40 (priced ∷ end ∷ left (frame1 (5 ∷ 10 ∷ 20 ∷ 35 ∷ [])) ∷ turn (space 25) ∷ turn (space 26) ∷ [])
+    (ok ∷ ok ∷ ok ∷ refused 6
+    ∷ wrote 0 (map pos (4 ∷ 3 ∷ 0 ∷ 0 ∷ 0 ∷ 0 ∷ 1800 ∷ 0 ∷ 2 ∷ 0 ∷ 0 ∷ 3 ∷ 2500 ∷ 5 ∷ 0 ∷ 0 ∷ 0 ∷ 1 ∷ 1 ∷ 1 ∷ 1 ∷ 0 ∷ 1 ∷ 1 ∷ 1 ∷ 1 ∷ [])) ∷ []) 3 1
+    -- SCOPE 21.14
+    ∷ case (distancing (plain 0 true)) 40 (right (frameOf 1 (least ∷ [])) ∷ end ∷ left (frameOf 1 ((value (negsuc 0) ∷ []) ∷ keys (0 ∷ []))) ∷ turn (space 10) ∷ [])
+    (ok ∷ ok ∷ ok ∷ wrote 0 (map pos (2 ∷ 2 ∷ 0 ∷ (2 ^ 63 - 1) ∷ 0 ∷ 0 ∷ 1 ∷ 1 ∷ 1 ∷ 0 ∷ [])) ∷ []) 0 1
     ∷ []
 
 pub counter : map comesTo cases ≡ map (λ k. k .awaited) cases

@@ -1,5 +1,6 @@
--- SCOPE 15.21: with p = 0 the theorem is the one on right numbers alone. The statement; its proof is in proofs/. Assumes nothing.
+-- SCOPE 15.21: with p = 0 and without a distance the theorem is the one on right numbers alone. The statement; its proof is in proofs/. Assumes nothing.
 use mathlib.Core.Path.{_≡_}
+use mathlib.Core.Bool.{false}
 use mathlib.Core.List.{List, [], _∷_}
 use Prim.Native.Nat.{ℕ, _+_, _*_}
 use lib.ListN.{length}
@@ -23,6 +24,6 @@ pub record OldForm (o : Options) : Type 0 where
   -- What is due is a right number and its mark, 0 and 0 for none.
   pub due : (rights : Rows) (x : List Cell) → dueOver o rights x ≡ record { values = numberWord (wholeTable o rights x) ∷ []; marks = choiceMark (wholeTable o rights x) ∷ [] }
 
--- For all options with p = 0.
+-- For all options with p = 0 that add no distance.
 abbrev pub OldTheorem : Type 0
-OldTheorem = (o : Options) → o .carried ≡ 0 → OldForm o
+OldTheorem = (o : Options) → o .carried ≡ 0 → o .«with_distance» ≡ false → OldForm o

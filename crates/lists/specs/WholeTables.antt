@@ -12,7 +12,7 @@ use Rattle.order.specs.Order.{sorted}
 use Rattle.options.specs.declared.Options.{Options}
 use Rattle.matching.specs.Match.{wholeTable}
 use Rattle.matching.specs.Picked.{Picked, NoneQualifies}
-use Rattle.matching.specs.Answer.{carriedOf, answerRow}
+use Rattle.matching.specs.Answer.{behindNumber, answerRow}
 use Rattle.lists.specs.Lists.{Call, turn, start, events, final, Event, leftFrames, rightFrames, rowsIn, outputs, matchesIn, Entry, rightEnded, nodeDone, queueRows, backToBack, refusedWith, turnsIn}
 use Rattle.node.specs.State.{waiting, heldValues, heldMarks}
 
@@ -20,15 +20,15 @@ use Rattle.node.specs.State.{waiting, heldValues, heldMarks}
 abbrev pub asWritten : List Cell → Entry
 asWritten r = record { values = map valueWord r; marks = map markWord r }
 
--- SCOPE 14.4: what is due for the left row x over these right rows: its match by the whole-table rule, with what that row carries.
+-- SCOPE 14.4: what is due for the left row x over these right rows: its match by the whole-table rule, with what that row carries and, where the join adds it, the distance.
 abbrev pub dueOver : Options → Rows → List Cell → Entry
 dueOver o rights x = asWritten (answerRow o 0 rights x (wholeTable o rights x))
 
--- What is written for x is none, in all columns, and nothing qualifies; or a number, whose row is picked, and behind it what this row carries.
+-- What is written for x is none, in all columns, and nothing qualifies; or a number, whose row is picked, and behind it what this row carries and how far it is.
 pub data Correct (o : Options) (rights : Rows) (x : List Cell) : Entry → Type 0 where
   isNone : NoneQualifies o rights x → Correct o rights x (record { values = replicate (answerColumns o) (pos 0); marks = replicate (answerColumns o) (pos 0) })
   isRow : (i : ℕ) → Picked o rights x i
-      → Correct o rights x (record { values = pos i ∷ map valueWord (carriedOf o (getD rights i [])); marks = pos 1 ∷ map markWord (carriedOf o (getD rights i [])) })
+      → Correct o rights x (record { values = pos i ∷ map valueWord (behindNumber o x (getD rights i [])); marks = pos 1 ∷ map markWord (behindNumber o x (getD rights i [])) })
 
 -- Each of a list with its fellow in another; both are equally long.
 pub data Each {A B : Type 0} (P : A → B → Type 0) : List A → List B → Type 0 where
@@ -77,7 +77,7 @@ module _ (o : Options) (l r : Words) (calls : List Call) where
   abbrev pub NoneExactly : Type 0
   NoneExactly = Declared → Each (Correct o rights) turnedRows matches
 
-  -- Outputs for the frames that wait, each enough: 2 + 2n(1 + p) words.
+  -- Outputs for the frames that wait, each enough: 2 + 2n(1 + p) words, with the distance 2 + 2n(2 + p).
   abbrev pub Enough : List Words → Type 0
   Enough outs = Each (λ f out. frameWords (rowCount f) (answerColumns o) ≤ length out) waitingFrames outs
 

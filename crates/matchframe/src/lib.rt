@@ -1,4 +1,4 @@
-// The answer of a frame: a row for each of its rows, with the right number and what that row carries.
+// The answer of a frame: a row for each of its rows, with the right number, what that row carries, and the distance where the join adds it.
 use carrying::spread_rows;
 use groups::run_end;
 use groups::serve;
@@ -142,10 +142,10 @@ pub fn answer_rows(
         m,
         out,
     );
-    if o.carried == 0 {
+    if answer_columns(o) == 1 {
         return;
     }
-    spread_rows(nl, rv, rm, nr, wr, number, o, m, out);
+    spread_rows(nl, lv, lm, wl, rv, rm, nr, wr, number, o, m, out);
 }
 
 // The answer of a frame, whole.

@@ -1,16 +1,18 @@
 -- The rows of an answer: their width, their count, and what they are over joined stretches and for choices made by a rule. Assumes nothing.
 use mathlib.Core.Path.{_≡_, refl, ap}
+use mathlib.Core.Bool.{Bool, true, false, cond}
 use mathlib.Core.List.{List, [], _∷_, _++_, map}
-use Prim.Native.Nat.{ℕ, zero, suc}
+use Prim.Native.Nat.{ℕ, zero, suc, _-_}
 use native.Mathlib.Omega.{arith}
-use lib.ListN.{length, replicate}
+use lib.ListN.{length, getD, replicate, length-append}
 use Rattle.frames.specs.Cells.{Cell, null, Rows}
 use Rattle.options.specs.Options.{columns, answerColumns}
 use Rattle.options.specs.declared.Options.{Options}
+use Rattle.order.specs.Order.{keyOf, distance}
 use Rattle.tables.proofs.TableLaws.{Wide}
 use Rattle.matching.specs.declared.Choice.{Choice}
 use Rattle.matching.specs.declared.Choice.the-variants.{Row, Nothing}
-use Rattle.matching.specs.Answer.{cellsFrom, answerRow, answerRows}
+use Rattle.matching.specs.Answer.{cellsFrom, distanceCell, answerRow, answerRows}
 
 cells-wide : (j n : ℕ) (r : List Cell) → length (cellsFrom j n r) ≡ n
 unfolding cellsFrom
@@ -25,7 +27,11 @@ module _ (o : Options) (i : ℕ) (rights : Rows) where
   -- Each row of an answer has as many columns as the answer.
   pub row-wide : (x : List Cell) (m : Choice) → length (answerRow o i rights x m) ≡ answerColumns o
   unfolding answerRow
-  row-wide x (Row k) = ap suc (cells-wide (columns o) (o .carried) _)
+  row-wide x (Row k) = go (o .«with_distance»)
+    where
+      go : (b : Bool) → suc (length (cellsFrom (columns o) (o .carried) (getD rights (k - i) []) ++ cond b (distanceCell (distance (keyOf o (getD rights (k - i) [])) (keyOf o x)) ∷ []) [])) ≡ cond b (suc (suc (o .carried))) (suc (o .carried))
+      go true = omega (arith, length-append (cellsFrom (columns o) (o .carried) (getD rights (k - i) [])) (distanceCell (distance (keyOf o (getD rights (k - i) [])) (keyOf o x)) ∷ []), cells-wide (columns o) (o .carried) (getD rights (k - i) []))
+      go false = omega (arith, length-append (cellsFrom (columns o) (o .carried) (getD rights (k - i) [])) [], cells-wide (columns o) (o .carried) (getD rights (k - i) []))
   row-wide x Nothing = nulls-wide (answerColumns o)
 
   pub answer-wide : (xs : Rows) (ms : List Choice) → Wide (answerColumns o) (answerRows o i rights xs ms)

@@ -1,5 +1,6 @@
--- With p = 0 an answer's words are the right numbers and their marks. Assumes nothing.
+-- With p = 0 and without a distance an answer's words are the right numbers and their marks. Assumes nothing.
 use mathlib.Core.Path.{_≡_, refl, ap}
+use mathlib.Core.Bool.{false}
 use mathlib.Core.List.{List, [], _∷_, map}
 use Prim.Native.Nat.{ℕ}
 use native.Mathlib.Omega.{arith}
@@ -12,16 +13,16 @@ use Rattle.matching.specs.declared.Choice.the-variants.{Row, Nothing}
 use Rattle.matching.specs.Answer.{numberWord, choiceMark, cellsFrom, answerRow, answerRows, numberWords, OldForm}
 use Rattle.matching.proofs.AnswerRows.{answer-count}
 
-module _ (o : Options) (i : ℕ) (rights : Rows) (none : o .carried ≡ 0) where
+module _ (o : Options) (i : ℕ) (rights : Rows) (none : o .carried ≡ 0) (no : o .«with_distance» ≡ false) where
   pub value-old : (x : List Cell) (m : Choice) → map valueWord (answerRow o i rights x m) ≡ numberWord m ∷ []
   unfolding answerRow cellsFrom
-  value-old x (Row k) = rw none
-  value-old x Nothing = rw none
+  value-old x (Row k) = rw (no, none)
+  value-old x Nothing = rw (no, none)
 
   pub mark-old : (x : List Cell) (m : Choice) → map markWord (answerRow o i rights x m) ≡ choiceMark m ∷ []
   unfolding answerRow cellsFrom
-  mark-old x (Row k) = rw none
-  mark-old x Nothing = rw none
+  mark-old x (Row k) = rw (no, none)
+  mark-old x Nothing = rw (no, none)
 
   values-old : (xs : Rows) (ms : List Choice) → length xs ≡ length ms → wordsOf valueWord (answerRows o i rights xs ms) ≡ map numberWord ms
   unfolding answerRows wordsOf
@@ -39,5 +40,5 @@ module _ (o : Options) (i : ℕ) (rights : Rows) (none : o .carried ≡ 0) where
 
 pub old-form : OldForm
 unfolding numberWords tableOf
-old-form o i rights xs ms p0 e =
-    rw (values-old o i rights p0 xs ms e, marks-old o i rights p0 xs ms e, answer-count o i rights xs ms e, p0)
+old-form o i rights xs ms p0 d0 e =
+    rw (values-old o i rights p0 d0 xs ms e, marks-old o i rights p0 d0 xs ms e, answer-count o i rights xs ms e, d0, p0)

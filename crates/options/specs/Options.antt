@@ -31,6 +31,7 @@ termsOf o = record {
   given = o .ranks .given;
   column = o .ranks .column;
   count = o .ranks .count;
+  «with_distance» = o .«with_distance»;
 }
 
 -- The options that have these terms and, for their list, these words of codes and these places.
@@ -45,6 +46,7 @@ withList t codes rising = record {
   «nulls_last» = t .«nulls_last»;
   carried = t .carried;
   ranks = record { given = t .given; column = t .column; count = t .count; codes = codes; rising = rising };
+  «with_distance» = t .«with_distance»;
 }
 
 -- The options that have these terms and no list: what looks at keys alone is the same with them.
@@ -59,6 +61,7 @@ withoutList t = record {
   «nulls_last» = t .«nulls_last»;
   carried = t .carried;
   ranks = record { given = false; column = 0; count = 0; codes = []; rising = [] };
+  «with_distance» = t .«with_distance»;
 }
 
 -- ---- what the options say
@@ -86,9 +89,13 @@ columns o = suc (o .by)
 abbrev pub rightColumns : Options → ℕ
 rightColumns o = columns o + o .carried
 
--- SCOPE 12.5: the columns of an answer: the right number, and what is carried.
+-- SCOPE 12.5: the columns of an answer without its distance: the right number, and what is carried.
+abbrev pub sharedColumns : Options → ℕ
+sharedColumns o = suc (o .carried)
+
+-- SCOPE 12.5: the columns of an answer: a join may be opened to add the distance as the last.
 abbrev pub answerColumns : Options → ℕ
-answerColumns o = suc (o .carried)
+answerColumns o = cond (o .«with_distance») (suc (sharedColumns o)) (sharedColumns o)
 
 -- SCOPE 3.6: the options are invalid.
 unfoldable pub badOptions : Options → Bool

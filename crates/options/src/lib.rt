@@ -2,7 +2,7 @@
 use ranks::Ranks;
 ghost use mathlib.Core.Path.{_≡_};
 ghost use Prim.Native.Nat.{_≤_};
-ghost use Rattle.options.specs.Options.{termsOf, withoutList, hasList, badOptions, manyCarried, strategyOf, isOn, isStrict, columns, rightColumns, answerColumns};
+ghost use Rattle.options.specs.Options.{termsOf, withoutList, hasList, badOptions, manyCarried, strategyOf, isOn, isStrict, columns, rightColumns, sharedColumns, answerColumns};
 
 // The strategies of a match. In the options a strategy is its number, since a host may hand in any.
 pub enum Strategy {
@@ -29,6 +29,7 @@ pub struct Options {
     pub nulls_last: [bool; 4],
     pub carried: usize,
     pub ranks: Ranks,
+    pub with_distance: bool,
 }
 
 // The options without the codes of the list, which functions take beside them as two slices: a list is 576 bytes, and most joins have none.
@@ -44,6 +45,7 @@ pub struct Terms {
     pub given: bool,
     pub column: usize,
     pub count: usize,
+    pub with_distance: bool,
 }
 
 // The options without the codes of the list.
@@ -65,6 +67,7 @@ pub fn terms_of(o: Options) -> Terms
         given: o.ranks.given,
         column: o.ranks.column,
         count: o.ranks.count,
+        with_distance: o.with_distance,
     }
 }
 
@@ -155,10 +158,21 @@ pub fn right_columns(o: Terms) -> usize
     o.by + 1 + o.carried
 }
 
-// The columns of an answer: the right number, and what is carried.
+// The columns of an answer without its distance: the right number, and what is carried.
+pub fn shared_columns(o: Terms) -> usize
+    requires { ⌜ o .carried ≤ 8 ⌝ }
+    ensures { λ r. ⌜ r ≡ sharedColumns (withoutList o) ⌝ }
+{
+    o.carried + 1
+}
+
+// The columns of an answer: one more where the distance is written.
 pub fn answer_columns(o: Terms) -> usize
     requires { ⌜ o .carried ≤ 8 ⌝ }
     ensures { λ r. ⌜ r ≡ answerColumns (withoutList o) ⌝ }
 {
+    if o.with_distance {
+        return o.carried + 2;
+    }
     o.carried + 1
 }

@@ -28,7 +28,7 @@ noRanks = ranksFor false 0 0 (replicate 64 (pos 0))
 abbrev pub ranksBy : ℕ → List ℤ → Ranks
 ranksBy j cs = ranksFor true j (length cs) (cs ++ replicate (64 - length cs) (pos 0))
 
--- Options by b, strategy, equality, tolerance, check, descending, nulls last; nothing is carried, no column is ranked.
+-- Options by b, strategy, equality, tolerance, check, descending, nulls last; nothing is carried, no column is ranked, no distance is written.
 abbrev pub options : ℕ → ℕ → Bool → ℤ → Bool → List Bool → List Bool → Options
 options b strategy eq tolerance check desc last = record {
   by = b;
@@ -40,25 +40,12 @@ options b strategy eq tolerance check desc last = record {
   «nulls_last» = four last;
   carried = 0;
   ranks = noRanks;
+  «with_distance» = false;
 }
 
--- The same with p carried columns.
-abbrev pub carrying : ℕ → Options → Options
-carrying p o = record {
-  by = o .by;
-  strategy = o .strategy;
-  «allow_eq» = o .«allow_eq»;
-  tolerance = o .tolerance;
-  check = o .check;
-  descending = o .descending;
-  «nulls_last» = o .«nulls_last»;
-  carried = p;
-  ranks = o .ranks;
-}
-
--- The same with another setting of the order check.
-abbrev pub checking : Check → Options → Options
-checking c o = record {
+-- Options with p carried columns, another setting of the order check, other ranks, and a distance or none.
+abbrev altered : ℕ → Check → Ranks → Bool → Options → Options
+altered p c k d o = record {
   by = o .by;
   strategy = o .strategy;
   «allow_eq» = o .«allow_eq»;
@@ -66,23 +53,26 @@ checking c o = record {
   check = c;
   descending = o .descending;
   «nulls_last» = o .«nulls_last»;
-  carried = o .carried;
-  ranks = o .ranks;
+  carried = p;
+  ranks = k;
+  «with_distance» = d;
 }
+
+-- The same with p carried columns.
+abbrev pub carrying : ℕ → Options → Options
+carrying p o = altered p (o .check) (o .ranks) (o .«with_distance») o
+
+-- The same with another setting of the order check.
+abbrev pub checking : Check → Options → Options
+checking c o = altered (o .carried) c (o .ranks) (o .«with_distance») o
 
 -- The same with other ranks.
 abbrev pub ranking : Ranks → Options → Options
-ranking k o = record {
-  by = o .by;
-  strategy = o .strategy;
-  «allow_eq» = o .«allow_eq»;
-  tolerance = o .tolerance;
-  check = o .check;
-  descending = o .descending;
-  «nulls_last» = o .«nulls_last»;
-  carried = o .carried;
-  ranks = k;
-}
+ranking k o = altered (o .carried) (o .check) k (o .«with_distance») o
+
+-- The same with the distance written.
+abbrev pub distancing : Options → Options
+distancing o = altered (o .carried) (o .check) (o .ranks) true o
 
 -- No by-columns, no tolerance, check off.
 abbrev pub plain : ℕ → Bool → Options

@@ -33,9 +33,9 @@ fn stop_of(answer: Answer) -> Stop
     }
 }
 
-// How many words a turn wrote, by the row count that it wrote first and by the answer's columns, at most nine.
+// How many words a turn wrote, by the row count that it wrote first and by the answer's columns, at most ten.
 fn turn_words(out: &[i64], c: usize) -> usize
-    requires { ⌜ HasCount (now out) × (rowCount (now out) ≤ 4096) × (c ≤ 9) ⌝ }
+    requires { ⌜ HasCount (now out) × (rowCount (now out) ≤ 4096) × (c ≤ 10) ⌝ }
     ensures { λ r. ⌜ r ≡ turnWords c (now (out .entry)) ⌝ }
 {
     2 + 2 * (row_count(out) * c)

@@ -30,6 +30,7 @@ keyOptions s = record {
   «nulls_last» = false ∷ false ∷ false ∷ false ∷ [];
   carried = 0;
   ranks = ranksFor false 0 0 (replicate 64 (pos 0));
+  «with_distance» = false;
 }
 
 -- The refusals of what is handed in: 1 for a strategy that there is not, 5 where the words are no frames of one column, 6 for too short an output; 0 for none.

@@ -41,6 +41,7 @@ fn key_options(strategy: u8) -> Terms
         given: false,
         column: 0,
         count: 0,
+        with_distance: false,
     }
 }
 

@@ -10,6 +10,7 @@ use Rattle.options.specs.declared.Options.{Options}
 use Rattle.options.specs.Options.{answerColumns}
 use Rattle.order.specs.declared.Row.{Row}
 use Rattle.order.specs.Requires.{RowsIn}
+use Rattle.options.proofs.ColumnLaws.{columns-few}
 use Rattle.splitcheck.proofs.BeforeLaws.{rows-take}
 use Rattle.turnrows.specs.Prunes.{remembered, rememberedLeft}
 use Rattle.turnparts.specs.Part.{leftAt, leftPart, TurnIn, WriteIn}
@@ -17,9 +18,9 @@ use Rattle.turnparts.specs.declared.Part.{Part}
 
 module _ {o : Options} {j : Part} {c w n : ℕ} {lv lm rv rm : Words} (t : TurnIn o j c w n lv lm rv rm) where
   -- The answer has few cells, so that its length fits a word.
-  pub cells-few : n * answerColumns o ≤ 9 * frameLimit
+  pub cells-few : n * answerColumns o ≤ 10 * frameLimit
   cells-few =
-      let m : n * answerColumns o ≤ n * 9 = mul-le-mul-left {m = answerColumns o} {n = 9} n (omega (arith, t .carried)) in
+      let m : n * answerColumns o ≤ n * 10 = mul-le-mul-left {m = answerColumns o} {n = 10} n (omega (arith, columns-few o, t .carried)) in
       omega (arith, t .short)
 
 -- ---- what is written

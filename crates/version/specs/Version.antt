@@ -5,6 +5,6 @@ use Prim.Native.Nat.{ℕ, _+_, _*_}
 abbrev pub versionOf : ℕ → ℕ → ℕ → ℕ
 versionOf major minor patch = major * 1_000_000 + minor * 1_000 + patch
 
--- The version of this library: 0.2.0.
+-- The version of this library.
 abbrev pub versionNow : ℕ
-versionNow = versionOf 0 4 0
+versionNow = versionOf 0 5 0

@@ -13,18 +13,18 @@ use Rattle.options.proofs.terms_of.Reads as terms-of-reads
 terms-of-requires : tie.Need-terms-of-requires
 terms-of-requires c κs = search needs
 
-slice-aggregate-merge-listed : tie.Need-slice-aggregate-merge-listed
-slice-aggregate-merge-listed c = search needs
-
-slice-aggregate-merge-listed-2 : tie.Need-slice-aggregate-merge-listed-2
-slice-aggregate-merge-listed-2 c = search needs
-
 -- The lengths of the list's arrays, from what the type says of its fields.
 codes-long : (s : tie.Start) → length (s .args .o .ranks .codes) ≡ 64
 codes-long s = let g = s .good .1 .1 .0 .1 .1 .1 .1 .1 .1 .1 .1 .1 .1 .0 in sym (length-map (s .args .o .ranks .codes) (λ v. v)) ∙ g .1 .1 .1 .1 .1 .0 .1 .0 .1
 
 rising-long : (s : tie.Start) → length (s .args .o .ranks .rising) ≡ 64
 rising-long s = let g = s .good .1 .1 .0 .1 .1 .1 .1 .1 .1 .1 .1 .1 .1 .0 in sym (length-map (s .args .o .ranks .rising) (λ v. v)) ∙ g .1 .1 .1 .1 .1 .1 .0 .1 .0 .1
+
+slice-aggregate-merge-listed : tie.Need-slice-aggregate-merge-listed
+slice-aggregate-merge-listed c = sym (codes-long (c .before .before .before .before))
+
+slice-aggregate-merge-listed-2 : tie.Need-slice-aggregate-merge-listed-2
+slice-aggregate-merge-listed-2 c = sym (rising-long (c .before .before .before .before .before))
 
 merge-listed-requires : tie.Need-merge-listed-requires
 merge-listed-requires c κs = let s = c .before .before .before .before .before .before in (omega (arith, codes-long s), omega (arith, rising-long s))

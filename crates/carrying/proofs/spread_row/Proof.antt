@@ -1,13 +1,17 @@
+-- `carrying::spread_row` meets its contract. Assumes nothing.
 use mathlib.Core.Path.{_≡_, refl, sym, ap, subst, _∙_}
-use Prim.Native.Nat.{ℕ, _+_, _-_, _*_, _≤_}
+use mathlib.Core.Bool.{true}
+use Prim.Native.Nat.{ℕ, suc, _+_, _-_, _*_, _^_, _≤_, _<_}
 use native.Mathlib.Omega.{arith}
 use denote.Ref.{now}
 use mir.Syntax.{w64}
 use mir.ValLaws.{toZ-pos}
 use Rattle.options.specs.Options.{withoutList, answerColumns}
+use Rattle.order.specs.Requires.{cellAt}
 use Rattle.carrying.specs.Loops.{RightIn}
 use Rattle.carrying.specs.Spread.{choiceAt}
 use Rattle.matching.specs.declared.Choice.the-variants.{Row}
+use Rattle.options.proofs.ColumnLaws.{shared-within, last-within}
 use Rattle.carrying.proofs.SpreadLaws.{row-chosen, row-none}
 use borrow.Author.Needs.{needs}
 use Rattle.carrying.proofs.spread_row.Statement.{statement}
@@ -19,6 +23,26 @@ answer-columns-requires c κs = search needs
 -- the row's cells are there
 there : (c : tie.After-answer-columns) → let a = c .before .args in a .i * c .answer-columns .result + c .answer-columns .result ≤ a .m
 there c = let a = c .before .args in subst (λ (z : ℕ). a .i * z + z ≤ a .m) (sym (c .answer-columns .ensures)) (c .before .pre .there)
+
+-- and so are those that all answers have
+shared : (c : tie.After-answer-columns) → let a = c .before .args in a .i * c .answer-columns .result + suc (a .o .carried) ≤ a .m
+shared c =
+    let a = c .before .args in
+    let t = there c in
+    let w : suc (a .o .carried) ≤ c .answer-columns .result = subst (λ (z : ℕ). suc (a .o .carried) ≤ z) (sym (c .answer-columns .ensures)) (shared-within (withoutList (a .o))) in
+    omega arith
+
+-- and where the distance is written, that one
+last : (c : tie.After-answer-columns) → let a = c .before .args in a .o .«with_distance» ≡ true → a .i * c .answer-columns .result + suc (suc (a .o .carried)) ≤ a .m
+last c e =
+    let a = c .before .args in
+    let t = there c in
+    let w : suc (suc (a .o .carried)) ≤ c .answer-columns .result = subst (λ (z : ℕ). suc (suc (a .o .carried)) ≤ z) (sym (c .answer-columns .ensures)) (last-within (withoutList (a .o)) e) in
+    omega arith
+
+-- the place of the left key is that of a word
+key-fits : (c : tie.After-answer-columns) → let a = c .before .args in a .i * a .wl + a .o .by < 2 ^ 64
+key-fits c = let l = c .before .pre .left .values in omega arith
 
 -- the choice is a number
 chosen : (c : tie.After-known-told) → let a = c .before .before .before .before .before .before .args in choiceAt (a .m) (now (a .out)) (a .i) ≡ Row (c .before .choice .given .0 .0)
@@ -46,8 +70,7 @@ cast-put-cell c = record { sfits = held (c .before) .1 }
 put-cell-requires : tie.Need-put-cell-requires
 put-cell-requires c κs =
     let e = c .before .before .before .before .before .before in
-    let t = there e in
-    let n = e .answer-columns .ensures in
+    let t = shared e in
     record { there = omega arith; room = e .before .pre .choice .room }
 
 sub-q : tie.Need-sub-q
@@ -56,27 +79,47 @@ sub-q c = held (c .before .before .before) .0
 mul-q : tie.Need-mul-q
 mul-q c = let h = held (c .before .before .before) .2 .values in omega arith
 
-add-q : tie.Need-add-q
-add-q c = let h = held (c .before .before .before .before) .2 .values in omega arith
-
-add-q-2 : tie.Need-add-q-2
-add-q-2 c = let h = held (c .before .before .before .before) .2 .values in omega arith
-
 add-carry-cells : tie.Need-add-carry-cells
-add-carry-cells c =
-    let e = c .before .before .before .before .before .before .before .before .before in
-    let t = there e in
-    let n = e .answer-columns .ensures in
-    omega arith
+add-carry-cells c = let h = held (c .before .before .before .before) .2 .values in omega arith
+
+add-carry-cells-2 : tie.Need-add-carry-cells-2
+add-carry-cells-2 c = let h = held (c .before .before .before .before) .2 .values in omega arith
+
+add-carry-cells-3 : tie.Need-add-carry-cells-3
+add-carry-cells-3 c = let t = shared (c .before .before .before .before .before .before .before .before .before) in omega arith
 
 carry-cells-requires : tie.Need-carry-cells-requires
 carry-cells-requires c κs =
     let e = c .before .before .before .before .before .before .before .before .before .before in
-    let t = there e in
-    let n = e .answer-columns .ensures in
+    let t = shared e in
     let h = held (c .before .before .before .before .before) .2 in (
       record { values = omega (arith, h .values); marks = omega (arith, h .marks) },
       record { within = omega arith; room = omega (arith, c .before .before .before .put-cell .kept .0, e .before .pre .choice .room) },
+    )
+
+mul-a : tie.Need-mul-a
+mul-a c = let l = c .before .before .before .before .before .before .before .before .before .before .before .before .before .pre .left .values in omega arith
+
+add-a : tie.Need-add-a
+add-a c = record { fits = key-fits (c .before .before .before .before .before .before .before .before .before .before .before .before .before) }
+
+add-put-last : tie.Need-add-put-last
+add-put-last c = let t = shared (c .before .before .before .before .before .before .before .before .before .before .before .before .before) in omega arith
+
+add-put-last-2 : tie.Need-add-put-last-2
+add-put-last-2 c =
+    let e = c .before .before .before .before .before .before .before .before .before .before .before .before .before .before in
+    let a = e .before .args in
+    let t : a .i * e .answer-columns .result + suc (a .o .carried) ≤ a .m = shared e in
+    omega arith
+
+put-last-requires : tie.Need-put-last-requires
+put-last-requires c κs =
+    let e = c .before .before .before .before .before .before .before .before .before .before .before .before .before .before .before in
+    let h = held (c .before .before .before .before .before .before .before .before .before .before) .2 in (
+      e .before .pre .left,
+      record { values = omega (arith, h .values); marks = omega (arith, h .marks) },
+      λ d. let t = last e d in record { there = omega arith; room = omega (arith, c .before .before .before .before .carry-cells .kept .1 .1 .1 .1 .1 .1 .0, c .before .before .before .before .before .before .before .before .put-cell .kept .0, e .before .pre .choice .room) },
     )
 
 enum-told : tie.Need-enum-told
@@ -92,13 +135,13 @@ same-length c = search needs
 
 returns : tie.Need-returns
 returns c =
-    let e = c .before .before .before .before .before .before .before .before .before .before .before .before in
+    let e = c .before .before .before .before .before .before .before .before .before .before .before .before .before .before .before .before .before in
     let a = e .before .args in
-    let k = c .before .before .before .before .before .before .before in
+    let k = c .before .before .before .before .before .before .before .before .before .before .before .before in
     let r = k .before .choice .given .0 .0 in
     let n : a .i * e .answer-columns .result ≡ a .i * answerColumns (withoutList (a .o)) = ap (λ (z : ℕ). a .i * z) (e .answer-columns .ensures) in
-    let p = row-chosen (withoutList (a .o)) (a .number) (a .wr) (now (a .rv)) (now (a .rm)) (a .m) (a .i * e .answer-columns .result) (now (a .out)) (choiceAt (a .m) (now (a .out)) (a .i)) r
-    ((r - a .number) * a .wr + a .o .by + 1) _ _ (chosen k) refl (c .before .before .before .before .before .put-cell .ensures ∙ rw (toZ-pos w64 r (held k .1))) (c .before .carry-cells .ensures) in
+    let p = row-chosen (withoutList (a .o)) (a .number) (a .wr) (now (a .rv)) (now (a .rm)) (cellAt (a .i * a .wl + a .o .by) (now (a .lv)) (now (a .lm))) (a .m) (a .i * e .answer-columns .result) (now (a .out)) (choiceAt (a .m) (now (a .out)) (a .i)) r
+    ((r - a .number) * a .wr) _ _ _ (chosen k) refl (c .before .before .before .before .before .before .before .before .before .before .put-cell .ensures ∙ rw (toZ-pos w64 r (held k .1))) (c .before .before .before .before .before .before .carry-cells .ensures) (c .before .put-last .ensures) in
     rw n at p
 
 same-length-2 : tie.Need-same-length-2
@@ -109,7 +152,7 @@ returns-2 c =
     let e = c .before .before .before .before .before .before .before in
     let a = e .before .args in
     let n : a .i * e .answer-columns .result ≡ a .i * answerColumns (withoutList (a .o)) = ap (λ (z : ℕ). a .i * z) (e .answer-columns .ensures) in
-    let p = row-none (withoutList (a .o)) (a .number) (a .wr) (now (a .rv)) (now (a .rm)) (a .m) (a .i * e .answer-columns .result) (now (a .out)) (choiceAt (a .m) (now (a .out)) (a .i))
+    let p = row-none (withoutList (a .o)) (a .number) (a .wr) (now (a .rv)) (now (a .rm)) (cellAt (a .i * a .wl + a .o .by) (now (a .lv)) (now (a .lm))) (a .m) (a .i * e .answer-columns .result) (now (a .out)) (choiceAt (a .m) (now (a .out)) (a .i))
     (e .answer-columns .result) _ (sym (c .before .before .before .before .before .choice-at .ensures) ∙ c .before .before .before .enum-told .given .1) (e .answer-columns .ensures) (c .before .null-cells .ensures) in
     rw n at p
 
@@ -125,10 +168,15 @@ spread-row-spec =
     put-cell-requires
     sub-q
     mul-q
-    add-q
-    add-q-2
     add-carry-cells
+    add-carry-cells-2
+    add-carry-cells-3
     carry-cells-requires
+    mul-a
+    add-a
+    add-put-last
+    add-put-last-2
+    put-last-requires
     enum-told
     null-cells-requires
     same-length

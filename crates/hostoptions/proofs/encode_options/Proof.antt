@@ -28,10 +28,14 @@ flag-code-requires c κs = search needs
 check-code-requires : tie.Need-check-code-requires
 check-code-requires c κs = search needs
 
+flag-code-requires-2 : tie.Need-flag-code-requires-2
+flag-code-requires-2 c κs = search needs
+
 returns : tie.Need-returns
 returns c =
-    let f = c .before .before .before .before in
-    rw (back (f .before .before .before .before .before .args .o .tolerance) (c .struct-told .given .1 .1 .1 .0 .1), c .before .check-code .ensures, c .before .before .flag-code .ensures, f .encode-ranks .ensures, f .before .flag-codes2 .ensures, f .before .before .flag-codes .ensures)
+    let e = c .before in
+    let f = e .before .before .before .before in
+    rw (c .before .flag-code2 .ensures, back (f .before .before .before .before .before .args .o .tolerance) (c .struct-told .given .1 .1 .1 .0 .1), e .before .check-code .ensures, e .before .before .flag-code .ensures, f .encode-ranks .ensures, f .before .flag-codes2 .ensures, f .before .before .flag-codes .ensures)
 
 pub encode-options-spec : {M : Type 1} → statement M
 encode-options-spec =
@@ -43,4 +47,5 @@ encode-options-spec =
     cast-t8
     flag-code-requires
     check-code-requires
+    flag-code-requires-2
     returns)

@@ -22,8 +22,14 @@ both-requires c κs = search needs
 is-flag-requires-2 : tie.Need-is-flag-requires-2
 is-flag-requires-2 c κs = search needs
 
+is-flag-requires-3 : tie.Need-is-flag-requires-3
+is-flag-requires-3 c κs = search needs
+
 both-requires-2 : tie.Need-both-requires-2
 both-requires-2 c κs = search needs
+
+both-requires-3 : tie.Need-both-requires-3
+both-requires-3 c κs = search needs
 
 are-flags-requires : tie.Need-are-flags-requires
 are-flags-requires c κs = search needs
@@ -31,21 +37,21 @@ are-flags-requires c κs = search needs
 are-flags-requires-2 : tie.Need-are-flags-requires-2
 are-flags-requires-2 c κs = search needs
 
-both-requires-3 : tie.Need-both-requires-3
-both-requires-3 c κs = search needs
-
 both-requires-4 : tie.Need-both-requires-4
 both-requires-4 c κs = search needs
 
 both-requires-5 : tie.Need-both-requires-5
 both-requires-5 c κs = search needs
 
+both-requires-6 : tie.Need-both-requires-6
+both-requires-6 c κs = search needs
+
 returns : tie.Need-returns
 unfolding isOptions
 returns c =
     let g = c .before .before .before .before .before in
-    let f = g .before in
-    rw (c .both5 .ensures, c .before .both4 .ensures, c .before .before .both3 .ensures, c .before .before .before .are-flags2 .ensures, c .before .before .before .before .are-flags .ensures, g .both2 .ensures, f .is-flag2 .ensures, f .before .both .ensures, f .before .before .is-code .ensures, f .before .before .before .is-flag .ensures)
+    let f = g .before .before .before in
+    rw (c .both6 .ensures, c .before .both5 .ensures, c .before .before .both4 .ensures, c .before .before .before .are-flags2 .ensures, c .before .before .before .before .are-flags .ensures, g .both3 .ensures, g .before .both2 .ensures, g .before .before .is-flag3 .ensures, f .is-flag2 .ensures, f .before .both .ensures, f .before .before .is-code .ensures, f .before .before .before .is-flag .ensures)
 
 pub is-options-spec : {M : Type 1} → statement M
 is-options-spec =
@@ -55,10 +61,12 @@ is-options-spec =
     is-code-requires
     both-requires
     is-flag-requires-2
+    is-flag-requires-3
     both-requires-2
+    both-requires-3
     are-flags-requires
     are-flags-requires-2
-    both-requires-3
     both-requires-4
     both-requires-5
+    both-requires-6
     returns)

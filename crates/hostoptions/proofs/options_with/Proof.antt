@@ -26,10 +26,14 @@ flag-of-requires c κs = search needs
 check-of-requires : tie.Need-check-of-requires
 check-of-requires c κs = search needs
 
+flag-of-requires-2 : tie.Need-flag-of-requires-2
+flag-of-requires-2 c κs = search needs
+
 returns : tie.Need-returns
 returns c =
-    let f = c .before .before .before .before in
-    rw (back (f .before .before .before .before .args .h .tolerance) (c .struct-told .given .1 .1 .1 .0 .1), c .before .check-of .ensures, c .before .before .flag-of .ensures, f .flags-of2 .ensures, f .before .flags-of .ensures)
+    let e = c .before in
+    let f = e .before .before .before .before in
+    rw (c .before .flag-of2 .ensures, back (f .before .before .before .before .args .h .tolerance) (c .struct-told .given .1 .1 .1 .0 .1), e .before .check-of .ensures, e .before .before .flag-of .ensures, f .flags-of2 .ensures, f .before .flags-of .ensures)
 
 pub options-with-spec : {M : Type 1} → statement M
 options-with-spec =
@@ -40,4 +44,5 @@ options-with-spec =
     cast-t7
     flag-of-requires
     check-of-requires
+    flag-of-requires-2
     returns)

@@ -1,10 +1,11 @@
 use mathlib.Core.Path.{refl, sym, subst}
-use Prim.Native.Nat.{ℕ, _*_}
+use Prim.Native.Nat.{ℕ, _+_, _*_, _^_, _≤_, _<_}
 use native.Mathlib.Omega.{arith}
 use denote.Ref.{now}
 use Rattle.options.specs.Options.{withList}
 use Rattle.matching.specs.Requires.{AnswerRoom}
-use Rattle.carrying.proofs.LaidLaws.{answer-whole}
+use Rattle.carrying.proofs.LaidLaws.{frame-room, answer-whole}
+use Rattle.options.proofs.ColumnLaws.{columns-few}
 use borrow.Author.Needs.{needs}
 use Rattle.matchframe.proofs.match_frame.Statement.{statement}
 use Rattle.matchframe.proofs.match_frame.Tie as tie
@@ -20,6 +21,15 @@ room c =
     let a = c .before .before .args in
     subst (λ (z : ℕ). AnswerRoom (withList (a .o) (now (a .codes)) (now (a .rising))) (a .wl) (a .nl) (now (a .lv)) (now (a .lm)) (a .wr) (a .nr) (now (a .rv)) (now (a .rm)) (a .number) (a .nl * z) (now (a .out))) (sym (c .answer-columns .ensures)) (c .before .before .pre)
 
+-- and the number of rows is that of a word
+rows-fit : (c : tie.After-answer-columns) → c .before .before .args .nl < 2 ^ 63
+rows-fit c =
+    let a = c .before .before .args in
+    let f = frame-room (withList (a .o) (now (a .codes)) (now (a .rising))) (a .wl) (a .nl) (now (a .lv)) (now (a .lm)) (a .wr) (a .nr) (now (a .rv)) (now (a .rm)) (a .number) (a .nl * c .answer-columns .result) (now (a .out)) (room c) in
+    let n = f .within in
+    let r = f .room in
+    omega arith
+
 mul-answer-rows : tie.Need-mul-answer-rows
 mul-answer-rows c = let r = room c .room in omega arith
 
@@ -27,7 +37,15 @@ answer-rows-requires : tie.Need-answer-rows-requires
 answer-rows-requires c κs = room (c .before)
 
 put-head-requires : tie.Need-put-head-requires
-put-head-requires c κs = search needs
+put-head-requires c κs =
+    let e = c .before .before .before .before in
+    let a = e .before .before .args in
+    let o = withList (a .o) (now (a .codes)) (now (a .rising)) in
+    let r = room e in
+    let w = columns-few o in
+    let k : e .answer-columns .result ≤ a .o .carried + 2 = subst (λ (z : ℕ). z ≤ a .o .carried + 2) (sym (e .answer-columns .ensures)) w in
+    let p : a .o .carried ≤ 8 = r .carried in
+    record { rows = rows-fit e; columns = omega (arith, k, p); room = omega (arith, r .room, c .before .before .answer-rows .kept .1 .1 .1 .1 .1 .1 .1 .1 .1 .1 .1 .1 .1 .0) }
 
 same-length : tie.Need-same-length
 same-length c = search needs

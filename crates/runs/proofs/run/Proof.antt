@@ -4,6 +4,8 @@ use mathlib.Core.Bool.{true}
 use Prim.Native.Nat.{_-_, _<_}
 use native.Mathlib.Omega.{arith}
 use borrow.Author.Tests.{not-true, not-false}
+use Rattle.options.specs.Options.{withoutList}
+use Rattle.options.proofs.ColumnLaws.{ten-columns}
 use Rattle.outcomes.specs.Answers.{wrote}
 use Rattle.runs.proofs.RunLaws.{Made, run-starts, put-length, run-stops, run-carried, run-count, run-within, run-more, run-used}
 use borrow.Author.Needs.{needs}
@@ -95,7 +97,7 @@ turn-words-requires c κs =
     let u = i .before .before .before .before in
     let l = u .before .before in
     let n = run-count _ _ _ _ _ (l .before .loop .inv) (more l) _ _ (u .turn .ensures) (goes i) in
-    (n .0, n .1, omega (arith, a .answer-columns .ensures, answer-columns-requires t tt))
+    (n .0, n .1, ten-columns (withoutList (t .terms-of .result)) (a .answer-columns .result) (a .answer-columns .ensures) (answer-columns-requires t tt))
 
 add-at : tie.Need-add-at Inv-loop μ-loop
 add-at c =

@@ -8,8 +8,8 @@ use Rattle.runs.proofs.turn_words.Tie as tie
 row-count-requires : tie.Need-row-count-requires
 row-count-requires c κs = search needs
 
--- At most 4,096 rows of at most nine cells.
-few : (c : tie.After-row-count) → c .row-count .result * c .before .args .c ≤ 36864
+-- At most 4,096 rows of at most ten cells.
+few : (c : tie.After-row-count) → c .row-count .result * c .before .args .c ≤ 40960
 few c =
     let a = c .before .args in
     let n : c .row-count .result ≤ 4096 = omega (arith, c .row-count .ensures, c .before .pre .1) in

@@ -24,7 +24,7 @@ answer-columns-requires : tie.Need-answer-columns-requires
 answer-columns-requires c κs = search needs
 
 -- the answer's cells are few
-few : (c : tie.After-answer-columns) → c .before .before .before .before .args .n * c .answer-columns .result ≤ 9 * frameLimit
+few : (c : tie.After-answer-columns) → c .before .before .before .before .args .n * c .answer-columns .result ≤ 10 * frameLimit
 few c = rw (c .answer-columns .ensures) (cells-few (c .before .before .before .before .pre))
 
 mul-if2 : tie.Need-mul-if2

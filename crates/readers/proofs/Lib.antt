@@ -1,0 +1,4 @@
+pub mod ViewLaws
+pub mod PlaceLaws
+pub mod AgreeLaws
+pub mod Samples
