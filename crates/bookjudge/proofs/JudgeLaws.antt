@@ -29,7 +29,7 @@ use Rattle.tables.specs.declared.Written.the-variants.{Rows as Wrote, Refused a
 use Rattle.bookjudge.specs.Judged.{bookJudged, booksJudged}
 
 -- ---- the tests of the options, as opening makes them
-abbrev chain : {A : Type 0} → (Refusal → A) → Bool → Bool → Bool → A → A
+abbrev pub chain : {A : Type 0} → (Refusal → A) → Bool → Bool → Bool → A → A
 chain f x y z a = cond x (f BadOptions) (cond y (f TooManyCarried) (cond z (f BadRanks) a))
 
 chain-shut : {A : Type 0} (f : Refusal → A) (a : A) (x y z : Bool) (r : Refusal) → chain (λ n. Refused n) x y z Accepted ≡ Refused r → chain f x y z a ≡ f r
@@ -38,18 +38,18 @@ chain-shut f a false true z r e = cc
 chain-shut f a false false true r e = cc
 chain-shut f a false false false r e = let n : _≡_ {A = ℕ} 0 1 = cc in absurd (omega arith)
 
-chain-open : (x y z : Bool) (t : Took) → chain (λ n. Refused n) x y z t ≡ Accepted → (x ≡ false) × (y ≡ false) × (z ≡ false) × (t ≡ Accepted)
+pub chain-open : (x y z : Bool) (t : Took) → chain (λ n. Refused n) x y z t ≡ Accepted → (x ≡ false) × (y ≡ false) × (z ≡ false) × (t ≡ Accepted)
 chain-open true y z t e = let n : _≡_ {A = ℕ} 0 1 = cc in absurd (omega arith)
 chain-open false true z t e = let n : _≡_ {A = ℕ} 0 1 = cc in absurd (omega arith)
 chain-open false false true t e = let n : _≡_ {A = ℕ} 0 1 = cc in absurd (omega arith)
 chain-open false false false t e = (refl, refl, refl, e)
 
 module _ (o : Options) where
-  open-shut : {A : Type 0} (f : Refusal → A) (a : A) (r : Refusal) → openAnswer o ≡ Refused r → unless f o a ≡ f r
+  pub open-shut : {A : Type 0} (f : Refusal → A) (a : A) (r : Refusal) → openAnswer o ≡ Refused r → unless f o a ≡ f r
   unfolding openAnswer
   open-shut f a r e = chain-shut f a (badOptions o) (manyCarried o) (badRanked o) r e
 
-  open-past : {A : Type 0} (f : Refusal → A) (a : A) → openAnswer o ≡ Accepted → unless f o a ≡ a
+  pub open-past : {A : Type 0} (f : Refusal → A) (a : A) → openAnswer o ≡ Accepted → unless f o a ≡ a
   unfolding openAnswer
   open-past f a e = let p = chain-open (badOptions o) (manyCarried o) (badRanked o) Accepted e in rw (p .0, p .1, p .2)
 
@@ -87,7 +87,7 @@ module _ (o : Options) (house festival : Words) where
   books-open e = open-past o (λ n. Refused n) _ e
 
 -- ---- what an answer says
-two-open : (a b : Bool) → cond a (Refused BadFrame) (cond b (Refused UnknownCode) Accepted) ≡ Accepted → (a ≡ false) × (b ≡ false)
+pub two-open : (a b : Bool) → cond a (Refused BadFrame) (cond b (Refused UnknownCode) Accepted) ≡ Accepted → (a ≡ false) × (b ≡ false)
 two-open true b e = let n : _≡_ {A = ℕ} 0 1 = cc in absurd (omega arith)
 two-open false true e = let n : _≡_ {A = ℕ} 0 1 = cc in absurd (omega arith)
 two-open false false e = (refl, refl)

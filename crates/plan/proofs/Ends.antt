@@ -21,11 +21,14 @@ use Rattle.lists.specs.WholeTables.{dueOver}
 use Rattle.lists.proofs.ListLaws.{events-append, final-append, rows-in-append}
 use Rattle.lists.proofs.WholeTableTheorem.{whole-table-theorem}
 use Rattle.plan.specs.Schedule.{endIf, rounds, schedule}
-use Rattle.plan.specs.Plan.{Figures, keptAfter, planFrom, plan, Planned}
+use Rattle.planning.specs.declared.Figures.{Figures}
+use Rattle.planning.specs.Plan.{keptAfter, planFrom, plan}
+use Rattle.planning.proofs.PlanLaws.{plan-takes, plan-turns, plan-last, plan-least}
+use Rattle.plan.specs.Plan.{Planned}
 use Rattle.plan.specs.Written.{Writes}
 use Rattle.plan.proofs.EventLaws.{snoc-right}
 use Rattle.plan.proofs.Follow.{At, heldNow, held-count, turn-answers, wants-world, wants-left, wants-rights, wants-at, wants-held, wrote-left, wrote-rights, wrote-at, wrote-held, right-answers, took-left, took-rights, took-at, took-held, end-event, end-left, end-rights, end-at, end-held}
-use Rattle.plan.proofs.Rounds.{each-length, isNil, cap, F, G, rounds-wrote, rounds-wants, plan-takes, plan-turns, plan-last, plan-least}
+use Rattle.plan.proofs.Rounds.{each-length, isNil, cap, F, G, rounds-wrote, rounds-wants}
 use Rattle.plan.proofs.Planned.{at-first, es₀, w₀, q₀, none-yet}
 
 module _ (o : Options) (l r : Words) (allowed : refusedOptions o ≡ false) where

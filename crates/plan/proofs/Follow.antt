@@ -37,7 +37,7 @@ use Rattle.lists.proofs.Turn.{judged, leftBy, held, rows, rows-count, answer-is
 use Rattle.lists.proofs.Turned.{turned-sorted, next-sorted}
 use Rattle.lists.proofs.Steps.{SoundAt, no-left-fault, no-right-fault, inv-step, sound-step}
 use Rattle.plan.specs.Schedule.{rounds}
-use Rattle.plan.specs.Plan.{keptAfter}
+use Rattle.planning.specs.Plan.{keptAfter}
 use Rattle.plan.proofs.EventLaws.{snoc-left, snoc-right, snoc-out, snoc-ended, snoc-done}
 
 -- ---- a turn over a waiting frame, where nothing is refused

@@ -4,6 +4,5 @@ pub mod Follow
 pub mod Rounds
 pub mod Planned
 pub mod Ends
-pub mod OnePrune
 pub mod TableLaws
 pub mod TablePlanned

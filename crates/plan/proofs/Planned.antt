@@ -26,7 +26,9 @@ use Rattle.lists.proofs.Invariant.{Inv, good}
 use Rattle.lists.proofs.Turned.{turned-sorted}
 use Rattle.lists.proofs.Steps.{SoundAt, inv-step, sound-step, inv-start, sound-start}
 use Rattle.plan.specs.Schedule.{endIf, rounds, schedule, noRoomRight}
-use Rattle.plan.specs.Plan.{Figures, planFrom, plan, AllFrames, Planned, figures, Holds, Plans}
+use Rattle.planning.specs.declared.Figures.{Figures}
+use Rattle.planning.specs.Plan.{planFrom, plan}
+use Rattle.plan.specs.Plan.{AllFrames, Planned, figures, Holds, Plans}
 use Rattle.plan.proofs.EventLaws.{snoc-left, snoc-right, snoc-out, snoc-ended, snoc-done}
 use Rattle.plan.proofs.Follow.{At, heldNow, end-event, end-at}
 use Rattle.plan.proofs.Rounds.{each-length, same-figures, adding, before, meets-later, Result, all-rounds}
@@ -191,13 +193,13 @@ module _ (o : Options) (l r : Words) (allowed : refusedOptions o ≡ false) wher
       let i = all-rounds o l r allowed (length lefts + suc (length fs)) e w false (f ∷ fs) lefts outs a refl (omega arith) in
       rw (none-yet lefts (f ∷ fs) outs h e w (q₀ lefts (f ∷ fs) outs h .rights)) at i
 
-  whole : (lefts rights outs : List Words) (h : Planned o l lefts rights outs) → Result o l r allowed (start o l r) (schedule o l r lefts rights outs) (figures o l r lefts rights outs) (length outs)
+  whole : (lefts rights outs : List Words) (h : Planned o l lefts rights outs) → Result o l r allowed (start o l r) (schedule o l r lefts rights outs) (figures o lefts rights) (length outs)
   unfolding schedule plan
   whole lefts rights outs h =
       rw (append-assoc (map left lefts) (endIf rights) (rounds (length lefts + length rights) (final (start o l r) (map left lefts ++ endIf rights)) rights outs), final-append (start o l r) (map left lefts) (endIf rights), length-map lefts (frameRows (columns o)), length-map rights (frameRows (rightColumns o)))
       (all-queued lefts rights outs h .same _ _ _ (first-rounds lefts rights outs h))
 
-holds : (o : Options) (l r : Words) (lefts rights outs : List Words) (h : Planned o l lefts rights outs) → figures o l r lefts rights outs .rows ≤ capacity (rightColumns o) r → Holds o l r lefts rights outs
+holds : (o : Options) (l r : Words) (lefts rights outs : List Words) (h : Planned o l lefts rights outs) → figures o lefts rights .rows ≤ capacity (rightColumns o) r → Holds o l r lefts rights outs (figures o lefts rights)
 holds o l r lefts rights outs h b =
     let f = whole o l r (h .allowed) lefts rights outs h .fit b in
     record { unrefused = f .unrefused; written = f .written ∙ sym (each-length (h .outputs)); rows = f .most; turns = f .turns; rights-taken = f .rights }

@@ -21,7 +21,9 @@ use Rattle.node.specs.Calls.{rightAnswer, turnAnswer, turned}
 use Rattle.lists.specs.Lists.{Call, right, end, turn, Event, onRight, onEnd, onTurn, World, step, events, final, rightIn, rightFrames, outputIn, outputs, turnIn, turnsIn}
 use Rattle.lists.specs.WholeTables.{Each, ends, pairs}
 use Rattle.plan.specs.Schedule.{endIf, rounds, mostHeld, noRoomRight, meetsNoRoom}
-use Rattle.plan.specs.Plan.{Figures, rest, afterTurn, afterTaking, keptAfter, planFrom}
+use Rattle.planning.specs.declared.Figures.{Figures}
+use Rattle.planning.specs.Plan.{rest, afterTurn, afterTaking, keptAfter, planFrom}
+use Rattle.planning.proofs.PlanLaws.{plan-takes, plan-turns, plan-least, plan-last}
 use Rattle.plan.proofs.EventLaws.{most-least}
 use Rattle.plan.proofs.Follow.{At, heldNow, held-count, turn-answers, wants-event, wants-world, wants-at, wants-held, wrote-event, wrote-at, wrote-held, right-answers, refused-event, took-event, took-at, took-held, end-step, end-event, end-at, end-held}
 
@@ -80,32 +82,6 @@ pub rounds-wants : (fuel : ℕ) (w : World) (f : Words) (fs : List Words) (out :
     → rounds (suc fuel) w (f ∷ fs) (out ∷ outs) ≡ (turn out ∷ right f ∷ endIf fs) ++ rounds fuel (final w (turn out ∷ right f ∷ endIf fs)) fs (out ∷ outs)
 unfolding rounds
 rounds-wants fuel w f fs out outs q = rw (q, rounds) refl
-
--- ---- the plan
-pub plan-takes : (fuel : ℕ) (o : Options) (held f : Rows) (fs : List Rows) (x : Rows) (xs : List Rows) → needMore o x held ≡ true
-    → planFrom (suc fuel) o held (f ∷ fs) (x ∷ xs) ≡ afterTaking held (planFrom fuel o (held ++ f) fs (x ∷ xs))
-unfolding planFrom
-plan-takes fuel o held f fs x xs q = rw (q, planFrom) refl
-
-pub plan-turns : (fuel : ℕ) (o : Options) (held f : Rows) (fs : List Rows) (x : Rows) (xs : List Rows) → needMore o x held ≡ false
-    → planFrom (suc fuel) o held (f ∷ fs) (x ∷ xs) ≡ afterTurn held (planFrom fuel o (keptAfter o x held) (f ∷ fs) xs)
-unfolding planFrom
-plan-turns fuel o held f fs x xs q = rw (q, planFrom) refl
-
-pub plan-least : (fuel : ℕ) (o : Options) (held : Rows) (rs ls : List Rows) → length held ≤ planFrom fuel o held rs ls .rows
-unfolding planFrom
-plan-least zero o held rs ls = omega arith
-plan-least (suc fuel) o held rs [] = omega arith
-plan-least (suc fuel) o held [] (x ∷ xs) = omega arith
-plan-least (suc fuel) o held (f ∷ fs) (x ∷ xs) = by (needMore o x held) refl
-  where
-    by : (t : Bool) → needMore o x held ≡ t → length held ≤ planFrom (suc fuel) o held (f ∷ fs) (x ∷ xs) .rows
-    by true q = omega (arith, ap (λ (p : Figures). p .rows) (plan-takes fuel o held f fs x xs q))
-    by false q = omega (arith, ap (λ (p : Figures). p .rows) (plan-turns fuel o held f fs x xs q))
-
-pub plan-last : (fuel : ℕ) (o : Options) (held : Rows) (x : Rows) (xs : List Rows) → planFrom (suc fuel) o held [] (x ∷ xs) ≡ afterTurn held (planFrom fuel o (keptAfter o x held) [] xs)
-unfolding planFrom
-plan-last fuel o held x xs = refl
 
 module _ (o : Options) (l r : Words) (allowed : refusedOptions o ≡ false) where
   abbrev pub cap : ℕ

@@ -4,9 +4,8 @@ use mathlib.Core.Bool.{true, false}
 use mathlib.Core.List.{List, [], _∷_, map}
 use Prim.Native.Nat.{ℕ}
 use lib.IntN.{pos, negsuc}
-use Rattle.frames.specs.Cells.{Cell, null, value, Rows, Words}
-use Rattle.ranks.specs.Ranks.{badRanks, rises, risesBehind, below, placed, listed}
-use Rattle.options.specs.Options.{badOptions}
+use Rattle.frames.specs.Cells.{Cell, Words}
+use Rattle.ranks.specs.Ranks.{rises, risesBehind, below, placed, listed}
 use Rattle.options.specs.declared.Options.{Options}
 use Rattle.order.specs.Listed.{unlistedIn}
 use Rattle.order.proofs.Samples.{options, plain, carrying, ranksBy, ranking, row, keys, frameOf}
@@ -14,9 +13,9 @@ use Rattle.turnrows.specs.Prunes.{keptRows, lastPrune}
 use Rattle.lists.specs.Lists.{start, events, final, leftFrames, rightFrames, outputs, turnsIn}
 use Rattle.lists.proofs.Script.{leftArea, rightArea, space, speakAll}
 use Rattle.plan.specs.Schedule.{rounds, schedule, mostHeld, turnCalls, rightsTaken, meetsNoRoom}
-use Rattle.plan.specs.Table.{isTable, total, anyBad, heightsOf, badHeights}
-use Rattle.plan.specs.TablePlan.{planAnswer}
-use Rattle.plan.specs.Plan.{Figures, planFrom, plan, figures}
+use Rattle.planning.specs.declared.Figures.{Figures}
+use Rattle.planning.specs.Plan.{planFrom, plan}
+use Rattle.plan.specs.Plan.{figures}
 
 abbrev pub told : ℕ → ℕ → ℕ → Figures
 told a b d = record { rows = a; turns = b; rights = d }
@@ -38,7 +37,7 @@ late = frameOf 1 (keys (35 ∷ [])) ∷ frameOf 1 (keys (50 ∷ [])) ∷ []
 unfoldable pub few : List Words
 few = frameOf 1 (keys (10 ∷ 20 ∷ [])) ∷ frameOf 1 (keys (20 ∷ 30 ∷ [])) ∷ []
 
-pub planned-late : figures (plain 0 true) (leftArea 20) (rightArea 8) late few outs ≡ told 4 4 2
+pub planned-late : figures (plain 0 true) late few ≡ told 4 4 2
 unfolding late few outs plan planFrom speakAll lastPrune keptRows
 planned-late = refl
 
@@ -55,13 +54,13 @@ apart = frameOf 1 (keys (25 ∷ [])) ∷ frameOf 1 (keys (45 ∷ [])) ∷ []
 unfoldable pub five : List Words
 five = frameOf 1 (keys (10 ∷ 20 ∷ [])) ∷ frameOf 1 (keys (30 ∷ 40 ∷ [])) ∷ frameOf 1 (keys (50 ∷ [])) ∷ []
 
-pub planned-apart : figures (plain 0 true) (leftArea 20) (rightArea 8) apart five outs ≡ told 4 5 3
+pub planned-apart : figures (plain 0 true) apart five ≡ told 4 5 3
 unfolding apart five outs plan planFrom speakAll lastPrune keptRows
 planned-apart = refl
 
-pub planned : (figures (plain 0 true) (leftArea 20) (rightArea 8) lefts rights outs ≡ told 4 4 2)
-    × (figures (plain 0 true) (leftArea 20) (rightArea 8) lefts [] outs ≡ told 0 2 0)
-    × (figures (plain 0 true) (leftArea 20) (rightArea 8) [] rights [] ≡ told 0 0 0)
+pub planned : (figures (plain 0 true) lefts rights ≡ told 4 4 2)
+    × (figures (plain 0 true) lefts [] ≡ told 0 2 0)
+    × (figures (plain 0 true) [] rights ≡ told 0 0 0)
 unfolding lefts rights outs plan planFrom speakAll lastPrune keptRows
 planned = (refl, refl, refl)
 
@@ -85,19 +84,13 @@ prices =
 unfoldable pub longer : List Words
 longer = space 10 ∷ space 10 ∷ []
 
-pub carried : (figures (carrying 1 (plain 0 true)) (leftArea 20) (rightArea 16) lefts prices longer ≡ told 4 4 2)
+pub carried : (figures (carrying 1 (plain 0 true)) lefts prices ≡ told 4 4 2)
     × (meetsNoRoom (events (start (carrying 1 (plain 0 true)) (leftArea 20) (rightArea 16)) (schedule (carrying 1 (plain 0 true)) (leftArea 20) (rightArea 16) lefts prices longer)) ≡ false)
     × (meetsNoRoom (events (start (carrying 1 (plain 0 true)) (leftArea 20) (rightArea 15)) (schedule (carrying 1 (plain 0 true)) (leftArea 20) (rightArea 15) lefts prices longer)) ≡ true)
     × (outputs (events (start (carrying 1 (plain 0 true)) (leftArea 20) (rightArea 16)) (schedule (carrying 1 (plain 0 true)) (leftArea 20) (rightArea 16) lefts prices longer))
     ≡ map pos (2 ∷ 2 ∷ 0 ∷ 0 ∷ 0 ∷ 100 ∷ 0 ∷ 0 ∷ 1 ∷ 1 ∷ []) ∷ map pos (2 ∷ 2 ∷ 2 ∷ 201 ∷ 2 ∷ 201 ∷ 1 ∷ 1 ∷ 1 ∷ 1 ∷ []) ∷ [])
 unfolding lefts prices longer plan planFrom lastPrune keptRows schedule rounds meetsNoRoom speakAll events final leftFrames rightFrames outputs
 carried = (refl, refl, refl, refl)
-
--- Nine carried columns: 10, behind 1 and before 5.
-pub too-many : planAnswer (carrying 9 (plain 0 true)) [] [] [] [] ∷ planAnswer (carrying 9 (options 5 0 true (negsuc 0) false [] [])) [] [] [] [] ∷ planAnswer (carrying 8 (plain 0 true)) [] [] [] [] ∷ []
-    ≡ 10 ∷ 1 ∷ 5 ∷ []
-unfolding planAnswer isTable badOptions badRanks
-too-many = refl
 
 -- By rank the stalls, 7, come first, then the circle, 3, then the gods, 5.
 abbrev pub banded : List ℕ → Options
@@ -114,38 +107,10 @@ notices =
     frameOf 2 (map row ((7 ∷ 10 ∷ []) ∷ (7 ∷ 12 ∷ []) ∷ [])) ∷ frameOf 2 (map row ((3 ∷ 1 ∷ []) ∷ (5 ∷ 2 ∷ []) ∷ [])) ∷ frameOf 2 (map row ((5 ∷ 20 ∷ []) ∷ [])) ∷ []
 
 -- The circle's sale wants the frame behind the stalls' notices: four rows of two columns, 16 words. The turn drops the stalls' notices, and the gods' sale takes the last frame.
-pub ranked : (figures bands (leftArea 20) (rightArea 16) sales notices outs ≡ told 4 5 3)
+pub ranked : (figures bands sales notices ≡ told 4 5 3)
     × (meetsNoRoom (events (start bands (leftArea 20) (rightArea 16)) (schedule bands (leftArea 20) (rightArea 16) sales notices outs)) ≡ false)
     × (meetsNoRoom (events (start bands (leftArea 20) (rightArea 15)) (schedule bands (leftArea 20) (rightArea 15) sales notices outs)) ≡ true)
     × (outputs (events (start bands (leftArea 20) (rightArea 16)) (schedule bands (leftArea 20) (rightArea 16) sales notices outs))
     ≡ (pos 2 ∷ pos 1 ∷ pos 1 ∷ pos 2 ∷ pos 1 ∷ pos 1 ∷ []) ∷ (pos 1 ∷ pos 1 ∷ pos 3 ∷ pos 1 ∷ negsuc 8 ∷ negsuc 8 ∷ []) ∷ [])
 unfolding sales notices outs plan planFrom lastPrune keptRows schedule rounds meetsNoRoom speakAll events final leftFrames rightFrames outputs rises risesBehind placed below listed unlistedIn
 ranked = (refl, refl, refl, refl)
-
--- The same rows as tables, cut in the same heights: planned by this list; unsorted, 14, without a list and by another one.
-unfoldable pub sold : Rows
-sold = map row ((7 ∷ 15 ∷ []) ∷ (3 ∷ 4 ∷ []) ∷ (5 ∷ 9 ∷ []) ∷ [])
-
-unfoldable pub posted : Rows
-posted = map row ((7 ∷ 10 ∷ []) ∷ (7 ∷ 12 ∷ []) ∷ (3 ∷ 1 ∷ []) ∷ (5 ∷ 2 ∷ []) ∷ (5 ∷ 20 ∷ []) ∷ [])
-
-abbrev pub answers : Options → Rows → Rows → ℕ
-answers o left right = planAnswer o (frameOf 2 left) (frameOf 2 right) (map pos (2 ∷ 1 ∷ [])) (map pos (2 ∷ 2 ∷ 1 ∷ []))
-
-pub by-rank : answers bands sold posted ∷ answers (options 1 0 true (negsuc 0) false [] []) sold posted ∷ answers (banded (3 ∷ 5 ∷ 7 ∷ [])) sold posted ∷ [] ≡ 0 ∷ 14 ∷ 14 ∷ []
-unfolding sold posted planAnswer isTable badHeights anyBad heightsOf total speakAll rises risesBehind placed below listed unlistedIn
-by-rank = refl
-
--- A list that is empty, that has a code twice, and one for a column that is no by-column: 11, behind 1 and 10 and before 5.
-pub bad-lists : planAnswer (banded []) [] [] [] [] ∷ planAnswer (banded (7 ∷ 3 ∷ 7 ∷ [])) [] [] [] [] ∷ planAnswer (ranking (ranksBy 0 (pos 7 ∷ [])) (plain 0 true)) [] [] [] []
-    ∷ planAnswer (carrying 9 (banded [])) [] [] [] [] ∷ planAnswer (ranking (ranksBy 0 []) (options 5 0 true (negsuc 0) false [] [])) [] [] [] [] ∷ planAnswer bands [] [] [] [] ∷ []
-    ≡ 11 ∷ 11 ∷ 11 ∷ 10 ∷ 1 ∷ 5 ∷ []
-unfolding planAnswer isTable badOptions badRanks rises risesBehind placed below
-bad-lists = refl
-
--- A code that the list lacks, on the left alone and on the right alone: 12, behind 5 and before 14. A null is none.
-pub unknown-codes : answers bands (row (4 ∷ 1 ∷ []) ∷ sold) posted ∷ answers bands sold (row (4 ∷ 1 ∷ []) ∷ posted) ∷ answers bands (row (4 ∷ []) ∷ sold) posted
-    ∷ answers bands ((null ∷ value (pos 1) ∷ []) ∷ map row ((7 ∷ 15 ∷ []) ∷ (3 ∷ 4 ∷ []) ∷ [])) posted ∷ []
-    ≡ 12 ∷ 12 ∷ 5 ∷ 0 ∷ []
-unfolding sold posted planAnswer isTable badHeights anyBad heightsOf total speakAll rises risesBehind placed below listed unlistedIn
-unknown-codes = refl

@@ -1,20 +1,22 @@
 -- Frames cut from a table are frames, and their rows are the table's. Assumes nothing.
 use mathlib.Core.Path.{_≡_, refl, sym, _∙_}
-use mathlib.Core.Bool.{Bool, true, false, cond}
-use mathlib.Core.List.{List, [], _∷_, _++_}
-use Prim.Native.Nat.{ℕ, zero, suc, _+_, _*_, _/_, _%_, _≤_}
+use mathlib.Core.Bool.{true}
+use mathlib.Core.List.{List, [], _∷_, _++_, map}
+use Prim.Native.Nat.{ℕ, zero, suc, _+_, _-_, _*_, _≤_}
 use native.Mathlib.Omega.{arith}
-use borrow.Author.Tests.{eqb-true, eq-eqb, le-leb}
+use borrow.Author.Tests.{eq-eqb, le-leb}
 use lib.Dec.{leb, eqb}
-use lib.ListN.{length, take, drop, length-append, length-drop, take-append-drop, replicate}
+use lib.ListN.{length, take, drop, length-append, length-drop, take-append-drop}
 use lib.Seq.{length-take-le, take-at, drop-at}
 use Rattle.frames.specs.Cells.{Words, rowsOf}
 use Rattle.frames.specs.Frame.{frameWords, pairFine, pairsFine, valuesIn, marksIn, isFrame, frameRows, isTable}
 use Rattle.frames.proofs.BoolLaws.{and-true}
-use Rattle.frames.proofs.WordLaws.{rows-append}
+use Rattle.frames.proofs.WordLaws.{rows-append, rows-read, rows-drop}
 use Rattle.lists.specs.Lists.{rowsIn}
 use Rattle.plan.specs.Plan.{AllFrames}
-use Rattle.plan.specs.Table.{frameFrom, framesBy, total, fullHeights}
+use Rattle.planning.specs.Heights.{total, inFrames}
+use Rattle.planning.proofs.HeightLaws.{AllFew, rows-take}
+use Rattle.plan.specs.Table.{frameFrom, framesBy}
 
 -- Marks that fit their values fit them in each part.
 pub fine-take : (k : ℕ) (vs ms : Words) → pairsFine vs ms ≡ true → pairsFine (take k vs) (take k ms) ≡ true
@@ -54,11 +56,6 @@ module _ (c n : ℕ) (vs ms : Words) (lv : length vs ≡ n * c) (lm : length ms 
       let e₅ : eqb (suc (suc (length (vs ++ ms)))) (frameWords n c) ≡ true = eq-eqb (suc (suc (length (vs ++ ms)))) (frameWords n c) (omega (arith, k, lv, lm)) in
       rw (values-from, marks-from, e₁, e₂, e₃, e₄, e₅) (rw p refl)
 
--- Each height is at most 4,096.
-abbrev pub AllFew : List ℕ → Type 0
-AllFew [] = Unit {0}
-AllFew (h ∷ hs) = (h ≤ 4096) × AllFew hs
-
 pub table-frames : (c : ℕ) (hs : List ℕ) (vs ms : Words) → AllFew hs → total hs * c ≤ length vs → total hs * c ≤ length ms → pairsFine vs ms ≡ true
     → AllFrames c (framesBy c hs vs ms) × (rowsIn c (framesBy c hs vs ms) ≡ rowsOf c (total hs) vs ms)
 unfolding framesBy total rowsIn rowsOf
@@ -75,44 +72,19 @@ table-frames c (h ∷ hs) vs ms f a b p =
           (sym (rows-append c h (total hs) (take (h * c) vs) (drop (h * c) vs) (take (h * c) ms) (drop (h * c) ms) lv lm) ∙ rw (take-append-drop (h * c) vs, take-append-drop (h * c) ms) refl),
     )
 
--- ---- full frames and one of the rest
-total-append : (xs ys : List ℕ) → total (xs ++ ys) ≡ total xs + total ys
-unfolding total
-total-append [] ys = omega arith
-total-append (x ∷ xs) ys = rw (total-append xs ys) (omega arith)
-
-total-full : (k : ℕ) → total (replicate k 4096) ≡ k * 4096
-unfolding total
-total-full zero = omega arith
-total-full (suc k) = rw (total-full k) (omega arith)
-
-total-rest : (m : ℕ) → total (cond (eqb m 0) [] (m ∷ [])) ≡ m
-unfolding total
-total-rest m = by (eqb m 0) refl
-  where
-    by : (t : Bool) → eqb m 0 ≡ t → total (cond t [] (m ∷ [])) ≡ m
-    by true e = sym (eqb-true m 0 e)
-    by false e = omega arith
-
-pub full-total : (n : ℕ) → total (fullHeights n) ≡ n
-unfolding fullHeights
-full-total n = total-append (replicate (n / 4096) 4096) (cond (eqb (n % 4096) 0) [] (n % 4096 ∷ [])) ∙ rw (total-full (n / 4096), total-rest (n % 4096)) (omega arith)
-
-few-append : (xs ys : List ℕ) → AllFew xs → AllFew ys → AllFew (xs ++ ys)
-few-append [] ys a b = b
-few-append (x ∷ xs) ys a b = (a .0, few-append xs ys (a .1) b)
-
-few-full : (k : ℕ) → AllFew (replicate k 4096)
-few-full zero = tt
-few-full (suc k) = (omega arith, few-full k)
-
-few-rest : (m : ℕ) → m ≤ 4096 → AllFew (cond (eqb m 0) [] (m ∷ []))
-few-rest m h = by (eqb m 0)
-  where
-    by : (t : Bool) → AllFew (cond t [] (m ∷ []))
-    by true = tt
-    by false = (h, tt)
-
-pub full-few : (n : ℕ) → AllFew (fullHeights n)
-unfolding fullHeights
-full-few n = few-append (replicate (n / 4096) 4096) (cond (eqb (n % 4096) 0) [] (n % 4096 ∷ [])) (few-full (n / 4096)) (few-rest (n % 4096) (omega arith))
+-- Their rows are those that the heights cut.
+pub framed : (c : ℕ) (hs : List ℕ) (vs ms : Words) → total hs * c ≤ length vs → total hs * c ≤ length ms → map (frameRows c) (framesBy c hs vs ms) ≡ inFrames hs (rowsOf c (total hs) vs ms)
+unfolding framesBy total inFrames
+framed c [] vs ms a b = refl
+framed c (h ∷ hs) vs ms a b =
+    let s : (h + total hs) * c ≡ h * c + total hs * c = omega arith in
+    let av : h * c + total hs * c ≤ length vs = rw s at a in
+    let bm : h * c + total hs * c ≤ length ms = rw s at b in
+    let lv : length (take (h * c) vs) ≡ h * c = length-take-le (h * c) vs (omega arith) in
+    let lm : length (take (h * c) ms) ≡ h * c = length-take-le (h * c) ms (omega arith) in
+    let ih = framed c hs (drop (h * c) vs) (drop (h * c) ms) (rw (length-drop (h * c) vs) (omega arith)) (rw (length-drop (h * c) ms) (omega arith)) in
+    let m : h + total hs - h ≡ total hs = omega arith in
+    let r₁ : frameRows c (frameFrom c h (take (h * c) vs) (take (h * c) ms)) ≡ take h (rowsOf c (h + total hs) vs ms)
+    = rows-from c h (take (h * c) vs) (take (h * c) ms) lv lm ∙ rows-read c h (h * c) vs ms (omega arith) ∙ rows-take c (h + total hs) h vs ms (omega arith) in
+    let r₂ : rowsOf c (total hs) (drop (h * c) vs) (drop (h * c) ms) ≡ drop h (rowsOf c (h + total hs) vs ms) = rw m at (rows-drop c (h + total hs) h vs ms (omega arith)) in
+    rw (r₁, ih, r₂) refl

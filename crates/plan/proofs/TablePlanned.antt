@@ -1,113 +1,90 @@
 -- The plan of two tables is the plan of the frames that their heights cut. Assumes nothing.
-use mathlib.Core.Path.{_≡_, refl, ap, _∙_}
+use mathlib.Core.Path.{_≡_, refl, sym, ap, _∙_}
 use mathlib.Core.Bool.{Bool, true, false, cond, not, _&&_, _||_}
-use mathlib.Core.List.{List, [], _∷_}
+use mathlib.Core.List.{List, [], _∷_, map}
 use Prim.Native.Nat.{ℕ, suc, _+_, _*_, _≤_}
 use native.Mathlib.Omega.{arith}
-use borrow.Author.Tests.{eqb-true, not-false, ltb-false}
-use lib.Dec.{leb, eqb}
-use lib.IntN.{ℤ, pos, negsuc, natAbs}
-use lib.Signed.{leZ, ltZ}
-use lib.ListN.{length, drop, getD, length-drop}
-use lib.Seq.{length-take-le}
+use borrow.Author.Tests.{not-false}
+use lib.ListN.{length}
 use Rattle.frames.specs.Cells.{Words}
-use Rattle.frames.specs.Frame.{sameZ, rowCount, frameWords, pairsFine, valuesIn, marksIn, frameRows}
+use Rattle.frames.specs.Frame.{rowCount, valuesIn, marksIn, frameRows, isTable}
 use Rattle.options.specs.Options.{columns, rightColumns, badOptions, manyCarried, badRanked}
+use Rattle.options.specs.declared.Options.{Options}
 use Rattle.order.specs.Order.{sorted}
 use Rattle.order.specs.Listed.{lacksCode}
-use Rattle.options.proofs.OptionLaws.{good-allowed}
+use Rattle.options.proofs.OptionLaws.{good-allowed, or-both}
 use Rattle.frames.proofs.BoolLaws.{and-true}
+use Rattle.frames.proofs.FrameLaws.{table-parts}
 use Rattle.frames.proofs.WordLaws.{rows-length}
 use Rattle.outcomes.specs.Answers.{mostRows}
+use Rattle.refusals.specs.declared.Refusal.{Refusal}
+use Rattle.refusals.specs.declared.Refusal.the-variants.{BadOptions, TooManyCarried, BadRanks, BadFrame, UnknownCode, Unsorted, BadHeights}
 use Rattle.lists.specs.Lists.{rowsIn}
-use Rattle.plan.specs.Plan.{AllFrames, Planned}
-use Rattle.plan.specs.Table.{isTable, framesBy, total, anyBad, heightsOf, badHeights}
-use Rattle.plan.specs.TablePlan.{planAnswer, cutInto, TablePlans}
-use Rattle.plan.proofs.TableLaws.{AllFew, table-frames}
+use Rattle.planning.specs.declared.Figures.{Figures}
+use Rattle.planning.specs.declared.Planned.{Planned as Answer}
+use Rattle.planning.specs.declared.Planned.the-variants.{Needs, Refused}
+use Rattle.planning.specs.Heights.{total, heightsOf, badHeights, inFrames}
+use Rattle.planning.specs.Call.{tableFigures, planCall}
+use Rattle.planning.proofs.HeightLaws.{few-heights, heights-fine, heights-count, table-values, table-marks}
+use Rattle.plan.specs.Plan.{AllFrames, Planned, figures}
+use Rattle.plan.specs.Table.{framesBy}
+use Rattle.plan.specs.TablePlan.{cutInto, TablePlans}
+use Rattle.plan.proofs.TableLaws.{table-frames, framed}
 use Rattle.plan.proofs.Planned.{plans}
 use Rattle.plan.proofs.Ends.{writes-all}
 
 -- ---- the chain of refusals, passed
-pub passes : (t : Bool) (n k : ℕ) → cond t (suc n) k ≡ 0 → (t ≡ false) × (k ≡ 0)
-passes true n k e = absurd (omega arith)
-passes false n k e = (refl, e)
+passes : (t : Bool) (n : Refusal) (k : Answer) (p : Figures) → cond t (Refused n) k ≡ Needs p → (t ≡ false) × (k ≡ Needs p)
+passes true n k p e = let z : _≡_ {A = ℕ} 0 1 = cc in absurd (omega arith)
+passes false n k p e = (refl, e)
 
-pub or-none : (a b : Bool) → (a || b) ≡ false → (a ≡ false) × (b ≡ false)
-or-none true b e = let z : _≡_ {A = ℕ} 0 1 = cc in absurd (omega arith)
-or-none false b e = (refl, e)
-
--- ---- a table's parts
-module _ (c : ℕ) (f : Words) (h : isTable c f ≡ true) where
-  pub shape : ((leb 2 (length f) && leZ (pos 0) (getD f 0 (pos 0)) && sameZ (getD f 1 (pos 0)) (pos c) && eqb (length f) (frameWords (rowCount f) c)) ≡ true) × (pairsFine (valuesIn c f) (marksIn c f) ≡ true)
-  unfolding isTable
-  shape = and-true (leb 2 (length f) && leZ (pos 0) (getD f 0 (pos 0)) && sameZ (getD f 1 (pos 0)) (pos c) && eqb (length f) (frameWords (rowCount f) c)) (pairsFine (valuesIn c f) (marksIn c f)) h
-
-  table-length : length f ≡ frameWords (rowCount f) c
-  table-length = eqb-true (length f) (frameWords (rowCount f) c) (and-true (leb 2 (length f) && leZ (pos 0) (getD f 0 (pos 0)) && sameZ (getD f 1 (pos 0)) (pos c)) (eqb (length f) (frameWords (rowCount f) c)) (shape .0) .1)
-
-  pub table-values : length (valuesIn c f) ≡ rowCount f * c
-  table-values = length-take-le (rowCount f * c) (drop 2 f) (rw (length-drop 2 f) (omega (arith, table-length)))
-
-  pub table-marks : length (marksIn c f) ≡ rowCount f * c
-  table-marks = length-drop (2 + rowCount f * c) f ∙ omega (arith, table-length)
-
--- ---- heights
-few-heights : (zs : Words) → anyBad zs ≡ false → AllFew (heightsOf zs)
-unfolding anyBad heightsOf
-few-heights [] e = tt
-few-heights (z ∷ zs) e =
-    let p = or-none (ltZ z (pos 0) || ltZ (pos 4096) z) (anyBad zs) e in
-    let q = or-none (ltZ z (pos 0)) (ltZ (pos 4096) z) (p .0) in
-    (few z (q .0) (q .1), few-heights zs (p .1))
-  where
-    few : (z : ℤ) → ltZ z (pos 0) ≡ false → ltZ (pos 4096) z ≡ false → natAbs z ≤ 4096
-    few (pos n) a b = ltb-false 4096 n b
-    few (negsuc n) a b = let y : _≡_ {A = ℕ} 0 1 = cc in absurd (omega arith)
+-- The figures of an answer that has some.
+abbrev figuresIn : Figures → Answer → Figures
+figuresIn d (Needs p) = p
+figuresIn d (Refused n) = d
 
 -- ---- one side
 record Side (c : ℕ) (f hs : Words) : Type 0 where
   frames : AllFrames c (cutInto c f hs)
   rows : rowsIn c (cutInto c f hs) ≡ frameRows c f
+  cut : map (frameRows c) (cutInto c f hs) ≡ inFrames (heightsOf hs) (frameRows c f)
 
 side : (c : ℕ) (f hs : Words) → isTable c f ≡ true → badHeights (rowCount f) hs ≡ false → Side c f hs
-unfolding badHeights frameRows
+unfolding frameRows
 side c f hs t b =
-    let p = or-none (anyBad hs) (not (eqb (total (heightsOf hs)) (rowCount f))) b in
-    let n : total (heightsOf hs) ≡ rowCount f = eqb-true (total (heightsOf hs)) (rowCount f) (not-false (eqb (total (heightsOf hs)) (rowCount f)) (p .1)) in
+    let p = heights-fine (rowCount f) hs b in
+    let n : total (heightsOf hs) ≡ rowCount f = p .1 in
     let m : total (heightsOf hs) * c ≡ rowCount f * c = ap (λ (k : ℕ). k * c) n in
-    let r = table-frames c (heightsOf hs) (valuesIn c f) (marksIn c f) (few-heights hs (p .0)) (omega (arith, m, table-values c f t)) (omega (arith, m, table-marks c f t)) (shape c f t .1) in
-    record { frames = r .0; rows = r .1 ∙ rw n refl }
+    let v : total (heightsOf hs) * c ≤ length (valuesIn c f) = omega (arith, m, table-values c f t) in
+    let w : total (heightsOf hs) * c ≤ length (marksIn c f) = omega (arith, m, table-marks c f t) in
+    let r = table-frames c (heightsOf hs) (valuesIn c f) (marksIn c f) (few-heights hs (p .0)) v w (table-parts c f t .fine) in
+    record { frames = r .0; rows = r .1 ∙ rw n refl; cut = framed c (heightsOf hs) (valuesIn c f) (marksIn c f) v w ∙ rw n refl }
 
 pub frames-count : (c : ℕ) (hs : List ℕ) (vs ms : Words) → length (framesBy c hs vs ms) ≡ length hs
 unfolding framesBy
 frames-count c [] vs ms = refl
 frames-count c (h ∷ hs) vs ms = ap suc (frames-count c hs _ _)
 
-heights-count : (zs : Words) → length (heightsOf zs) ≡ length zs
-unfolding heightsOf
-heights-count [] = refl
-heights-count (z ∷ zs) = ap suc (heights-count zs)
-
 rows-few : (c : ℕ) (f : Words) → rowCount f ≤ mostRows → length (frameRows c f) ≤ mostRows
 unfolding frameRows
 rows-few c f k = rw (rows-length c (rowCount f) (valuesIn c f) (marksIn c f)) k
 
 pub table-plans : TablePlans
-unfolding planAnswer
-table-plans o left right hl hr l r outs e g =
+unfolding planCall
+table-plans o left right hl hr l r outs p e g =
     let c = columns o in
     let d = rightColumns o in
-    let p₁ = passes (badOptions o) 0 _ e in
-    let p₁₀ = passes (manyCarried o) 9 _ (p₁ .1) in
-    let p₁₁ = passes (badRanked o) 10 _ (p₁₀ .1) in
-    let p₅ = passes (not (isTable c left && isTable d right)) 4 _ (p₁₁ .1) in
+    let p₁ = passes (badOptions o) BadOptions _ p e in
+    let p₁₀ = passes (manyCarried o) TooManyCarried _ p (p₁ .1) in
+    let p₁₁ = passes (badRanked o) BadRanks _ p (p₁₀ .1) in
+    let p₅ = passes (not (isTable c left && isTable d right)) BadFrame _ p (p₁₁ .1) in
     let t = and-true (isTable c left) (isTable d right) (not-false (isTable c left && isTable d right) (p₅ .0)) in
-    let p₁₂ = passes (lacksCode o (frameRows c left) || lacksCode o (frameRows d right)) 11 _ (p₅ .1) in
-    let k = or-none (lacksCode o (frameRows c left)) (lacksCode o (frameRows d right)) (p₁₂ .0) in
-    let p₁₄ = passes (not (sorted o (frameRows c left) && sorted o (frameRows d right))) 13 _ (p₁₂ .1) in
+    let p₁₂ = passes (lacksCode o (frameRows c left) || lacksCode o (frameRows d right)) UnknownCode _ p (p₅ .1) in
+    let k = or-both (lacksCode o (frameRows c left)) (lacksCode o (frameRows d right)) (p₁₂ .0) in
+    let p₁₄ = passes (not (sorted o (frameRows c left) && sorted o (frameRows d right))) Unsorted _ p (p₁₂ .1) in
     let s = and-true (sorted o (frameRows c left)) (sorted o (frameRows d right)) (not-false (sorted o (frameRows c left) && sorted o (frameRows d right)) (p₁₄ .0)) in
-    let p₁₇ = passes (badHeights (rowCount left) hl || badHeights (rowCount right) hr) 16 _ (p₁₄ .1) in
-    let b = or-none (badHeights (rowCount left) hl) (badHeights (rowCount right) hr) (p₁₇ .0) in
+    let p₁₇ = passes (badHeights (rowCount left) hl || badHeights (rowCount right) hr) BadHeights _ p (p₁₄ .1) in
+    let b = or-both (badHeights (rowCount left) hl) (badHeights (rowCount right) hr) (p₁₇ .0) in
     let L = side c left hl (t .0) (b .0) in
     let R = side d right hr (t .1) (b .1) in
     let n = frames-count c (heightsOf hl) (valuesIn c left) (marksIn c left) in
@@ -124,8 +101,9 @@ table-plans o left right hl hr l r outs e g =
       few-rights = rw (R .rows) (rows-few d right (g .few-rights));
       few-lefts = omega (arith, n, heights-count hl, g .few-lefts);
     } in
+    let q : figures o (cutInto c left hl) (cutInto d right hr) ≡ p = rw (L .cut, R .cut) (ap (figuresIn p) (p₁₇ .1)) in
     record {
-      enough = plans .enough o l r (cutInto c left hl) (cutInto d right hr) outs h;
-      short = plans .short o l r (cutInto c left hl) (cutInto d right hr) outs h;
-      written = λ m. writes-all o l r (cutInto c left hl) (cutInto d right hr) outs h m ∙ rw (L .rows, R .rows) refl;
+      enough = rw q at (plans .enough o l r (cutInto c left hl) (cutInto d right hr) outs h);
+      short = rw q at (plans .short o l r (cutInto c left hl) (cutInto d right hr) outs h);
+      written = λ m. writes-all o l r (cutInto c left hl) (cutInto d right hr) outs h (rw q m) ∙ rw (L .rows, R .rows) refl;
     }

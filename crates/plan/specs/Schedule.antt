@@ -38,7 +38,7 @@ rounds (suc fuel) w (f ∷ fs) (out ∷ outs) =
       | Refused n ↦ turn out ∷ []
     ]
 
--- All left frames waiting; then the rounds.
+-- SCOPE 19.24: all left frames waiting; then the rounds.
 unfoldable pub schedule : Options → Words → Words → List Words → List Words → List Words → List Call
 schedule o l r lefts rights outs =
     let first = map left lefts ++ endIf rights in

@@ -15,5 +15,5 @@ use Rattle.plan.specs.Plan.{Planned, figures}
 -- With room for the first figure, the matches that the schedule writes are those of all left rows over all right rows, the frames that it never took included.
 abbrev pub Writes : Type 0
 Writes =
-    (o : Options) (l r : Words) (lefts rights outs : List Words) → Planned o l lefts rights outs → figures o l r lefts rights outs .rows ≤ capacity (rightColumns o) r
+    (o : Options) (l r : Words) (lefts rights outs : List Words) → Planned o l lefts rights outs → figures o lefts rights .rows ≤ capacity (rightColumns o) r
     → matchesIn (answerColumns o) (outputs (events (start o l r) (schedule o l r lefts rights outs))) ≡ map (dueOver o (rowsIn (rightColumns o) rights)) (rowsIn (columns o) lefts)

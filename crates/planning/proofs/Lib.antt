@@ -1,0 +1,4 @@
+pub mod PlanLaws
+pub mod HeightLaws
+pub mod OnePrune
+pub mod Samples

@@ -1,0 +1,15 @@
+// How large an area to lend: the figures of a schedule, worked out from the rows of two tables and the heights of their frames. Definitions and laws.
+use refusals::Refusal;
+
+// The right rows that have to find room at once; the turn calls up to the last frame written, those that want right rows among them; and the right frames taken.
+pub struct Figures {
+    pub rows: usize,
+    pub turns: usize,
+    pub rights: usize,
+}
+
+// What a plan answers: the figures that its schedule needs, or a refusal.
+pub enum Planned {
+    Needs(Figures),
+    Refused(Refusal),
+}

@@ -1,0 +1,49 @@
+-- `planwalk::walk_frames` meets its contract. Assumes nothing.
+use mathlib.Core.Path.{_≡_, sym, _∙_}
+use Prim.Native.Nat.{_+_, _-_, _^_, _≤_, _<_}
+use native.Mathlib.Omega.{arith}
+use denote.Ref.{now}
+use lib.ListN.{length}
+use Rattle.frames.proofs.WordLaws.{rows-length}
+use Rattle.options.specs.Options.{withList}
+use Rattle.planning.specs.Heights.{total, heightsOf}
+use Rattle.planwalk.specs.Walk.{leftRows, rightRows, Stands}
+use Rattle.planwalk.proofs.WalkLaws.{starts, ends}
+use borrow.Author.Needs.{needs}
+use Rattle.planwalk.proofs.walk_frames.Statement.{statement}
+use Rattle.planwalk.proofs.walk_frames.Tie as tie
+
+abbrev Inv-loop : tie.InvT-loop
+Inv-loop lv lm c hl rv rm w hr o codes rising s₀ s = Stands (withList o codes rising) hl hr (leftRows c hl lv lm) (rightRows w hr rv rm) s
+
+abbrev μ-loop : tie.MeasureT-loop
+μ-loop lv lm c hl rv rm w hr o codes rising s₀ s = (length hl + length hr) - (s .lefts + s .rights)
+
+loop-holds : tie.Need-loop-holds Inv-loop μ-loop
+loop-holds c =
+    let a = c .before .args in
+    starts _ _ _ _ _ (rows-length (a .c) (total (heightsOf (now (a .hl)))) (now (a .lv)) (now (a .lm))) (rows-length (a .w) (total (heightsOf (now (a .hr)))) (now (a .rv)) (now (a .rm)))
+
+step-requires : tie.Need-step-requires Inv-loop μ-loop
+step-requires c κs = let l = c .before .before in (l .before .before .pre, l .loop .inv, c .if1 .taken)
+
+loop-less : tie.Need-loop-less Inv-loop μ-loop
+loop-less c = let l = c .before .before .before .loop .inv in omega (arith, c .step .ensures .1, c .step .ensures .0 .lefts, c .step .ensures .0 .rights, l .lefts, l .rights)
+
+loop-again : tie.Need-loop-again Inv-loop μ-loop
+loop-again c = c .step .ensures .0
+
+add-t15 : tie.Need-add-t15 Inv-loop μ-loop
+add-t15 c =
+    let l = c .before .before .before in
+    let g = l .before .before .good .1 .1 .1 .0 in
+    let h = l .before .before .good .1 .1 .1 .1 .1 .1 .1 .0 in
+    omega (arith, l .loop .inv .lefts, l .loop .inv .rights, g .0, g .1, h .0, h .1)
+
+returns : tie.Need-returns Inv-loop μ-loop
+returns c = let l = c .before .before .before in ends _ _ _ _ _ (l .loop .s) (l .loop .inv) (c .before .if1 .left)
+
+pub walk-frames-spec : {M : Type 1} → statement M
+walk-frames-spec =
+    tie.close
+    (tie.spec Inv-loop μ-loop loop-holds step-requires loop-less loop-again add-t15 returns)
