@@ -19,22 +19,21 @@ use Rattle.matching.specs.declared.Choice.the-variants.{Row, Nothing}
 use Rattle.matching.proofs.ChoiceLaws.{choose-append, choose-dead}
 use Rattle.matching.proofs.MayLaws.{may, may-out, is-false}
 use Rattle.isolation.proofs.PlaceLaws.{hitBy, choiceBy, tolerate-by, step-by}
-use Rattle.cuts.specs.Cut.{cutAt, later}
+use Rattle.boundaries.specs.Boundaries.{cutAt}
+use Rattle.boundaries.proofs.PlaceLaws.{less-is, cut-within}
+use Rattle.cuts.specs.Cut.{later}
 
-is-less : (z : Order) → isLess z ≡ true → z ≡ Less
+pub is-less : (z : Order) → isLess z ≡ true → z ≡ Less
 is-less Less e = refl
 is-less Equal e = cc
 is-less Greater e = cc
-
-less-is : (z : Order) → z ≡ Less → isLess z ≡ true
-less-is z e = rw e
 
 module _ (o : Options) (g : List Cell) where
   -- One step of a cut.
   abbrev cut-on : Bool → Rows → ℕ
   cut-on t rs = elim t [ true ↦ suc (cutAt o g rs) | false ↦ 0 ]
 
-  -- Rows before the cut are of lesser groups; it is within the table.
+  -- Rows before the cut are of lesser groups.
   pub cut-before : (rs : Rows) → All (λ r. cmpGroup o r g ≡ Less) (take (cutAt o g rs) rs)
   unfolding cutAt
   cut-before [] = tt
@@ -43,15 +42,6 @@ module _ (o : Options) (g : List Cell) where
       by : (t : Bool) → isLess (cmpGroup o r g) ≡ t → All (λ r. cmpGroup o r g ≡ Less) (take (cutAt o g rs) rs) → All (λ r. cmpGroup o r g ≡ Less) (take (cut-on t rs) (r ∷ rs))
       by true e h = (is-less (cmpGroup o r g) e, h)
       by false e h = tt
-
-  pub cut-within : (rs : Rows) → cutAt o g rs ≤ length rs
-  unfolding cutAt
-  cut-within [] = omega arith
-  cut-within (r ∷ rs) = by (isLess (cmpGroup o r g)) (cut-within rs)
-    where
-      by : (t : Bool) → cutAt o g rs ≤ length rs → cut-on t rs ≤ suc (length rs)
-      by true h = omega arith
-      by false h = omega arith
 
   -- Rows behind it are not, where the table is sorted.
   pub cut-behind : (rs : Rows) → Ordered o rs → All (λ r. AtMost (cmpGroup o) g r) (drop (cutAt o g rs) rs)

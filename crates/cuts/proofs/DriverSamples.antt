@@ -5,17 +5,19 @@ use mathlib.Core.List.{List, [], _∷_, map}
 use Prim.Native.Nat.{ℕ, zero, suc}
 use lib.IntN.{pos, negsuc}
 use Rattle.frames.specs.Cells.{null, Rows, Words}
+use Rattle.frames.specs.Frame.{isTable}
 use Rattle.order.specs.Listed.{unlistedIn}
 use Rattle.order.proofs.Samples.{options, carrying, ranksBy, ranking, row, frameOf}
 use Rattle.ranks.specs.Ranks.{rises, risesBehind, below, placed, listed}
 use Rattle.options.specs.declared.Options.{Options}
 use Rattle.turnrows.specs.Prunes.{keptRows, lastPrune}
 use Rattle.lists.proofs.Script.{leftArea, rightArea, space, speakAll}
-use Rattle.plan.specs.Plan.{planFrom, plan}
-use Rattle.plan.specs.Table.{isTable, fullHeights}
+use Rattle.planning.specs.Plan.{planFrom, plan}
+use Rattle.planning.specs.Heights.{fullHeights, inFrames}
 use Rattle.matching.specs.Match.{matchTable, wholeTable}
-use Rattle.cuts.specs.Cut.{cutAt, cutBy, joined}
-use Rattle.cuts.specs.Driver.{inFrames, wordsFor, tooShort, anyShort, ascending, anyNull, badBoundaries, cutAnswer, cutOutput}
+use Rattle.boundaries.specs.Boundaries.{cutAt, ascending, anyNull, badBoundaries}
+use Rattle.cuts.specs.Cut.{cutBy, joined}
+use Rattle.cuts.specs.Driver.{wordsFor, tooShort, anyShort, cutAnswer, cutOutput}
 
 abbrev pub o : Options
 o = options 1 0 true (negsuc 0) false [] []

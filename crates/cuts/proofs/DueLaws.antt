@@ -1,12 +1,13 @@
 -- What is due for a left row of a pair, over the pair's own right rows, is due over the uncut table once the right rows before the pair are counted: the row that is
--- matched, and what it carries, is the same row of both. Assumes nothing.
+-- matched, what it carries and how far it is, is the same of both. Assumes nothing.
 use mathlib.Core.Path.{_≡_, refl, sym, ap, _∙_}
+use mathlib.Core.Bool.{Bool, true, false, cond}
 use mathlib.Core.List.{List, [], _∷_, _++_, append-nil, append-assoc, map, map-append, map-map}
-use Prim.Native.Nat.{ℕ, _+_, _-_}
+use Prim.Native.Nat.{ℕ, suc, _+_, _-_}
 use native.Mathlib.Omega.{arith}
-use lib.ListN.{length, take, drop, take-append-drop, length-append}
+use lib.ListN.{length, take, drop, replicate, take-append-drop, length-append}
 use lib.Seq.{drop-at, length-take-le}
-use Rattle.frames.specs.Cells.{Cell, Rows}
+use Rattle.frames.specs.Cells.{Cell, null, Rows}
 use Rattle.options.specs.declared.Options.{Options}
 use Rattle.order.specs.Order.{cmpGroup}
 use Rattle.order.specs.declared.Order.the-variants.{Less}
@@ -19,9 +20,11 @@ use Rattle.matching.specs.declared.Choice.the-variants.{Row, Nothing}
 use Rattle.matching.proofs.FromLaws.{From, table-from, row-from}
 use Rattle.lists.specs.Lists.{Entry}
 use Rattle.lists.specs.WholeTables.{asWritten, dueOver}
-use Rattle.cuts.specs.Cut.{cutAt, Pair, behind, cutBy, later}
+use Rattle.boundaries.specs.Boundaries.{cutAt}
+use Rattle.cuts.specs.Cut.{Pair, behind, cutBy, later}
 use Rattle.cuts.specs.Apart.{BothSorted, laterEntry}
-use Rattle.cuts.proofs.CutLaws.{cut-before, cut-behind, cut-within, match-later, match-before, match-behind}
+use Rattle.boundaries.proofs.PlaceLaws.{cut-within}
+use Rattle.cuts.proofs.CutLaws.{cut-before, cut-behind, match-later, match-before, match-behind}
 
 -- Two functions that agree on each row.
 pub map-agree : {A : Type 0} (f g : List Cell → A) (xs : Rows) → All (λ x. f x ≡ g x) xs → map f xs ≡ map g xs
@@ -46,11 +49,16 @@ later-zero (Row i) = let q : 0 + i ≡ i = omega arith in rw q
 later-zero Nothing = refl
 
 module _ (o : Options) where
+  -- No match is null in its first column, however many there are, and stays as it is.
+  later-none : (n : ℕ) (d : Bool) → let r = replicate (cond d (suc (suc (o .carried))) (suc (o .carried))) null in laterEntry n (asWritten r) ≡ asWritten r
+  later-none n true = refl
+  later-none n false = refl
+
   -- A row of the answer as it is written, counted on: the row of the counted choice, over rows whose first has the number n.
   later-row : (x : List Cell) (n : ℕ) (R : Rows) (m : Choice) → laterEntry n (asWritten (answerRow o 0 R x m)) ≡ asWritten (answerRow o n R x (later n m))
   unfolding answerRow
   later-row x n R (Row k) = let z : n + k - n ≡ k - 0 = omega arith in rw z
-  later-row x n R Nothing = refl
+  later-row x n R Nothing = later-none n (o .«with_distance»)
 
   -- What is due for x over the right rows R, which stand behind the rows A of a table and before the rows B.
   abbrev pub dueWithin : Rows → Rows → Rows → List Cell → Entry

@@ -4,3 +4,4 @@ pub mod DueLaws
 pub mod Uncut
 pub mod DriverSamples
 pub mod LoadLaws
+pub mod PlacesLaw

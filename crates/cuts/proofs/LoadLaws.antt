@@ -10,58 +10,55 @@ use lib.Dec.{ltb, eqb}
 use lib.ListN.{length, take, drop, length-append, length-drop, take-append-drop, replicate}
 use lib.Seq.{length-take-le}
 use Rattle.frames.specs.Cells.{Rows, Words, rowsOf}
-use Rattle.frames.specs.Frame.{rowCount, frameWords, pairsFine, isFrame, frameRows}
+use Rattle.frames.specs.Frame.{rowCount, frameWords, pairsFine, isFrame, isTable, frameRows}
 use Rattle.options.specs.Options.{columns, rightColumns, answerColumns, badOptions, manyCarried, badRanked, refusedOptions}
 use Rattle.order.specs.Order.{sorted}
 use Rattle.order.specs.Listed.{lacksCode}
 use Rattle.options.specs.declared.Options.{Options}
-use Rattle.options.proofs.OptionLaws.{good-allowed}
+use Rattle.options.proofs.OptionLaws.{good-allowed, or-both}
 use Rattle.order.proofs.SortedLaws.{sorted-take, sorted-drop}
 use Rattle.order.proofs.ListedLaws.{lacks-parts}
 use Rattle.frames.proofs.BoolLaws.{and-true}
-use Rattle.frames.proofs.WordLaws.{rows-length, rows-read, rows-drop}
+use Rattle.frames.proofs.FrameLaws.{table-parts}
+use Rattle.frames.proofs.WordLaws.{rows-length, rows-drop}
 use Rattle.area.specs.Area.{capacity}
 use Rattle.outcomes.specs.Answers.{mostRows}
 use Rattle.lists.specs.Lists.{backToBack}
 use Rattle.lists.specs.WholeTables.{Each, ends, pairs}
-use Rattle.plan.specs.Plan.{plan}
-use Rattle.plan.specs.Table.{isTable, frameFrom, framesBy, total, fullHeights}
-use Rattle.plan.proofs.TableLaws.{fine-drop, rows-from, table-frames, full-total, full-few}
-use Rattle.plan.proofs.TablePlanned.{passes, or-none, shape, table-values, table-marks, frames-count}
-use Rattle.cuts.specs.Cut.{cutAt, Pair, before, behind, cutBy}
+use Rattle.planning.specs.Plan.{plan}
+use Rattle.planning.specs.Heights.{total, fullHeights}
+use Rattle.planning.proofs.HeightLaws.{table-values, table-marks, rows-take, full-total, full-few}
+use Rattle.plan.specs.Table.{frameFrom, framesBy}
+use Rattle.plan.proofs.TableLaws.{fine-drop, table-frames, framed}
+use Rattle.plan.proofs.TablePlanned.{frames-count}
+use Rattle.boundaries.specs.Boundaries.{cutAt, badBoundaries}
+use Rattle.cuts.specs.Cut.{Pair, before, behind, cutBy}
 use Rattle.cuts.specs.Scheduled.{Fits}
-use Rattle.cuts.specs.Driver.{inFrames, fullFrames, wordsFor, tooShort, anyShort, badBoundaries, tables, groups, cutAnswer}
+use Rattle.cuts.specs.Driver.{fullFrames, wordsFor, tooShort, anyShort, tables, groups, cutAnswer}
 use Rattle.cuts.specs.Loads.{Stretch, rowsWithin, wholeOf, firstOf, othersOf, framesOf, Lent, loadOf, loads, LentWell, DriverFits, DriverWrites}
 use Rattle.cuts.specs.Apart.{BothSorted}
 use Rattle.cuts.proofs.Uncut.{uncut-scheduled}
-use Rattle.cuts.proofs.CutLaws.{cut-within}
+use Rattle.boundaries.proofs.PlaceLaws.{cut-within}
 
--- The first a rows.
-rows-take : (w n a : ℕ) (vs ms : Words) → a ≤ n → rowsOf w a vs ms ≡ take a (rowsOf w n vs ms)
-unfolding rowsOf
-rows-take w n zero vs ms h = refl
-rows-take w zero (suc a) vs ms h = absurd (omega arith)
-rows-take w (suc n) (suc a) vs ms h = rw (rows-take w n a (drop w vs) (drop w ms) (omega arith)) refl
+-- The chain of refusals, passed.
+passes : (t : Bool) (n k : ℕ) → cond t (suc n) k ≡ 0 → (t ≡ false) × (k ≡ 0)
+passes true n k e = absurd (omega arith)
+passes false n k e = (refl, e)
 
--- Frames of these heights have the rows that the heights cut, and as many words as are counted for them.
-framed : (c : ℕ) (hs : List ℕ) (vs ms : Words) → total hs * c ≤ length vs → total hs * c ≤ length ms
-    → (map (frameRows c) (framesBy c hs vs ms) ≡ inFrames hs (rowsOf c (total hs) vs ms)) × (length (backToBack (framesBy c hs vs ms)) ≡ wordsFor c hs)
-unfolding framesBy total inFrames wordsFor backToBack
-framed c [] vs ms a b = (refl, refl)
-framed c (h ∷ hs) vs ms a b =
+-- Frames of these heights have as many words as are counted for them.
+frame-words : (c : ℕ) (hs : List ℕ) (vs ms : Words) → total hs * c ≤ length vs → total hs * c ≤ length ms → length (backToBack (framesBy c hs vs ms)) ≡ wordsFor c hs
+unfolding framesBy total wordsFor backToBack
+frame-words c [] vs ms a b = refl
+frame-words c (h ∷ hs) vs ms a b =
     let s : (h + total hs) * c ≡ h * c + total hs * c = omega arith in
     let av : h * c + total hs * c ≤ length vs = rw s at a in
     let bm : h * c + total hs * c ≤ length ms = rw s at b in
     let lv : length (take (h * c) vs) ≡ h * c = length-take-le (h * c) vs (omega arith) in
     let lm : length (take (h * c) ms) ≡ h * c = length-take-le (h * c) ms (omega arith) in
-    let ih = framed c hs (drop (h * c) vs) (drop (h * c) ms) (rw (length-drop (h * c) vs) (omega arith)) (rw (length-drop (h * c) ms) (omega arith)) in
-    let m : h + total hs - h ≡ total hs = omega arith in
-    let r₁ : frameRows c (frameFrom c h (take (h * c) vs) (take (h * c) ms)) ≡ take h (rowsOf c (h + total hs) vs ms)
-    = rows-from c h (take (h * c) vs) (take (h * c) ms) lv lm ∙ rows-read c h (h * c) vs ms (omega arith) ∙ rows-take c (h + total hs) h vs ms (omega arith) in
-    let r₂ : rowsOf c (total hs) (drop (h * c) vs) (drop (h * c) ms) ≡ drop h (rowsOf c (h + total hs) vs ms) = rw m at (rows-drop c (h + total hs) h vs ms (omega arith)) in
+    let ih = frame-words c hs (drop (h * c) vs) (drop (h * c) ms) (rw (length-drop (h * c) vs) (omega arith)) (rw (length-drop (h * c) ms) (omega arith)) in
     let k₁ = length-append (take (h * c) vs) (take (h * c) ms) in
     let k₂ = length-append (frameFrom c h (take (h * c) vs) (take (h * c) ms)) (backToBack (framesBy c hs (drop (h * c) vs) (drop (h * c) ms))) in
-    (rw (r₁, ih .0, r₂) refl, k₂ ∙ omega (arith, k₁, lv, lm, ih .1))
+    k₂ ∙ omega (arith, k₁, lv, lm, ih)
 
 -- As many full frames as rows at most.
 count-full : (k m : ℕ) → length (replicate k m) ≡ k
@@ -132,11 +129,12 @@ module _ (o : Options) (allowed : refusedOptions o ≡ false) (l r : Words) wher
       let Y = table-frames d (fullHeights (y .rows)) (y .values) (y .marks) (full-few (y .rows)) (omega (arith, my, fy .values)) (omega (arith, my, fy .marks)) (fy .fits) in
       let FX = framed c (fullHeights (x .rows)) (x .values) (x .marks) (omega (arith, mx, fx .values)) (omega (arith, mx, fx .marks)) in
       let FY = framed d (fullHeights (y .rows)) (y .values) (y .marks) (omega (arith, my, fy .values)) (omega (arith, my, fy .marks)) in
+      let WX = frame-words c (fullHeights (x .rows)) (x .values) (x .marks) (omega (arith, mx, fx .values)) (omega (arith, mx, fx .marks)) in
       let rx = rows-length c (x .rows) (x .values) (x .marks) in
       let ry = rows-length d (y .rows) (y .values) (y .marks) in
       let X₁ = rw tx at (X .1) in
       let Y₁ = rw ty at (Y .1) in
-      let s = or-none (ltb (length l) (wordsFor c (fullHeights (length (rowsWithin c x))))) (ltb (capacity d r) (plan o (fullFrames (rowsWithin c x)) (fullFrames (rowsWithin d y)) .rows)) short in
+      let s = or-both (ltb (length l) (wordsFor c (fullHeights (length (rowsWithin c x))))) (ltb (capacity d r) (plan o (fullFrames (rowsWithin c x)) (fullFrames (rowsWithin d y)) .rows)) short in
       let s₁ = rw rx at (ltb-false (length l) (wordsFor c (fullHeights (length (rowsWithin c x)))) (s .0)) in
       let s₂ = rw (rx, ry) at (ltb-false (capacity d r) (plan o (fullFrames (rowsWithin c x)) (fullFrames (rowsWithin d y)) .rows) (s .1)) in
       record {
@@ -148,12 +146,12 @@ module _ (o : Options) (allowed : refusedOptions o ≡ false) (l r : Words) wher
           right-sorted = rw Y₁ (sy .in-order);
           left-codes = rw X₁ (sx .codes);
           right-codes = rw Y₁ (sy .codes);
-          left-room = omega (arith, FX .1, s₁, el);
+          left-room = omega (arith, WX, s₁, el);
           outputs = outs;
           few-rights = rw (Y₁, ry) ny;
           few-lefts = omega (arith, frames-count c (fullHeights (x .rows)) (x .values) (x .marks), full-count (x .rows), nx);
         };
-        room = rw (FX .0, FY .0, tx, ty, er) s₂;
+        room = rw (FX, FY, tx, ty, er) s₂;
         left = X₁;
         right = Y₁;
       }
@@ -162,7 +160,7 @@ module _ (o : Options) (allowed : refusedOptions o ≡ false) (l r : Words) wher
       → anyShort o l r (cutBy o gs (pairOf x y)) ≡ false → (es : List Lent) → LentWell o (length l) (length r) gs x es → Each (Fits o) (cutBy o gs (pairOf x y)) (loads o gs x y es)
   unfolding cutBy anyShort LentWell loads
   all-fit [] x y fx fy sx sy nx ny a [] w = absurd w
-  all-fit [] x y fx fy sx sy nx ny a (e ∷ es) w = pairs (pair-fits x y fx fy sx sy nx ny (or-none (tooShort o l r (pairOf x y)) false a .0) e (w .0) (w .1) (w .2)) ends
+  all-fit [] x y fx fy sx sy nx ny a (e ∷ es) w = pairs (pair-fits x y fx fy sx sy nx ny (or-both (tooShort o l r (pairOf x y)) false a .0) e (w .0) (w .1) (w .2)) ends
   all-fit (g ∷ gs) x y fx fy sx sy nx ny a [] w = absurd w
   all-fit (g ∷ gs) x y fx fy sx sy nx ny a (e ∷ es) w =
       let c = columns o in
@@ -178,14 +176,14 @@ module _ (o : Options) (allowed : refusedOptions o ≡ false) (l r : Words) wher
       let p : Pair = pairOf x y in
       let p₁ : pairOf (firstOf i x) (firstOf k y) ≡ before o g p = rw (x₁, y₁) refl in
       let p₂ : pairOf (othersOf c i x) (othersOf d k y) ≡ behind o g p = rw (x₂, y₂) refl in
-      let q = or-none (tooShort o l r (before o g p)) (anyShort o l r (cutBy o gs (behind o g p))) a in
+      let q = or-both (tooShort o l r (before o g p)) (anyShort o l r (cutBy o gs (behind o g p))) a in
       let f₁ = pair-fits (firstOf i x) (firstOf k y) (first-fine c i x hi fx) (first-fine d k y hk fy) (rw x₁ (sound-take o i (rowsWithin c x) sx)) (rw y₁ (sound-take o k (rowsWithin d y) sy)) (omega arith) (omega arith) (rw p₁ (q .0)) e (w .0) (w .1) (w .2) in
       let f₂ = all-fit gs (othersOf c i x) (othersOf d k y) (others-fine c i x hi fx) (others-fine d k y hk fy) (rw x₂ (sound-drop o i (rowsWithin c x) sx)) (rw y₂ (sound-drop o k (rowsWithin d y) sy)) (omega arith) (omega arith) (rw p₂ (q .1)) es (w .3) in
       pairs (rw p₁ at f₁) (rw p₂ at f₂)
 
 -- ---- the whole
 whole-fine : (c : ℕ) (f : Words) → isTable c f ≡ true → Fine c (wholeOf c f)
-whole-fine c f t = record { values = omega (arith, table-values c f t); marks = omega (arith, table-marks c f t); fits = shape c f t .1 }
+whole-fine c f t = record { values = omega (arith, table-values c f t); marks = omega (arith, table-marks c f t); fits = table-parts c f t .fine }
 
 pub driver-fits : DriverFits
 unfolding cutAnswer frameRows
@@ -201,13 +199,13 @@ driver-fits o left right boundaries l r out e nl nr es w =
     let u = and-true (isTable c left && isTable d right) (isFrame (o .by) boundaries) (not-false (isTable c left && isTable d right && isFrame (o .by) boundaries) (p₅ .0)) in
     let v = and-true (isTable c left) (isTable d right) (u .0) in
     let p₁₂ = passes (lacksCode o (t .left) || lacksCode o (t .right) || lacksCode o gs) 11 _ (p₅ .1) in
-    let k = or-none (lacksCode o (t .left)) (lacksCode o (t .right)) (or-none (lacksCode o (t .left) || lacksCode o (t .right)) (lacksCode o gs) (p₁₂ .0) .0) in
+    let k = or-both (lacksCode o (t .left)) (lacksCode o (t .right)) (or-both (lacksCode o (t .left) || lacksCode o (t .right)) (lacksCode o gs) (p₁₂ .0) .0) in
     let p₁₄ = passes (not (sorted o (t .left) && sorted o (t .right))) 13 _ (p₁₂ .1) in
     let s = and-true (sorted o (t .left)) (sorted o (t .right)) (not-false (sorted o (t .left) && sorted o (t .right)) (p₁₄ .0)) in
     let p₁₈ = passes (badBoundaries o gs) 17 _ (p₁₄ .1) in
     let words = frameWords (length (t .left)) (answerColumns o) in
     let p₆ = passes (anyShort o l r (cutBy o gs t) || ltb (length out) words) 5 0 (p₁₈ .1) in
-    let a = or-none (anyShort o l r (cutBy o gs t)) (ltb (length out) words) (p₆ .0) in
+    let a = or-both (anyShort o l r (cutBy o gs t)) (ltb (length out) words) (p₆ .0) in
     all-fit o (good-allowed o (p₁ .0) (p₁₀ .0) (p₁₁ .0)) l r gs (wholeOf c left) (wholeOf d right) (whole-fine c left (v .0)) (whole-fine d right (v .1))
     (record { in-order = s .0; codes = k .0 }) (record { in-order = s .1; codes = k .1 }) nl nr (a .0) es w
 

@@ -13,8 +13,9 @@ use Rattle.options.specs.declared.Options.{Options}
 use Rattle.matching.specs.Match.{choose, takesOver, fits, tolerate, matchTable, wholeTable}
 use Rattle.matching.specs.declared.Choice.the-variants.{Row, Nothing}
 use Rattle.lists.specs.Lists.{Entry}
+use Rattle.boundaries.specs.Boundaries.{cutAt}
 use Rattle.cuts.specs.Apart.{laterEntry}
-use Rattle.cuts.specs.Cut.{cutAt, Pair, cutBy, joined, appended}
+use Rattle.cuts.specs.Cut.{Pair, cutBy, joined, appended}
 
 -- Backward, one by-column; the same descending, nulls last.
 abbrev pub up : Options

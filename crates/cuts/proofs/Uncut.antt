@@ -15,12 +15,14 @@ use Rattle.lists.specs.WholeTables.{dueOver, Each, ends, pairs, lefts, rights, 
 use Rattle.lists.specs.Lists.{rowsIn}
 use Rattle.lists.proofs.WholeTableTheorem.{whole-table-theorem}
 use Rattle.isolation.proofs.Isolated.{all-turned}
-use Rattle.cuts.specs.Cut.{cutAt, Pair, before, behind, cutBy, joined, later, appended}
+use Rattle.boundaries.specs.Boundaries.{cutAt}
+use Rattle.cuts.specs.Cut.{Pair, before, behind, cutBy, joined, later, appended}
 use Rattle.cuts.specs.Apart.{BothSorted, UncutTables, Job, Joins, written, allWritten, UncutCalls}
 use Rattle.cuts.specs.Scheduled.{Load, Fits, scheduled, allScheduled, UncutScheduled}
 use Rattle.plan.proofs.Ends.{writes-all}
 use Rattle.cuts.proofs.DueLaws.{map-agree, all-to, later-twice, later-zero, allDue, uncut-due}
-use Rattle.cuts.proofs.CutLaws.{cut-before, cut-behind, cut-within, match-before, match-behind}
+use Rattle.boundaries.proofs.PlaceLaws.{cut-within}
+use Rattle.cuts.proofs.CutLaws.{cut-before, cut-behind, match-before, match-behind}
 
 later-later : (n k : ℕ) (ms : List Choice) → map (later (n + k)) ms ≡ map (later n) (map (later k) ms)
 later-later n k [] = refl

@@ -1,19 +1,13 @@
 -- Two tables cut by boundary groups, and the answers of the pairs appended. Assumes nothing.
-use mathlib.Core.Bool.{true, false}
 use mathlib.Core.List.{List, [], _∷_, _++_, map}
-use Prim.Native.Nat.{ℕ, suc, _+_}
+use Prim.Native.Nat.{ℕ, _+_}
 use lib.ListN.{length, take, drop}
 use Rattle.frames.specs.Cells.{Cell, Rows}
-use Rattle.order.specs.Order.{cmpGroup, isLess}
 use Rattle.options.specs.declared.Options.{Options}
+use Rattle.boundaries.specs.Boundaries.{cutAt}
 use Rattle.matching.specs.Match.{wholeTable}
 use Rattle.matching.specs.declared.Choice.{Choice}
 use Rattle.matching.specs.declared.Choice.the-variants.{Row, Nothing}
-
--- Where a table is cut for the boundary g: the number of rows up to the first whose group is g's or comes after it; all rows if there is none.
-unfoldable pub cutAt : Options → List Cell → Rows → ℕ
-cutAt o g [] = 0
-cutAt o g (r ∷ rs) = elim (isLess (cmpGroup o r g)) [ true ↦ suc (cutAt o g rs) | false ↦ 0 ]
 
 -- A left table and a right table.
 pub record Pair : Type 0 where

@@ -3,9 +3,9 @@ use mathlib.Core.Bool.{Bool, true, false, cond, not, _&&_, _||_}
 use mathlib.Core.List.{List, [], _∷_}
 use Prim.Native.Nat.{ℕ, _+_}
 use lib.Dec.{ltb, eqb}
-use lib.ListN.{length, take, drop}
+use lib.ListN.{length}
 use Rattle.frames.specs.Cells.{Rows, Words}
-use Rattle.frames.specs.Frame.{frameWords, isFrame, frameRows}
+use Rattle.frames.specs.Frame.{frameWords, isFrame, isTable, frameRows}
 use Rattle.options.specs.Options.{columns, badOptions, manyCarried, badRanked, rightColumns, answerColumns}
 use Rattle.order.specs.Order.{cmpGroup, isLess, nullGroup, sorted}
 use Rattle.order.specs.Listed.{lacksCode}
@@ -14,15 +14,12 @@ use Rattle.area.specs.Area.{capacity}
 use Rattle.matching.specs.Answer.{answerRows, answered}
 use Rattle.refusals.specs.Refusals.{number}
 use Rattle.refusals.specs.declared.Refusal.the-variants.{BadOptions, TooManyCarried, BadRanks, BadFrame, UnknownCode, NoRoom, Unsorted, BadBoundaries}
-use Rattle.plan.specs.Plan.{plan}
-use Rattle.plan.specs.Table.{isTable, fullHeights}
+use Rattle.planning.specs.Plan.{plan}
+use Rattle.planning.specs.Heights.{fullHeights, inFrames}
+use Rattle.boundaries.specs.Boundaries.{badBoundaries}
 use Rattle.cuts.specs.Cut.{Pair, cutBy, joined}
 
--- The heights of a pair's frames: as many of 4,096 rows as there are, then one with what is left over.
-unfoldable pub inFrames : List ℕ → Rows → List Rows
-inFrames [] rs = []
-inFrames (h ∷ hs) rs = take h rs ∷ inFrames hs (drop h rs)
-
+-- The rows of a pair's frames: as many frames of 4,096 rows as there are, then one with what is left over.
 abbrev pub fullFrames : Rows → List Rows
 fullFrames rs = inFrames (fullHeights (length rs)) rs
 
@@ -40,20 +37,6 @@ tooShort o l r p =
 unfoldable pub anyShort : Options → Words → Words → List Pair → Bool
 anyShort o l r [] = false
 anyShort o l r (p ∷ ps) = tooShort o l r p || anyShort o l r ps
-
--- Boundaries strictly ascending in the declared order; and one that is null in any column.
-unfoldable pub ascending : Options → Rows → Bool
-ascending o [] = true
-ascending o (g ∷ []) = true
-ascending o (g ∷ h ∷ gs) = isLess (cmpGroup o g h) && ascending o (h ∷ gs)
-
-unfoldable pub anyNull : Options → Rows → Bool
-anyNull o [] = false
-anyNull o (g ∷ gs) = nullGroup o g || anyNull o gs
-
--- Refusal 18: the list has 17 boundaries or more; or any at all without by-columns; or a null in it; or a boundary that does not come after the one before.
-unfoldable pub badBoundaries : Options → Rows → Bool
-badBoundaries o gs = ltb 16 (length gs) || (eqb (o .by) 0 && ltb 0 (length gs)) || anyNull o gs || not (ascending o gs)
 
 module _ (o : Options) (left right boundaries l r out : Words) where
   -- The two tables.

@@ -3,3 +3,4 @@ pub mod Apart
 pub mod Scheduled
 pub mod Driver
 pub mod Loads
+pub mod Places

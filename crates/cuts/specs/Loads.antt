@@ -9,8 +9,10 @@ use Rattle.options.specs.Options.{columns, rightColumns, answerColumns}
 use Rattle.options.specs.declared.Options.{Options}
 use Rattle.outcomes.specs.Answers.{mostRows}
 use Rattle.lists.specs.WholeTables.{dueOver, Each}
-use Rattle.plan.specs.Table.{framesBy, fullHeights}
-use Rattle.cuts.specs.Cut.{cutAt, cutBy}
+use Rattle.planning.specs.Heights.{fullHeights}
+use Rattle.plan.specs.Table.{framesBy}
+use Rattle.boundaries.specs.Boundaries.{cutAt}
+use Rattle.cuts.specs.Cut.{cutBy}
 use Rattle.cuts.specs.Scheduled.{Load, Fits, allScheduled}
 use Rattle.cuts.specs.Driver.{tables, groups, cutAnswer}
 
@@ -56,7 +58,7 @@ loads o (g ∷ gs) x y (e ∷ es) =
     let b = cutAt o g (rowsWithin (rightColumns o) y) in
     loadOf o (firstOf a x) (firstOf b y) e ∷ loads o gs (othersOf (columns o) a x) (othersOf (rightColumns o) b y) es
 
--- The areas keep their lengths, whatever words the pair before left in them, and each output is enough: 2 + 2n(1 + p) words.
+-- The areas keep their lengths, whatever words the pair before left in them, and each output is enough: 2 + 2n(1 + p) words, with the distance 2 + 2n(2 + p).
 unfoldable pub LentWell : Options → ℕ → ℕ → Rows → Stretch → List Lent → Type 0
 LentWell o l r gs x [] = ⊥
 LentWell o l r [] x (e ∷ es) = (length (e .left) ≡ l) × (length (e .right) ≡ r) × Each (λ f out. frameWords (rowCount f) (answerColumns o) ≤ length out) (framesOf (columns o) x) (e .outs)

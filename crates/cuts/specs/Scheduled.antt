@@ -26,7 +26,7 @@ pub record Load : Type 0 where
 -- They are the frames of the pair, and the areas are large enough for its schedule.
 pub record Fits (o : Options) (p : Pair) (j : Load) : Type 0 where
   pub planned : Planned o (j .left) (j .lefts) (j .rights) (j .outs)
-  pub room : figures o (j .left) (j .right) (j .lefts) (j .rights) (j .outs) .rows ≤ capacity (rightColumns o) (j .right)
+  pub room : figures o (j .lefts) (j .rights) .rows ≤ capacity (rightColumns o) (j .right)
   pub left : rowsIn (columns o) (j .lefts) ≡ p .left
   pub right : rowsIn (rightColumns o) (j .rights) ≡ p .right
 
