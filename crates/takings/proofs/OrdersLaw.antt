@@ -26,7 +26,7 @@ use Rattle.refusals.specs.declared.Refusal.{Refusal}
 use Rattle.refusals.specs.declared.Refusal.the-variants.{BadOptions, TooManyCarried, BadRanks, BadFrame, UnknownCode, BadColumns, Unsorted, Beyond, NoRoom}
 use Rattle.takings.specs.Subtotals.{Subtotal, addAll, totalFor, countFor, rowOf, subtotalsOf, hasNull, anyNull, mostAmount, mostSales, beyondRow, beyondRows, salesIn, beyondNumber, Tells}
 use Rattle.takings.specs.Sales.{Sale, salesOf, withAmount, amountsOf, nullsOf, beyondAmounts, matched}
-use Rattle.takings.specs.Calls.{After, tableWidth, tableWords, columnsIn, anyFrame, answerColumns, rowsIn, subtotalsIn, fineSubtotals, salesBy, result, leave, addAnswer, addCall, joinAnswer, joinCall}
+use Rattle.takings.specs.Calls.{After, tableWidth, tableWords, columnsIn, anyFrame, knownColumns, rowsIn, subtotalsIn, fineSubtotals, salesBy, result, leave, addAnswer, addCall, joinAnswer, joinCall}
 use Rattle.takings.specs.Orders.{Account, Calls, fresh, adding, joining, emptyAccount, tookBy, took, after, given, allSales, Permuted, empty, next, swap, then, Sums, HandedOn, AllOrders}
 use Rattle.takings.specs.declared.Taken.{Taken}
 use Rattle.takings.specs.declared.Taken.the-variants.{Table, Refused}
@@ -276,7 +276,7 @@ module _ (o : Options) where
       let five = isTable (tableWidth o) table && isFrame (columns o) left && anyFrame answer && eqb (rowCount left) (rowCount answer) in
       let p = passed (not five) BadFrame _ (past _ e) in
       let q = passed (lacksCode o (rowsIn o table) || lacksCode o (frameRows (columns o) left)) UnknownCode _ (p .1) in
-      let r = passed (not (answerColumns o (columnsIn answer))) BadColumns _ (q .1) in
+      let r = passed (not (knownColumns o (columnsIn answer))) BadColumns _ (q .1) in
       let u = passed (not (fineSubtotals o table)) Unsorted _ (r .1) in
       let v = passed (beyondRows o (rowsIn o table) || beyondNumber k || beyondAmounts (amountsOf (salesBy o left answer))) Beyond _ (u .1) in
       let a = and-true (isTable (tableWidth o) table && isFrame (columns o) left && anyFrame answer) (eqb (rowCount left) (rowCount answer)) (not-false five (p .0)) in

@@ -296,7 +296,7 @@ sub-abs a b = by (decLt a b)
     by (yes l) = simp (lt-ltb a b l) (omega arith)
     by (no g) = simp (le-ltb a b (omega arith)) (omega arith)
 
-abs-plus : (a b : ℤ) → natAbs (a +ℤ b) ≤ natAbs a + natAbs b
+pub abs-plus : (a b : ℤ) → natAbs (a +ℤ b) ≤ natAbs a + natAbs b
 abs-plus (pos a) (pos b) = omega arith
 abs-plus (pos a) (negsuc b) = omega (arith, sub-abs a (suc b))
 abs-plus (negsuc a) (pos b) = omega (arith, sub-abs b (suc a))

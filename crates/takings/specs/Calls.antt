@@ -39,8 +39,8 @@ abbrev pub anyFrame : Words → Bool
 anyFrame f = isFrame (columnsIn f) f
 
 -- Refusal 13: an answer frame's columns are neither 1 + p nor, with a distance, one more; or nothing is carried.
-abbrev pub answerColumns : Options → ℕ → Bool
-answerColumns o c = not (eqb (o .carried) 0) && (eqb c (suc (o .carried)) || eqb c (suc (suc (o .carried))))
+abbrev pub knownColumns : Options → ℕ → Bool
+knownColumns o c = not (eqb (o .carried) 0) && (eqb c (suc (o .carried)) || eqb c (suc (suc (o .carried))))
 
 -- The rows and the subtotals of a table.
 abbrev pub rowsIn : Options → Words → Rows
@@ -76,7 +76,7 @@ addAnswer o table k left answer out =
     unless Refused o
     (cond (not (isTable (tableWidth o) table && isFrame (columns o) left && anyFrame answer && eqb (rowCount left) (rowCount answer))) (Refused BadFrame)
     (cond (lacksCode o (rowsIn o table) || lacksCode o (frameRows (columns o) left)) (Refused UnknownCode)
-    (cond (not (answerColumns o (columnsIn answer))) (Refused BadColumns)
+    (cond (not (knownColumns o (columnsIn answer))) (Refused BadColumns)
     (cond (not (fineSubtotals o table)) (Refused Unsorted)
     (cond (beyondRows o (rowsIn o table) || beyondNumber k || beyondAmounts (amountsOf sales)) (Refused Beyond)
     (result o (addAll o (subtotalsIn o table) (amountsOf sales)) (natAbs k + nullsOf sales) out))))))

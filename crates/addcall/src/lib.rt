@@ -1,0 +1,150 @@
+// A frame's sales, added to a table of subtotals and the number beside it in one call.
+use framerule::row_count;
+use options::Options;
+use options::Terms;
+use options::terms_of;
+use outcomes::Took;
+use refusals::Refusal;
+use salegrow::write_sales;
+use saleweigh::rows_fit;
+use saleweigh::weigh;
+use takejudge::is_fine;
+use takewords::judge_sales;
+use takings::Taken;
+ghost use mathlib.Core.Path.{_≡_};
+ghost use mathlib.Core.Bool.{true};
+ghost use Prim.Native.Nat.{suc, _≤_};
+ghost use lib.ListN.{length};
+ghost use Rattle.frames.specs.Cells.{rowsOf};
+ghost use Rattle.options.specs.Options.{withList};
+ghost use Rattle.takings.specs.Sales.{salesOf};
+ghost use Rattle.takings.specs.Calls.{anyFrame, columnsIn};
+ghost use Rattle.addcall.specs.AddRows.{AddIn, RowsContract, AddContract};
+
+// A table of n rows, each w wide, with the sales of left rows and their answer rows, each d wide; refused by 14, 15 or 6, or written.
+fn add_rows(
+    tv: &[i64],
+    tm: &[i64],
+    n: usize,
+    number: i64,
+    lv: &[i64],
+    lm: &[i64],
+    av: &[i64],
+    am: &[i64],
+    rows: usize,
+    d: usize,
+    w: usize,
+    o: Terms,
+    codes: &[i64],
+    rising: &[u8],
+    out: &mut [i64],
+) -> Taken
+    requires { ⌜ AddIn (withList o (now codes) (now rising)) w n (now tv) (now tm) rows d (now lv) (now lm) (now av) (now am) ⌝ }
+    ensures { λ r. ⌜ RowsContract (withList o (now (codes .entry)) (now (rising .entry))) w (rowsOf w n (now (tv .entry)) (now (tm .entry))) number (salesOf (withList o (now (codes .entry)) (now (rising .entry))) (rowsOf (suc (o .by)) rows (now (lv .entry)) (now (lm .entry))) (rowsOf d rows (now (av .entry)) (now (am .entry)))) (now (out .entry)) r (now (out .exit)) ⌝ }
+{
+    if !is_fine(tv, tm, n, w, o, codes, rising) {
+        return Taken::Refused(Refusal::Unsorted);
+    }
+    let t = weigh(tv, tm, n, number, lm, av, am, rows, d, w, o);
+    if t.beyond {
+        return Taken::Refused(Refusal::Beyond);
+    }
+    let sales = t.sales;
+    let nulls = t.nulls;
+    if !rows_fit(
+        tv,
+        n,
+        lv,
+        lm,
+        am,
+        rows,
+        d,
+        sales,
+        out.len(),
+        o,
+        codes,
+        rising,
+    ) {
+        return Taken::Refused(Refusal::NoRoom);
+    }
+    let m = write_sales(tv, n, lv, lm, av, am, rows, d, o, codes, rising, out);
+    Taken::Table(m, number + nulls as i64)
+}
+
+// The columns that a frame says it has.
+fn column_count(words: &[i64]) -> usize
+    requires { ⌜ anyFrame (now words) ≡ true ⌝ }
+    ensures { λ r. ⌜ r ≡ columnsIn (now (words .entry)) ⌝ }
+{
+    words[1] as usize
+}
+
+// The same of a table, a left frame and its answer frame that are handed in whole, under these options.
+fn add_listed(
+    table: &[i64],
+    number: i64,
+    left: &[i64],
+    answers: &[i64],
+    o: Terms,
+    codes: &[i64],
+    rising: &[u8],
+    out: &mut [i64],
+) -> Taken
+    requires { ⌜ (64 ≤ length (now codes)) × (64 ≤ length (now rising)) ⌝ }
+    ensures { λ r. ⌜ AddContract (withList o (now (codes .entry)) (now (rising .entry))) (now (table .entry)) number (now (left .entry)) (now (answers .entry)) (now (out .entry)) r (now (out .exit)) ⌝ }
+{
+    if let Took::Refused(r) = judge_sales(table, left, answers, o, codes, rising) {
+        return Taken::Refused(r);
+    }
+    let by = o.by;
+    let w = by + 2;
+    let c = by + 1;
+    let d = column_count(answers);
+    let n = row_count(table);
+    let rows = row_count(left);
+    let e = 2 + n * w;
+    let f = 2 + rows * c;
+    let g = 2 + rows * d;
+    add_rows(
+        &table[2..e],
+        &table[e..],
+        n,
+        number,
+        &left[2..f],
+        &left[f..],
+        &answers[2..g],
+        &answers[g..],
+        rows,
+        d,
+        w,
+        o,
+        codes,
+        rising,
+        out,
+    )
+}
+
+// Adds the matched sales of a left frame and its answer frame to a table of subtotals in group order; those without an amount are counted in the number beside it.
+pub fn add_sales(
+    table: &[i64],
+    number: i64,
+    left: &[i64],
+    answers: &[i64],
+    o: Options,
+    out: &mut [i64],
+) -> Taken
+    ensures { λ r. ⌜ AddContract o (now (table .entry)) number (now (left .entry)) (now (answers .entry)) (now (out .entry)) r (now (out .exit)) ⌝ }
+{
+    let codes = o.ranks.codes;
+    let rising = o.ranks.rising;
+    add_listed(
+        table,
+        number,
+        left,
+        answers,
+        terms_of(o),
+        &codes,
+        &rising,
+        out,
+    )
+}

@@ -1,0 +1,40 @@
+-- Rows of subtotals without marks, and where a group stands among them. Assumes nothing.
+use mathlib.Core.Path.{_≡_}
+use mathlib.Core.List.{List, map}
+use mathlib.Core.Logic.{_⊎_}
+use Prim.Native.Nat.{ℕ, suc, _+_, _-_, _*_, _≤_, _<_}
+use lib.ListN.{length, take, drop}
+use Rattle.frames.specs.Cells.{Cell, value, Words}
+use Rattle.options.specs.Options.{Few}
+use Rattle.options.specs.declared.Options.{Options}
+use Rattle.order.specs.Order.{cmpGroup}
+use Rattle.order.specs.declared.Order.{Order}
+use Rattle.order.specs.declared.Order.the-variants.{Less, Equal, Greater}
+
+-- The b values from place p on, none of them null.
+abbrev pub plain : ℕ → ℕ → Words → List Cell
+plain b p body = map value (take b (drop p body))
+
+-- The group of row i against a group.
+abbrev pub cmpAt : Options → ℕ → Words → List Cell → ℕ → Order
+cmpAt o w body g i = cmpGroup o (plain (o .by) (i * w) body) g
+
+-- A row is at p, a left row at q, and their groups compare.
+pub record SaleAt (o : Options) (p : ℕ) (body : Words) (q : ℕ) (vs ms : Words) : Type 0 where
+  pub compare : Few o
+  pub row : p + o .by < length body
+  pub values : q + o .by < length vs
+  pub marks : q + o .by < length ms
+
+-- n rows are there, each w wide, and a left row at q.
+pub record PlaceIn (o : Options) (w n : ℕ) (body : Words) (q : ℕ) (vs ms : Words) : Type 0 where
+  pub compare : Few o
+  pub wide : o .by < w
+  pub rows : n * w ≤ length body
+  pub values : q + o .by < length vs
+  pub marks : q + o .by < length ms
+
+-- Row r is of the group g, or g belongs before row r and behind the row before it.
+pub record Placed (o : Options) (w n : ℕ) (body : Words) (g : List Cell) (r : ℕ) : Type 0 where
+  pub within : r ≤ n
+  pub here : ((r < n) × (cmpAt o w body g r ≡ Equal)) ⊎ ((0 < r → cmpAt o w body g (r - 1) ≡ Less) × (r < n → cmpAt o w body g r ≡ Greater))
