@@ -1,6 +1,6 @@
 # Makes and installs the library, its header and the command. It needs a C compiler and Python 3; the Rattle kit only proves.
 #
-#     make                          the library in build/: librowkeeper.a, librowkeeper.so.2
+#     make                          the library in build/: librowkeeper.a, librowkeeper.so.3
 #     make install PREFIX=/usr      library, header, rowkeeper.pc, command, man page; DESTDIR is put in front of every path
 #     make uninstall PREFIX=/usr    takes away what `make install` put there
 #     make check                    the tests that need no kit; ./test is the whole test

@@ -81,6 +81,7 @@ pub fn options<const C: usize>(case: &Case) -> raw::Options {
         nulls_last: [0; 4],
         carried: 1,
         ranks,
+        with_distance: 0,
     }
 }
 

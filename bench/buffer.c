@@ -1,5 +1,5 @@
 /*
- * What a push, a search and carried columns cost, over the C interface, in an area of 1,000,000 right rows.
+ * What a push, a search, carried columns and the distance cost, over the C interface, in an area of 1,000,000 right rows.
  *
  *     buffer           makes every call below once and checks its answer
  *
@@ -14,6 +14,7 @@
  *     right CARRIED ROWS    a right frame of ROWS rows in a fresh join whose right rows carry so many columns
  *     left CARRIED ROWS     a left frame of ROWS rows there
  *     wrote CARRIED ROWS    the turn that matches each of these left rows, with what its right row carries
+ *     distance CARRIED ROWS the same turn in a join that tells the distance
  */
 #include <inttypes.h>
 
@@ -22,13 +23,14 @@
 
 /* The right area has room for so many rows, the left area for one frame. */
 enum { CAPACITY = 1000000, CARRIED = 2, MOST_COLUMNS = ROWKEEPER_MOST_BY + 1 };
-enum { FRAME_WORDS = 2 + 2 * ROWKEEPER_MOST_ROWS * MOST_COLUMNS, OUT_WORDS = 2 + 2 * ROWKEEPER_MOST_ROWS * (1 + CARRIED) };
+enum { FRAME_WORDS = 2 + 2 * ROWKEEPER_MOST_ROWS * MOST_COLUMNS, OUT_WORDS = 2 + 2 * ROWKEEPER_MOST_ROWS * (2 + CARRIED) };
 
 /* A join with its areas, and the frame that is handed in next. */
 typedef struct host {
     rowkeeper_join join;
     int64_t *right;
     size_t right_words, by, carried;
+    uint64_t distance; /* whether joins are opened to tell it */
     int64_t left[FRAME_WORDS], frame[FRAME_WORDS], out[OUT_WORDS];
 } host;
 
@@ -46,7 +48,8 @@ static size_t make_frame(host *h, size_t carried, size_t rows, int64_t key) {
 /* Opens a join with an empty right area for CAPACITY rows. The check is off: what it costs is told by bench/join. */
 static void start(host *h, size_t by, size_t carried, uint64_t strategy) {
     rowkeeper_options o = {
-        .by = by, .strategy = strategy, .allow_eq = 1, .tolerance = ROWKEEPER_NO_TOLERANCE, .carried = carried};
+        .by = by, .strategy = strategy, .allow_eq = 1, .tolerance = ROWKEEPER_NO_TOLERANCE, .carried = carried,
+        .with_distance = h->distance};
     rowkeeper_took t = rowkeeper_open(o);
     due(t.refusal == 0, "the join is not opened");
     h->join = t.join;
@@ -173,8 +176,8 @@ static void carries(host *h, size_t carried, size_t rows) {
     h->join = t.join;
     CALLGRIND_DUMP_STATS_AT("before");
     w = turn(h);
-    dump(h, "wrote", rows);
-    due(w.answer == ROWKEEPER_WROTE && h->out[1] == (int64_t)(1 + carried) && h->out[2] == 0, "the turn does not write");
+    dump(h, h->distance ? "distance" : "wrote", rows);
+    due(w.answer == ROWKEEPER_WROTE && h->out[1] == (int64_t)(1 + carried + h->distance) && h->out[2] == 0, "the turn does not write");
 }
 
 /* Every call that is counted. */
@@ -195,9 +198,11 @@ int main(void) {
     wants(&h, 1, ROWKEEPER_BACKWARD, 1);
     wants(&h, ROWKEEPER_MOST_BY, ROWKEEPER_BACKWARD, 1);
     wants(&h, 0, ROWKEEPER_BACKWARD, 4096);
-    for (i = 0; i <= CARRIED; i += CARRIED) {
-        carries(&h, i, 1);
-        carries(&h, i, ROWKEEPER_MOST_ROWS);
+    for (h.distance = 0; h.distance < 2; h.distance++) {
+        for (i = 0; i <= CARRIED; i += CARRIED) {
+            carries(&h, i, 1);
+            carries(&h, i, ROWKEEPER_MOST_ROWS);
+        }
     }
     puts("every counted call gave the answer that is due");
     return 0;

@@ -1,18 +1,25 @@
 """The command line."""
 import argparse
-import csv
 import re
+import csv
 
-from rowkeeper.interface import MOST_BY, MOST_RANKS, STRATEGIES, VERSION
+from rowkeeper.interface import MOST_BY, MOST_CARRIED, MOST_RANKS, MOST_ROWS, STRATEGIES, VERSION
 
 from .cells import MOST, number
 from .input import DASH, known_encoding
-from .kinds import listed_codes
+from .kinds import Tolerance, listed_codes
 from .page import PAGE, SHORT
 from .problem import BAD_USAGE, Problem, quoted
+from .times import microseconds
+
+# What stands in front of a name of the notices that the sales have too, and of the output's own names.
+PREFIX = 'notice_'
 
 # What --separator may be called.
 SEPARATORS = {'tab': '\t', '\\t': '\t', 'comma': ',', 'semicolon': ';'}
+
+# The most places of --decimals.
+MOST_DECIMALS = 6
 
 
 class Parser(argparse.ArgumentParser):
@@ -50,15 +57,17 @@ def split(text):
 
 
 def tolerance(text):
-    """The number of --tolerance and its unit, or none."""
-    shape = re.fullmatch(r'\s*([0-9]+)\s*([smhd])\s*', text)
+    """What --tolerance says: a number, or a length of time in microseconds."""
+    count = microseconds(text)
+    if count is not None:
+        return Tolerance(count, True, ''.join(text.split()))
     try:
-        value = number(shape.group(1) if shape else text)
+        value = number(text)
     except ValueError as why:
-        raise argparse.ArgumentTypeError(f'{why}, nor one with s, m, h or d' if 'whole' in str(why) else str(why)) from None
+        raise argparse.ArgumentTypeError(f'{why}, nor a time with d, h, m or s' if 'whole' in str(why) else str(why)) from None
     if value is None or value < 0:
         raise argparse.ArgumentTypeError(f'must be a number from 0 to {MOST}, or a time as 2h')
-    return value, shape.group(2) if shape else ''
+    return Tolerance(value, False, str(value))
 
 
 def ranks(text):
@@ -119,16 +128,26 @@ def add_files(command):
         command.add_argument(option, action=Once, metavar='COLUMN')
     for option in ('--left-by', '--right-by'):
         command.add_argument(option, action='append', default=[], metavar='COLUMN')
+
+
+def add_check(command):
+    """Whether the order of rows is looked at."""
     command.add_argument('--strict', '--check', dest='check', action='store_true', default=True)
     command.add_argument('--no-check', dest='check', action='store_false')
 
 
+def add_strategy(command):
+    """Which notice a sale takes."""
+    command.add_argument('--strategy', choices=STRATEGIES, action=Once)
+    command.add_argument('--no-exact', dest='exact', action='store_false')
+
+
 def add_join(join):
     """What `rowkeeper join` takes besides."""
-    join.add_argument('--strategy', choices=STRATEGIES, action=Once)
-    join.add_argument('--no-exact', dest='exact', action='store_false')
     join.add_argument('--tolerance', type=tolerance, action=Once, metavar='N')
+    join.add_argument('--distance', type=prefix, nargs='?', const=True, action=Once, metavar='NAME')
     join.add_argument('--stream', action='store_true')
+    join.add_argument('--cluster', action=Once, metavar='ADDRESS')
     join.add_argument('--columns', type=names, action=Once, metavar='COLUMNS')
     join.add_argument('--prefix', type=prefix, action=Once, metavar='TEXT')
     join.add_argument('--matched-only', action='store_true')
@@ -139,8 +158,8 @@ def add_join(join):
 def add_picture(picture):
     """What `rowkeeper picture` takes besides; what is `join`'s alone is as if nothing were said."""
     picture.add_argument('--price', action=Once, required=True, metavar='COLUMN')
-    picture.set_defaults(strategy=None, exact=True, tolerance=None, stream=False, columns=None, prefix=None, matched_only=False,
-                         fail_unmatched=False, explain=False)
+    picture.set_defaults(strategy=None, exact=True, tolerance=None, distance=None, stream=False, cluster=None, columns=None, prefix=None,
+                         matched_only=False, fail_unmatched=False, explain=False)
 
 
 def add_merge(merge):
@@ -168,13 +187,44 @@ def add_passes(passes):
     passes.set_defaults(check=True, by=[], descending=[], nulls_last=[], rank=None)
 
 
+def from_to(first, last):
+    """What reads a whole number from one to another."""
+    def read(text):
+        """The number."""
+        if not re.fullmatch('[0-9]{1,9}', text) or not first <= int(text) <= last:
+            raise argparse.ArgumentTypeError(f'must be a whole number from {first} to {last:,}, not {quoted(text)}')
+        return int(text)
+    return read
+
+
+def add_plan(plan):
+    """What `rowkeeper plan` takes besides. The library plans for sorted tables alone, so the order is always looked at."""
+    for option in ('--sales-frame', '--notices-frame'):
+        plan.add_argument(option, type=from_to(1, MOST_ROWS), action=Once, metavar='ROWS')
+    plan.add_argument('--carried', type=from_to(0, MOST_CARRIED), action=Once, metavar='COLUMNS')
+    plan.add_argument('--distance', action='store_true')
+    plan.set_defaults(check=True, stream=False, cluster=None, columns=None, matched_only=False, fail_unmatched=False)
+
+
+def add_takings(takings):
+    """What `rowkeeper takings` takes besides. Money is added of files that are judged alone, so the order is always looked at."""
+    takings.add_argument('--amount', action=Once, required=True, metavar='COLUMN')
+    takings.add_argument('--decimals', type=from_to(0, MOST_DECIMALS), action=Once, metavar='PLACES')
+    takings.add_argument('--tolerance', type=tolerance, action=Once, metavar='N')
+    takings.add_argument('--add', action='append', default=[], metavar='TAKINGS.csv')
+    takings.set_defaults(check=True, stream=False, cluster=None, columns=None, distance=None, matched_only=False, fail_unmatched=False)
+
+
 def parser():
     """The commands and their options, as the page tells them."""
     top = Parser(prog='rowkeeper', allow_abbrev=False)
     top.add_argument('--version', action='version', version=f'rowkeeper {VERSION}')
     commands = top.add_subparsers(dest='command', metavar='COMMAND', parser_class=Parser)
-    for name, adds in (('join', (add_files, add_join, add_groups)), ('picture', (add_files, add_picture, add_groups)),
-                       ('merge', (add_merge, add_groups)), ('standing', (add_standing, add_groups)), ('passes', (add_passes,))):
+    for name, adds in (('join', (add_files, add_check, add_strategy, add_join, add_groups)),
+                       ('picture', (add_files, add_check, add_picture, add_groups)), ('merge', (add_merge, add_groups)),
+                       ('standing', (add_standing, add_groups)), ('passes', (add_passes,)),
+                       ('plan', (add_files, add_strategy, add_plan, add_groups)),
+                       ('takings', (add_files, add_strategy, add_takings, add_groups))):
         command = commands.add_parser(name, allow_abbrev=False)
         for add in (*adds, add_common):
             add(command)
@@ -227,11 +277,23 @@ def judge_sales(args):
     """Stops at options of the commands over sales that do not go together."""
     pairs = (('--no-exact', '--strategy nearest', not args.exact and args.strategy == 'nearest'),
              ('--stream', '--sort', args.stream and args.sort),
+             ('--cluster', '--stream', args.cluster and args.stream),
+             ('--cluster', '--sort', args.cluster and args.sort),
+             ('--cluster', '--no-check', args.cluster and not args.check),
+             ('--cluster', '--explain', args.cluster and args.explain),
+             ('--cluster', '--distance', args.cluster and args.distance),
              ('--matched-only', '--fail-unmatched', args.matched_only and args.fail_unmatched))
     for option, other, both in pairs:
         if both:
             raise Problem(f'{option}: does not go with {other}', BAD_USAGE)
     args.strategy = args.strategy or STRATEGIES[0]
+    if args.command == 'plan':
+        args.sales_frame, args.notices_frame = args.sales_frame or MOST_ROWS, args.notices_frame or MOST_ROWS
+        args.carried = args.carried or 0
+    elif args.command == 'takings':
+        args.decimals = args.decimals or 0
+    elif args.distance is True:
+        args.distance = f'{args.prefix or PREFIX}age'
     args.columns = [args.price] if args.command == 'picture' else args.columns
 
 
@@ -243,8 +305,9 @@ def judge(args):
     if 'sales' in args:
         judge_sales(args)
     files = [getattr(args, name) for name in ('sales', 'notices', 'house', 'festival', 'passes', 'performances') if name in args]
+    files += args.add if 'add' in args else []
     if files.count(DASH) > 1:
-        raise Problem('-: standard input can be one of the two files, not both', BAD_USAGE)
+        raise Problem(f'-: standard input can be one of the {"two files, not both" if len(files) == 2 else "files, not more"}', BAD_USAGE)
     args.encoding = known_encoding('utf-8' if args.encoding is None else args.encoding)
 
 

@@ -4,7 +4,7 @@ import re
 from array import array
 
 from .problem import quoted
-from .times import DATE_LENGTH, Clocks, Days
+from .times import DATE_LENGTH, Clocks, Days, length
 
 # The ends of 64-bit numbers with a sign.
 LEAST, MOST = -2**63, 2**63 - 1
@@ -38,6 +38,8 @@ class Whole:
 
     said = 'a whole number'
     value = staticmethod(number)
+    # A distance of two keys as it is written.
+    apart = staticmethod(str)
 
     @staticmethod
     def column(cells):
@@ -61,6 +63,8 @@ class Whole:
 
 class Time:
     """Dates and times in whole microseconds, all with a zone or all without one."""
+
+    apart = staticmethod(length)
 
     def __init__(self, zoned):
         self.zoned = zoned

@@ -12,10 +12,11 @@ def explanation(args, pricing):
     matching, order, kinds = pricing.matching, pricing.kinds.order, pricing.kinds.all()
     join = matching.join
     turns = join.answers
-    limit = 'none' if args.tolerance is None else '{}{}'.format(*args.tolerance)
+    limit = 'none' if args.tolerance is None else args.tolerance.said
+    told = '' if args.distance is None else f', distance in {pricing.layout.names[-1]}'
     columns = [f'{name} ({kind.said})' for name, kind in zip(order.columns, kinds)]
     lines = [
-        ('strategy', f'{args.strategy}, equal keys {"match" if args.exact else "do not match"}, tolerance {limit}'),
+        ('strategy', f'{args.strategy}, equal keys {"match" if args.exact else "do not match"}, tolerance {limit}{told}'),
         ('key', columns[-1]),
         ('by', ', '.join(columns[:-1]) or 'none'),
         ('order', f'{order}; {"sorted first" if args.sort else "checked" if args.check else "not checked"}'),

@@ -2,6 +2,8 @@
 import contextlib
 import sys
 
+from .arguments import PREFIX
+from .clustered import Answered, connected, numbers
 from .explain import explanation
 from .feed import Feed, Held, streamed
 from .joined import Join
@@ -18,25 +20,32 @@ class Pricing(Run):
     def __init__(self, args, stack, target=None):
         """`target` takes what is written, in the place of what the arguments name."""
         super().__init__(args, stack, ('sales', 'notices'), args.tolerance, args.stream)
+        self.connection = args.cluster and stack.enter_context(connected(args.cluster))
         self.sales, self.notices = (self.source(*each) for each in ((args.sales, args.left), (args.notices, args.right)))
-        self.layout = Layout(self.sales, self.notices, args.columns, args.prefix or 'notice_')
+        self.layout = Layout(self.sales, self.notices, args.columns, args.prefix or PREFIX, args.distance)
         self.target = target or sink(args.output, [args.sales, args.notices], whole=args.fail_unmatched and not args.stream)
 
     def join(self):
         """The join, opened when it is known what the columns hold."""
         args = self.args
-        return Join(self.kinds.coded_order(), args.strategy, args.exact, self.kinds.distance(), args.check)
+        return Join(self.kinds.coded_order(), args.strategy, args.exact, self.kinds.distance(), args.check,
+                    distance=args.distance is not None)
 
     def begin(self):
         """The output, when its first line is due."""
         return Priced(self.begun(self.target), self.layout, self.args.matched_only)
 
-    def in_step(self, sales, notices):
+    def in_step(self, sales, notices, join=None):
         """Matches and writes at once: both tables are sorted."""
-        join, held = self.join(), Held(self.layout.texts)
+        join, held = join or self.join(), Held(self.layout.texts)
         self.priced = self.begin()
         self.matching = Matching(join, Feed(sales), Feed(notices), held, self.priced.part(held, self.args.stream))
         self.matching.run(self.show('writing'))
+
+    def answered(self, *tables):
+        """What the workers of the cluster answer, in the place of a join."""
+        found = numbers(self.connection, tables, self.kinds.coded_order(), self.args, self.kinds.distance())
+        return Answered(found)
 
     def by_sorting(self, sales, notices):
         """Sorts both tables, matches, and writes the sales in their own order."""
@@ -67,7 +76,7 @@ class Pricing(Run):
             self.by_sorting(*self.judged())
         else:
             sales, notices = self.judged()
-            self.in_step(sales.pairs(), notices.pairs(later=True))
+            self.in_step(sales.pairs(), notices.pairs(later=True), self.connection and self.answered(sales, notices))
         if self.args.fail_unmatched and self.priced.matched < self.priced.sales:
             raise Problem(self.priced.said(), UNMATCHED)
 

@@ -24,13 +24,15 @@ def expected(call):
 class Join(rowkeeper.Join):
     """An open join over tables of this order, which counts what its calls do."""
 
-    def __init__(self, order, strategy='backward', exact=True, tolerance=None, check=True, right_rows=FIRST_ROWS):
+    def __init__(self, order, strategy='backward', exact=True, tolerance=None, check=True, right_rows=FIRST_ROWS, distance=False,
+                 carried=0):
         self.columns = len(order.columns)
         with expected('the opening'):
             told(lambda: super(Join, self).__init__(
                 by=self.columns - 1, strategy=strategy, allow_exact_matches=exact, tolerance=tolerance,
                 check='strict' if check else 'off',
-                descending=order.descending, nulls_last=order.nulls_last, right_rows=right_rows, ranks=order.ranks))
+                descending=order.descending, nulls_last=order.nulls_last, right_rows=right_rows, ranks=order.ranks,
+                distance=distance, carried=carried))
         self.output = array('q', bytes(8 * self.output_words()))
         self.grown = self.most_held = self.most_waiting = 0
         self.answers = {WROTE: 0, WANTS_RIGHT: 0, IDLE: 0}
@@ -67,6 +69,12 @@ class Join(rowkeeper.Join):
         return answer
 
     def matched(self):
-        """What the last turn wrote: for each left row the number of its right row and 1, or 0 and 0."""
-        rows = self.output[0]
-        return self.output[2:2 + rows], self.output[2 + rows:2 + 2 * rows]
+        """What the last turn wrote: for each left row the number of its right row and 1, or 0 and 0; and if distances are told, the
+        same of them, else None."""
+        numbers = self.written(0)
+        return (*numbers, self.written(1) if self.tells_distance else None)
+
+    def written(self, place):
+        """The values and the marks of a column that the last turn wrote."""
+        width, size = self.output[1], self.output[0] * self.output[1]
+        return self.output[2 + place:2 + size:width], self.output[2 + size + place:2 + 2 * size:width]

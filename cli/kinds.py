@@ -1,7 +1,11 @@
 """What the compared columns hold, in both files alike: a by-column whole numbers or text, the key whole numbers or times."""
+import collections
+
 from .cells import MOST, Text, Time, Whole, kind_of, number
 from .problem import BAD_USAGE, Problem, at, quoted
-from .times import UNITS
+
+# The greatest distance of two keys: a number, or the microseconds of a time; and as it was said.
+Tolerance = collections.namedtuple('Tolerance', 'count timed said')
 
 
 class Turned(Exception):
@@ -58,13 +62,13 @@ class Kinds:
         """The tolerance in the key's own numbers, or None. A Problem if it is of another kind; where no key is known any will do."""
         if self.tolerance is None:
             return None
-        count, unit = self.tolerance
-        if self.key is not None and isinstance(self.key, Time) != bool(unit):
-            here = 'times: --tolerance 2h, with s, m, h or d' if isinstance(self.key, Time) else 'whole numbers: --tolerance 120'
-            raise Problem(f'--tolerance {count}{unit}: does not go with {self.order.columns[-1]}, which holds {here}', BAD_USAGE)
-        if count * UNITS.get(unit, 1) > MOST:
-            raise Problem(f'--tolerance {count}{unit}: is beyond 64 bits of microseconds', BAD_USAGE)
-        return count * UNITS.get(unit, 1)
+        count, timed, said = self.tolerance
+        if self.key is not None and isinstance(self.key, Time) != timed:
+            here = 'times: --tolerance 2h, with d, h, m or s' if isinstance(self.key, Time) else 'whole numbers: --tolerance 120'
+            raise Problem(f'--tolerance {said}: does not go with {self.order.columns[-1]}, which holds {here}', BAD_USAGE)
+        if count > MOST:
+            raise Problem(f'--tolerance {said}: is beyond 64 bits of microseconds', BAD_USAGE)
+        return count
 
     def not_of(self, column, why, cell):
         """What is said of a cell that is not of its column's kind."""

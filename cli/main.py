@@ -8,7 +8,9 @@ from .books import merge, standing
 from .join import price
 from .passes import cover
 from .picture import picture
+from .plan import plan
 from .problem import BAD_INPUT, DONE, Problem, reason, say
+from .takings import take
 
 # The status of a program that a signal ends, less the signal's number.
 BY_SIGNAL = 128
@@ -33,7 +35,8 @@ def main(words):
     """Runs the command; its status."""
     try:
         args = parse(words)
-        {'join': price, 'picture': picture, 'merge': merge, 'standing': standing, 'passes': cover}[args.command](args)
+        {'join': price, 'picture': picture, 'merge': merge, 'standing': standing, 'passes': cover, 'plan': plan,
+         'takings': take}[args.command](args)
     except Problem as problem:
         say(problem)
         return problem.status

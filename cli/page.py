@@ -9,6 +9,8 @@ SHORT = '''usage: rowkeeper join SALES.csv NOTICES.csv --on KEY [--by COLUMN] [o
        rowkeeper standing NOTICES.csv --on KEY [--withdrawn COLUMN] [options]
        rowkeeper passes PASSES.csv PERFORMANCES.csv --from COLUMN --to COLUMN
            --on COLUMN [options]
+       rowkeeper takings SALES.csv NOTICES.csv --on KEY --amount COLUMN [options]
+       rowkeeper plan SALES.csv NOTICES.csv --on KEY [--by COLUMN] [options]
        rowkeeper --help | --version
 '''
 
@@ -34,6 +36,13 @@ WHAT COMES OUT
   --columns NAMES      of the notice's columns these alone, in this order:
                        --columns price,reason
   --prefix TEXT        this in place of 'notice_'
+  --distance           one more column, the last: notice_age, how far the notice
+  --distance NAME      is from the sale, in the --on column's own numbers; of
+                       times in days, hours, minutes and seconds, as --tolerance
+                       takes them: 11d18h5m, 9h, 0s, 1.5s. Empty for a sale
+                       without a notice, and for numbers further apart than
+                       2^63 - 1. NAME is the column's name in place of
+                       notice_age. Say it behind the files
   --matched-only       leave out the sales without a notice
   --fail-unmatched     if a sale has no notice, write nothing, and end with 4
 
@@ -78,7 +87,7 @@ WHICH NOTICE
   --no-exact           a notice of the sale's own minute does not count (does
                        not go with nearest)
   --tolerance N        the notice may be at most N away from the sale; for times
-                       with s, m, h or d: --tolerance 2h
+                       with d, h, m or s: --tolerance 2h, --tolerance 1d12h
 
 HOW THE FILES ARE SORTED
   --sort               sort both files first; rows that are equal stay in their
@@ -106,6 +115,13 @@ WHERE IT GOES
                        If something is wrong further down, a line says so when
                        wrong rows may have been written: do not use them unless
                        the status is 0. --by columns hold whole numbers then
+  --cluster ADDRESS    join on the workers of the dask scheduler that is there,
+                       as tcp://till:8786. They need this version of the Python
+                       module. What comes out is the same. The files are read
+                       and written here, and the numbers of the --by and --on
+                       columns must fit into memory (16 bytes a cell). Does not
+                       go with --stream, --sort, --no-check, --explain or
+                       --distance
   --explain            tell at the end what was done: options, rows, frames,
                        turns, memory
 
@@ -166,9 +182,59 @@ WHICH PERFORMANCES A PASS COVERS
   order all the same. Passes are in any order. It takes the options on files and
   -o. Memory goes by the performances, and by the rows of some passes at once.
 
+WHAT WAS TAKEN
+  rowkeeper takings SALES.csv NOTICES.csv --on minute --by performance \\
+      --amount price
+
+  gives each sale its notice, as join does, and adds the amounts of these
+  notices for each performance. A row for each performance in order, by number,
+  by text or as --descending and --rank say: the --by columns under the sales'
+  names, total, and sales, which counts the sales that were added. A number
+  comes out as 7, also where 007 stands. The last line has no performance and no
+  total; its sales are those whose notice has no amount. A sale without a notice
+  is in no row; the line at the end counts them.
+  --amount COLUMN      the column of the notices with the amount: whole numbers,
+                       up to 1,000,000,000 in size, or empty
+  --decimals PLACES    amounts have up to so many places, 1 to 6, behind a point
+                       or a comma: with --decimals 2 as 18, 18.5 and 18,50, and
+                       up to 10,000,000.00. Totals have just so many, and a
+                       point. Nothing is rounded: an amount with more places is
+                       refused, and with any where nothing is said
+  --add TAKINGS.csv    add what this command wrote before, as for another day or
+                       another till; as often as there are such files. They have
+                       the same --by columns and the same --decimals, and their
+                       last line is added too. To add such files alone give
+                       sales that are a header line and nothing else
+
+  In whatever order sales and files are added, the same file comes out, if each
+  --by column holds numbers in all runs, or text in all. It takes the options on
+  columns, files, sorting and -o, and --strategy, --no-exact and --tolerance.
+  Both files must be sorted, or say --sort. If a --by column is called total or
+  sales, the output's own has 'takings_' in front. Memory goes by the
+  performances.
+
+HOW MUCH MEMORY TO LEND
+  rowkeeper plan SALES.csv NOTICES.csv --on minute --by performance \\
+      --carried 1
+
+  For makers who fix the memory of a till before the season: prints the words,
+  and the bytes, of the three arrays that a join over these files is lent, and
+  writes no match. All frames of sales wait, and a frame of notices is handed
+  in when a turn wants one. The right area is the smallest: with one notice
+  less a frame is refused.
+  --sales-frame ROWS   the sales are handed in so many at a time, 1 to 4,096
+  --notices-frame ROWS the notices are; 4,096 where nothing is said
+  --carried COLUMNS    each notice carries so many columns, 0 to 8; 0 where
+                       nothing is said
+  --distance           answers have the distance as their last column
+
+  It takes the options on columns, files, sorting and -o, and --strategy and
+  --no-exact. Both files must be sorted, or say --sort. Memory goes by the rows.
+
 WHEN SOMETHING IS WRONG
   One line says what, with file, line and column, and the status is 1 for the
-  files, 2 for the command line, 3 for the library, 4 for --fail-unmatched.
+  files, 2 for the command line, 3 for the library (or for dask, where --cluster
+  finds none), 4 for --fail-unmatched.
   Lines are counted as an editor counts them: the header is line 1.
 
 THE LIBRARY

@@ -26,7 +26,7 @@ class Heights:
 
 class Matching:
     """Sales and notices on their way through a join. `held` keeps what is to be known of the notices, `found` takes each part of
-    the sales with the numbers of their notices and their marks."""
+    the sales with the numbers of their notices, their marks, and their distances or None."""
 
     def __init__(self, join, sales, notices, held, found, heights=None, right_height=ROWS):
         self.join, self.sales, self.notices, self.held, self.found = join, sales, notices, held, found
@@ -76,18 +76,20 @@ def free(name, taken, prefix):
 
 
 class Layout:
-    """The columns of the output: those of the sales; the notice's number; and the notice's own, all but the by-columns, which are
-    those of the sale, or those that are chosen. A name that is taken gets the prefix in front."""
+    """The columns of the output: those of the sales; the notice's number; the notice's own, all but the by-columns, which are those
+    of the sale, or those that are chosen; and the distance, if it has a name. A name that is taken gets the prefix in front."""
 
-    def __init__(self, sales, notices, chosen=None, prefix='notice_'):
+    def __init__(self, sales, notices, chosen=None, prefix='notice_', distance=None):
         self.separator, self.prefix, self.width = sales.separator, prefix, notices.width
         by = notices.places[:-1]
         self.places = [place for place in range(notices.width) if place not in by] if chosen is None else \
             [notices.place(name) for name in chosen]
         self.names = list(sales.header)
-        for name in [f'{prefix}row'] + [notices.header[place] for place in self.places]:
+        more = [] if distance is None else [distance]
+        for name in [f'{prefix}row'] + [notices.header[place] for place in self.places] + more:
             self.names.append(free(name, self.names, prefix))
-        self.nothing = self.separator * (1 + len(self.places))
+        self.nothing = self.separator * (1 + len(self.places) + len(more))
+        self.kinds = sales.kinds
 
     def header(self):
         """The first line."""
@@ -101,6 +103,20 @@ class Layout:
         """What is written behind a sale, for each notice of a block: its number and its cells."""
         sign = self.separator
         return [f'{sign}{number}{sign}{cells}' for number, cells in enumerate(self.cells(block), block.number)]
+
+    def apart(self, distances):
+        """What is written behind that for each sale: its distance, values and marks, empty for a null."""
+        sign, said = self.separator, self.kinds.all()[-1].apart
+        return [sign + said(value) if mark else sign for value, mark in zip(*distances)]
+
+
+def counted(sales, matched, first):
+    """How many sales have a notice, in words; `first` is the line of the first that has none."""
+    missing = sales - matched
+    have = f'{matched:,} of {sales:,} sale{"" if sales == 1 else "s"} ha{"s" if matched == 1 else "ve"} a notice'
+    if not missing:
+        return have
+    return f'{have}; {missing:,} ha{"s" if missing == 1 else "ve"} none, {"it is" if missing == 1 else "the first"} in line {first}'
 
 
 class Priced:
@@ -133,11 +149,15 @@ class Priced:
         written with others."""
         nothing = self.layout.nothing
 
-        def found(part, values, marks):
+        def found(part, values, marks, distances):
             """Writes a part."""
             matched = values if 0 not in marks else list(compress(values, marks))
             first, texts = held.between(min(matched), max(matched)) if matched else (0, [])
-            beside = [texts[number - first] if mark else nothing for number, mark in zip(values, marks)]
+            if distances is None:
+                beside = [texts[number - first] if mark else nothing for number, mark in zip(values, marks)]
+            else:
+                apart = self.layout.apart(distances)
+                beside = [texts[number - first] + far if mark else nothing for number, mark, far in zip(values, marks, apart)]
             self.write(part.lines(), beside, marks, lambda row: part.block.line(part.first + row))
             if at_once:
                 self.file.flush()
@@ -145,8 +165,4 @@ class Priced:
 
     def said(self):
         """How many sales have a notice, in words."""
-        missing = self.sales - self.matched
-        have = f'{self.matched:,} of {self.sales:,} sale{"" if self.sales == 1 else "s"} ha{"s" if self.matched == 1 else "ve"} a notice'
-        if not missing:
-            return have
-        return f'{have}; {missing:,} ha{"s" if missing == 1 else "ve"} none, {"it is" if missing == 1 else "the first"} in line {self.first}'
+        return counted(self.sales, self.matched, self.first)

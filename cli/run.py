@@ -24,11 +24,12 @@ class Run:
         order = Order(args.left[:-1], args.left[-1], args.descending, args.nulls_last, args.rank)
         self.kinds = Kinds(order, tolerance, may_be_text=not streamed, keys=keys)
 
-    def source(self, path, names, ordered=True):
-        """One of the tables, with its header read. One that is not `ordered` may have its rows in any order."""
+    def source(self, path, names, ordered=True, also=()):
+        """One of the tables, with its header read. One that is not `ordered` may have its rows in any order; `also` are
+        columns that it has besides."""
         opened = self.stack.enter_context(contextlib.closing(Input(path, self.args.encoding, self.streamed)))
         check = ordered and self.args.check and not self.args.sort
-        self.sources.append(Source(opened, names, self.kinds, check, self.args.separator))
+        self.sources.append(Source(opened, names, self.kinds, check, self.args.separator, also))
         return self.sources[-1]
 
     def show(self, stage):

@@ -13,11 +13,11 @@ SEPARATORS, SAID = (',', ';', '\t'), {',': 'commas', ';': 'semicolons', '\t': 't
 
 class Source:
     """A table that is read from a file. `names` are the by-columns and the key as this file names them. With `check` each row is
-    compared with the one before it."""
+    compared with the one before it. `also` are columns that the header names besides, whatever they hold."""
 
-    def __init__(self, source, names, kinds, check=True, separator=None):
+    def __init__(self, source, names, kinds, check=True, separator=None, also=()):
         self.input, self.path, self.names, self.kinds, self.check = source, source.path, names, kinds, check
-        self.records = Records(source)
+        self.records, self.also = Records(source), also
         self.find_header([separator] if separator else SEPARATORS)
         self.width, self.counted = len(self.header), 0
         self.restart()
@@ -48,7 +48,7 @@ class Source:
         for separator in separators:
             with contextlib.suppress(Problem):
                 found = self.read_header(separator)
-                if set(self.names) <= set(found[0]):
+                if {*self.names, *self.also} <= set(found[0]):
                     break
         else:
             found, separator = self.read_header(separators[0]), separators[0]

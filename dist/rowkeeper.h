@@ -11,7 +11,7 @@
  *
  *     cc host.c $(pkg-config --cflags --libs rowkeeper)
  *
- * From the repository, without installing: `make` writes build/librowkeeper.a and build/librowkeeper.so.2.
+ * From the repository, without installing: `make` writes build/librowkeeper.a and build/librowkeeper.so.3.
  *
  *     cc -Iinclude host.c build/librowkeeper.a
  */
@@ -19,22 +19,37 @@
 /*
  * THE CALLS
  *
- *     rowkeeper_open        opens a join: strategy, equality, tolerance, order check, by-columns, carried columns, a
- *                           list of ranks
- *     rowkeeper_left        takes a left frame, which then waits
- *     rowkeeper_right       takes a right frame, whose rows are then held
- *     rowkeeper_end_right   ends right: no right frame will come any more
- *     rowkeeper_move        takes the join, with what waits and what is held, to other areas, of any lengths
- *     rowkeeper_ports       moves the node on, for hosts that run it in a pipeline; this is also how left ends
- *     rowkeeper_turn        writes the matches of the frame that has waited longest, or answers Wants right or Idle
- *     rowkeeper_run         makes turns, up to a given number, and writes their matches one after the other
- *     rowkeeper_spans       without a join: lists which points lie inside the bounds of which intervals, as a pass
- *                           covers performances
- *     rowkeeper_merge       without a join: merges two sorted books of notices into one sorted book, the house's rows
- *                           first where they compare equal
- *     rowkeeper_standing    without a join: tells which notices of a sorted book stand, and for those that do not
- *                           which notice is the last of its group and key
- *     rowkeeper_version     the version of the library, to compare with ROWKEEPER_VERSION_NUMBER
+ *     rowkeeper_open            opens a join: strategy, equality, tolerance, order check, by-columns, carried columns,
+ *                               a list of ranks, the distance
+ *     rowkeeper_left            takes a left frame, which then waits
+ *     rowkeeper_right           takes a right frame, whose rows are then held
+ *     rowkeeper_end_right       ends right: no right frame will come any more
+ *     rowkeeper_move            takes the join, with what waits and what is held, to other areas, of any lengths
+ *     rowkeeper_ports           moves the node on, for hosts that run it in a pipeline; this is also how left ends
+ *     rowkeeper_turn            writes the matches of the frame that has waited longest, or answers Wants right or
+ *                               Idle
+ *     rowkeeper_run             makes turns, up to a given number, and writes their matches one after the other
+ *     rowkeeper_spans           without a join: lists which points lie inside the bounds of which intervals, as a pass
+ *                               covers performances
+ *     rowkeeper_merge           without a join: merges two sorted books of notices into one sorted book, the house's
+ *                               rows first where they compare equal
+ *     rowkeeper_standing        without a join: tells which notices of a sorted book stand, and for those that do not
+ *                               which notice is the last of its group and key
+ *     rowkeeper_view_plain      without a join: the plain reader's view of an answer frame of 1 + carried columns; its
+ *                               cells are then read by view_cell
+ *     rowkeeper_view_distance   without a join: the distance reader's view, of frames of 1 + carried or of 2 + carried
+ *                               columns, the last being the distance
+ *     rowkeeper_view_cell       without a join: a cell of a frame that was viewed; a place outside it reads as null
+ *     rowkeeper_read_plain      without a join: what the plain reader shows of one place of an answer frame
+ *     rowkeeper_read_distance   without a join: what the distance reader shows of one place
+ *     rowkeeper_plan            without a join: tells how many right rows a join over two sorted tables holds at most,
+ *                               and so how large an area to lend
+ *     rowkeeper_cut             without a join: tells where a sorted table is cut for a list of groups, so that the
+ *                               parts can be joined apart
+ *     rowkeeper_takings_add     without a join: adds a frame's matched sales to a table of takings by group: totals
+ *                               and sale counts
+ *     rowkeeper_takings_join    without a join: joins two tables of takings by group
+ *     rowkeeper_version         the version of the library, to compare with ROWKEEPER_VERSION_NUMBER
  */
 /* ---- tools/interface: end of list */
 /*
@@ -65,7 +80,8 @@
  *     2, 2,   7, 12,  7, 0,   1, 1,  1, 0
  *
  * A table is words of the same form with any number of rows. rowkeeper_merge and rowkeeper_standing take tables of right rows,
- * books of notices.
+ * books of notices. What a turn writes is a frame too; rowkeeper_view_plain, rowkeeper_view_distance and rowkeeper_view_cell
+ * read it cell by cell.
  *
  * ORDER
  *
@@ -103,13 +119,18 @@
  *     left    the frames that wait at once: ROWKEEPER_FRAME_WORDS(rows, by) for each
  *     right   the right rows that are held at once: ROWKEEPER_RIGHT_WORDS(rows, by, carried)
  *     output  ROWKEEPER_OUTPUT_WORDS(rows, carried) for the waiting frame that came first; 8,194 words are enough for any
- *             if nothing is carried, 73,730 if 8 columns are
+ *             if nothing is carried, 73,730 if 8 columns are; with with_distance 1 ROWKEEPER_DISTANCE_WORDS(rows,
+ *             carried), at most 16,386 and 81,922
  *             for a run, these for each frame that it turns: ROWKEEPER_RUN_WORDS(turns, rows, carried) if no frame has
- *             more rows; if carried is at most by, as many words as wait (the join's queue_words) are enough for any
- *             number of turns, and if it is more, 1 + carried times as many are
+ *             more rows; if carried + with_distance is at most by, as many words as wait (the join's queue_words) are
+ *             enough for any number of turns, and if it is more, 1 + carried + with_distance times as many are
  *
  * For example, with one by-column, one waiting frame of 4,096 rows and 100,000 held rows: 16,386 words of left area,
  * 400,000 of right area and 8,194 of output, 3.4 MB in all.
+ *
+ * If memory is to be fixed beforehand and both tables are at hand, rowkeeper_plan tells the smallest right area for a host
+ * that lets all left frames wait and hands in a right frame only when a turn wants one: ROWKEEPER_RIGHT_WORDS(rows, by,
+ * carried) of its first figure (proved: `table-plans` in crates/plan).
  *
  * Turns free what they no longer need, and freed words are used again. A right area for all right rows is always enough.
  * If it is smaller, a frame with no room is refused by 6. It can be handed in again after turns have freed room, or be cut
@@ -161,7 +182,7 @@
  * Header, library, Rust crate and command have one version, ROWKEEPER_VERSION. Compile a host with the header of the library
  * that it is linked with; rowkeeper_version() is the library's own number. While the first number of the version is 0, a new
  * second number may change calls, structs and the layout of joins; a new third number changes none of them, and the new
- * library can be put in the place of the old one. The number in librowkeeper.so.2 grows with every version
+ * library can be put in the place of the old one. The number in librowkeeper.so.3 grows with every version
  * for which a host must be compiled anew. CHANGES.md lists every change by what it asks of a host. Refusals may be added in
  * any version, so a host that switches over them needs a case for numbers that it does not know.
  */
@@ -188,8 +209,8 @@ typedef char rowkeeper_lengths_have_64_bits[sizeof(size_t) == 8 ? 1 : -1];
 /* ---- tools/interface writes: constants */
 /* The version that this header is of: as text, and as a number that grows from version to version
    (1,000,000 × major + 1,000 × minor + patch). */
-#define ROWKEEPER_VERSION "0.4.0"
-#define ROWKEEPER_VERSION_NUMBER 4000
+#define ROWKEEPER_VERSION "0.5.0"
+#define ROWKEEPER_VERSION_NUMBER 5000
 
 /* The rows that a frame can have at most. */
 #define ROWKEEPER_MOST_ROWS 4096
@@ -206,11 +227,11 @@ typedef char rowkeeper_lengths_have_64_bits[sizeof(size_t) == 8 ? 1 : -1];
 /* options.tolerance if any distance will do. */
 #define ROWKEEPER_NO_TOLERANCE (-1)
 
-/* join.layout: the bytes "rowkeep" from the highest down, then the layout's version, 3. */
-#define ROWKEEPER_LAYOUT ((uint64_t)0x726f776b65657003u)
+/* join.layout: the bytes "rowkeep" from the highest down, then the layout's version, 4. */
+#define ROWKEEPER_LAYOUT ((uint64_t)0x726f776b65657004u)
 
 /* The words of a join. */
-#define ROWKEEPER_JOIN_WORDS 121
+#define ROWKEEPER_JOIN_WORDS 122
 /* ---- tools/interface: end of constants */
 
 /* Lengths in words. A host's own `rows`, `by` and `carried` are taken as they are: up to 4,096, 4 and 8 nothing can overflow. */
@@ -218,12 +239,19 @@ typedef char rowkeeper_lengths_have_64_bits[sizeof(size_t) == 8 ? 1 : -1];
 #define ROWKEEPER_RIGHT_FRAME_WORDS(rows, by, carried) (2 + ROWKEEPER_RIGHT_WORDS(rows, by, carried))
 #define ROWKEEPER_RIGHT_WORDS(rows, by, carried) (2 * (size_t)(rows) * ((size_t)(by) + 1 + (size_t)(carried)))
 #define ROWKEEPER_OUTPUT_WORDS(rows, carried) (2 + 2 * (size_t)(rows) * (1 + (size_t)(carried)))
-/* What so many turns write at most if no frame has more rows. The product is the host's own: a huge `turns` overflows. */
+/* The same with the distance, options.with_distance 1: a column more. */
+#define ROWKEEPER_DISTANCE_WORDS(rows, carried) ROWKEEPER_OUTPUT_WORDS(rows, (size_t)(carried) + 1)
+/* What so many turns write at most if no frame has more rows; with the distance, of carried + 1. The product is the host's own: a
+   huge `turns` overflows. */
 #define ROWKEEPER_RUN_WORDS(turns, rows, carried) ((size_t)(turns) * ROWKEEPER_OUTPUT_WORDS(rows, carried))
 /* What so many pairs of rowkeeper_spans take. There are at most rows of points × rows of intervals of them. */
 #define ROWKEEPER_SPANS_WORDS(pairs) (2 + 4 * (size_t)(pairs))
 /* What rowkeeper_standing writes for a book of so many rows. */
 #define ROWKEEPER_STANDING_WORDS(rows) (2 + 4 * (size_t)(rows))
+/* What rowkeeper_cut writes for so many boundaries. */
+#define ROWKEEPER_CUT_WORDS(boundaries) (2 + 2 * (size_t)(boundaries))
+/* A table of takings by group, of so many rows. */
+#define ROWKEEPER_TAKINGS_WORDS(rows, by) (2 + 2 * (size_t)(rows) * ((size_t)(by) + 2))
 
 /* ---- tools/interface writes: enumerations */
 /* options.strategy */
@@ -246,14 +274,14 @@ enum { ROWKEEPER_WROTE = 0, ROWKEEPER_WANTS_RIGHT = 1, ROWKEEPER_IDLE = 2, ROWKE
 enum { ROWKEEPER_TURNS_USED = 0 };
 
 /* refusal. If several apply, the first in checking order is reported; that order is:
-   1, 10, 11, 2 to 5, 12 to 14, 16, 6 to 9. */
+   1, 10, 11, 2 to 5, 12 to 18, 6 to 9. */
 enum {
     /* Not refused. */
     ROWKEEPER_ACCEPTED = 0,
     /* Opening: by above 4, strategy above 2, tolerance below -1, Nearest without equality, check above 2, or a flag, of which
-       ranks.given is one, that is neither 0 nor 1. There is no join then: every call refuses by 2 what is returned beside the
-       refusal, except that a run of no turns tries nothing and so refuses nothing. A merge and standing: the same of their
-       options. Spans: a flag that is neither 0 nor 1. */
+       ranks.given and with_distance are two, that is neither 0 nor 1. There is no join then: every call refuses by 2 what is
+       returned beside the refusal, except that a run of no turns tries nothing and so refuses nothing. A merge, standing,
+       a plan and a cut: the same of their options. Spans and a cut: a flag that is neither 0 nor 1. */
     ROWKEEPER_BAD_OPTIONS = 1,
     /* The join is inconsistent or does not fit its areas: another layout word, options as in 1, 10 or 11, a list of ranks with
        other bytes in `rising` than opening puts there, base + held above R, queue_start + queue_words above the left area,
@@ -265,8 +293,9 @@ enum {
        is Done; a turn if the node is Done. */
     ROWKEEPER_CLOSED = 4,
     /* The words are not a frame of that side's columns. At a turn: those that wait are not. Spans: the points are not a frame of one
-       column, or the intervals not one of two. A merge and standing: a book is not a table of the right side's columns; a table
-       may have any number of rows. */
+       column, or the intervals not one of two. A merge and standing: a book is not a table of the right side's columns; a plan: a
+       table is not one of its side's columns. A table may have any number of rows. The readers: the words are no frame, of
+       whatever columns. */
     ROWKEEPER_BAD_FRAME = 5,
     /* No room: for the frame in the left area, for its rows in the right area, or for the matches, pairs, rows or notices in the
        output. */
@@ -277,22 +306,31 @@ enum {
     ROWKEEPER_LEFT_ORDER = 8,
     /* Check on or strict: right rows are out of order. The join is marked failed. */
     ROWKEEPER_RIGHT_ORDER = 9,
-    /* Opening: carried above 8. There is no join then, as with 1. A merge and standing: the same of their options. */
+    /* Opening: carried above 8. There is no join then, as with 1. A merge, standing and a plan: the same of their options. The
+       readers: carried above 8, before a word is looked at. */
     ROWKEEPER_TOO_MANY_CARRIED = 10,
     /* Opening, with ranks.given 1: ranks.count is 0 or above 64, a code stands twice among the first ranks.count, or
-       ranks.column is not below by. There is no join then, as with 1. A merge and standing: the same of their options. */
+       ranks.column is not below by. There is no join then, as with 1. A merge, standing and a plan: the same of their options. */
     ROWKEEPER_BAD_RANKS = 11,
     /* With a list of ranks: its column has a value in the frame that is not on the list. A null is no value. At a turn: in the
-       frame that waits first. A merge and standing: in a book. Comes straight after 5. */
+       frame that waits first. A merge and standing: in a book; a plan: in a table. Comes straight after 5. */
     ROWKEEPER_UNKNOWN_CODE = 12,
-    /* Standing: the place is none of the carried columns. */
+    /* Standing: the place is none of the carried columns. The readers: the frame has a column count that the reader does not
+       know: the plain one knows 1 + carried, the distance reader 2 + carried as well. */
     ROWKEEPER_BAD_COLUMNS = 13,
-    /* A merge and standing: a book is not sorted as the options say. */
+    /* A merge and standing: a book is not sorted as the options say; a plan: a table is not. */
     ROWKEEPER_UNSORTED = 14,
+    /* Takings alone: an amount outside -1,000,000,000 to 1,000,000,000, a count below 1 or a sum of counts above 2^31, or a total
+       larger in size than its count times 1,000,000,000. */
+    ROWKEEPER_BEYOND = 15,
     /* Spans alone: a point is null, or greater than the next. */
     ROWKEEPER_BAD_POINTS = 16,
+    /* A plan alone: heights that do not add up to their table's rows, or a height below 0 or above 4,096. */
+    ROWKEEPER_BAD_HEIGHTS = 17,
+    /* A cut: more than 16 boundaries, one where by is 0, one that is null in any column, or boundaries that do not ascend strictly. */
+    ROWKEEPER_BAD_BOUNDARIES = 18,
     /* The greatest number of a refusal in this version. Later versions may have greater ones. */
-    ROWKEEPER_LAST_REFUSAL = 16
+    ROWKEEPER_LAST_REFUSAL = 18
 };
 
 /* One sentence on a refusal, by its number; also on 0 and on numbers that no refusal has. The library has no
@@ -312,9 +350,12 @@ ROWKEEPER_INLINE const char *rowkeeper_refusal_text(uint64_t refusal) {
     case ROWKEEPER_TOO_MANY_CARRIED: return "there are more than 8 carried columns";
     case ROWKEEPER_BAD_RANKS: return "the list of ranks is empty or too long, has a code twice or is for no by-column";
     case ROWKEEPER_UNKNOWN_CODE: return "the by-column with a list of ranks has a value that is not on the list";
-    case ROWKEEPER_BAD_COLUMNS: return "there is no such column";
+    case ROWKEEPER_BAD_COLUMNS: return "there is no such column, or the reader does not know frames of so many columns";
     case ROWKEEPER_UNSORTED: return "the table is not sorted";
+    case ROWKEEPER_BEYOND: return "an amount, a count or a sum is beyond its limits";
     case ROWKEEPER_BAD_POINTS: return "a point is null, or greater than the next";
+    case ROWKEEPER_BAD_HEIGHTS: return "the heights do not add up to their table, or one is no height of a frame";
+    case ROWKEEPER_BAD_BOUNDARIES: return "the boundaries are too many, null or out of order, or there are no by-columns";
     default: return "no refusal of this version has this number";
     }
 }
@@ -340,6 +381,7 @@ typedef struct rowkeeper_options {
     uint64_t nulls_last[4]; /* for each by-column: whether its nulls come last */
     uint64_t carried;       /* columns that right rows have behind the key, 0 to 8: they come with the match */
     rowkeeper_ranks ranks;  /* the codes by whose places one by-column is sorted, or none */
+    uint64_t with_distance; /* whether answers have a last column, the distance of the two keys */
 } rowkeeper_options;
 
 /* A row that the order check remembers, or none. A mark other than 0 means present. */
@@ -349,7 +391,7 @@ typedef struct rowkeeper_row {
     int64_t marks[5];  /* its marks */
 } rowkeeper_row;
 
-/* A join: 121 words, no padding. A host may read every field and need not. */
+/* A join: 122 words, no padding. A host may read every field and need not. */
 typedef struct rowkeeper_join {
     uint64_t layout;           /* ROWKEEPER_LAYOUT */
     rowkeeper_options options; /* what it was opened with */
@@ -404,6 +446,41 @@ typedef struct rowkeeper_written {
     uint64_t refusal; /* 0 accepted, else the refusal's number */
     uint64_t rows;    /* how many rows were written; 0 if refused */
 } rowkeeper_written;
+
+/* The answer of a reader's view. */
+typedef struct rowkeeper_viewed {
+    uint64_t refusal; /* 0 accepted, else the refusal's number */
+    uint64_t rows;    /* how many rows the frame has; 0 if refused */
+    uint64_t columns; /* how many columns it has; 0 if refused */
+} rowkeeper_viewed;
+
+/* A cell of a frame, as its two words. */
+typedef struct rowkeeper_cell {
+    int64_t value; /* its value; 0 if it is null */
+    int64_t mark;  /* 1: it has a value; 0: it is null */
+} rowkeeper_cell;
+
+/* The answer of a reader for one place. */
+typedef struct rowkeeper_shown {
+    uint64_t refusal; /* 0 accepted, else the refusal's number */
+    int64_t value;    /* the cell's value; 0 if it is null, or if refused */
+    int64_t mark;     /* 1: it has a value; 0: it is null, or refused */
+} rowkeeper_shown;
+
+/* The answer of a plan: the figures of its schedule, all 0 if refused. */
+typedef struct rowkeeper_planned {
+    uint64_t refusal; /* 0 accepted, else the refusal's number */
+    uint64_t rows;    /* the most right rows held at once: the smallest R that meets no refusal 6 on the right */
+    uint64_t turns;   /* the turn calls up to the last frame written, those that want right rows among them */
+    uint64_t rights;  /* the right frames taken */
+} rowkeeper_planned;
+
+/* The answer of a call over takings. */
+typedef struct rowkeeper_taken {
+    uint64_t refusal; /* 0 accepted, else the refusal's number */
+    uint64_t rows;    /* how many rows the table has that was written; 0 if refused */
+    int64_t number;   /* the matched sales without an amount, beside the table; 0 if refused */
+} rowkeeper_taken;
 /* ---- tools/interface: end of structs */
 
 /* ---- tools/interface writes: calls */
@@ -455,7 +532,10 @@ rowkeeper_ported rowkeeper_ports(rowkeeper_join join, const int64_t *left, size_
    ROWKEEPER_WROTE: the output begins with a frame of n rows and 1 + carried columns, for the n rows of the frame in order:
    n, 1 + carried, then the values row by row, then the marks row by row. In a row stand the number of the right row that
    matches and the carried cells of that row; if no row matches, all of them are null (0 and 0). With nothing carried that is
-   n, 1, n numbers, n marks. The words behind these 2 + 2n(1 + carried) are untouched. The frame no longer waits, and right rows that no later left row can match are dropped.
+   n, 1, n numbers, n marks. With with_distance 1 there is one column more, the last: the distance of the two keys, null if no
+   row matches or it is above 2^63 - 1. The words behind these ROWKEEPER_OUTPUT_WORDS(n, carried), with the distance
+   ROWKEEPER_DISTANCE_WORDS(n, carried), are untouched. The frame no longer waits, and right rows that no later left row can
+   match are dropped.
    ROWKEEPER_REFUSED: by 2 to 5, 12 and 6 to 9. Both areas are only read in every case. */
 rowkeeper_turned rowkeeper_turn(rowkeeper_join join, const int64_t *left, size_t left_len, const int64_t *right,
                                 size_t right_len, int64_t *out, size_t out_len);
@@ -467,8 +547,8 @@ rowkeeper_turned rowkeeper_turn(rowkeeper_join join, const int64_t *left, size_t
    ROWKEEPER_REFUSED: the next turn was refused, by 2 to 5, 12 and 6 to 9. It altered no word; 8 or 9 marks the join failed. After 6, if
    what is left of the output is too short for the next frame, go on with another output.
    Whatever ends the run, what the earlier turns wrote stays, and so does the join that they left. The output begins with
-   `words` words: what each turn wrote, in order. The first word of each part is its n, so the next part begins
-   2 + 2n(1 + carried) words further on. The words behind them are untouched. The frames' numbers are not reported: the first is the sequence of the
+   `words` words: what each turn wrote, in order. The first two words of each part are its n and its columns c, so the next
+   part begins 2 + 2nc words further on. The words behind them are untouched. The frames' numbers are not reported: the first is the sequence of the
    join that came in, and each further one is 2 more. With `turns` 0 no turn is tried: nothing is refused and the join comes
    back as it came, whatever it is; only numbers that no join has (another layout word, a flag above 1, a state above 2, a
    strategy above 255) are refused by 2. Both areas are only read in every case. No run goes on for ever: each turn takes a
@@ -548,6 +628,129 @@ rowkeeper_written rowkeeper_merge(rowkeeper_options options, const int64_t *hous
    w is {0, 3} and out is 3, 2, 0, 1, 1, 0, 0, 2, 1, 1, 1, 0, 1, 1: row 0 names row 1, which stands; row 2 names itself. */
 rowkeeper_written rowkeeper_standing(rowkeeper_options options, const int64_t *book, size_t book_words, uint64_t place,
                                      int64_t *out, size_t out_words);
+
+/* The plain reader's view of an answer frame. `carried` is that of the join that wrote it. It shows frames of 1 + carried
+   columns, the number of the right row and what that row carries, and refuses every other: so it never shows a distance as a price.
+   A view asks the rules once, reading every word of the frame; `rows` and `columns` are then handed to rowkeeper_view_cell
+   for each cell that is wanted, which costs the same for a frame of any size.
+   Refused by 10, 5 and 13, in this order: carried above 8; words that are no frame, of whatever columns; another column count.
+   No word is written.
+   A frame of one row that carries a price, and its cells:
+
+       static const int64_t frame[] = {1, 2, 7, 1800, 1, 1};
+       rowkeeper_viewed v = rowkeeper_view_plain(1, frame, 6);
+       rowkeeper_cell price = rowkeeper_view_cell(v.rows, v.columns, frame, 6, 0, 1);
+
+   v is {0, 1, 2} and price is {1800, 1}. */
+rowkeeper_viewed rowkeeper_view_plain(uint64_t carried, const int64_t *frame, size_t frame_len);
+
+/* The distance reader's view of an answer frame: as rowkeeper_view_plain, but that it shows frames of 2 + carried columns as
+   well, of which the last is the distance. In the columns before that it shows what the plain reader would on the frame without the last;
+   on a frame of 1 + carried columns the two agree, and column 1 + carried reads as null. Refused by 10, 5 and 13, in this order.
+   No word is written. */
+rowkeeper_viewed rowkeeper_view_distance(uint64_t carried, const int64_t *frame, size_t frame_len);
+
+/* A cell of a frame that was viewed: `rows` and `columns` are the view's, `row` and `column` count from 0. A place outside
+   the frame reads as null (0 and 0). With the counts of a view and the words that were viewed, each place is what
+   rowkeeper_read_plain or rowkeeper_read_distance shows of it. It looks at the two words of the place alone: with other
+   counts, or after the words were changed, it reads as null whatever would lie behind the words, and otherwise gives the words that
+   stand where such a frame would have them. Nothing is refused, and no word is written. */
+rowkeeper_cell rowkeeper_view_cell(uint64_t rows, uint64_t columns, const int64_t *frame, size_t frame_len,
+                                   uint64_t row, uint64_t column);
+
+/* What the plain reader shows of one place: rowkeeper_view_plain and rowkeeper_view_cell in one call. It asks the rules, and
+   so reads every word of the frame, for each place: to read many, take a view. Refused by 10, 5 and 13, in this order, as the view
+   is; a place outside the frame is not refused, and reads as null. No word is written. */
+rowkeeper_shown rowkeeper_read_plain(uint64_t carried, const int64_t *frame, size_t frame_len, uint64_t row,
+                                     uint64_t column);
+
+/* What the distance reader shows of one place: rowkeeper_view_distance and rowkeeper_view_cell in one call. Refused by
+   10, 5 and 13, in this order. No word is written. */
+rowkeeper_shown rowkeeper_read_distance(uint64_t carried, const int64_t *frame, size_t frame_len, uint64_t row,
+                                        uint64_t column);
+
+/* Tells how large a right area to lend, before any join is opened. The tables are all left rows, by + 1 columns, and all right
+   rows, by + 1 + carried, both sorted as the options say; the heights are how many rows each frame has that the tables will be
+   handed over in, in order: 0 to 4,096 each, together the table's rows.
+   The figures are those of this schedule: all left frames wait; turn after turn is made; a right frame is handed over only when
+   a turn answers ROWKEEPER_WANTS_RIGHT; right is ended after the last right frame, or at the start if there is none.
+   `rows` is the most right rows that are held at once: with a right area of ROWKEEPER_RIGHT_WORDS(rows, by, carried) words
+   no right frame is refused by 6, and with one row fewer, if rows is not 0, one is. `turns` counts the turn calls up to the last
+   frame written, and `rights` the right frames taken; frames that no turn wants are never taken. The left area and the outputs
+   are taken as large enough: the left area holds all left frames, one behind the other.
+   Nothing is written, and no match is made: the tables are passed once to see that they are sorted, and then each turn searches
+   the held rows, as a turn of a join does. The check setting does not matter to the figures.
+   Refused by 1, 10, 11, 5, 12, 14 and 17, in this order: options that opening would refuse; a table that is none of its columns; a value that the
+   list of ranks lacks; a table that is not sorted; heights. Both tables must pass a number before the next is looked at.
+   Four sales in two frames, five notices in three, of which the last is never wanted:
+
+       static const int64_t left[] = {4, 1, 5, 15, 20, 25, 1, 1, 1, 1}, left_heights[] = {2, 2};
+       static const int64_t right[] = {5, 1, 10, 20, 20, 30, 40, 1, 1, 1, 1, 1}, right_heights[] = {2, 2, 1};
+       rowkeeper_options options = {0};
+       options.allow_eq = 1;
+       options.tolerance = ROWKEEPER_NO_TOLERANCE;
+       rowkeeper_planned p = rowkeeper_plan(options, left, 10, right, 12, left_heights, 2, right_heights, 3);
+
+   p is {0, 4, 4, 2}: an area for four rows, 8 words, four turns of which two want right rows, and two right frames. */
+rowkeeper_planned rowkeeper_plan(rowkeeper_options options, const int64_t *left, size_t left_words,
+                                 const int64_t *right, size_t right_words, const int64_t *left_heights,
+                                 size_t left_heights_words, const int64_t *right_heights, size_t right_heights_words);
+
+/* Tells where a sorted table, of left rows (right 0: by + 1 columns) or of right rows (right 1: by + 1 + carried columns), is cut
+   for each of at most 16 boundaries: before the first row whose group is not less than the boundary in the declared order, or
+   behind the last row. Boundaries are a frame of `by` columns, one group a row, strictly ascending, none null. Of the options only
+   by, descending, nulls_last, carried and ranks say how rows lie and compare; the others must be valid all the same.
+   The output has k, 1, then a place in rows for each of the k boundaries, then k marks, all 1: ROWKEEPER_CUT_WORDS(k) words; those
+   behind them are untouched, and `rows` is k.
+   Both tables of a join cut at these places, each pair of parts joined by itself, on machines of their own, and the answers
+   appended, with the right rows of the pairs before added to each right number, are the answers of the uncut tables (proved:
+   `UncutCalls` in crates/cuts).
+   Refused by 1, 10, 11, 5, 12, 14, 18 and 6, in this order: options that opening would refuse, or a side that is neither 0 nor 1; a table that is none
+   of that side's columns, or boundaries that are no frame of `by` columns; a value that the list of ranks lacks, in either; a table
+   that is not sorted; boundaries that are too many, null, out of order, or any at all where by is 0; too short an output. Table
+   and boundaries are only read in every case.
+   A call passes the table twice and makes a binary search for each boundary.
+   Five sales of performances 1, 1, 2, 4 and 4, cut at 2 and 3:
+
+       static const int64_t sales[] = {5, 2, 1, 10, 1, 20, 2, 5, 4, 7, 4, 9, 1, 1, 1, 1, 1, 1, 1, 1, 1, 1};
+       static const int64_t at[] = {2, 1, 2, 3, 1, 1};
+       rowkeeper_options options = {0};
+       int64_t out[6];
+       options.by = 1;
+       options.tolerance = ROWKEEPER_NO_TOLERANCE;
+       rowkeeper_written w = rowkeeper_cut(options, 0, sales, 22, at, 6, out, 6);
+
+   w is {0, 2} and out is 2, 1, 2, 3, 1, 1: rows 0 and 1, row 2, rows 3 and 4. */
+rowkeeper_written rowkeeper_cut(rowkeeper_options options, uint64_t right, const int64_t *table, size_t table_words,
+                                const int64_t *boundaries, size_t boundary_words, int64_t *out, size_t out_words);
+
+/* Adds the first carried column over the matched sales of a left frame and the answer frame that a join wrote for it to a table of
+   takings: by + 2 columns, the by-values of a group, its total and its sale count, a row for each group with a sale that has an
+   amount, strictly ascending in the declared order. `number` counts, beside the table, the matched sales without an amount. A
+   left row whose group is null counts as not matched. The answer frame has 1 + carried columns, or 2 + carried with the distance.
+   The output is the new table: ROWKEEPER_TAKINGS_WORDS(rows, by) words for its rows, at most those of the table and one for each
+   row of the frame; the words behind them are untouched. `rows` and `number` come back. Start with a table of no rows, by + 2
+   columns and 0 beside it. In whatever order frames are added and tables joined, what comes out is the same (proved:
+   `AllOrders` in crates/takings).
+   Refused by 1, 10, 11, 5, 12 to 15 and 6, in this order: options that opening would refuse; words that are no such table or frame, or frames of
+   unequal heights; a value that the list of ranks lacks; nothing carried, or another column count of the answer frame; a table
+   with a null or with groups that do not ascend; an amount outside -1,000,000,000 to 1,000,000,000, a count below 1, a total
+   larger in size than its count times 1,000,000,000, a `number` below 0, or counts that exceed 2^31; too short an output.
+   Everything is judged before a word is written. What is handed in is only read in every case.
+   A call passes table and frame, finds each sale's row by halving, the row of the sale before looked at first, and moves the rows
+   behind a new group. With room for the table's rows and one for each row of the frame nothing else is done; with less, rows are
+   counted first, and a frame of many new groups in no order then costs the square of its rows. */
+rowkeeper_taken rowkeeper_takings_add(rowkeeper_options options, const int64_t *table, size_t table_words,
+                                      int64_t number, const int64_t *left, size_t left_words, const int64_t *answers,
+                                      size_t answer_words, int64_t *out, size_t out_words);
+
+/* Joins two tables of takings, as rowkeeper_takings_add writes them, with the numbers beside them: the rows of both, those of one
+   group added up. The output is the new table, ROWKEEPER_TAKINGS_WORDS(rows, by) words, at most those of both; the words behind them are
+   untouched. Refused by 1, 10, 11, 5, 12 to 15 and 6, as rowkeeper_takings_add refuses a table; with nothing carried by 13. Both tables are only
+   read in every case. A call passes both three times. */
+rowkeeper_taken rowkeeper_takings_join(rowkeeper_options options, const int64_t *table, size_t table_words,
+                                       int64_t number, const int64_t *other, size_t other_words, int64_t other_number,
+                                       int64_t *out, size_t out_words);
 
 /* The version of the library as a number, 1,000,000 × major + 1,000 × minor + patch: ROWKEEPER_VERSION_NUMBER of the header
    that it came with. Whether a saved join is read does not depend on the version but on its layout word: see THE JOIN. */

@@ -62,6 +62,8 @@ static uint64_t run_turns, several, met_after[ANSWERS];
 /* Of turns and runs that wrote: carried cells with a value, and null ones of matched rows. Of accepted right frames: those with
    carried columns. */
 static uint64_t carried_values, carried_nulls, carried_frames;
+/* Of turns and runs that wrote: distances with a value, those of 2^63 - 1 among them, and null ones of matched rows. */
+static uint64_t distances, most_distances, null_distances;
 /* Of accepted frames: those of a join with a list. Of joins whose list or places the host altered: those that were not refused. */
 static uint64_t listed_frames, altered_lists;
 
@@ -163,6 +165,7 @@ static rowkeeper_options any_options(void) {
         o.nulls_last[j] = percent(15);
     }
     o.ranks = percent(o.by > 0 ? 45 : 2) ? any_ranks(o.by) : no_ranks(o.by);
+    o.with_distance = percent(98) ? below(2) : (uint64_t)any_word();
     if (percent(4)) ((int64_t *)&o)[below(offsetof(rowkeeper_options, ranks.codes) / sizeof(int64_t))] = any_word();
     return o;
 }
@@ -195,6 +198,11 @@ static size_t keyed_columns(void) {
 /* The columns that are carried, also where no join carries so many. */
 static size_t carried_columns(void) {
     return now.join.options.carried > ROWKEEPER_MOST_CARRIED ? 9 : (size_t)now.join.options.carried;
+}
+
+/* The columns of an answer, also where no join has such options. */
+static size_t answer_columns(void) {
+    return 1 + carried_columns() + (now.join.options.with_distance == 1);
 }
 
 /* The place of a group's code in the list, which the join has; beyond the list any place, behind its count too. */
@@ -289,7 +297,7 @@ static size_t any_place(void) {
 static void alter_join(void) {
     rowkeeper_join *j = &now.join;
     uint64_t capacity = now.right_len / (2 * (j->options.by % 8 + 1 + j->options.carried % 16));
-    switch (below(18)) {
+    switch (below(19)) {
     case 0: j->base = any_count(j->base, capacity - j->held % (capacity + 1)); break;
     case 1: j->held = any_count(j->held, capacity - j->base % (capacity + 1)); break;
     case 2: j->pruned = percent(50) ? INT64_MAX - j->held - below(40) : any_count(j->pruned, INT64_MAX); break;
@@ -306,6 +314,7 @@ static void alter_join(void) {
     case 13: j->options.carried = percent(50) ? any_carried() : any_count(j->options.carried, ROWKEEPER_MOST_CARRIED); break;
     case 14:
     case 15: alter_list(j); break;
+    case 16: j->options.with_distance = percent(70) ? below(2) : (uint64_t)any_word(); break;
     default: ((int64_t *)j)[any_place()] = any_word(); break;
     }
 }
@@ -489,7 +498,7 @@ static const char *same_by_turns(const attempt *a, const outcome *o) {
         t = rowkeeper_turn(last.join, a->left, a->left_len, a->right, a->right_len, again + at, a->out_len - at);
         turned(&last, t);
         if (last.answer == 0) {
-            at += ROWKEEPER_OUTPUT_WORDS(again[at], last.join.options.carried);
+            at += 2 + 2 * (size_t)again[at] * judge_answer_columns(&last.join.options);
             turns++;
         }
     }
@@ -498,26 +507,35 @@ static const char *same_by_turns(const attempt *a, const outcome *o) {
     return memcmp(again, o->out, a->out_len * sizeof *again) == 0 ? NULL : "single turns write otherwise";
 }
 
-/* Counts the carried cells of matches among these words. */
-static void count_carried(const int64_t *words, size_t len) {
+/* Counts the distance of a match. */
+static void count_distance(int64_t value, int64_t mark) {
+    *(mark == 1 ? &distances : &null_distances) += 1;
+    most_distances += mark == 1 && value == INT64_MAX;
+}
+
+/* Counts the carried cells and the distances of matches among these words, of so many carried columns. */
+static void count_cells(const int64_t *words, size_t len, size_t carried) {
     size_t at, i, j;
     for (at = 0; at < len; at += 2 + 2 * (size_t)(words[at] * words[at + 1])) {
         size_t n = (size_t)words[at], c = (size_t)words[at + 1];
         for (i = 0; i < n; i++) {
-            const int64_t *marks = words + at + 2 + n * c + i * c;
-            for (j = 1; j < c && marks[0] == 1; j++) *(marks[j] == 1 ? &carried_values : &carried_nulls) += 1;
+            const int64_t *values = words + at + 2 + i * c, *marks = values + n * c;
+            if (marks[0] != 1) continue;
+            for (j = 1; j <= carried; j++) *(marks[j] == 1 ? &carried_values : &carried_nulls) += 1;
+            if (c > 1 + carried) count_distance(values[c - 1], marks[c - 1]);
         }
     }
 }
 
-/* Counts an answer, what a run made, and what was carried. */
+/* Counts an answer, what a run made, what was carried, and distances. */
 static void count(const attempt *a, const outcome *o) {
+    size_t carried = (size_t)a->join.options.carried;
     met[a->call][o->answer]++;
     carried_frames += a->call == CALL_RIGHT && o->answer == 0 && a->join.options.carried > 0;
     listed_frames += (a->call == CALL_LEFT || a->call == CALL_RIGHT) && o->answer == 0 && a->join.options.ranks.given == 1;
-    if (a->call == CALL_TURN && o->answer == 0) count_carried(o->out, 1);
+    if (a->call == CALL_TURN && o->answer == 0) count_cells(o->out, 1, carried);
     if (a->call != CALL_RUN) return;
-    count_carried(o->out, (size_t)o->words);
+    count_cells(o->out, (size_t)o->words, carried);
     run_turns += o->turns;
     several += o->turns > 1;
     met_after[o->answer] += o->turns > 0;
@@ -590,7 +608,7 @@ static size_t any_turns(void) {
 /* The length of a run's output: for all that waits, or too short for it, or any. */
 static size_t run_output(void) {
     size_t waiting = now.join.queue_words < 4000 ? (size_t)now.join.queue_words : 4000;
-    size_t enough = waiting * (1 + carried_columns()) < 8000 ? waiting * (1 + carried_columns()) : 8000;
+    size_t enough = waiting * answer_columns() < 8000 ? waiting * answer_columns() : 8000;
     if (percent(10)) return any_length();
     return percent(40) ? below(enough + 1) : enough + below(30);
 }
@@ -619,7 +637,7 @@ static void equip_move(attempt *a) {
 /* Gives a call its frame, its output or its ports. */
 static void equip(attempt *a) {
     size_t i, most = below(percent(3) ? 1200 : 12), left = keyed_columns(), right = left + carried_columns();
-    size_t row = 2 * (1 + carried_columns()), enough = 2 + row * most + below(30);
+    size_t row = 2 * answer_columns(), enough = 2 + row * most + below(30);
     /* Now and then a frame as wide as those of the other side. */
     if (a->call == CALL_LEFT) a->frame_len = next_frame(percent(96) ? left : right, &now.left_group, &now.left_key, most);
     if (a->call == CALL_RIGHT) a->frame_len = next_frame(percent(96) ? right : left, &now.right_group, &now.right_key, most);
@@ -665,6 +683,16 @@ static int spent(void) {
     return (now.join.state == ROWKEEPER_DONE || now.join.failed == 1) && percent(20);
 }
 
+/* The keys of both sides begin about 2^63 apart, the left ones before the right ones or behind them. */
+static void start_apart(void) {
+    now.left_key = 999 + (int64_t)below(4);
+    now.right_key = INT64_MIN + 1000;
+    if (percent(40)) {
+        now.left_key = -1000 - (int64_t)below(4);
+        now.right_key = INT64_MAX - 1000;
+    }
+}
+
 /* Opens a join over areas of some length and any words; whether it was opened. */
 static int open_host(void) {
     rowkeeper_options o = any_options();
@@ -679,6 +707,7 @@ static int open_host(void) {
     for (i = 0; i < now.left_len; i++) now.left[i] = any_word();
     for (i = 0; i < now.right_len; i++) now.right[i] = any_word();
     now.left_group = now.left_key = now.right_group = now.right_key = 0;
+    if (percent(30)) start_apart();
     a = attempt_of(CALL_OPEN);
     return try_call(&a) == 0;
 }
@@ -721,6 +750,8 @@ static int report(void) {
            several);
     printf("carried: %" PRIu64 " right frames accepted, %" PRIu64 " values and %" PRIu64 " nulls written with matches\n",
            carried_frames, carried_values, carried_nulls);
+    printf("distances: %" PRIu64 " written with matches, %" PRIu64 " of them 2^63 - 1, %" PRIu64 " null\n", distances, most_distances,
+           null_distances);
     printf("lists: %" PRIu64 " frames accepted, %" PRIu64 " turns made again over numbers, %" PRIu64
            " with values that the list lacks; %" PRIu64 " altered lists not refused\n", listed_frames, ranked_turns, ranked_unlisted,
            altered_lists);
@@ -731,6 +762,10 @@ static int report(void) {
     }
     if (carried_frames == 0 || carried_values == 0 || carried_nulls == 0) {
         printf("FAIL nothing was carried\n");
+        all = 0;
+    }
+    if (distances == 0 || most_distances == 0 || null_distances == 0) {
+        printf("FAIL no distance was met, or none of 2^63 - 1, or none above\n");
         all = 0;
     }
     printf("hostile: seed %" PRIu64 ", %" PRIu64 " calls, %" PRIu64 " on altered joins, %" PRIu64

@@ -11,7 +11,7 @@ static int above(uint64_t a, uint64_t b, uint64_t limit) {
 
 /* Whether a flag of the options is neither 0 nor 1. */
 static int strange_flags(const rowkeeper_options *o) {
-    int j, strange = o->allow_eq > 1 || o->check > 2 || o->ranks.given > 1;
+    int j, strange = o->allow_eq > 1 || o->check > 2 || o->ranks.given > 1 || o->with_distance > 1;
     for (j = 0; j < 4; j++) strange |= o->descending[j] > 1 || o->nulls_last[j] > 1;
     return strange;
 }
@@ -66,9 +66,13 @@ size_t judge_right_columns(const rowkeeper_options *o) {
     return (size_t)(o->by + 1 + o->carried);
 }
 
+size_t judge_answer_columns(const rowkeeper_options *o) {
+    return (size_t)(1 + o->carried + o->with_distance);
+}
+
 /* The words that a turn writes for a frame of so many rows. */
 static size_t answer_words(const rowkeeper_options *o, int64_t rows) {
-    return 2 + 2 * (size_t)rows * (size_t)(1 + o->carried);
+    return 2 + 2 * (size_t)rows * judge_answer_columns(o);
 }
 
 /* Whether no join has these numbers. */
@@ -253,6 +257,24 @@ static int is_carried(const attempt *a, uint64_t place, const int64_t *values, c
     return 1;
 }
 
+/* Whether a value and a mark tell the distance of a row of the frame that waits first from this held row: the greater key less
+   the smaller, or null above 2^63 - 1. Rows that match have keys. */
+static int is_distance(const attempt *a, size_t row, uint64_t place, int64_t value, int64_t mark) {
+    const rowkeeper_options *o = &a->join.options;
+    size_t c = judge_right_columns(o), by = (size_t)o->by;
+    int64_t left = a->left[a->join.queue_start + 2 + row * (by + 1) + by], right = a->right[(a->join.base + place) * c + by];
+    uint64_t distance = left > right ? (uint64_t)left - (uint64_t)right : (uint64_t)right - (uint64_t)left;
+    return distance > INT64_MAX ? value == 0 && mark == 0 : value == (int64_t)distance && mark == 1;
+}
+
+/* Whether a row of an answer is that of a match of this row of the frame that waits first with this held row: behind the number
+   what that row carries, then the distance if it is asked for. */
+static int is_match(const attempt *a, size_t row, uint64_t place, const int64_t *values, const int64_t *marks) {
+    size_t last = judge_answer_columns(&a->join.options) - 1;
+    if (!is_carried(a, place, values + 1, marks + 1)) return 0;
+    return a->join.options.with_distance == 0 || is_distance(a, row, place, values[last], marks[last]);
+}
+
 /* Whether a row of an answer is null in all its columns. */
 static int is_none(const int64_t *values, const int64_t *marks, size_t columns) {
     size_t j;
@@ -261,10 +283,10 @@ static int is_none(const int64_t *values, const int64_t *marks, size_t columns) 
     return 1;
 }
 
-/* Whether these words have the shape of the matches of the frame that waits first, with numbers of rows that were held and
-   what these rows carry. */
+/* Whether these words have the shape of the matches of the frame that waits first, with numbers of rows that were held, what
+   these rows carry, and their distances. */
 static int are_matches(const attempt *a, const int64_t *words) {
-    size_t c = (size_t)(1 + a->join.options.carried), n = (size_t)a->left[a->join.queue_start], i;
+    size_t c = judge_answer_columns(&a->join.options), n = (size_t)a->left[a->join.queue_start], i;
     uint64_t first = a->join.pruned, held = a->join.held;
     if (words[0] != (int64_t)n || words[1] != (int64_t)c) return 0;
     for (i = 0; i < n; i++) {
@@ -272,7 +294,7 @@ static int are_matches(const attempt *a, const int64_t *words) {
         uint64_t number = (uint64_t)values[0];
         if (marks[0] == 0 ? !is_none(values, marks, c)
                           : marks[0] != 1 || number < first || number - first >= held ||
-                                !is_carried(a, number - first, values + 1, marks + 1))
+                                !is_match(a, i, number - first, values, marks))
             return 0;
     }
     return 1;

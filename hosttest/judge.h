@@ -46,6 +46,9 @@ void judge_places(const rowkeeper_ranks *k, uint8_t *places);
 /* The columns of a right row with options that are not refused. */
 size_t judge_right_columns(const rowkeeper_options *o);
 
+/* The columns of an answer with options that are not refused. */
+size_t judge_answer_columns(const rowkeeper_options *o);
+
 /* Whether every call on this join is refused by 2. */
 int judge_bad_join(const rowkeeper_join *j, size_t left_len, size_t right_len);
 

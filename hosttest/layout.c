@@ -18,7 +18,7 @@ HOLDS(ranks_given_at, AT(rowkeeper_ranks, given) == 0);
 HOLDS(ranks_column_at, AT(rowkeeper_ranks, column) == 1);
 HOLDS(ranks_count_at, AT(rowkeeper_ranks, count) == 2);
 HOLDS(ranks_codes_at, AT(rowkeeper_ranks, codes) == 3);
-HOLDS(options_size, sizeof(rowkeeper_options) == 648);
+HOLDS(options_size, sizeof(rowkeeper_options) == 656);
 HOLDS(options_by_at, AT(rowkeeper_options, by) == 0);
 HOLDS(options_strategy_at, AT(rowkeeper_options, strategy) == 1);
 HOLDS(options_allow_eq_at, AT(rowkeeper_options, allow_eq) == 2);
@@ -28,40 +28,41 @@ HOLDS(options_descending_at, AT(rowkeeper_options, descending) == 5);
 HOLDS(options_nulls_last_at, AT(rowkeeper_options, nulls_last) == 9);
 HOLDS(options_carried_at, AT(rowkeeper_options, carried) == 13);
 HOLDS(options_ranks_at, AT(rowkeeper_options, ranks) == 14);
+HOLDS(options_with_distance_at, AT(rowkeeper_options, with_distance) == 81);
 HOLDS(row_size, sizeof(rowkeeper_row) == 88);
 HOLDS(row_some_at, AT(rowkeeper_row, some) == 0);
 HOLDS(row_values_at, AT(rowkeeper_row, values) == 1);
 HOLDS(row_marks_at, AT(rowkeeper_row, marks) == 6);
-HOLDS(join_size, sizeof(rowkeeper_join) == 968);
+HOLDS(join_size, sizeof(rowkeeper_join) == 976);
 HOLDS(join_layout_at, AT(rowkeeper_join, layout) == 0);
 HOLDS(join_options_at, AT(rowkeeper_join, options) == 1);
-HOLDS(join_rising_at, AT(rowkeeper_join, rising) == 82);
-HOLDS(join_base_at, AT(rowkeeper_join, base) == 90);
-HOLDS(join_held_at, AT(rowkeeper_join, held) == 91);
-HOLDS(join_pruned_at, AT(rowkeeper_join, pruned) == 92);
-HOLDS(join_queue_start_at, AT(rowkeeper_join, queue_start) == 93);
-HOLDS(join_queue_words_at, AT(rowkeeper_join, queue_words) == 94);
-HOLDS(join_state_at, AT(rowkeeper_join, state) == 95);
-HOLDS(join_right_ended_at, AT(rowkeeper_join, right_ended) == 96);
-HOLDS(join_failed_at, AT(rowkeeper_join, failed) == 97);
-HOLDS(join_sequence_at, AT(rowkeeper_join, sequence) == 98);
-HOLDS(join_last_left_at, AT(rowkeeper_join, last_left) == 99);
-HOLDS(join_last_right_at, AT(rowkeeper_join, last_right) == 110);
-HOLDS(took_size, sizeof(rowkeeper_took) == 976);
+HOLDS(join_rising_at, AT(rowkeeper_join, rising) == 83);
+HOLDS(join_base_at, AT(rowkeeper_join, base) == 91);
+HOLDS(join_held_at, AT(rowkeeper_join, held) == 92);
+HOLDS(join_pruned_at, AT(rowkeeper_join, pruned) == 93);
+HOLDS(join_queue_start_at, AT(rowkeeper_join, queue_start) == 94);
+HOLDS(join_queue_words_at, AT(rowkeeper_join, queue_words) == 95);
+HOLDS(join_state_at, AT(rowkeeper_join, state) == 96);
+HOLDS(join_right_ended_at, AT(rowkeeper_join, right_ended) == 97);
+HOLDS(join_failed_at, AT(rowkeeper_join, failed) == 98);
+HOLDS(join_sequence_at, AT(rowkeeper_join, sequence) == 99);
+HOLDS(join_last_left_at, AT(rowkeeper_join, last_left) == 100);
+HOLDS(join_last_right_at, AT(rowkeeper_join, last_right) == 111);
+HOLDS(took_size, sizeof(rowkeeper_took) == 984);
 HOLDS(took_refusal_at, AT(rowkeeper_took, refusal) == 0);
 HOLDS(took_join_at, AT(rowkeeper_took, join) == 1);
-HOLDS(ported_size, sizeof(rowkeeper_ported) == 1000);
+HOLDS(ported_size, sizeof(rowkeeper_ported) == 1008);
 HOLDS(ported_refusal_at, AT(rowkeeper_ported, refusal) == 0);
 HOLDS(ported_left_at, AT(rowkeeper_ported, left) == 1);
 HOLDS(ported_right_at, AT(rowkeeper_ported, right) == 2);
 HOLDS(ported_send_at, AT(rowkeeper_ported, send) == 3);
 HOLDS(ported_join_at, AT(rowkeeper_ported, join) == 4);
-HOLDS(turned_size, sizeof(rowkeeper_turned) == 992);
+HOLDS(turned_size, sizeof(rowkeeper_turned) == 1000);
 HOLDS(turned_answer_at, AT(rowkeeper_turned, answer) == 0);
 HOLDS(turned_refusal_at, AT(rowkeeper_turned, refusal) == 1);
 HOLDS(turned_sequence_at, AT(rowkeeper_turned, sequence) == 2);
 HOLDS(turned_join_at, AT(rowkeeper_turned, join) == 3);
-HOLDS(ran_size, sizeof(rowkeeper_ran) == 1000);
+HOLDS(ran_size, sizeof(rowkeeper_ran) == 1008);
 HOLDS(ran_turns_at, AT(rowkeeper_ran, turns) == 0);
 HOLDS(ran_words_at, AT(rowkeeper_ran, words) == 1);
 HOLDS(ran_stop_at, AT(rowkeeper_ran, stop) == 2);
@@ -70,6 +71,26 @@ HOLDS(ran_join_at, AT(rowkeeper_ran, join) == 4);
 HOLDS(written_size, sizeof(rowkeeper_written) == 16);
 HOLDS(written_refusal_at, AT(rowkeeper_written, refusal) == 0);
 HOLDS(written_rows_at, AT(rowkeeper_written, rows) == 1);
+HOLDS(viewed_size, sizeof(rowkeeper_viewed) == 24);
+HOLDS(viewed_refusal_at, AT(rowkeeper_viewed, refusal) == 0);
+HOLDS(viewed_rows_at, AT(rowkeeper_viewed, rows) == 1);
+HOLDS(viewed_columns_at, AT(rowkeeper_viewed, columns) == 2);
+HOLDS(cell_size, sizeof(rowkeeper_cell) == 16);
+HOLDS(cell_value_at, AT(rowkeeper_cell, value) == 0);
+HOLDS(cell_mark_at, AT(rowkeeper_cell, mark) == 1);
+HOLDS(shown_size, sizeof(rowkeeper_shown) == 24);
+HOLDS(shown_refusal_at, AT(rowkeeper_shown, refusal) == 0);
+HOLDS(shown_value_at, AT(rowkeeper_shown, value) == 1);
+HOLDS(shown_mark_at, AT(rowkeeper_shown, mark) == 2);
+HOLDS(planned_size, sizeof(rowkeeper_planned) == 32);
+HOLDS(planned_refusal_at, AT(rowkeeper_planned, refusal) == 0);
+HOLDS(planned_rows_at, AT(rowkeeper_planned, rows) == 1);
+HOLDS(planned_turns_at, AT(rowkeeper_planned, turns) == 2);
+HOLDS(planned_rights_at, AT(rowkeeper_planned, rights) == 3);
+HOLDS(taken_size, sizeof(rowkeeper_taken) == 24);
+HOLDS(taken_refusal_at, AT(rowkeeper_taken, refusal) == 0);
+HOLDS(taken_rows_at, AT(rowkeeper_taken, rows) == 1);
+HOLDS(taken_number_at, AT(rowkeeper_taken, number) == 2);
 /* ---- tools/interface: end of layout */
 
 enum { WORDS = ROWKEEPER_JOIN_WORDS, LEFT = 20, RIGHT = 24, NO_WORD = WORDS };
@@ -88,6 +109,7 @@ static const field FIELDS[] = {
     FIELD(layout, ROWKEEPER_LAYOUT + 1), FIELD(options.by, 5), FIELD(options.strategy, 3), FIELD(options.allow_eq, 2), FIELD(options.tolerance, (uint64_t)-2),
     FIELD(options.check, 3), FIELD(options.descending, 2), FIELD(options.nulls_last, 2), FIELD(options.carried, 9),
     FIELD(options.ranks.given, 2), FIELD(options.ranks.column, 0), FIELD(options.ranks.count, 0), FIELD(options.ranks.codes, 0),
+    FIELD(options.with_distance, 2),
     FIELD(rising, 0), FIELD(base, 7), FIELD(held, 7), FIELD(pruned, (uint64_t)1 << 63), FIELD(queue_start, LEFT + 1), FIELD(queue_words, LEFT + 1),
     FIELD(state, 3), FIELD(right_ended, 2), FIELD(failed, 2), FIELD(sequence, 1),
     FIELD(last_left.some, 2), FIELD(last_left.values, 0), FIELD(last_left.marks, 0),
@@ -527,6 +549,81 @@ static void standing(void) {
     want(out[0] == -1 && out[1] == -1, "standing, the output of a refused call", NO_WORD);
 }
 
+/* Whether a cell has this value and mark. */
+static int is_cell(rowkeeper_cell cell, int64_t value, int64_t mark) {
+    return cell.value == value && cell.mark == mark;
+}
+
+/* Whether a reader shows this, in the three words of its answer. */
+static int shows(rowkeeper_shown shown, uint64_t refusal, int64_t value, int64_t mark) {
+    return shown.refusal == refusal && shown.value == value && shown.mark == mark;
+}
+
+/* Whether a view tells this, in the three words of its answer. */
+static int views(rowkeeper_viewed viewed, uint64_t refusal, uint64_t rows, uint64_t columns) {
+    return viewed.refusal == refusal && viewed.rows == rows && viewed.columns == columns;
+}
+
+/* What the readers bring at their place: p, the frame, the row and the column of each call, and each word of each answer. */
+static void readers(void) {
+    static const int64_t PRICED[] = {2, 2, 7, 1800, 9, 0, 1, 1, 1, 0}, FAR[] = {2, 3, 7, 1800, 5, 9, 0, 6, 1, 1, 1, 1, 0, 1};
+    want(views(rowkeeper_view_plain(1, PRICED, 10), 0, 2, 2), "the plain reader's view", NO_WORD);
+    want(views(rowkeeper_view_plain(1, FAR, 14), ROWKEEPER_BAD_COLUMNS, 0, 0), "the plain reader's view of a distance", NO_WORD);
+    want(views(rowkeeper_view_plain(1, PRICED, 9), ROWKEEPER_BAD_FRAME, 0, 0), "the plain reader's view, a word short", NO_WORD);
+    want(views(rowkeeper_view_plain(9, PRICED, 9), ROWKEEPER_TOO_MANY_CARRIED, 0, 0), "the plain reader's view, p 9", NO_WORD);
+    want(views(rowkeeper_view_distance(1, FAR, 14), 0, 2, 3), "the distance reader's view", NO_WORD);
+    want(views(rowkeeper_view_distance(1, PRICED, 10), 0, 2, 2), "the distance reader's view without one", NO_WORD);
+    want(views(rowkeeper_view_distance(2, PRICED, 10), ROWKEEPER_BAD_COLUMNS, 0, 0), "the distance reader's view, p 2", NO_WORD);
+    want(is_cell(rowkeeper_view_cell(2, 3, FAR, 14, 0, 1), 1800, 1), "a cell, row 0, column 1", NO_WORD);
+    want(is_cell(rowkeeper_view_cell(2, 3, FAR, 14, 1, 0), 9, 1), "a cell, row 1, column 0", NO_WORD);
+    want(is_cell(rowkeeper_view_cell(2, 3, FAR, 14, 1, 1), 0, 0), "a cell that is null", NO_WORD);
+    want(is_cell(rowkeeper_view_cell(2, 3, FAR, 14, 2, 1), 0, 0), "a cell below the last row", NO_WORD);
+    want(is_cell(rowkeeper_view_cell(2, 3, FAR, 14, 1, 3), 0, 0), "a cell beside the last column", NO_WORD);
+    want(is_cell(rowkeeper_view_cell(2, 3, FAR, 13, 0, 0), 0, 0), "a cell of words that are too short", NO_WORD);
+    want(is_cell(rowkeeper_view_cell((uint64_t)1 << 63, 2, FAR, 14, 0, 0), 0, 0), "a cell of counts that wrap", NO_WORD);
+    want(shows(rowkeeper_read_plain(1, PRICED, 10, 0, 1), 0, 1800, 1), "the plain reader", NO_WORD);
+    want(shows(rowkeeper_read_plain(1, PRICED, 10, 1, 0), 0, 9, 1), "the plain reader, row 1", NO_WORD);
+    want(shows(rowkeeper_read_plain(1, FAR, 14, 0, 1), ROWKEEPER_BAD_COLUMNS, 0, 0), "the plain reader of a distance", NO_WORD);
+    want(shows(rowkeeper_read_distance(1, FAR, 14, 0, 2), 0, 5, 1), "the distance reader", NO_WORD);
+    want(shows(rowkeeper_read_distance(1, FAR, 14, 1, 2), 0, 6, 1), "the distance reader, row 1", NO_WORD);
+    want(shows(rowkeeper_read_distance(1, PRICED, 10, 0, 2), 0, 0, 0), "the distance reader without one", NO_WORD);
+    want(shows(rowkeeper_read_distance(9, FAR, 14, 0, 2), ROWKEEPER_TOO_MANY_CARRIED, 0, 0), "the distance reader, p 9", NO_WORD);
+}
+
+/* What the readers show of what a turn wrote: sales 5, 20 and 25 over notices 10, 20 and 30 with a price each, with the distance and without. */
+static void read_turns(void) {
+    static const int64_t NOTICES[] = {3, 2, 10, 1800, 20, 2200, 30, 2500, 1, 1, 1, 1, 1, 1}, SALES[] = {3, 1, 5, 20, 25, 1, 1, 1};
+    static const int64_t NUMBERS[] = {0, 1, 1}, PRICES[] = {0, 2200, 2200}, DISTANCES[] = {0, 0, 5};
+    uint64_t i, distance;
+    for (distance = 0; distance < 2; distance++) {
+        rowkeeper_options options;
+        rowkeeper_join join;
+        int64_t out[20];
+        size_t words = 2 + 2 * 3 * (2 + (size_t)distance);
+        memset(&options, 0, sizeof options);
+        options.allow_eq = 1;
+        options.tolerance = ROWKEEPER_NO_TOLERANCE;
+        options.carried = 1;
+        options.with_distance = distance;
+        join = rowkeeper_open(options).join;
+        join = rowkeeper_right(join, left, LEFT, right, RIGHT, NOTICES, 14).join;
+        join = rowkeeper_left(join, left, LEFT, right, RIGHT, SALES, 8).join;
+        join = rowkeeper_end_right(join, left, LEFT, right, RIGHT).join;
+        want(rowkeeper_turn(join, left, LEFT, right, RIGHT, out, words).answer == ROWKEEPER_WROTE, "a turn that is read", NO_WORD);
+        want(views(rowkeeper_view_distance(1, out, words), 0, 3, 2 + distance), "the distance reader's view of a turn", NO_WORD);
+        want(views(rowkeeper_view_plain(1, out, words), distance ? ROWKEEPER_BAD_COLUMNS : 0, distance ? 0 : 3, distance ? 0 : 2),
+             "the plain reader's view of a turn", NO_WORD);
+        for (i = 0; i < 3; i++) {
+            want(shows(rowkeeper_read_distance(1, out, words, i, 0), 0, NUMBERS[i], i > 0), "the number of a turn's match", NO_WORD);
+            want(shows(rowkeeper_read_distance(1, out, words, i, 1), 0, PRICES[i], i > 0), "the price of a turn's match", NO_WORD);
+            want(shows(rowkeeper_read_distance(1, out, words, i, 2), 0, distance ? DISTANCES[i] : 0, distance && i > 0),
+                 "the distance of a turn's match", NO_WORD);
+            want(shows(rowkeeper_read_plain(1, out, words, i, 1), distance ? ROWKEEPER_BAD_COLUMNS : 0, distance ? 0 : PRICES[i], !distance && i > 0),
+                 "the price of a turn's match, by the plain reader", NO_WORD);
+        }
+    }
+}
+
 /* Alters each word of a fresh join in turn, then looks at each kind of answer; at last at the calls that have no join. */
 int main(void) {
     rowkeeper_options options;
@@ -550,6 +647,8 @@ int main(void) {
     spans();
     merge();
     standing();
+    readers();
+    read_turns();
     options.by = 5;
     took = rowkeeper_open(options);
     want(took.refusal == 1 && took.join.layout == ROWKEEPER_LAYOUT, "a refused opening", AT(rowkeeper_join, layout));

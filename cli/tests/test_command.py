@@ -69,7 +69,7 @@ class Help(Case):
 
     def test_page(self):
         """However help is asked for, the page comes."""
-        for words in (['--help'], ['-h'], ['join', '--help'], ['merge', '--help'], ['standing', '-h'], ['passes', '-h']):
+        for words in (['--help'], ['-h'], ['join', '--help'], ['merge', '--help'], ['standing', '-h'], ['passes', '-h'], ['takings', '-h']):
             run = apart(words)
             self.assertEqual((run.status, run.out, run.err), (0, PAGE, ''))
 

@@ -74,7 +74,7 @@ class Faults(Case):
         """What can be said once and is said twice is refused, also with the same value."""
         once = [('--on', 'm'), ('--left-on', 'm'), ('--right-on', 'm'), ('--strategy', 'forward'), ('--tolerance', '1'),
                 ('--output', 'x'), ('-o', 'x'), ('--rank', 'p=1'), ('--columns', 'a'), ('--prefix', 'a'), ('--separator', ';'),
-                ('--encoding', 'utf-8')]
+                ('--encoding', 'utf-8'), ('--distance', 'age')]
         for words in once:
             run = within(['join', 'none.csv', 'none.csv', '--by', 'p', *words, *words])
             self.refused(run, 'is said twice', 2)

@@ -181,18 +181,27 @@ class Frames:
 class Found:
     """The matches of all left rows, put together from those of frames."""
 
-    def __init__(self, rows, left_order, right_order):
+    def __init__(self, rows, left_order, right_order, distance=False):
         self.found, self.left_order, self.right_order, self.taken = numpy.empty(rows, dtype='i8'), left_order, right_order, 0
         if left_order is not None and len(left_order) < rows:
             self.found.fill(-1)
-        self.output = numpy.empty(2 + 2 * MOST_ROWS, dtype='i8')
+        self.far = nothing(rows) if distance else None
+        self.output = numpy.empty(2 + 2 * MOST_ROWS * (2 if distance else 1), dtype='i8')
 
     def take(self):
-        """Takes what a turn wrote: the right rows by their own places, for the left rows in theirs, -1 where there is none."""
-        height = int(self.output[0])
-        values, marks = self.output[2:2 + height], self.output[2 + height:2 + 2 * height]
+        """Takes what a turn wrote: the right rows by their own places, for the left rows in theirs, -1 where there is none, and
+        their distances."""
+        height, width = int(self.output[0]), int(self.output[1])
+        cells, marks = self.output[2:2 + 2 * height * width].reshape(2, height, width)
         places = slice(self.taken, self.taken + height)
         self.taken += height
+        if self.far is not None:
+            there = places if self.left_order is None else self.left_order[places]
+            self.far[there] = numpy.where(marks[:, 1], cells[:, 1], -1)
+        self.take_places(cells[:, 0], marks[:, 0], places)
+
+    def take_places(self, values, marks, places):
+        """Takes the numbers of right rows, for the left rows at these places as they were handed in."""
         if self.right_order is None and self.left_order is None:
             numpy.add(values, marks, out=self.found[places])
             self.found[places] -= 1
@@ -204,14 +213,14 @@ class Found:
         """All of them."""
         return self.found
 
+    def distances(self):
+        """All distances."""
+        return self.far
 
-class Nothing:
-    """No right row: the matches of left rows where there is none to match."""
 
-    @staticmethod
-    def positions(rows):
-        """-1 for each left row."""
-        return numpy.full(rows, -1, dtype='i8')
+def nothing(rows):
+    """-1 for each left row: there is nothing to match."""
+    return numpy.full(rows, -1, dtype='i8')
 
 
 def table_words(columns):
@@ -233,6 +242,13 @@ def cells_of(words, place):
     values, marks = numpy.frombuffer(words, dtype='i8')[2:].reshape(2, rows, width)
     valid = marks[:, place].astype(bool)
     return values[:, place].copy(), None if valid.all() else valid
+
+
+def numbers_of(words, before):
+    """The right rows' numbers that a turn wrote, with so many added, or -1."""
+    rows, width = words[0], words[1]
+    values, marks = numpy.frombuffer(words, dtype='i8')[2:2 + 2 * rows * width].reshape(2, rows, width)[:, :, 0]
+    return numpy.where(marks, values + before, -1)
 
 
 def notices_of(words):

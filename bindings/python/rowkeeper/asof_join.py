@@ -1,10 +1,16 @@
 """The join of two tables in memory: columns in, the places of the right rows out."""
+import collections
 import functools
 
 from . import interface as c
 from .columns import listed, same_length
 from .join import Join, Refused
 from .lent import lent
+
+
+AsOf = collections.namedtuple('AsOf', 'rows distances')
+AsOf.__doc__ = """What `asof` tells with distances: for each left row the place of the right row that it takes, or -1, and the
+distance of the two keys, in their own unit: -1 where there is no match, or the distance is above 2^63 - 1."""
 
 
 @functools.lru_cache(maxsize=None)
@@ -81,15 +87,16 @@ def matched(join, lefts, rights, found):
                 hand_in_right(join, right, length) if length else join.end_right()
 
 
-def positions(left, right, strategy, allow_exact_matches, tolerance, ranks=None):
-    """The place of each left row's right row, or -1. The tables are sorted: the library is not asked to check it again."""
+def found_by(left, right, strategy, allow_exact_matches, tolerance, ranks=None, distance=False):
+    """The place of each left row's right row, or -1, and with `distance` their distances, else None. The tables are sorted: the
+    library is not asked to check it again."""
     join = Join(by=len(left.by), strategy=strategy, allow_exact_matches=allow_exact_matches, tolerance=tolerance, check='off',
-                right_rows=4 * c.MOST_ROWS, ranks=ranks)
+                right_rows=4 * c.MOST_ROWS, ranks=ranks, distance=distance)
     if not right.rows or right.order is not None and not len(right.order):
-        return tools().Nothing.positions(left.rows)
-    found = tools().Found(left.rows, left.order, right.order)
+        return AsOf(tools().nothing(left.rows), tools().nothing(left.rows) if distance else None)
+    found = tools().Found(left.rows, left.order, right.order, distance)
     matched(join, left.frames(), right.frames(), found)
-    return found.positions()
+    return AsOf(found.positions(), found.distances() if distance else None)
 
 
 def judge_options(strategy, allow_exact_matches, tolerance):
@@ -102,9 +109,11 @@ def judge_options(strategy, allow_exact_matches, tolerance):
         raise ValueError(f'tolerance {tolerance!r} is no whole number from 0 to 2^63 - 1')
 
 
-def asof(left_on, right_on, left_by=None, right_by=None, strategy='backward', allow_exact_matches=True, tolerance=None):
+def asof(left_on, right_on, left_by=None, right_by=None, strategy='backward', allow_exact_matches=True, tolerance=None,
+         distance=False):
     """For each left row the place of the right row that it takes, or -1: 64-bit numbers, in an array of numpy if it is
-    there, else in one of the module array.
+    there, else in one of the module array. With `distance` a pair of such arrays, `rows` and `distances`: behind the places how
+    far the two keys are apart, in their own unit, -1 where there is no match or the distance is above 2^63 - 1.
 
     Keys and by-columns are anything with the buffer protocol of whole numbers, of any width, or arrays of numpy, those of
     datetime64 and timedelta64 too; nulls are told by a masked array, by NaT, or by a Column. `left_by` and `right_by` are a
@@ -120,9 +129,14 @@ def asof(left_on, right_on, left_by=None, right_by=None, strategy='backward', al
     >>> from array import array
     >>> list(asof(array('q', [5, 20, 25]), array('q', [10, 20, 20, 30])))
     [-1, 2, 2]
+    >>> rows, distances = asof(array('q', [5, 20, 25]), array('q', [10, 20, 20, 30]), distance=True)
+    >>> list(distances)
+    [-1, 0, 5]
     """
     judge_options(strategy, allow_exact_matches, tolerance)
     left, right = sides(left_on, right_on, left_by, right_by)
     for side, name in ((left, 'left_on'), (right, 'right_on')):
         tools().check_order(side.keys, side.groups, side.order, name)
-    return positions(left, right, strategy, allow_exact_matches, None if tolerance is None else int(tolerance))
+    tolerance = None if tolerance is None else int(tolerance)
+    found = found_by(left, right, strategy, allow_exact_matches, tolerance, distance=distance)
+    return found if distance else found.rows

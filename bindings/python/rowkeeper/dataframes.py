@@ -247,8 +247,17 @@ def put_together(left, right, places, positions, index, pandas):
     return pandas.DataFrame(dict(enumerate(columns)), index=index, copy=False)
 
 
+def distance_column(distances, dtype, numpy, pandas):
+    """Distances, -1 for none, as a column: those of times as timedelta64 in the key's unit, with NaT, else nullable numbers."""
+    none = distances < 0
+    if dtype.kind in 'mM':
+        return numpy.where(none, numpy.iinfo('i8').min, distances).view(f'm8[{numpy.datetime_data(dtype)[0]}]')
+    return pandas.arrays.IntegerArray(numpy.where(none, 0, distances), none)
+
+
 def merge_asof(left, right, on=None, left_on=None, right_on=None, left_index=False, right_index=False, by=None, left_by=None,
-               right_by=None, suffixes=('_x', '_y'), tolerance=None, allow_exact_matches=True, direction='backward', ranks=None):
+               right_by=None, suffixes=('_x', '_y'), tolerance=None, allow_exact_matches=True, direction='backward', ranks=None,
+               distance=None):
     """pandas.merge_asof over the proved join: the same parameters, and the same columns, order, dtypes and index come out.
 
     Keys are whole numbers, datetime64 or timedelta64, of one dtype on both sides, without nulls, and ascend. By-columns are
@@ -258,6 +267,9 @@ def merge_asof(left, right, on=None, left_on=None, right_on=None, left_index=Fal
     `ranks`, which pandas does not have, names one by-column, by its left name, and all its values in their order, 1 to 64, each
     once: {'band': ['stalls', 'circle', 'gods']}. The join is then opened with this list, and its rows are handed in in this
     order. It changes no match; a by-value that is not listed, on either side, is a ValueError.
+
+    `distance`, which pandas does not have either, is the name of one more column, the last: how far the two keys are apart, null
+    where there is no match or it is above 2^63 - 1. Of times it is a timedelta64 of their unit, of numbers an Int64.
 
     What differs from pandas, by rule:
     - nearest, of two rows as near, takes the one ahead, and of equal keys ahead the last; pandas takes the one behind, and
@@ -270,7 +282,7 @@ def merge_asof(left, right, on=None, left_on=None, right_on=None, left_index=Fal
     - numpy.timedelta64 is taken as a tolerance too, and so are nullable integers as keys.
     """
     numpy, pandas, arrays = modules()
-    from .asof_join import Side, judge_options, positions
+    from .asof_join import Side, found_by, judge_options
     judge_options(direction, allow_exact_matches, None)
     if left_index and not right_index:
         raise ValueError('left_index is taken with right_index alone: name the left key by left_on')
@@ -283,10 +295,14 @@ def merge_asof(left, right, on=None, left_on=None, right_on=None, left_index=Fal
     groups = groups_of(left, right, keys, ranks, *tools)
     places = kept_columns(left, right, keys)
     names = suffixed(left.columns[places[0]], right.columns[places[1]], suffixes)
+    if distance is not None and any(distance in each for each in names):
+        raise ValueError(f'distance: {distance!r} is the name of another column')
     sides = [Side(*each) for each in zip(numbers, groups.numbers, (None, None), groups.columns)]
-    found = positions(*sides, direction, allow_exact_matches, tolerance, groups.ranks)
+    found = found_by(*sides, direction, allow_exact_matches, tolerance, groups.ranks, distance is not None)
     index = left.index if len(left) or not right_index else right.index[:0]
     index = index if left_index or right_index else pandas.RangeIndex(len(left))
-    result = put_together(left, right, places, found, index, pandas)
+    result = put_together(left, right, places, found.rows, index, pandas)
     result.columns = names[0].append(names[1])
+    if distance is not None:
+        result[distance] = distance_column(found.distances, dtype, numpy, pandas)
     return result

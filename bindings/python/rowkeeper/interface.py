@@ -3,11 +3,11 @@ import ctypes
 from ctypes import c_int64, c_size_t, c_uint8, c_uint64, c_void_p
 
 # The version of the library that these declarations are of.
-VERSION = '0.4.0'
-VERSION_NUMBER = 4000
+VERSION = '0.5.0'
+VERSION_NUMBER = 5000
 
 # The name of its shared object, which has another number if a host must be compiled anew.
-SONAME = 'librowkeeper.so.2'
+SONAME = 'librowkeeper.so.3'
 
 # The rows that a frame can have at most.
 MOST_ROWS = 4096
@@ -24,8 +24,8 @@ MOST_RANKS = 64
 # options.tolerance if any distance will do.
 NO_TOLERANCE = -1
 
-# join.layout: the bytes "rowkeep" from the highest down, then the layout's version, 3.
-LAYOUT = 0x726f776b65657003
+# join.layout: the bytes "rowkeep" from the highest down, then the layout's version, 4.
+LAYOUT = 0x726f776b65657004
 
 # options.strategy
 BACKWARD = 0
@@ -75,7 +75,10 @@ BAD_RANKS = 11
 UNKNOWN_CODE = 12
 BAD_COLUMNS = 13
 UNSORTED = 14
+BEYOND = 15
 BAD_POINTS = 16
+BAD_HEIGHTS = 17
+BAD_BOUNDARIES = 18
 
 # What each refusal says.
 REFUSALS = {
@@ -91,9 +94,12 @@ REFUSALS = {
     10: 'there are more than 8 carried columns',
     11: 'the list of ranks is empty or too long, has a code twice or is for no by-column',
     12: 'the by-column with a list of ranks has a value that is not on the list',
-    13: 'there is no such column',
+    13: 'there is no such column, or the reader does not know frames of so many columns',
     14: 'the table is not sorted',
+    15: 'an amount, a count or a sum is beyond its limits',
     16: 'a point is null, or greater than the next',
+    17: 'the heights do not add up to their table, or one is no height of a frame',
+    18: 'the boundaries are too many, null or out of order, or there are no by-columns',
 }
 
 
@@ -106,7 +112,7 @@ class Options(ctypes.Structure):
     """What a join is opened with. Flags are 0 or 1, also those past `by`."""
     _fields_ = [('by', c_uint64), ('strategy', c_uint64), ('allow_eq', c_uint64), ('tolerance', c_int64),
                 ('check', c_uint64), ('descending', c_uint64 * 4), ('nulls_last', c_uint64 * 4),
-                ('carried', c_uint64), ('ranks', Ranks)]
+                ('carried', c_uint64), ('ranks', Ranks), ('with_distance', c_uint64)]
 
 
 class Row(ctypes.Structure):
@@ -115,7 +121,7 @@ class Row(ctypes.Structure):
 
 
 class Join(ctypes.Structure):
-    """A join: 121 words, no padding. A host may read every field and need not."""
+    """A join: 122 words, no padding. A host may read every field and need not."""
     _fields_ = [('layout', c_uint64), ('options', Options), ('rising', c_uint8 * 64), ('base', c_uint64),
                 ('held', c_uint64), ('pruned', c_uint64), ('queue_start', c_uint64), ('queue_words', c_uint64),
                 ('state', c_uint64), ('right_ended', c_uint64), ('failed', c_uint64), ('sequence', c_uint64),
@@ -147,6 +153,31 @@ class Written(ctypes.Structure):
     _fields_ = [('refusal', c_uint64), ('rows', c_uint64)]
 
 
+class Viewed(ctypes.Structure):
+    """The answer of a reader's view."""
+    _fields_ = [('refusal', c_uint64), ('rows', c_uint64), ('columns', c_uint64)]
+
+
+class Cell(ctypes.Structure):
+    """A cell of a frame, as its two words."""
+    _fields_ = [('value', c_int64), ('mark', c_int64)]
+
+
+class Shown(ctypes.Structure):
+    """The answer of a reader for one place."""
+    _fields_ = [('refusal', c_uint64), ('value', c_int64), ('mark', c_int64)]
+
+
+class Planned(ctypes.Structure):
+    """The answer of a plan: the figures of its schedule, all 0 if refused."""
+    _fields_ = [('refusal', c_uint64), ('rows', c_uint64), ('turns', c_uint64), ('rights', c_uint64)]
+
+
+class Taken(ctypes.Structure):
+    """The answer of a call over takings."""
+    _fields_ = [('refusal', c_uint64), ('rows', c_uint64), ('number', c_int64)]
+
+
 # What each call takes and gives. Words are a pointer and a length.
 CALLS = {
     'rowkeeper_open': ([Options], Took),
@@ -160,5 +191,17 @@ CALLS = {
     'rowkeeper_spans': ([c_void_p, c_size_t, c_void_p, c_size_t, c_uint64, c_uint64, c_void_p, c_size_t], Written),
     'rowkeeper_merge': ([Options, c_void_p, c_size_t, c_void_p, c_size_t, c_void_p, c_size_t], Written),
     'rowkeeper_standing': ([Options, c_void_p, c_size_t, c_uint64, c_void_p, c_size_t], Written),
+    'rowkeeper_view_plain': ([c_uint64, c_void_p, c_size_t], Viewed),
+    'rowkeeper_view_distance': ([c_uint64, c_void_p, c_size_t], Viewed),
+    'rowkeeper_view_cell': ([c_uint64, c_uint64, c_void_p, c_size_t, c_uint64, c_uint64], Cell),
+    'rowkeeper_read_plain': ([c_uint64, c_void_p, c_size_t, c_uint64, c_uint64], Shown),
+    'rowkeeper_read_distance': ([c_uint64, c_void_p, c_size_t, c_uint64, c_uint64], Shown),
+    'rowkeeper_plan': ([Options, c_void_p, c_size_t, c_void_p, c_size_t, c_void_p, c_size_t, c_void_p,
+                        c_size_t], Planned),
+    'rowkeeper_cut': ([Options, c_uint64, c_void_p, c_size_t, c_void_p, c_size_t, c_void_p, c_size_t], Written),
+    'rowkeeper_takings_add': ([Options, c_void_p, c_size_t, c_int64, c_void_p, c_size_t, c_void_p, c_size_t, c_void_p,
+                               c_size_t], Taken),
+    'rowkeeper_takings_join': ([Options, c_void_p, c_size_t, c_int64, c_void_p, c_size_t, c_int64, c_void_p,
+                                c_size_t], Taken),
     'rowkeeper_version': ([], c_uint64),
 }

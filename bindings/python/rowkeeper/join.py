@@ -67,7 +67,7 @@ def ranks_of(ranks):
 
 
 def options(by=0, strategy='backward', allow_exact_matches=True, tolerance=None, check='on', descending=(), nulls_last=(),
-            carried=0, ranks=None):
+            carried=0, ranks=None, distance=False):
     """The options of a join in numbers. What no number can say is said by one that is refused; a name that is none, more flags
     than columns, or a list of ranks that is none, is a ValueError."""
     if strategy not in c.STRATEGIES:
@@ -83,14 +83,15 @@ def options(by=0, strategy='backward', allow_exact_matches=True, tolerance=None,
                      tolerance=c.NO_TOLERANCE if tolerance is None else tolerance, check=c.CHECKS.index(check),
                      descending=types['descending'](*map(bool, descending)),
                      nulls_last=types['nulls_last'](*map(bool, nulls_last)),
-                     carried=number_or_bad(carried), ranks=ranks_of(ranks))
+                     carried=number_or_bad(carried), ranks=ranks_of(ranks), with_distance=bool(distance))
 
 
 class Matches:
-    """What a turn wrote: for each left row of its frame the right row and what that carries, seen in the output's words."""
+    """What a turn wrote: for each left row of its frame the right row and what that carries, seen in the output's words; with
+    `distance` the distance of the two keys too."""
 
-    def __init__(self, words):
-        rows, self.columns = words[0], words[1]
+    def __init__(self, words, distance=False):
+        rows, self.columns, self.distance = words[0], words[1], distance
         self.words = words[:2 + 2 * rows * self.columns]
         self.values, self.marks = self.words[2:2 + rows * self.columns], self.words[2 + rows * self.columns:]
 
@@ -101,7 +102,7 @@ class Matches:
     @property
     def carried(self):
         """How many columns right rows carry."""
-        return self.columns - 1
+        return self.columns - 1 - self.distance
 
     def numbers(self):
         """For each left row the number of its right row, or None."""
@@ -116,13 +117,24 @@ class Matches:
         """For each left row what its right row carries in a column, from 0: None for a null and where there is no match."""
         if not 0 <= column < self.carried:
             raise IndexError(f'the join carries {self.carried} columns, and {column} is none of them')
-        values, marks = self.values[1 + column::self.columns], self.marks[1 + column::self.columns]
+        return self._column(1 + column)
+
+    def distances(self):
+        """For each left row the distance of its key from that of its right row: None where there is no match, or the distance is
+        above 2^63 - 1. ValueError if the join was opened without distances."""
+        if not self.distance:
+            raise ValueError('the join was opened without distances')
+        return self._column(self.columns - 1)
+
+    def _column(self, place):
+        """A column of the answer, None for a null."""
+        values, marks = self.values[place::self.columns], self.marks[place::self.columns]
         return [value if mark else None for value, mark in zip(values, marks)]
 
     def rows(self):
-        """For each left row a tuple, the number of its right row and the cells that it carries, or None where there is no
-        match."""
-        columns = [self.cells(column) for column in range(self.carried)]
+        """For each left row a tuple, the number of its right row, the cells that it carries, and the distance if the join tells
+        distances, or None where there is no match."""
+        columns = [self._column(place) for place in range(1, self.columns)]
         return [None if row[0] is None else row for row in zip(self.numbers(), *columns)]
 
 
@@ -148,11 +160,19 @@ class Join:
     >>> join.end_right()
     >>> join.turn().matches.numbers()
     [0, 1]
+
+    With `distance` an answer tells the distance of the two keys too, None if it is above 2^63 - 1:
+
+    >>> join = Join(distance=True)
+    >>> join.right(array('q', [4, 1,  10, 20, 20, 30,  1, 1, 1, 1]))
+    >>> join.left(array('q', [3, 1,  5, 20, 25,  1, 1, 1]))
+    >>> join.turn().matches.distances()
+    [None, 0, 5]
     """
 
     def __init__(self, by=0, strategy='backward', allow_exact_matches=True, tolerance=None, check='on', descending=(),
-                 nulls_last=(), carried=0, left_rows=c.MOST_ROWS, right_rows=2 * c.MOST_ROWS, ranks=None):
-        given = options(by, strategy, allow_exact_matches, tolerance, check, descending, nulls_last, carried, ranks)
+                 nulls_last=(), carried=0, left_rows=c.MOST_ROWS, right_rows=2 * c.MOST_ROWS, ranks=None, distance=False):
+        given = options(by, strategy, allow_exact_matches, tolerance, check, descending, nulls_last, carried, ranks, distance)
         took = library().rowkeeper_open(given)
         expect(took.refusal)
         self._set(took.join, Area(2 + 2 * left_rows * (by + 1)), Area(2 * right_rows * (by + 1 + carried)))
@@ -200,9 +220,19 @@ class Join:
             self._took(ported)
         return Ports(ported.left, ported.right, ported.send)
 
+    @property
+    def tells_distance(self):
+        """Whether answers tell the distance."""
+        return self._words.options.with_distance == 1
+
+    @property
+    def answer_columns(self):
+        """The columns of an answer. A join that says it carries more than it may is refused."""
+        return 1 + min(self._words.options.carried, c.MOST_CARRIED) + self.tells_distance
+
     def output_words(self):
-        """The words of an output that is enough for any turn. A join that says it carries more than it may is refused."""
-        return 2 + 2 * c.MOST_ROWS * (1 + min(self._words.options.carried, c.MOST_CARRIED))
+        """The words of an output that is enough for any turn."""
+        return 2 + 2 * c.MOST_ROWS * self.answer_columns
 
     def turn_at(self, address, length):
         """A turn's answer alone, over an output by its place. Whoever calls it has it lent."""
@@ -222,13 +252,13 @@ class Join:
         answer = self.turn_into(output)
         if answer != c.WROTE:
             return Turn(answer, None, None)
-        return Turn(answer, sequence, Matches(memoryview(output).cast('B').cast('q')))
+        return Turn(answer, sequence, Matches(memoryview(output).cast('B').cast('q'), self.tells_distance))
 
     def run(self, turns=None, output=None):
         """A run: so many turns at most, or as many as can be, each writing behind the one before; the first that does not write
         ends it. A turn that is refused is told and not raised: what the turns before it wrote stands."""
         if output is None:
-            output = Area(self._words.queue_words * (1 + self._words.options.carried)).words()
+            output = Area(self._words.queue_words * self.answer_columns).words()
         first, most = self._words.sequence, 2**64 - 1 if turns is None else min(max(turns, 0), 2**64 - 1)
         with self._lock, lent(output, 'the output', write=True) as words:
             ran = self._library.rowkeeper_run(self._words, most, *self._areas, *words)
@@ -236,12 +266,11 @@ class Join:
         refusal = Refused(ran.refusal) if ran.stop == c.REFUSED else None
         return Run(ran.stop, refusal, self._turns(memoryview(output).cast('B').cast('q'), first, ran.turns))
 
-    @staticmethod
-    def _turns(words, first, count):
+    def _turns(self, words, first, count):
         """What the turns of a run wrote, one behind the other."""
         turns = []
         for turn in range(count):
-            matches = Matches(words)
+            matches = Matches(words, self.tells_distance)
             turns.append(Turn(c.WROTE, first + 2 * turn, matches))
             words = words[len(matches.words):]
         return turns

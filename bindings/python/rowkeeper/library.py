@@ -8,10 +8,14 @@ import sys
 from .interface import CALLS, SONAME, VERSION, VERSION_NUMBER
 
 HERE = os.path.dirname(os.path.realpath(__file__))
-# The repository, if this package is in it.
-ROOT = os.path.dirname(os.path.dirname(os.path.dirname(HERE)))
-# What makes the shared object there, from dist/.
-MAKER = os.path.join(ROOT, 'tools', 'parts')
+# The repository, if this package is in it; or what an unpacked source archive has of it.
+ROOT = next((each for each in (os.path.dirname(os.path.dirname(os.path.dirname(HERE))), os.path.join(os.path.dirname(HERE), 'library'))
+             if os.path.exists(os.path.join(each, 'dist', 'rowkeeper.s')) and os.path.exists(os.path.join(each, 'tools', 'parts', 'library.py'))), None)
+
+
+def below(*names):
+    """A path in the repository."""
+    return os.path.join(ROOT, *names)
 
 
 class NoLibrary(ImportError):
@@ -22,17 +26,19 @@ def maker():
     """The repository's maker of the library, as a module under a name of its own: a host may have a module `tools`."""
     name = 'rowkeeper_parts'
     if name not in sys.modules:
-        spec = importlib.util.spec_from_file_location(name, os.path.join(MAKER, '__init__.py'), submodule_search_locations=[MAKER])
+        spec = importlib.util.spec_from_file_location(name, below('tools', 'parts', '__init__.py'),
+                                                      submodule_search_locations=[below('tools', 'parts')])
         sys.modules[name] = importlib.util.module_from_spec(spec)
         spec.loader.exec_module(sys.modules[name])
     return importlib.import_module(f'{name}.library')
 
 
 def from_dist():
-    """The shared object of the repository; if crates were edited and dist/ was not made again, a line says so."""
+    """The shared object of the repository; if crates were edited and dist/ was not made again, a line says so. A source archive
+    has no crates."""
     library = maker()
     try:
-        if not os.environ.get('ROWKEEPER_ARCHIVE') and library.stale():
+        if not os.environ.get('ROWKEEPER_ARCHIVE') and os.path.exists(below('crates.txt')) and library.stale():
             print(f'rowkeeper: {library.stale()}', file=sys.stderr, flush=True)
         return library.shared()
     except library.Missing as missing:
@@ -45,9 +51,7 @@ def place():
     beside = os.path.join(HERE, SONAME)
     if os.path.exists(beside):
         return beside
-    if os.path.exists(os.path.join(ROOT, 'dist', 'rowkeeper.s')) and os.path.exists(os.path.join(MAKER, 'library.py')):
-        return from_dist()
-    return SONAME
+    return SONAME if ROOT is None else from_dist()
 
 
 def loaded(path):

@@ -121,15 +121,28 @@ class Frames:
 class Found:
     """The matches of all left rows, put together from those of frames."""
 
-    def __init__(self, rows, left_order, right_order):
+    def __init__(self, rows, left_order, right_order, distance=False):
         self.rows, self.left_order, self.right_order, self.matches = rows, left_order, right_order, array('q')
-        self.output = array('q', bytes(8 * (2 + 2 * MOST_ROWS)))
+        self.far = array('q') if distance else None
+        self.output = array('q', bytes(8 * (2 + 2 * MOST_ROWS * (2 if distance else 1))))
 
     def take(self):
-        """Takes what a turn wrote: its numbers, -1 where there is none."""
-        height = self.output[0]
-        values, marks = self.output[2:2 + height], self.output[2 + height:2 + 2 * height]
-        self.matches.extend(map((-1).__add__, map(operator.add, values, marks)))
+        """Takes what a turn wrote: its numbers, -1 where there is none, and the distances."""
+        self.matches.extend(self.column(0))
+        if self.far is not None:
+            self.far.extend(self.column(1))
+
+    def column(self, place):
+        """A column of what a turn wrote, -1 for a null, whose value is 0."""
+        width, size = self.output[1], self.output[0] * self.output[1]
+        values, marks = self.output[2 + place:2 + size:width], self.output[2 + size + place:2 + 2 * size:width]
+        return map((-1).__add__, map(operator.add, values, marks))
+
+    def in_place(self, found):
+        """What was found for the left rows as they were handed in, for the left rows in their places."""
+        if self.left_order is None:
+            return found
+        return array('q', map(dict(zip(self.left_order, found)).get, range(self.rows), repeat(-1)))
 
     def positions(self):
         """The right rows by their own places, for the left rows in theirs."""
@@ -137,18 +150,16 @@ class Found:
         if self.right_order is not None:
             places = dict(enumerate(self.right_order))
             found = array('q', map(places.get, found, repeat(-1)))
-        if self.left_order is None:
-            return found
-        return array('q', map(dict(zip(self.left_order, found)).get, range(self.rows), repeat(-1)))
+        return self.in_place(found)
+
+    def distances(self):
+        """The distances, for the left rows in their places."""
+        return self.in_place(self.far)
 
 
-class Nothing:
-    """No right row: the matches of left rows where there is none to match."""
-
-    @staticmethod
-    def positions(rows):
-        """-1 for each left row."""
-        return array('q', [-1]) * rows
+def nothing(rows):
+    """-1 for each left row: there is nothing to match."""
+    return array('q', [-1]) * rows
 
 
 def table_words(columns):
@@ -168,6 +179,13 @@ def cells_of(words, place):
     size, width = words[0] * words[1], words[1]
     valid = bytes(iter(words[2 + size + place::width]))
     return array('q', words[2 + place:2 + size:width]), None if all(valid) else valid
+
+
+def numbers_of(words, before):
+    """The right rows' numbers that a turn wrote, with so many added, or -1."""
+    cells, width = words[0] * words[1], words[1]
+    values, marks = words[2:2 + cells:width], words[2 + cells:2 + 2 * cells:width]
+    return array('q', map((-1).__add__, map(operator.mul, map((before + 1).__add__, values), marks)))
 
 
 def notices_of(words):

@@ -1,5 +1,5 @@
-"""The calls over whole tables, without a join: which points lie inside which intervals, two sorted books as one, and which notices of
-a book stand."""
+"""The calls over whole tables, without a join: which points lie inside which intervals, two sorted books as one, which notices of a book
+stand, how large an area a join over two tables wants, and where a table is cut for groups."""
 import collections
 from array import array
 
@@ -12,6 +12,8 @@ from .library import library
 
 # The pairs that the output of one call of spans has room for: those of 16 intervals with any points of a frame.
 PAIRS = 16 * c.MOST_ROWS
+# The sides that a table can be of, in the order of the numbers that the library has for them.
+SIDES = ('left', 'right')
 
 Spans = collections.namedtuple('Spans', 'intervals points')
 Spans.__doc__ = """Which points lie inside which intervals, in two columns of 64-bit numbers: the row of an interval, and the row of a point
@@ -20,6 +22,10 @@ Standing = collections.namedtuple('Standing', 'stands last')
 Standing.__doc__ = """For each row of a book whether it stands (an array of bool of numpy if it is there, else bytes of 0 and 1), and, if it does
 not, the row that is the last of its group and key, its own if that row withdraws; -1 if it stands, and if its key or a by-value is
 null."""
+
+Plan = collections.namedtuple('Plan', 'rows turns rights')
+Plan.__doc__ = """What a join over two tables comes to if all left frames wait and a right frame is handed in when a turn wants one: the most
+right rows held at once, the turn calls up to the last frame written, and the right frames taken."""
 
 
 class Table:
@@ -88,13 +94,17 @@ def words_of(table):
     return table.words if isinstance(table, Table) else table
 
 
-def judged_options(words, by, descending, nulls_last, carried, ranks):
+def width_of(words):
+    """How many columns the words of a table say that it has; 0 where they are too few to say it."""
+    return memoryview(words).cast('B').cast('q')[1] if memoryview(words).nbytes >= 2 * WORD else 0
+
+
+def judged_options(words, by, descending, nulls_last, carried, ranks, **how):
     """The options of a call over tables. Where nothing is said of carried columns, they are all that a table's words have behind the
     key; words that are no table are refused by the call."""
     if carried is None:
-        width = memoryview(words).cast('B').cast('q')[1] if memoryview(words).nbytes >= 2 * WORD else 0
-        carried = max(0, width - by - 1)
-    return options(by=by, descending=descending, nulls_last=nulls_last, carried=carried, ranks=ranks)
+        carried = max(0, width_of(words) - by - 1)
+    return options(by=by, descending=descending, nulls_last=nulls_last, carried=carried, ranks=ranks, **how)
 
 
 def merge(house, festival, by=0, descending=(), nulls_last=(), carried=None, ranks=None):
@@ -136,6 +146,64 @@ def standing(book, withdrawn, by=0, descending=(), nulls_last=(), carried=None, 
         written = library().rowkeeper_standing(given, *words, number_or_bad(withdrawn), *output.lent())
         expect(written.refusal)
     return Standing(*asof_join.tools().notices_of(output.words()[:2 + 4 * written.rows]))
+
+
+def cut(table, boundaries, side='left', by=None, descending=(), nulls_last=(), carried=None, ranks=None):
+    """The places, in rows, at which a sorted table is cut for each of at most 16 boundary groups: before its first row whose group is
+    not less than the boundary in the declared order, or behind its last row. A table of `side` 'left' has `by` by-columns and the
+    key, one of 'right' may carry columns behind these. Boundaries are a Table, a list of columns or words, as the table is, of the
+    by-columns alone: one group a row, ascending strictly, none null. Where `by` is None it is how many columns they have.
+
+    Both tables of a join cut at these places, each pair of parts joined by itself and the answers appended, with the right rows of
+    the parts before added to each right number, are the answers of the uncut tables.
+
+    ValueError says what is wrong with a column or the side; Refused, by the library's number, what is wrong with options or words,
+    that the table is not sorted (14), or that the boundaries are too many, null or out of order (18).
+
+    Five sales of performances 1, 1, 2, 4 and 4, cut at 2 and 3:
+
+    >>> cut([array('q', [1, 1, 2, 4, 4]), array('q', [10, 20, 5, 7, 9])], [array('q', [2, 3])])
+    [2, 3]
+    """
+    if side not in SIDES:
+        raise ValueError(f'side {side!r} is none of {", ".join(SIDES)}')
+    table, boundaries = words_of(table), words_of(boundaries)
+    with lent(table, 'table') as rows, lent(boundaries, 'boundaries') as groups:
+        by = width_of(boundaries) if by is None else by
+        given = judged_options(table, by, descending, nulls_last, 0 if side == 'left' and carried is None else carried, ranks)
+        output = Area(max(2, 2 + (groups[1] - 2) // max(1, min(by, c.MOST_BY))))
+        written = library().rowkeeper_cut(given, SIDES.index(side), *rows, *groups, *output.lent())
+        expect(written.refusal)
+    return output.words()[2:2 + written.rows].tolist()
+
+
+def heights_of(heights, words):
+    """Heights as words: those that are given, or full frames of all rows and one of those that are left."""
+    if heights is None:
+        rows = memoryview(words).cast('B').cast('q')[0] if memoryview(words).nbytes >= WORD else 0
+        heights = [c.MOST_ROWS] * (rows // c.MOST_ROWS) + [rows % c.MOST_ROWS] * (rows % c.MOST_ROWS > 0)
+    return array('q', heights) if isinstance(heights, (list, tuple)) else heights
+
+
+def plan(left, right, left_heights=None, right_heights=None, by=0, strategy='backward', allow_exact_matches=True, descending=(),
+         nulls_last=(), carried=None, ranks=None):
+    """Works out, as a Plan, how many right rows a join over two sorted tables holds at most, with no match made. A join with
+    `right_rows` of so many refuses no right frame by 6; one with a row less does, unless it is 0. Tables and options are those of
+    `merge` and of a Join; the left table has no carried columns. The heights are the rows of each frame, in order; where none are given,
+    frames are full. Refused, by 17, tells heights that are no frames' or do not add up to their table.
+
+    >>> plan([array('q', [5, 15, 20, 25])], [array('q', [10, 20, 20, 30, 40])], [2, 2], [2, 2, 1])
+    Plan(rows=4, turns=4, rights=2)
+    """
+    left, right = words_of(left), words_of(right)
+    left_heights, right_heights = heights_of(left_heights, left), heights_of(right_heights, right)
+    with lent(left, 'left') as one, lent(right, 'right') as other:
+        with lent(left_heights, 'left_heights') as these, lent(right_heights, 'right_heights') as those:
+            given = judged_options(right, by, descending, nulls_last, carried, ranks, strategy=strategy,
+                                   allow_exact_matches=allow_exact_matches)
+            planned = library().rowkeeper_plan(given, *one, *other, *these, *those)
+            expect(planned.refusal)
+    return Plan(planned.rows, planned.turns, planned.rights)
 
 
 class Covering:

@@ -16,6 +16,12 @@ def may(strategy, exact, tolerance, key, other):
     return on_side and (exact or other != key) and (tolerance is None or abs(other - key) <= tolerance)
 
 
+def distances(left, right, found):
+    """For each left row the distance of its key from that of the right row at this place, -1 for none or above 2^63 - 1."""
+    far = [-1 if place < 0 else abs(row[-1] - right[place][-1]) for row, place in zip(left, found)]
+    return [number if number < 2**63 else -1 for number in far]
+
+
 def positions(left, right, strategy, exact=True, tolerance=None):
     """For each left row, (group, …, key) with None for a null, the place of its right row or -1."""
     found = []

@@ -6,10 +6,10 @@ import unittest
 from array import array
 from unittest import mock
 
-from rowkeeper import Column, asof, asof_join, plain
+from rowkeeper import AsOf, Column, asof, asof_join, plain
 from rowkeeper.interface import MOST_ROWS, STRATEGIES
 
-from .judge import positions
+from .judge import distances, positions
 
 try:
     import numpy
@@ -55,11 +55,11 @@ class Tables:
             rows[place] = row
         return rows
 
-    def found(self):
+    def found(self, **more):
         """What the module answers."""
         columns = [[column([row[place] for row in side]) for place in range(self.by + 1)] for side in (self.left, self.right)]
         (*left_by, left), (*right_by, right) = columns
-        return asof(left, right, left_by, right_by, self.strategy, self.exact, self.tolerance)
+        return asof(left, right, left_by, right_by, self.strategy, self.exact, self.tolerance, **more)
 
 
 def ranked_side(kind, rows, codes):
@@ -84,6 +84,34 @@ class Asof(unittest.TestCase):
                     matched += sum(place >= 0 for place in found)
             self.assertGreater(matched, 3 * TABLES)
 
+    def test_distances(self):
+        """Random tables, both ends of the 64-bit range among their keys: the same places, and the distances, of both modules."""
+        for kind in KINDS:
+            told = above = 0
+            for seed in range(TABLES):
+                tables = Tables(random.Random(seed))
+                with self.subTest(kind=kind.__name__, seed=seed), using(kind):
+                    found = tables.found(distance=True)
+                    self.assertIsInstance(found, AsOf)
+                    self.assertEqual(list(found.rows), list(tables.found()))
+                    self.assertEqual(list(found.distances), distances(tables.left, tables.right, found.rows))
+                    told += sum(far >= 0 for far in found.distances)
+                    above += sum(far < 0 <= place for place, far in zip(*found))
+            self.assertGreater(told, 2 * TABLES)
+            self.assertGreater(above, TABLES // 20)
+
+    def test_distance_ends(self):
+        """2^63 - 1 is told, 2^63 and 2^64 - 1 are not, though the rows match; numbers without a sign have the same distances."""
+        for kind in KINDS:
+            with using(kind):
+                rows, far = asof(array('q', [-1, 0, 2**63 - 1]), array('q', [-2**63]), distance=True)
+                self.assertEqual((list(rows), list(far)), ([0, 0, 0], [2**63 - 1, -1, -1]))
+                rows, far = asof(array('Q', [2**63 - 1, 2**63, 2**64 - 1]), array('Q', [0]), distance=True)
+                self.assertEqual((list(rows), list(far)), ([0, 0, 0], [2**63 - 1, -1, -1]))
+                for right in (array('q'), array('q', [9])):
+                    rows, far = asof(array('q', [5, 6]), right, distance=True)
+                    self.assertEqual((list(rows), list(far)), ([-1, -1], [-1, -1]))
+
     def test_long(self):
         """More rows than a frame has, more right rows than the area holds at first, groups that are not sorted."""
         rows = 3 * MOST_ROWS + 17
@@ -94,6 +122,7 @@ class Asof(unittest.TestCase):
                 self.assertEqual(list(asof(left, left, groups, groups)), list(range(rows)))
                 self.assertEqual(list(asof(array('q', [10 * rows]), array('q', range(10 * rows)))), [10 * rows - 1])
                 self.assertEqual(list(asof(left, array('q', [0]))), [0] * rows)
+                self.assertEqual(list(asof(left, array('q', [0]), distance=True).distances), list(range(rows)))
 
     def test_ranked(self):
         """Tables whose by-column is handed in by codes and sorted by their places, with the list: the same matches."""
@@ -105,8 +134,9 @@ class Asof(unittest.TestCase):
                         for _ in range(2)]
                 with self.subTest(kind=kind.__name__, seed=seed), using(kind):
                     sides = [ranked_side(kind, side, codes) for side in rows]
-                    found = asof_join.positions(*sides, 'backward', True, None, (0, codes))
-                    self.assertEqual(list(found), positions(*rows, 'backward'))
+                    found = asof_join.found_by(*sides, 'backward', True, None, (0, codes), distance=True)
+                    self.assertEqual(list(found.rows), positions(*rows, 'backward'))
+                    self.assertEqual(list(found.distances), distances(*rows, found.rows))
 
     def test_many_groups(self):
         """More groups than a pass of the sort tells apart, in by-columns far apart."""

@@ -67,6 +67,38 @@ class Calls(unittest.TestCase):
         with self.assertRaises(IndexError):
             matches.cells(1)
 
+    def test_distance(self):
+        """SCOPE 12.5: the distance comes behind what is carried, 2^63 - 1 at most; it is kept in a saved join, and in a run."""
+        join = Join(carried=1, distance=True)
+        join.right(frame([(-2**63, 7), (10, 1800), (20, None)]))
+        join.end_right()
+        for left in (keys(-2**63 + 4, -1, 0), keys(14), keys(20, 27)):
+            join.left(left)
+        matches = join.turn().matches
+        self.assertEqual(matches.rows(), [(0, 7, 4), (0, 7, 2**63 - 1), (0, 7, None)])
+        self.assertEqual((matches.cells(0), matches.distances(), matches.carried), ([7, 7, 7], [4, 2**63 - 1, None], 1))
+        join = Join.from_state(join.state())
+        self.assertTrue(join.tells_distance)
+        short = join.run(output=array('q', bytes(8 * 8)))
+        self.assertEqual((short.stop, short.refusal.number, [turn.matches.rows() for turn in short.turns]), (REFUSED, NO_ROOM, [[(1, 1800, 4)]]))
+        run = join.run()
+        self.assertEqual((run.stop, [turn.matches.distances() for turn in run.turns]), (IDLE, [[0, 7]]))
+
+    def test_distance_not_told(self):
+        """A join that was opened without distances tells none, and its answers have no column for them."""
+        join = Join()
+        join.right(keys(10))
+        join.end_right()
+        join.left(keys(5, 15))
+        matches = join.turn().matches
+        self.assertEqual((matches.columns, join.tells_distance, matches.rows()), (1, False, [None, (0,)]))
+        with self.assertRaises(ValueError):
+            matches.distances()
+        words = Words.from_buffer_copy(join.state())
+        words.options.with_distance = 2
+        strange = Join.from_state(bytes(words) + join.state()[ctypes.sizeof(Words):])
+        self.refused(BAD_JOIN, strange.turn)
+
     def test_options(self):
         """Options that are refused, those that no number can say among them, and those that are none."""
         for options in ({'by': 5}, {'by': -1}, {'by': 2**64}, {'tolerance': -1}, {'tolerance': 2**63}, {'tolerance': 2**64 + 5},

@@ -244,6 +244,26 @@ class Pandas(unittest.TestCase):
                 merge_asof(left, right, on='k', by='band', ranks=ranks)
             self.assertNotIn('\n', str(caught.exception))
 
+    def test_distance(self):
+        """The distance as a last column: of numbers nullable ones, exact at the ends of the range; of times their own unit."""
+        left, right = pandas.DataFrame({'k': [5, 20, 25]}), pandas.DataFrame({'k': [10, 20, 20], 'v': [1, 2, 3]})
+        plain = merge_asof(left, right, on='k')
+        found = merge_asof(left, right, on='k', distance='age')
+        self.assertEqual(list(found.columns), ['k', 'v', 'age'])
+        pandas.testing.assert_frame_equal(found[['k', 'v']], plain)
+        pandas.testing.assert_series_equal(found['age'], pandas.Series([None, 0, 5], dtype='Int64', name='age'))
+        left, right = pandas.DataFrame({'k': [-1, 0, 2**63 - 1]}), pandas.DataFrame({'k': [-2**63], 'v': [1]})
+        found = merge_asof(left, right, on='k', distance='age')
+        self.assertEqual((list(found['v']), list(found['age'])), ([1, 1, 1], [2**63 - 1, pandas.NA, pandas.NA]))
+        times = [pandas.DataFrame({'at': pandas.to_datetime(each)}) for each in (['2026-01-01', '2026-01-05'], ['2026-01-02'])]
+        found = merge_asof(*times, on='at', distance='age')
+        self.assertEqual((found['age'].isna().tolist(), found['age'].iloc[1]), ([True, False], pandas.Timedelta(days=3)))
+        self.assertEqual(found['age'].dtype.kind, 'm')
+        found = merge_asof(left[:0], right, on='k', distance='age')
+        self.assertEqual((list(found.columns), len(found)), (['k', 'v', 'age'], 0))
+        with self.assertRaisesRegex(ValueError, "distance: 'v' is the name of another column"):
+            merge_asof(left, right, on='k', distance='v')
+
     def test_frames_stay(self):
         """Neither frame is altered by a join."""
         for seed in range(50):

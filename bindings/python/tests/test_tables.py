@@ -6,9 +6,9 @@ import unittest
 from array import array
 from unittest import mock
 
-from rowkeeper import Column, Join, Refused, Table, asof_join, merge, plain, spans, standing, tables
-from rowkeeper.interface import (BAD_COLUMNS, BAD_FRAME, BAD_OPTIONS, BAD_RANKS, MOST_ROWS, REFUSALS, TOO_MANY_CARRIED, UNKNOWN_CODE,
-                                 UNSORTED)
+from rowkeeper import Column, Join, Plan, Refused, Table, asof_join, merge, plain, plan, spans, standing, tables
+from rowkeeper.interface import (BAD_COLUMNS, BAD_FRAME, BAD_HEIGHTS, BAD_OPTIONS, BAD_RANKS, MOST_ROWS, NO_ROOM, REFUSALS,
+                                 TOO_MANY_CARRIED, UNKNOWN_CODE, UNSORTED, WANTS_RIGHT, WROTE)
 
 try:
     import numpy
@@ -299,6 +299,78 @@ def inside(points, passes, lower, upper):
     return found
 
 
+def scheduled(options, lefts, rights, rows):
+    """What the schedule comes to in a join with room for so many right rows: a Plan, or the number of the refusal that a right frame meets."""
+    join = Join(left_rows=sum(map(len, lefts)) + 1, right_rows=rows, **options)
+    found, written = [0, 0, 0], 0
+    for frame in lefts:
+        join.left(frame)
+    if not rights:
+        join.end_right()
+    while written < len(lefts):
+        found[1] += 1
+        answer = join.turn_into(array('q', bytes(8 * join.output_words())))
+        if answer == WROTE:
+            written += 1
+            continue
+        assert answer == WANTS_RIGHT
+        try:
+            join.right(rights[found[2]])
+        except Refused as refused:
+            return refused.number
+        found[0], found[2] = max(found[0], join.held), found[2] + 1
+        if found[2] == len(rights):
+            join.end_right()
+    return Plan(*found)
+
+
+class Plans(unittest.TestCase):
+    """How large an area a join wants."""
+
+    def test_random(self):
+        """The figures are those of the schedule; with one row less a right frame meets a 6."""
+        short = 0
+        for seed in range(BOOKS // 2):
+            r = random.Random(seed)
+            books = Books(r)
+            left, right = [row[:books.by + 1] for row in books.house], books.festival
+            options = {**books.options, 'strategy': r.choice(('backward', 'forward', 'nearest'))}
+            cut = []
+            for rows in (left, right):
+                heights, most = [], r.choice((1, 2, 5, 20))
+                while sum(heights) < len(rows) or r.random() < 0.1:
+                    heights.append(r.randrange(min(most, len(rows) - sum(heights)) + 1))
+                cut.append(heights)
+            frames = [[words(rows[sum(heights[:k]):sum(heights[:k + 1])], width) for k in range(len(heights))]
+                      for rows, heights, width in ((left, cut[0], books.by + 1), (right, cut[1], books.by + 1 + books.carried))]
+            with self.subTest(seed=seed):
+                found = plan(words(left, books.by + 1), words(right, books.by + 1 + books.carried), *cut, **options)
+                given = {**options, 'carried': books.carried}
+                self.assertEqual(scheduled(given, *frames, found.rows), found)
+                if found.rows:
+                    self.assertEqual(scheduled(given, *frames, found.rows - 1), NO_ROOM)
+                    short += 1
+        self.assertGreater(short, BOOKS // 8)
+
+    def test_full_frames(self):
+        """Where no heights are given, frames are full."""
+        left, right = [array('q', range(5000))], [array('q', range(0, 20000, 2))]
+        found = plan(left, right)
+        self.assertEqual(found, plan(left, right, [MOST_ROWS, 904], [MOST_ROWS, MOST_ROWS, 1808]))
+        self.assertEqual(found, Plan(MOST_ROWS, 4 - 1, 1))
+        self.assertEqual(plan([array('q')], right), Plan(0, 0, 0))
+
+    def test_refusals(self):
+        """Each by its number."""
+        some, fallen = [array('q', [1, 2])], [array('q', [2, 1])]
+        for given, options, number in (((fallen, some), {}, UNSORTED), ((some, fallen), {}, UNSORTED), ((some, some, [1]), {}, BAD_HEIGHTS),
+                                       ((some, some, [2], [3, -1]), {}, BAD_HEIGHTS), ((some, some), {'by': 5}, BAD_OPTIONS),
+                                       ((some, some), {'carried': 1}, BAD_FRAME), ((some, some), {'carried': 9}, TOO_MANY_CARRIED)):
+            with self.subTest(number), self.assertRaises(Refused) as caught:
+                plan(*given, **options)
+            self.assertEqual(caught.exception.number, number)
+
+
 class Papers(unittest.TestCase):
     """What the docstrings show."""
 
@@ -307,7 +379,7 @@ class Papers(unittest.TestCase):
         for kind in KINDS:
             with using(kind):
                 result = doctest.testmod(tables)
-            self.assertEqual((result.failed, result.attempted), (0, 7))
+            self.assertEqual((result.failed, result.attempted), (0, 9))
 
 
 if __name__ == '__main__':

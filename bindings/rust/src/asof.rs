@@ -7,7 +7,7 @@ use crate::{Join, Match, Matches, Options, Refusal, Turn};
 
 /// Joins two tables, each an iterator of frames, to an iterator of matches: for each left row, in order, the number of its
 /// right row, which is its place among all right rows from 0, or none. [`AsOf::carrying`] gives what the right row carries
-/// too.
+/// too, and the distance of the two keys if the options ask for it.
 ///
 /// A frame is whatever has the words of one: a [`Frame`](crate::Frame), one of [`Frames`](crate::Frames), a vector of words,
 /// a reference to any of them. Frames may be cut anywhere and may be empty; those of 4,096 rows are the quickest. A left
@@ -42,7 +42,8 @@ where
 {
     let join = Join::open(options, 0, 0)?;
     let (lefts, rights) = (lefts.into_iter(), rights.into_iter());
-    Ok(AsOf { join, columns: 1 + options.carried, lefts, rights, output: Vec::new(), rows: 0, given: 0, ended: false })
+    let columns = options.answer_columns();
+    Ok(AsOf { join, columns, lefts, rights, output: Vec::new(), rows: 0, given: 0, ended: false })
 }
 
 /// The matches of two tables, row by row: what [`asof`] gives.
@@ -83,10 +84,10 @@ impl<L: Iterator<Item: AsRef<[i64]>>, R: Iterator<Item: AsRef<[i64]>>> AsOf<L, R
             return Ok(None);
         }
         let from = core::mem::replace(&mut self.given, self.rows);
-        Ok(Some(Matches::of(&self.output).rest(from)))
+        Ok(Some(Matches::of(&self.output, self.join.tells_distance()).rest(from)))
     }
 
-    /// The same matches, each with what its right row carries.
+    /// The same matches, each with what its right row carries, and with its distance if the options ask for that.
     ///
     /// ```
     /// use rowkeeper::{Frames, Match, Options, asof};
@@ -99,8 +100,8 @@ impl<L: Iterator<Item: AsRef<[i64]>>, R: Iterator<Item: AsRef<[i64]>>> AsOf<L, R
     ///
     /// let matches: Vec<Option<Match<2>>> = joined.carrying().collect::<Result<_, _>>()?;
     /// assert_eq!(matches[0], None);
-    /// assert_eq!(matches[1], Some(Match { number: 0, carried: [Some(1800), Some(7)] }));
-    /// assert_eq!(matches[2], Some(Match { number: 1, carried: [Some(2200), Some(7)] }));
+    /// assert_eq!(matches[1], Some(Match { number: 0, carried: [Some(1800), Some(7)], distance: None }));
+    /// assert_eq!(matches[2], Some(Match { number: 1, carried: [Some(2200), Some(7)], distance: None }));
     /// # Ok::<(), Box<dyn std::error::Error>>(())
     /// ```
     ///
@@ -108,7 +109,8 @@ impl<L: Iterator<Item: AsRef<[i64]>>, R: Iterator<Item: AsRef<[i64]>>> AsOf<L, R
     ///
     /// If P is not the number of carried columns that the options have.
     pub fn carrying<const P: usize>(self) -> Carrying<L, R, P> {
-        assert_eq!(1 + P, self.columns, "the join carries another number of columns");
+        let number = self.columns - self.join.tells_distance() as usize;
+        assert_eq!(1 + P, number, "the join carries another number of columns");
         Carrying(self)
     }
 
@@ -212,8 +214,8 @@ impl<L: Iterator<Item: AsRef<[i64]>>, R: Iterator<Item: AsRef<[i64]>>, const P: 
 
     /// The match of the next left row.
     fn next(&mut self) -> Option<Self::Item> {
-        let place = self.0.next_place()?;
-        Some(place.map(|[values, marks]| match_of(&self.0.output[values..], &self.0.output[marks..])))
+        let (place, distance) = (self.0.next_place()?, self.0.join.tells_distance());
+        Some(place.map(|[values, marks]| match_of(&self.0.output[values..], &self.0.output[marks..], distance)))
     }
 
     /// As without what is carried.

@@ -58,6 +58,7 @@ pub enum Stop {
 pub struct Written<'o> {
     first: u64,
     turns: usize,
+    distance: bool,
     words: &'o [i64],
 }
 
@@ -74,9 +75,9 @@ impl<'o> Written<'o> {
 
     /// For each turn, in order, the number of its frame (0, 2, 4 and so on) and its matches.
     pub fn iter(&self) -> impl Iterator<Item = (u64, Matches<'o>)> + use<'o> {
-        let (first, mut rest) = (self.first, self.words);
+        let (first, distance, mut rest) = (self.first, self.distance, self.words);
         (0..self.turns as u64).map(move |turn| {
-            let matches = Matches::of(rest);
+            let matches = Matches::of(rest, distance);
             rest = &rest[matches.words()..];
             (first + 2 * turn, matches)
         })
@@ -90,34 +91,43 @@ pub struct Match<const P: usize> {
     pub number: u64,
     /// What the right row carries, in the order of its columns; `None` is a null.
     pub carried: [Option<i64>; P],
+    /// The distance of the two keys; `None` if it is above 2^63 − 1, or the join was opened without [`Options::distance`].
+    pub distance: Option<u64>,
 }
 
 /// The matches that a turn wrote, one for each row of its frame.
 #[derive(Clone, Copy, Debug, PartialEq, Eq)]
 pub struct Matches<'o> {
-    /// The number of a right row and what it carries.
+    /// The number of a right row, what it carries, and, if that is told, the distance.
     columns: usize,
+    distance: bool,
     values: &'o [i64],
     marks: &'o [i64],
 }
 
 impl<'o> Matches<'o> {
-    /// The matches at the front of an output.
-    pub(crate) fn of(output: &'o [i64]) -> Matches<'o> {
+    /// The matches at the front of an output, whose last column is the distance or not.
+    pub(crate) fn of(output: &'o [i64], distance: bool) -> Matches<'o> {
         let (rows, columns) = (output[0] as usize, output[1] as usize);
         let (values, marks) = output[2..2 + 2 * rows * columns].split_at(rows * columns);
-        Matches { columns, values, marks }
+        Matches { columns, distance, values, marks }
     }
 
     /// Those from a row on.
     pub(crate) fn rest(self, from: usize) -> Matches<'o> {
         let from = from * self.columns;
-        Matches { columns: self.columns, values: &self.values[from..], marks: &self.marks[from..] }
+        Matches { values: &self.values[from..], marks: &self.marks[from..], ..self }
     }
 
     /// How many words of the output they are, with the two in front of them.
     fn words(&self) -> usize {
         2 + 2 * self.values.len()
+    }
+
+    /// The words of these matches as an answer frame, as [`Takings::add`](crate::Takings::add) takes them.
+    pub fn to_words(&self) -> Vec<i64> {
+        let head = [self.len() as i64, self.columns as i64];
+        [&head, self.values, self.marks].concat()
     }
 
     /// How many rows the frame has.
@@ -132,7 +142,7 @@ impl<'o> Matches<'o> {
 
     /// How many columns the right rows carry.
     pub fn carried(&self) -> usize {
-        self.columns - 1
+        self.columns - 1 - self.distance as usize
     }
 
     /// For each row of the frame, in order, the number of its right row: its place among all right rows, from 0.
@@ -141,7 +151,8 @@ impl<'o> Matches<'o> {
         cells.map(|(number, mark)| (*mark != 0).then_some(*number as u64))
     }
 
-    /// For each row of the frame, in order, its match: the number of the right row and what it carries.
+    /// For each row of the frame, in order, its match: the number of the right row, what it carries, and the distance if the
+    /// join tells it.
     ///
     /// ```
     /// use rowkeeper::{Frame, Join, Match, Options, Turn};
@@ -162,7 +173,8 @@ impl<'o> Matches<'o> {
     pub fn carrying<const P: usize>(&self) -> impl Iterator<Item = Option<Match<P>>> + use<'o, P> {
         assert_eq!(P, self.carried(), "the join carries another number of columns");
         let (values, marks) = (self.values.chunks_exact(self.columns), self.marks.chunks_exact(self.columns));
-        values.zip(marks).map(|(values, marks)| match_of(values, marks))
+        let distance = self.distance;
+        values.zip(marks).map(move |(values, marks)| match_of(values, marks, distance))
     }
 
     /// What the right row of a row of the frame carries in a column, from 0: `None` is a null, or that there is no match.
@@ -175,12 +187,39 @@ impl<'o> Matches<'o> {
         let at = row * self.columns + 1 + column;
         (self.marks[at] != 0).then_some(self.values[at])
     }
+
+    /// The distance of the key of a row of the frame from that of its right row: `None` if there is no match, the distance is
+    /// above 2^63 − 1, or the join was opened without [`Options::distance`].
+    ///
+    /// ```
+    /// use rowkeeper::{Frame, Join, Options, Turn};
+    ///
+    /// let mut join = Join::open_rows(&Options { distance: true, ..Options::default() }, 10, 10)?;
+    /// join.right(&Frame::of_keys(&[10, 20, 20, 30])?)?;
+    /// join.left(&Frame::of_keys(&[5, 20, 25])?)?;
+    /// let mut output = [0; 64];
+    /// let Turn::Wrote { matches, .. } = join.turn(&mut output)? else { panic!("nothing was written") };
+    /// assert_eq!([0, 1, 2].map(|row| matches.distance(row)), [None, Some(0), Some(5)]);
+    /// # Ok::<(), Box<dyn std::error::Error>>(())
+    /// ```
+    ///
+    /// # Panics
+    ///
+    /// If the frame has no such row.
+    pub fn distance(&self, row: usize) -> Option<u64> {
+        let at = row * self.columns + self.columns - 1;
+        let present = self.marks[at] != 0;
+        (self.distance && present).then_some(self.values[at] as u64)
+    }
 }
 
-/// The match of a row of an output: the number of the right row and P cells.
-pub(crate) fn match_of<const P: usize>(values: &[i64], marks: &[i64]) -> Option<Match<P>> {
+/// The match of a row of an output: the number of the right row, P cells, and the distance if that is told.
+pub(crate) fn match_of<const P: usize>(values: &[i64], marks: &[i64], distance: bool) -> Option<Match<P>> {
     let cell = |at: usize| (marks[at] != 0).then_some(values[at]);
-    cell(0).map(|number| Match { number: number as u64, carried: array::from_fn(|column| cell(1 + column)) })
+    let number = cell(0)? as u64;
+    let distance = if distance { cell(1 + P) } else { None };
+    let carried = array::from_fn(|column| cell(1 + column));
+    Some(Match { number, carried, distance: distance.map(|far| far as u64) })
 }
 
 impl Join<Vec<i64>> {
@@ -219,12 +258,12 @@ impl Join<Vec<i64>> {
 
     /// The words of an output for a left frame of so many rows.
     pub fn output_words(options: &Options, rows: usize) -> usize {
-        row_words(rows, options.carried.saturating_add(1)).saturating_add(2)
+        row_words(rows, options.answer_columns()).saturating_add(2)
     }
 
     /// The words of an output for a run of so many turns, where no left frame has more rows than this. As many words as wait
-    /// ([`Join::waiting_words`]) are enough for any number of turns if no more columns are carried than there are by-columns;
-    /// else 1 + carried times as many are.
+    /// ([`Join::waiting_words`]) are enough for any number of turns if an answer has no more columns than a left row; else
+    /// [`Options::answer_columns`] times as many are.
     pub fn run_words(options: &Options, turns: usize, rows: usize) -> usize {
         turns.saturating_mul(Join::output_words(options, rows))
     }
@@ -369,7 +408,9 @@ impl<A: AsRef<[i64]> + AsMut<[i64]>> Join<A> {
         self.join = turned.join;
         Refusal::of(turned.refusal)?;
         Ok(match turned.answer {
-            raw::WROTE => Turn::Wrote { sequence: turned.sequence, matches: Matches::of(output) },
+            raw::WROTE => {
+                Turn::Wrote { sequence: turned.sequence, matches: Matches::of(output, self.tells_distance()) }
+            },
             raw::WANTS_RIGHT => Turn::WantsRight,
             _ => Turn::Idle,
         })
@@ -386,7 +427,13 @@ impl<A: AsRef<[i64]> + AsMut<[i64]>> Join<A> {
             (_, raw::WANTS_RIGHT) => Stop::WantsRight,
             _ => Stop::Idle,
         };
-        Run { written: Written { first, turns: ran.turns as usize, words: &output[..ran.words as usize] }, stop }
+        let (turns, words) = (ran.turns as usize, &output[..ran.words as usize]);
+        Run { written: Written { first, turns, distance: self.tells_distance(), words }, stop }
+    }
+
+    /// Whether answers tell the distance.
+    pub fn tells_distance(&self) -> bool {
+        self.join.options.with_distance == 1
     }
 
     /// The node's state. A join that was made of any words can have another number than there is: then it is none.

@@ -62,11 +62,25 @@
 //! let joined = asof(&options, Frames::of_columns(&[&left])?, Frames::of_columns(&[&right, &price])?)?;
 //! for found in joined.carrying() {
 //!     match found? {
-//!         Some(Match { number, carried: [Some(price)] }) => println!("right row {number} at {price}"),
-//!         Some(Match { number, carried: [None] }) => println!("right row {number}, which has no price"),
+//!         Some(Match { number, carried: [Some(price)], .. }) => println!("right row {number} at {price}"),
+//!         Some(Match { number, carried: [None], .. }) => println!("right row {number}, which has no price"),
 //!         None => println!("no right row"),
 //!     }
 //! }
+//! # Ok::<(), Box<dyn std::error::Error>>(())
+//! ```
+//!
+//! A join may be opened to tell the distance of the two keys too: how old a notice was when the sale was made.
+//!
+//! ```
+//! use rowkeeper::{Frames, Match, Options, asof};
+//!
+//! let (sale_at, notice_at) = (vec![5, 20, 25], vec![10, 20, 20, 30]);
+//! let options = Options { distance: true, ..Options::default() };
+//! let joined = asof(&options, Frames::of_columns(&[&sale_at])?, Frames::of_columns(&[&notice_at])?)?;
+//! let matches: Vec<Option<Match<0>>> = joined.carrying().collect::<Result<_, _>>()?;
+//! let ages: Vec<Option<u64>> = matches.iter().map(|found| found.and_then(|found| found.distance)).collect();
+//! assert_eq!(ages, [None, Some(0), Some(5)]);
 //! # Ok::<(), Box<dyn std::error::Error>>(())
 //! ```
 //!
@@ -136,6 +150,84 @@
 //! # Ok::<(), Box<dyn std::error::Error>>(())
 //! ```
 //!
+//! What a turn wrote can be kept as words and read later: [`view_plain`] and [`view_distance`] are told how many columns the join
+//! carried, and give the rows of the frame.
+//!
+//! ```
+//! use rowkeeper::{Refusal, view_distance, view_plain};
+//!
+//! // Two sales of a join that carries a price: one took notice 2 at 2,300, one none.
+//! let answer = [2, 2, 2, 2300, 0, 0, 1, 1, 0, 0];
+//! let prices: Vec<Option<i64>> = view_plain(1, &answer)?.rows().map(|row| row.carried(0)).collect();
+//! assert_eq!(prices, [Some(2300), None]);
+//!
+//! // The same sales with the distance in a last column: the plain reader does not take it for a price.
+//! let answer = [2, 3, 2, 2300, 5, 0, 0, 0, 1, 1, 1, 0, 0, 0];
+//! assert_eq!(view_plain(2, &answer)?.columns(), 3, "with another p than the join's nothing can be told");
+//! assert_eq!(view_plain(1, &answer), Err(Refusal::BadColumns));
+//! let ages: Vec<Option<u64>> = view_distance(1, &answer)?.rows().map(|row| row.distance()).collect();
+//! assert_eq!(ages, [Some(5), None]);
+//! # Ok::<(), Refusal>(())
+//! ```
+//!
+//! If memory is to be fixed beforehand, [`plan()`] tells how large a right area two sorted tables want:
+//!
+//! ```
+//! use rowkeeper::{Frame, Join, Options, plan};
+//!
+//! // Four sales in two frames, five notices in three. The last notice is never wanted, and four rows are held at most.
+//! let sales = Frame::of_keys(&[5, 15, 20, 25])?;
+//! let notices = Frame::of_keys(&[10, 20, 20, 30, 40])?;
+//! let options = Options::default();
+//! let wanted = plan(&options, &sales, &notices, &[2, 2], &[2, 2, 1])?;
+//! assert_eq!((wanted.rows, wanted.turns, wanted.rights), (4, 4, 2));
+//! assert_eq!(Join::right_words(&options, wanted.rows), 8);
+//! # Ok::<(), Box<dyn std::error::Error>>(())
+//! ```
+//!
+//! A large join can be made in parts, on machines of their own: [`cut()`] tells where both tables are cut for a list of groups.
+//!
+//! ```
+//! use rowkeeper::{ByColumn, Frame, Frames, Options, Side, asof, cut};
+//!
+//! // Sales and notices of performances 1 to 4, both cut before performance 2 and before performance 4.
+//! let (sale_of, sale_at) = (vec![1, 1, 2, 4], vec![10, 20, 5, 7]);
+//! let (notice_of, notice_at) = (vec![1, 2, 3, 4, 4], vec![15, 1, 6, 3, 9]);
+//! let options = Options { by: vec![ByColumn::default()], ..Options::default() };
+//! let boundaries = Frame::of_columns(&[&[2, 4]])?;
+//! let sales = cut(&options, Side::Left, &Frame::of_columns(&[&sale_of, &sale_at])?, &boundaries)?;
+//! let notices = cut(&options, Side::Right, &Frame::of_columns(&[&notice_of, &notice_at])?, &boundaries)?;
+//! assert_eq!((&sales[..], &notices[..]), (&[2, 3][..], &[1, 3][..]));
+//!
+//! // The last parts joined by themselves: the notices of the parts before are counted on.
+//! let left = Frames::of_columns(&[&sale_of[3..], &sale_at[3..]])?;
+//! let right = Frames::of_columns(&[&notice_of[3..], &notice_at[3..]])?;
+//! let numbers: Vec<Option<u64>> = asof(&options, left, right)?.collect::<Result<_, _>>()?;
+//! assert_eq!(numbers.iter().map(|number| number.map(|n| n + 3)).collect::<Vec<_>>(), [Some(3)]);
+//! # Ok::<(), Box<dyn std::error::Error>>(())
+//! ```
+//!
+//! [`Takings`] add up what matched sales brought in, by group: frame by frame, or as subtotals that are joined later. In any order the
+//! same comes out.
+//!
+//! ```
+//! use rowkeeper::{ByColumn, Frame, Options, Takings};
+//!
+//! // Sales of performances 1, 1 and 2, and what a join wrote for them: the notice's number and its price, which the second lacks.
+//! let options = Options { by: vec![ByColumn::default()], carried: 1, ..Options::default() };
+//! let sales = Frame::of_columns(&[&[1, 1, 2], &[10, 20, 5]])?;
+//! let answers = Frame::new(2, &[[Some(0), Some(1800)], [Some(1), None], [Some(2), Some(2500)]])?;
+//! let mut morning = Takings::new(&options)?;
+//! morning.add(&sales, &answers)?;
+//!
+//! let mut evening = Takings::new(&options)?;
+//! evening.add(&Frame::of_columns(&[&[2], &[9]])?, &Frame::new(2, &[[Some(2), Some(2500)]])?)?;
+//! evening.join(&morning)?;
+//! let rows: Vec<_> = evening.iter().map(|row| (row.group[0], row.total, row.sales)).collect();
+//! assert_eq!((rows, evening.unpriced()), (vec![(1, 1800, 1), (2, 5000, 2)], 1));
+//! # Ok::<(), Box<dyn std::error::Error>>(())
+//! ```
+//!
 //! A join cannot be lent its own area as a frame, and neither an output nor a driver can be altered while its matches are
 //! looked at:
 //!
@@ -181,18 +273,26 @@ use core::{array, fmt};
 
 mod asof;
 mod books;
+mod cuts;
 mod frame;
 mod join;
 mod numbers;
+mod plans;
 pub mod raw;
+mod readers;
 mod spans;
+mod takings;
 
 pub use asof::{AsOf, Carrying, asof};
 pub use books::{Book, Notice, Notices, book_words, merge, standing, standing_words};
+pub use cuts::{Side, cut};
 pub use frame::{Column, Frame, FrameError, Frames};
 pub use join::{Join, Match, Matches, Run, Stop, Turn, Written};
 pub use numbers::{Check, NodeState, Port, Refusal, Strategy};
+pub use plans::{Plan, plan};
+pub use readers::{View, ViewRow, view_distance, view_plain};
 pub use spans::{Bounds, Pairs, spans, spans_words};
+pub use takings::{Taking, Takings};
 
 /// How a by-column is sorted.
 #[derive(Clone, Copy, Debug, Default, PartialEq, Eq)]
@@ -255,10 +355,13 @@ pub struct Options {
     pub carried: usize,
     /// The codes by whose places one by-column is sorted; none: all are sorted by number.
     pub ranks: Option<Ranks>,
+    /// Whether the distance of the two keys comes with the match.
+    pub distance: bool,
 }
 
 impl Default for Options {
-    /// Backward with equality, any distance, the check on, no by-columns, nothing carried, no list of ranks.
+    /// Backward with equality, any distance, the check on, no by-columns, nothing carried, no list of ranks, distances not
+    /// told.
     fn default() -> Self {
         Options {
             strategy: Strategy::Backward,
@@ -268,6 +371,7 @@ impl Default for Options {
             by: Vec::new(),
             carried: 0,
             ranks: None,
+            distance: false,
         }
     }
 }
@@ -283,6 +387,11 @@ impl Options {
         self.columns().saturating_add(self.carried)
     }
 
+    /// How many columns an answer has: the number of the right row, what that carries, and the distance if it is told.
+    pub fn answer_columns(&self) -> usize {
+        self.carried.saturating_add(1 + self.distance as usize)
+    }
+
     /// The options in numbers. What no number can say is said by one that is refused.
     fn raw(&self) -> raw::Options {
         let flag = |j: usize, of: fn(&ByColumn) -> bool| self.by.get(j).is_some_and(of) as u64;
@@ -296,6 +405,7 @@ impl Options {
             nulls_last: array::from_fn(|j| flag(j, |by| by.nulls_last)),
             carried: self.carried as u64,
             ranks: self.ranks.as_ref().map_or_else(raw::Ranks::default, Ranks::raw),
+            with_distance: self.distance as u64,
         }
     }
 }

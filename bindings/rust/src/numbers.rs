@@ -116,24 +116,32 @@ pub enum Refusal {
     LeftOrder = 8,
     /// Right rows are out of order. The join is marked failed.
     RightOrder = 9,
-    /// Options with more than eight carried columns.
+    /// Options with more than eight carried columns; a reader that is told of more.
     TooManyCarried = 10,
     /// Options with a list of ranks that is empty or has more than 64 codes, has a code twice, or is for a column that
     /// is no by-column.
     BadRanks = 11,
     /// The by-column with a list of ranks has a value in the frame or table that is not on the list.
     UnknownCode = 12,
-    /// Standing: the place is none of the carried columns.
+    /// Standing: the place is none of the carried columns. The readers: the frame has a column count that the reader
+    /// does not know.
     BadColumns = 13,
     /// A table is not sorted as the options say.
     Unsorted = 14,
+    /// Takings: an amount, a count or a sum is beyond its limits.
+    Beyond = 15,
     /// Spans: a point is null, or greater than the next.
     BadPoints = 16,
+    /// A plan: heights that do not add up to their table's rows, or a height above 4,096.
+    BadHeights = 17,
+    /// Boundaries that are more than 16, null in a column or not strictly ascending, or any where there are no by-
+    /// columns.
+    BadBoundaries = 18,
 }
 
 impl Refusal {
     /// All refusals, by number.
-    pub const ALL: [Refusal; 15] = [
+    pub const ALL: [Refusal; 18] = [
         Refusal::BadOptions,
         Refusal::BadJoin,
         Refusal::Failed,
@@ -148,7 +156,10 @@ impl Refusal {
         Refusal::UnknownCode,
         Refusal::BadColumns,
         Refusal::Unsorted,
+        Refusal::Beyond,
         Refusal::BadPoints,
+        Refusal::BadHeights,
+        Refusal::BadBoundaries,
     ];
 
     /// What it says: the text of `rowkeeper_refusal_text`.
@@ -166,9 +177,12 @@ impl Refusal {
             Refusal::TooManyCarried => "there are more than 8 carried columns",
             Refusal::BadRanks => "the list of ranks is empty or too long, has a code twice or is for no by-column",
             Refusal::UnknownCode => "the by-column with a list of ranks has a value that is not on the list",
-            Refusal::BadColumns => "there is no such column",
+            Refusal::BadColumns => "there is no such column, or the reader does not know frames of so many columns",
             Refusal::Unsorted => "the table is not sorted",
+            Refusal::Beyond => "an amount, a count or a sum is beyond its limits",
             Refusal::BadPoints => "a point is null, or greater than the next",
+            Refusal::BadHeights => "the heights do not add up to their table, or one is no height of a frame",
+            Refusal::BadBoundaries => "the boundaries are too many, null or out of order, or there are no by-columns",
         }
     }
 }

@@ -2,9 +2,9 @@
 
 // ---- tools/interface writes: structs
 /// The version of the library that these declarations are of.
-pub const VERSION: &str = "0.4.0";
+pub const VERSION: &str = "0.5.0";
 /// The same as a number: 1,000,000 × major + 1,000 × minor + patch.
-pub const VERSION_NUMBER: u64 = 4000;
+pub const VERSION_NUMBER: u64 = 5000;
 /// The rows that a frame can have at most.
 pub const MOST_ROWS: usize = 4096;
 /// The by-columns that a join can have at most.
@@ -15,8 +15,8 @@ pub const MOST_CARRIED: usize = 8;
 pub const MOST_RANKS: usize = 64;
 /// Options.tolerance if any distance will do.
 pub const NO_TOLERANCE: i64 = -1;
-/// Join.layout: the bytes "rowkeep" from the highest down, then the layout's version, 3.
-pub const LAYOUT: u64 = 0x726f776b65657003;
+/// Join.layout: the bytes "rowkeep" from the highest down, then the layout's version, 4.
+pub const LAYOUT: u64 = 0x726f776b65657004;
 /// The last row whose key is not greater.
 pub const BACKWARD: u64 = 0;
 /// The first row whose key is not smaller.
@@ -95,6 +95,8 @@ pub struct Options {
     pub carried: u64,
     /// The codes by whose places one by-column is sorted, or none.
     pub ranks: Ranks,
+    /// Whether answers have a last column, the distance of the two keys.
+    pub with_distance: u64,
 }
 
 /// A row that the order check remembers, or none. A mark other than 0 means present.
@@ -109,7 +111,7 @@ pub struct Row {
     pub marks: [i64; 5],
 }
 
-/// A join: 121 words, no padding. A host may read every field and need not.
+/// A join: 122 words, no padding. A host may read every field and need not.
 #[repr(C)]
 #[derive(Clone, Copy, Debug, PartialEq, Eq)]
 pub struct Join {
@@ -231,8 +233,68 @@ pub struct Written {
     pub rows: u64,
 }
 
+/// The answer of a reader's view.
+#[repr(C)]
+#[derive(Clone, Copy, Debug, Default, PartialEq, Eq)]
+pub struct Viewed {
+    /// 0 accepted, else the refusal's number.
+    pub refusal: u64,
+    /// How many rows the frame has; 0 if refused.
+    pub rows: u64,
+    /// How many columns it has; 0 if refused.
+    pub columns: u64,
+}
+
+/// A cell of a frame, as its two words.
+#[repr(C)]
+#[derive(Clone, Copy, Debug, Default, PartialEq, Eq)]
+pub struct Cell {
+    /// Its value; 0 if it is null.
+    pub value: i64,
+    /// 1: it has a value; 0: it is null.
+    pub mark: i64,
+}
+
+/// The answer of a reader for one place.
+#[repr(C)]
+#[derive(Clone, Copy, Debug, Default, PartialEq, Eq)]
+pub struct Shown {
+    /// 0 accepted, else the refusal's number.
+    pub refusal: u64,
+    /// The cell's value; 0 if it is null, or if refused.
+    pub value: i64,
+    /// 1: it has a value; 0: it is null, or refused.
+    pub mark: i64,
+}
+
+/// The answer of a plan: the figures of its schedule, all 0 if refused.
+#[repr(C)]
+#[derive(Clone, Copy, Debug, Default, PartialEq, Eq)]
+pub struct Planned {
+    /// 0 accepted, else the refusal's number.
+    pub refusal: u64,
+    /// The most right rows held at once: the smallest R that meets no refusal 6 on the right.
+    pub rows: u64,
+    /// The turn calls up to the last frame written, those that want right rows among them.
+    pub turns: u64,
+    /// The right frames taken.
+    pub rights: u64,
+}
+
+/// The answer of a call over takings.
+#[repr(C)]
+#[derive(Clone, Copy, Debug, Default, PartialEq, Eq)]
+pub struct Taken {
+    /// 0 accepted, else the refusal's number.
+    pub refusal: u64,
+    /// How many rows the table has that was written; 0 if refused.
+    pub rows: u64,
+    /// The matched sales without an amount, beside the table; 0 if refused.
+    pub number: i64,
+}
+
 /// How many words a join is.
-pub const JOIN_WORDS: usize = 121;
+pub const JOIN_WORDS: usize = 122;
 const _: () = assert!(size_of::<Join>() == 8 * JOIN_WORDS && align_of::<Join>() == 8 && size_of::<usize>() == 8);
 // ---- tools/interface: end of structs
 
@@ -252,8 +314,8 @@ impl Join {
 
 // ---- tools/interface writes: calls
 unsafe extern "C" {
-    /// Opens a join: strategy, equality, tolerance, order check, by-columns, carried columns, a list of ranks. Safe: it
-    /// is lent nothing.
+    /// Opens a join: strategy, equality, tolerance, order check, by-columns, carried columns, a list of ranks, the
+    /// distance. Safe: it is lent nothing.
     pub safe fn rowkeeper_open(options: Options) -> Took;
     /// Takes a left frame, which then waits.
     pub fn rowkeeper_left(
@@ -359,6 +421,74 @@ unsafe extern "C" {
         out: *mut i64,
         out_words: usize,
     ) -> Written;
+    /// Without a join: the plain reader's view of an answer frame of 1 + carried columns; its cells are then read by
+    /// view_cell.
+    pub fn rowkeeper_view_plain(carried: u64, frame: *const i64, frame_len: usize) -> Viewed;
+    /// Without a join: the distance reader's view, of frames of 1 + carried or of 2 + carried columns, the last being
+    /// the distance.
+    pub fn rowkeeper_view_distance(carried: u64, frame: *const i64, frame_len: usize) -> Viewed;
+    /// Without a join: a cell of a frame that was viewed; a place outside it reads as null.
+    pub fn rowkeeper_view_cell(
+        rows: u64,
+        columns: u64,
+        frame: *const i64,
+        frame_len: usize,
+        row: u64,
+        column: u64,
+    ) -> Cell;
+    /// Without a join: what the plain reader shows of one place of an answer frame.
+    pub fn rowkeeper_read_plain(carried: u64, frame: *const i64, frame_len: usize, row: u64, column: u64) -> Shown;
+    /// Without a join: what the distance reader shows of one place.
+    pub fn rowkeeper_read_distance(carried: u64, frame: *const i64, frame_len: usize, row: u64, column: u64) -> Shown;
+    /// Without a join: tells how many right rows a join over two sorted tables holds at most, and so how large an area
+    /// to lend.
+    pub fn rowkeeper_plan(
+        options: Options,
+        left: *const i64,
+        left_words: usize,
+        right: *const i64,
+        right_words: usize,
+        left_heights: *const i64,
+        left_heights_words: usize,
+        right_heights: *const i64,
+        right_heights_words: usize,
+    ) -> Planned;
+    /// Without a join: tells where a sorted table is cut for a list of groups, so that the parts can be joined apart.
+    pub fn rowkeeper_cut(
+        options: Options,
+        right: u64,
+        table: *const i64,
+        table_words: usize,
+        boundaries: *const i64,
+        boundary_words: usize,
+        out: *mut i64,
+        out_words: usize,
+    ) -> Written;
+    /// Without a join: adds a frame's matched sales to a table of takings by group: totals and sale counts.
+    pub fn rowkeeper_takings_add(
+        options: Options,
+        table: *const i64,
+        table_words: usize,
+        number: i64,
+        left: *const i64,
+        left_words: usize,
+        answers: *const i64,
+        answer_words: usize,
+        out: *mut i64,
+        out_words: usize,
+    ) -> Taken;
+    /// Without a join: joins two tables of takings by group.
+    pub fn rowkeeper_takings_join(
+        options: Options,
+        table: *const i64,
+        table_words: usize,
+        number: i64,
+        other: *const i64,
+        other_words: usize,
+        other_number: i64,
+        out: *mut i64,
+        out_words: usize,
+    ) -> Taken;
     /// The version of the library, to compare with VERSION_NUMBER. Safe: it is lent nothing.
     pub safe fn rowkeeper_version() -> u64;
 }
@@ -514,6 +644,125 @@ pub mod safe {
     pub fn standing(options: Options, book: &[i64], place: u64, out: &mut [i64]) -> Written {
         // SAFETY: see the module.
         unsafe { rowkeeper_standing(options, book.as_ptr(), book.len(), place, out.as_mut_ptr(), out.len()) }
+    }
+
+    /// Without a join: the plain reader's view of an answer frame of 1 + carried columns; its cells are then read by
+    /// view_cell.
+    pub fn view_plain(carried: u64, frame: &[i64]) -> Viewed {
+        // SAFETY: see the module.
+        unsafe { rowkeeper_view_plain(carried, frame.as_ptr(), frame.len()) }
+    }
+
+    /// Without a join: the distance reader's view, of frames of 1 + carried or of 2 + carried columns, the last being
+    /// the distance.
+    pub fn view_distance(carried: u64, frame: &[i64]) -> Viewed {
+        // SAFETY: see the module.
+        unsafe { rowkeeper_view_distance(carried, frame.as_ptr(), frame.len()) }
+    }
+
+    /// Without a join: a cell of a frame that was viewed; a place outside it reads as null.
+    pub fn view_cell(rows: u64, columns: u64, frame: &[i64], row: u64, column: u64) -> Cell {
+        // SAFETY: see the module.
+        unsafe { rowkeeper_view_cell(rows, columns, frame.as_ptr(), frame.len(), row, column) }
+    }
+
+    /// Without a join: what the plain reader shows of one place of an answer frame.
+    pub fn read_plain(carried: u64, frame: &[i64], row: u64, column: u64) -> Shown {
+        // SAFETY: see the module.
+        unsafe { rowkeeper_read_plain(carried, frame.as_ptr(), frame.len(), row, column) }
+    }
+
+    /// Without a join: what the distance reader shows of one place.
+    pub fn read_distance(carried: u64, frame: &[i64], row: u64, column: u64) -> Shown {
+        // SAFETY: see the module.
+        unsafe { rowkeeper_read_distance(carried, frame.as_ptr(), frame.len(), row, column) }
+    }
+
+    /// Without a join: tells how many right rows a join over two sorted tables holds at most, and so how large an area
+    /// to lend.
+    pub fn plan(options: Options, left: &[i64], right: &[i64], left_heights: &[i64], right_heights: &[i64]) -> Planned {
+        // SAFETY: see the module.
+        unsafe {
+            rowkeeper_plan(
+                options,
+                left.as_ptr(),
+                left.len(),
+                right.as_ptr(),
+                right.len(),
+                left_heights.as_ptr(),
+                left_heights.len(),
+                right_heights.as_ptr(),
+                right_heights.len(),
+            )
+        }
+    }
+
+    /// Without a join: tells where a sorted table is cut for a list of groups, so that the parts can be joined apart.
+    pub fn cut(options: Options, right: u64, table: &[i64], boundaries: &[i64], out: &mut [i64]) -> Written {
+        // SAFETY: see the module.
+        unsafe {
+            rowkeeper_cut(
+                options,
+                right,
+                table.as_ptr(),
+                table.len(),
+                boundaries.as_ptr(),
+                boundaries.len(),
+                out.as_mut_ptr(),
+                out.len(),
+            )
+        }
+    }
+
+    /// Without a join: adds a frame's matched sales to a table of takings by group: totals and sale counts.
+    pub fn takings_add(
+        options: Options,
+        table: &[i64],
+        number: i64,
+        left: &[i64],
+        answers: &[i64],
+        out: &mut [i64],
+    ) -> Taken {
+        // SAFETY: see the module.
+        unsafe {
+            rowkeeper_takings_add(
+                options,
+                table.as_ptr(),
+                table.len(),
+                number,
+                left.as_ptr(),
+                left.len(),
+                answers.as_ptr(),
+                answers.len(),
+                out.as_mut_ptr(),
+                out.len(),
+            )
+        }
+    }
+
+    /// Without a join: joins two tables of takings by group.
+    pub fn takings_join(
+        options: Options,
+        table: &[i64],
+        number: i64,
+        other: &[i64],
+        other_number: i64,
+        out: &mut [i64],
+    ) -> Taken {
+        // SAFETY: see the module.
+        unsafe {
+            rowkeeper_takings_join(
+                options,
+                table.as_ptr(),
+                table.len(),
+                number,
+                other.as_ptr(),
+                other.len(),
+                other_number,
+                out.as_mut_ptr(),
+                out.len(),
+            )
+        }
     }
     // ---- tools/interface: end of slices
 }

@@ -125,15 +125,20 @@ fn carrying<const P: usize>(r: &mut Random, rows: &[Row]) -> Vec<(Row, [Option<i
     rows.iter().map(|row| (*row, std::array::from_fn(|_| cell()))).collect()
 }
 
-/// Both tables in any cut, with every option and P carried columns: the same matches, each with the cells of its right row.
+/// Both tables in any cut, with every option and P carried columns: the same matches, each with the cells of its right row, and in
+/// half of the cases with its distance.
 fn any_cut_with<const P: usize>(r: &mut Random) -> usize {
-    let options = Options { carried: P, ..r.options() };
+    let options = Options { carried: P, distance: r.below(2) == 0, ..r.options() };
     let (left, right, most) = (r.table(&options), r.table(&options), 1 + r.below(20));
     let right = carrying::<P>(r, &right);
     let keyed: Vec<Row> = right.iter().map(|(row, _)| *row).collect();
     let number = |row: &Row| plain_match(&options, row, &keyed);
-    let found = |number: u64| Match { number, carried: right[number as usize].1 };
-    let want: Vec<Option<Match<P>>> = left.iter().map(|row| number(row).map(found)).collect();
+    let far = |row: &Row, number: u64| keyed[number as usize][1].unwrap().abs_diff(row[1].unwrap());
+    let found = |row: &Row, number: u64| {
+        let distance = options.distance.then(|| far(row, number));
+        Match { number, carried: right[number as usize].1, distance }
+    };
+    let want: Vec<Option<Match<P>>> = left.iter().map(|row| number(row).map(|number| found(row, number))).collect();
     let wide: Vec<Vec<_>> = right.iter().map(|(row, cells)| [&row[..], cells].concat()).collect();
     let cuts = wide.chunks(most as usize).map(|rows| Frame::new(2 + P, rows).unwrap());
     let (lefts, rights): (_, Vec<Frame>) = (r.cut(&left, most), cuts.collect());
@@ -170,7 +175,8 @@ fn columns_with_prices() {
     let rights = [Column::new(&keys), Column::with_marks(&prices, &known)];
     let options = Options { carried: 1, ..Options::default() };
     let joined = asof(&options, Frames::of_columns(&[&keys]).unwrap(), Frames::of_columns(&rights).unwrap()).unwrap();
-    let want = |key: i64| Some(Match { number: key as u64, carried: [(key % 3 > 0).then_some(7 * key)] });
+    let want =
+        |key: i64| Some(Match { number: key as u64, carried: [(key % 3 > 0).then_some(7 * key)], distance: None });
     assert!(joined.clone().carrying().map(Result::unwrap).eq((0..10_000).map(want)));
     let mut begun = joined;
     assert_eq!((begun.next(), begun.next()), (Some(Ok(Some(0))), Some(Ok(Some(1)))));
@@ -179,6 +185,20 @@ fn columns_with_prices() {
     let carrying = begun.carrying::<1>();
     assert_eq!(carrying.size_hint(), (0, None));
     assert!(carrying.map(Result::unwrap).eq((4096..10_000).map(want)));
+}
+
+/// Long columns at the ends of the 64-bit range, cut into full frames, with distances: those above 2^63 − 1 are not told.
+#[test]
+fn columns_with_distances() {
+    let lefts: Vec<i64> = (-5_000..5_000).collect();
+    let options = Options { distance: true, ..Options::default() };
+    let joined = asof(&options, Frames::of_columns(&[&lefts]).unwrap(), [keys(&[i64::MIN])]).unwrap();
+    let want = |key: i64| {
+        let distance = Some(key.abs_diff(i64::MIN)).filter(|far| *far <= i64::MAX as u64);
+        Some(Match { number: 0, carried: [], distance })
+    };
+    assert!(joined.carrying().map(Result::unwrap).eq((-5_000..5_000).map(want)));
+    assert_eq!((want(-1).unwrap().distance, want(0).unwrap().distance), (Some(i64::MAX as u64), None));
 }
 
 /// The driver is not taken for one that carries another number of columns.

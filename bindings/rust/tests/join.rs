@@ -143,7 +143,7 @@ fn carried() {
     assert_eq!(join.turn(&mut output[..17]), Err(Refusal::NoRoom));
     assert_eq!(output, [7; 19]);
     let Ok(Turn::Wrote { matches, .. }) = join.turn(&mut output) else { panic!() };
-    let of = |number, price| Some(Match { number, carried: [price] });
+    let of = |number, price| Some(Match { number, carried: [price], distance: None });
     let want = [None, of(0, Some(1800)), of(2, None), of(3, Some(2500))];
     assert_eq!(matches.carrying().collect::<Vec<_>>(), want);
     assert_eq!(matches.iter().collect::<Vec<_>>(), [None, Some(0), Some(2), Some(3)]);
@@ -192,10 +192,71 @@ fn carried_in_runs() {
     [&[5, 10][..], &[], &[25]].into_iter().for_each(|left| join.left(&keys(left)).unwrap());
     let mut output = [7; 30];
     let run = join.run(9, &mut output);
-    let of = |number, price| Some(Match { number, carried: [price] });
+    let of = |number, price| Some(Match { number, carried: [price], distance: None });
     let parts: Vec<(u64, Vec<_>)> =
         run.written.iter().map(|(sequence, matches)| (sequence, matches.carrying().collect())).collect();
     assert_eq!(parts, [(0, vec![None, of(0, Some(1800))]), (2, vec![]), (4, vec![of(2, None)])]);
+    assert_eq!(run.stop, Stop::Idle);
+    assert!(output[18..].iter().all(|w| *w == 7));
+}
+
+/// SCOPE 12.5: the distance comes with the match, behind what is carried; 2^63 − 1 is the greatest that is told. With an output
+/// that is a word short nothing is lost.
+#[test]
+fn distances() {
+    let options = Options { carried: 1, distance: true, ..options(Strategy::Backward, true, None) };
+    assert_eq!(
+        (options.answer_columns(), Join::output_words(&options, 4), Join::run_words(&options, 2, 1)),
+        (3, 26, 16)
+    );
+    let mut join = open(&options);
+    assert!(join.tells_distance());
+    join.right(&Frame::new(2, &[[Some(i64::MIN), Some(7)], [Some(20), None]]).unwrap()).unwrap();
+    join.end_right().unwrap();
+    join.left(&Frame::new(1, &[[None], [Some(-1)], [Some(0)], [Some(27)]]).unwrap()).unwrap();
+    let mut output = [9; 27];
+    assert_eq!(join.turn(&mut output[..25]), Err(Refusal::NoRoom));
+    assert_eq!(output, [9; 27]);
+    let Ok(Turn::Wrote { matches, .. }) = join.turn(&mut output) else { panic!() };
+    let of = |number, cell, distance| Some(Match { number, carried: [cell], distance });
+    let most = Some(i64::MAX as u64);
+    let want = [None, of(0, Some(7), most), of(0, Some(7), None), of(1, None, Some(7))];
+    assert_eq!(matches.carrying().collect::<Vec<_>>(), want);
+    assert_eq!(matches.iter().collect::<Vec<_>>(), [None, Some(0), Some(0), Some(1)]);
+    assert_eq!((matches.len(), matches.carried(), matches.cell(1, 0)), (4, 1, Some(7)));
+    assert_eq!((0..4).map(|row| matches.distance(row)).collect::<Vec<_>>(), [None, most, None, Some(7)]);
+    assert_eq!(output[..2], [4, 3]);
+    assert_eq!(output[26], 9);
+}
+
+/// Without it there is no such column, and none is told.
+#[test]
+fn no_distances() {
+    let (mut join, mut output) = (priced(), [0; 20]);
+    join.left(&keys(&[5, 10])).unwrap();
+    let Ok(Turn::Wrote { matches, .. }) = join.turn(&mut output) else { panic!() };
+    assert_eq!((matches.distance(0), matches.distance(1), matches.carried()), (None, None, 1));
+    assert!(!join.tells_distance());
+}
+
+/// A run over frames with distances, in a join that was kept and taken up again; a flag that is none is refused by 2.
+#[test]
+fn distances_in_runs() {
+    let mut join = open(&Options { distance: true, ..options(Strategy::Nearest, true, None) });
+    join.right(&keys(&[10, 20, 20, 30])).unwrap();
+    join.end_right().unwrap();
+    [&[5, 14][..], &[], &[25]].into_iter().for_each(|left| join.left(&keys(left)).unwrap());
+    let (words, left, right) = join.parts();
+    let mut join = Join::from_parts(raw::Join::from_words(words.to_words()), left.to_vec(), right.to_vec());
+    assert_eq!(
+        altered(&join, |j| j.options.with_distance = 2).run(9, &mut [0; 40]).stop,
+        Stop::Refused(Refusal::BadJoin)
+    );
+    let mut output = [7; 30];
+    let run = join.run(9, &mut output);
+    let of = |number, distance| Some(Match { number, carried: [], distance: Some(distance) });
+    let parts: Vec<Vec<_>> = run.written.iter().map(|(_, matches)| matches.carrying().collect()).collect();
+    assert_eq!(parts, [vec![of(0, 5), of(0, 4)], vec![], vec![of(3, 5)]]);
     assert_eq!(run.stop, Stop::Idle);
     assert!(output[18..].iter().all(|w| *w == 7));
 }
@@ -402,9 +463,8 @@ fn out_of_order() {
 /// Numbers, order and texts of refusals.
 #[test]
 fn numbers() {
-    let numbers = [1, 2, 3, 4, 5, 6, 7, 8, 9, 10, 11, 12, 13, 14, 16];
-    assert_eq!(Refusal::ALL.len(), numbers.len());
-    for (refusal, number) in Refusal::ALL.iter().zip(numbers) {
+    assert_eq!(Refusal::ALL.len(), 18);
+    for (refusal, number) in Refusal::ALL.iter().zip(1..) {
         assert_eq!(refusal.number(), number);
         assert!(refusal.to_string().starts_with(&format!("refused by {number}: ")));
     }

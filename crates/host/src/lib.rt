@@ -1,6 +1,7 @@
-// The calls for hosts in C, over structs of numbers, all of 64 bits, and words that the host lends: the exported functions alone. What each does stands in hostfeed, hostmove, hostturn, bookhost, spanhost and version.
+// The calls for hosts in C, over structs of numbers, all of 64 bits, and words that the host lends: the exported functions alone. What each does stands in hostfeed, hostmove, hostturn, bookhost, spanhost, planhost, cuthost, takehost, readhost and version.
 use bookhost::merge_host;
 use bookhost::standing_host;
+use cuthost::cut_host;
 use hostfeed::host_end_right;
 use hostfeed::host_left;
 use hostfeed::host_open;
@@ -9,22 +10,41 @@ use hostmove::host_move;
 use hostturn::host_ports;
 use hostturn::host_run;
 use hostturn::host_turn;
+use planhost::plan_host;
+use readhost::read_distance_host;
+use readhost::read_plain_host;
+use readhost::view_cell_host;
+use readhost::view_distance_host;
+use readhost::view_plain_host;
 use spanhost::spans_host;
+use takehost::add_host;
+use takehost::join_host;
 use version::version_now;
 ghost use mathlib.Core.Path.{_≡_};
 ghost use Rattle.hostcalls.specs.Contracts.{HostOpenContract, HostLeftContract, HostRightContract, HostEndContract, HostMoveContract, HostPortsContract, HostTurnContract, HostRunContract};
 ghost use Rattle.bookhost.specs.Calls.{HostMergeContract, HostStandContract};
+ghost use Rattle.cuthost.specs.Calls.{HostCutContract};
+ghost use Rattle.takehost.specs.Calls.{HostAddContract, HostJoinContract};
 ghost use Rattle.spanhost.specs.Call.{HostSpanContract};
+ghost use Rattle.planhost.specs.Call.{plannedHost, planHost};
+ghost use Rattle.readers.specs.Reader.{viewPlain, viewDistance, readPlain, readDistance};
+ghost use Rattle.readers.specs.Places.{shownAt};
+ghost use Rattle.readhost.specs.Numbers.{viewedHost, cellHost, shownHost};
 ghost use Rattle.version.specs.Version.{versionNow};
 pub use convert::HostJoin;
 pub use convert::HostRow;
 pub use hostoptions::HostOptions;
 pub use hostoptions::HostRanks;
+pub use planhost::HostPlanned;
+pub use readhost::HostCell;
+pub use readhost::HostShown;
+pub use readhost::HostViewed;
 pub use results::HostPorted;
 pub use results::HostRan;
 pub use results::HostTook;
 pub use results::HostTurned;
 pub use tableresults::HostWritten;
+pub use takehost::HostTaken;
 
 // Opens a join. The join of a refused opening holds the options that came, and every call but a run of no turns answers 2 to it.
 #[no_mangle]
@@ -170,4 +190,118 @@ pub extern "C" fn rowkeeper_standing(
     ensures { λ r. ⌜ HostStandContract h place (now (book .entry)) (now (out .entry)) r (now (out .exit)) ⌝ }
 {
     standing_host(h, book, place, out)
+}
+
+// The plain reader's view of an answer frame, given the p of the join that wrote it: its rows and columns. No join has a part in it.
+#[no_mangle]
+pub extern "C" fn rowkeeper_view_plain(p: usize, frame: &[i64]) -> HostViewed
+    ensures { λ r. ⌜ r ≡ viewedHost (viewPlain p (now (frame .entry))) ⌝ }
+{
+    view_plain_host(p, frame)
+}
+
+// The distance reader's view. No join has a part in it.
+#[no_mangle]
+pub extern "C" fn rowkeeper_view_distance(p: usize, frame: &[i64]) -> HostViewed
+    ensures { λ r. ⌜ r ≡ viewedHost (viewDistance p (now (frame .entry))) ⌝ }
+{
+    view_distance_host(p, frame)
+}
+
+// The two words of a place, by the rows and columns that a view told. No join has a part in it.
+#[no_mangle]
+pub extern "C" fn rowkeeper_view_cell(
+    rows: usize,
+    columns: usize,
+    frame: &[i64],
+    row: usize,
+    column: usize,
+) -> HostCell
+    ensures { λ r. ⌜ r ≡ cellHost (shownAt rows columns (now (frame .entry)) row column) ⌝ }
+{
+    view_cell_host(rows, columns, frame, row, column)
+}
+
+// What the plain reader shows of one place. No join has a part in it.
+#[no_mangle]
+pub extern "C" fn rowkeeper_read_plain(
+    p: usize,
+    frame: &[i64],
+    row: usize,
+    column: usize,
+) -> HostShown
+    ensures { λ r. ⌜ r ≡ shownHost (readPlain p (now (frame .entry)) row column) ⌝ }
+{
+    read_plain_host(p, frame, row, column)
+}
+
+// What the distance reader shows of one place. No join has a part in it.
+#[no_mangle]
+pub extern "C" fn rowkeeper_read_distance(
+    p: usize,
+    frame: &[i64],
+    row: usize,
+    column: usize,
+) -> HostShown
+    ensures { λ r. ⌜ r ≡ shownHost (readDistance p (now (frame .entry)) row column) ⌝ }
+{
+    read_distance_host(p, frame, row, column)
+}
+
+// Works out how large a right area two sorted tables want, cut in frames of these heights: the most right rows held at once, the turn calls, the right frames taken. Nothing is written. No join has a part in it.
+#[no_mangle]
+pub extern "C" fn rowkeeper_plan(
+    h: HostOptions,
+    left: &[i64],
+    right: &[i64],
+    hl: &[i64],
+    hr: &[i64],
+) -> HostPlanned
+    ensures { λ r. ⌜ r ≡ plannedHost (planHost h (now (left .entry)) (now (right .entry)) (now (hl .entry)) (now (hr .entry))) ⌝ }
+{
+    plan_host(h, left, right, hl, hr)
+}
+
+// Tells where a sorted table, of left rows (right 0) or of right ones (right 1), is cut for each boundary: before the first row whose group is not less. No join has a part in it.
+#[no_mangle]
+pub extern "C" fn rowkeeper_cut(
+    h: HostOptions,
+    right: u64,
+    table: &[i64],
+    boundaries: &[i64],
+    out: &mut [i64],
+) -> HostWritten
+    ensures { λ r. ⌜ HostCutContract h right (now (table .entry)) (now (boundaries .entry)) (now (out .entry)) r (now (out .exit)) ⌝ }
+{
+    cut_host(h, right, table, boundaries, out)
+}
+
+// Adds a frame's matched sales to a table of takings by group: the first carried column, summed and counted. No join has a part in it.
+#[no_mangle]
+pub extern "C" fn rowkeeper_takings_add(
+    h: HostOptions,
+    table: &[i64],
+    number: i64,
+    left: &[i64],
+    answers: &[i64],
+    out: &mut [i64],
+) -> HostTaken
+    ensures { λ r. ⌜ HostAddContract h (now (table .entry)) number (now (left .entry)) (now (answers .entry)) (now (out .entry)) r (now (out .exit)) ⌝ }
+{
+    add_host(h, table, number, left, answers, out)
+}
+
+// Joins two tables of takings by group. No join has a part in it.
+#[no_mangle]
+pub extern "C" fn rowkeeper_takings_join(
+    h: HostOptions,
+    table: &[i64],
+    number: i64,
+    other: &[i64],
+    other_number: i64,
+    out: &mut [i64],
+) -> HostTaken
+    ensures { λ r. ⌜ HostJoinContract h (now (table .entry)) number (now (other .entry)) «other_number» (now (out .entry)) r (now (out .exit)) ⌝ }
+{
+    join_host(h, table, number, other, other_number, out)
 }

@@ -38,7 +38,7 @@ fn no_ranks() -> HostRanks {
     }
 }
 
-// The options of an opening: no list of ranks is recorded.
+// The options of an opening: no list of ranks is recorded, and the distance only where it is written.
 pub(crate) fn options_of(given: &[i64]) -> HostOptions {
     HostOptions {
         by: number_at(given, 0) as usize,
@@ -50,6 +50,7 @@ pub(crate) fn options_of(given: &[i64]) -> HostOptions {
         nulls_last: flags_at(given, 9),
         carried: number_at(given, 13) as usize,
         ranks: no_ranks(),
+        with_distance: number_at(given, 14),
     }
 }
 

@@ -2,7 +2,7 @@
 //
 // A line of the input is a call, `=`, the numbers of the recorded answer, `=`, and the words that were written. A call is its kind, how many words of the left area, of the right area and of an output it is lent, and what it is given:
 //
-//     1 L R O BY STRATEGY EQ TOLERANCE CHECK DESCENDING×4 NULLS_LAST×4 CARRIED    open
+//     1 L R O BY STRATEGY EQ TOLERANCE CHECK DESCENDING×4 NULLS_LAST×4 CARRIED DISTANCE    open
 //     2 L R O W…    left        3 L R O W…    right        4 L R O    end of right
 //     5 L R O I W    the host alters word I of the left area
 //     6 L R O LEFT RIGHT SEND    ports

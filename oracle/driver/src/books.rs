@@ -1,12 +1,32 @@
-//! SCOPE 19.8 to 19.16, books of notices: the plain readings by cases that were read by hand. The Rust has no counterpart.
+//! SCOPE 19.8 to 19.16 and 19.23 to 19.33, books of notices, plans, places of cuts and takings: the plain readings by cases that were
+//! read by hand. The Rust has no counterpart.
 use judges::rules::Rules;
 use judges::script::{Answer, Call, Judge, parse_script};
 
 use crate::rust::Rust;
 
-/// Calls with the answers that were read by hand, by the plain readings; the Rust says nothing to those over books.
+/// Cases of books.
 pub fn cases() -> Result<String, String> {
-    let text = include_str!("../books.txt");
+    judged(include_str!("../books.txt"))
+}
+
+/// Cases of plans.
+pub fn plans() -> Result<String, String> {
+    judged(include_str!("../plans.txt"))
+}
+
+/// Cases of places of cuts.
+pub fn places() -> Result<String, String> {
+    judged(include_str!("../places.txt"))
+}
+
+/// Cases of takings.
+pub fn takings() -> Result<String, String> {
+    judged(include_str!("../takings.txt"))
+}
+
+/// Calls with the answers that were read by hand, by the plain readings; the Rust says nothing to those over tables.
+fn judged(text: &str) -> Result<String, String> {
     let lines: Vec<&str> = text.lines().filter(|l| !l.starts_with('=')).collect();
     let calls = parse_script(&lines.join("\n"))?;
     let expected: Vec<&str> = text.lines().filter_map(|l| l.strip_prefix("= ")).collect();

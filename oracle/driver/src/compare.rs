@@ -18,13 +18,15 @@ pub struct Tally {
     pub written: u64,
     pub rows: u64,
     pub matched: u64,
-    /// Cells that came with matches: with a value, and null.
+    /// Cells that came with matches, distances among them: with a value, and null.
     pub carried: [u64; 2],
     pub wants: u64,
     pub idle: u64,
     pub faults: [u64; 4],
     pub in_flush: u64,
     pub states: [u64; 3],
+    /// Scripts whose answers tell the distance.
+    pub distances: u64,
     /// Scripts that give a list of codes, and calls that are refused by 12.
     pub lists: u64,
     pub unlisted: u64,
@@ -115,6 +117,7 @@ impl Tally {
         self.wants += other.wants;
         self.idle += other.idle;
         self.in_flush += other.in_flush;
+        self.distances += other.distances;
         self.lists += other.lists;
         self.unlisted += other.unlisted;
         self.runs.add(&other.runs);
@@ -142,11 +145,12 @@ impl Tally {
         }
     }
 
-    /// Counts a script, and whether it gives a list.
+    /// Counts a script, and whether it gives a list or its answers tell the distance.
     pub fn script(&mut self, calls: &[Call]) {
-        let lists = script::opening(calls).is_some_and(|(open, _)| open.options.ranks.given);
+        let options = script::opening(calls).map(|(open, _)| open.options);
         self.scripts += 1;
-        self.lists += lists as u64;
+        self.lists += options.as_ref().is_some_and(|o| o.ranks.given) as u64;
+        self.distances += options.is_some_and(|o| o.distance == 1) as u64;
     }
 
     /// Counts an order fault by the place where the rules saw it.
@@ -173,6 +177,15 @@ impl fmt::Display for Tally {
         let whole_table::Counts { scripts, sorted, rows, whole, .. } = self.judged;
         if scripts > 0 {
             write!(f, "; by the whole table {scripts} scripts, {sorted} sorted, {whole} of {rows} rows")?;
+        }
+        if self.distances > 0 {
+            let [written, above, most, next] = self.judged.distances;
+            write!(
+                f,
+                "; {} scripts with the distance, {written} distances, {most} of them 2^63 − 1, ",
+                self.distances
+            )?;
+            write!(f, "{above} above, {next} of them 2^63")?;
         }
         if self.runs.made == 0 { Ok(()) } else { write!(f, "; {}", self.runs) }
     }
@@ -201,7 +214,7 @@ pub fn parted(call: &Call, answer: &Answer) -> bool {
         && matches!(answer, Answer::Refused(2 | 6 | 7) | Answer::Ran(Ran { stop: Stop::Refused(2 | 6 | 7), .. }))
 }
 
-/// Whether the Rust's answer is this one. Where SCOPE refuses a later turn of a run by 1 to 7 the Rust may go on: its first
+/// Whether the Rust's answer is this one, of which it is asked what it can know (`Rust::shared`). Where SCOPE refuses a later turn of a run by 1 to 7 the Rust may go on: its first
 /// turns must have written the same.
 pub fn agrees(rust: &Answer, said: &Answer) -> bool {
     match (rust, said) {
@@ -235,7 +248,7 @@ fn run_both(calls: &[Call], ways: Ways, tally: &mut Tally) -> Result<(), Differe
         tally.calls += 1;
         tally.unlisted += (ruled == Answer::Refused(12)) as u64;
         let known = !no_counterpart(&ruled);
-        if known && !agrees(&said, &ruled) {
+        if known && !agrees(&said, &rust.shared(&ruled)) {
             return Err(Difference::Answer(format!(
                 "call {}, {call}: the Rust says {said}, SCOPE says {ruled}",
                 i + 1
@@ -280,11 +293,11 @@ pub fn answers(judge: &mut impl Judge, calls: &[Call]) -> Vec<Answer> {
     calls.iter().map(|c| judge.call(c)).collect()
 }
 
-/// Compares the Rust with the whole-table rule on one script of sorted sides.
+/// Compares the Rust with the whole-table rule on one script of sorted sides. The Rust writes no distance, and is asked for none.
 pub fn with_whole_table(calls: &[Call], ways: Ways, counts: &mut whole_table::Counts) -> Result<(), String> {
     let run = catch_unwind(AssertUnwindSafe(|| {
         let said = answers(&mut Rust::fed(ways), calls);
-        whole_table::judge_whole(calls, &said)
+        whole_table::judge_whole(&script::without_distances(calls), &said)
     }));
     counts.add(&run.unwrap_or_else(|p| Err(format!("panic: {}", panic_text(p))))?);
     Ok(())

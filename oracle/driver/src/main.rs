@@ -4,7 +4,10 @@ use std::path::Path;
 use std::process::ExitCode;
 
 use judges::drive::{drive, exit, number};
-use judges::generate::{Kind, script, script_with_list, script_with_list_and_runs, script_with_runs};
+use judges::generate::{
+    Kind, script, script_with_distance, script_with_distance_and_runs, script_with_list, script_with_list_and_runs,
+    script_with_runs,
+};
 use judges::generate_spans;
 use judges::rules::Rules;
 use oracle::rust::{Rust, Ways};
@@ -16,6 +19,10 @@ const USAGE: &str = "oracle rust | rules                   answer the script on 
 oracle generate KIND SEED COUNT       print random scripts (whole mixed flush nullslast order ends equal refusals handed
                                       large strict)
 oracle generate KIND SEED COUNT runs  the same scripts with runs in the place of turns
+oracle generate KIND SEED COUNT distance
+                                      the same scripts, whose answers tell the distance
+oracle generate KIND SEED COUNT distance runs
+                                      the same scripts with runs in the place of turns
 oracle generate KIND SEED COUNT list  print random scripts with a list of codes
 oracle generate KIND SEED COUNT list runs
                                       the same scripts with runs in the place of turns
@@ -25,6 +32,7 @@ oracle whole SEED COUNT               the whole-table rule over COUNT scripts
 oracle judges SEED COUNT              the step rules by the whole-table judge over COUNT scripts a kind
 oracle compare SEED COUNT             the Rust and the step rules over COUNT scripts a kind
 oracle large SEED COUNT               the same over COUNT scripts with thousands of rows a side
+oracle distances SEED COUNT           the steps of the self-test over scripts with distances, COUNT scripts a kind
 oracle lists SEED COUNT               the steps of the self-test over scripts with lists of codes, COUNT scripts a kind
 oracle spans SEED COUNT               the range join of the Rust and SCOPE 19 over COUNT inputs
 oracle sample write|replay FOLDER     record the sample, or replay it
@@ -39,6 +47,8 @@ fn maker(words: &[&str]) -> Result<Make, String> {
     match words {
         [] => Ok(script),
         ["runs"] => Ok(script_with_runs),
+        ["distance"] => Ok(script_with_distance),
+        ["distance", "runs"] => Ok(script_with_distance_and_runs),
         ["list"] => Ok(script_with_list),
         ["list", "runs"] => Ok(script_with_list_and_runs),
         _ => Err(USAGE.to_string()),
@@ -68,6 +78,7 @@ fn steps(name: &str, seed: u64, count: u64) -> Option<Vec<Named>> {
         "judges" => ("the two judges", Box::new(move || selftest::judges(PLAIN, seed, count))),
         "large" => ("large tables", Box::new(move || selftest::large(PLAIN, seed, count))),
         "spans" => ("points in intervals", Box::new(move || spans::random(seed, count))),
+        "distances" => return Some(selftest::with_distances(seed, count)),
         "lists" => return Some(selftest::with_lists(seed, count)),
         _ => return None,
     };

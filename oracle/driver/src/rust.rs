@@ -1,4 +1,5 @@
 //! The Rust itself: the published node between real pipes, driven one waiting left frame a turn.
+use std::borrow::Cow;
 use std::cell::RefCell;
 use std::sync::Arc;
 
@@ -14,7 +15,7 @@ use polars_stream::nodes::joins::asof_join::AsOfJoinNode;
 use polars_stream::pipe::{PhysicalPipe, PortSender};
 use slotmap::Key;
 
-use judges::script::{Answer, Call, Judge, Options, Ran, Stop, Told};
+use judges::script::{Answer, Call, Judge, Options, Ran, Stop, Told, without_distance};
 
 use crate::{frame, range};
 
@@ -102,10 +103,11 @@ impl List {
     }
 }
 
-/// What a join's frames are made of.
+/// What a join's frames are made of, and whether the distance was asked for, which the Rust does not write.
 struct Shape {
     b: usize,
     carried: usize,
+    distance: bool,
     list: Option<List>,
 }
 
@@ -178,7 +180,7 @@ pub struct Join {
 /// Whether SCOPE refuses these options, by 1, 10 or 11: it gives them no meaning that a stand-in could have.
 fn refused(o: &Options) -> bool {
     let bad = o.b > 4 || !(0..=2).contains(&o.strategy) || o.tolerance < -1 || (o.strategy == 2 && !o.eq);
-    bad || o.carried > 8 || (o.ranks.given && bad_list(o))
+    bad || o.distance > 1 || o.carried > 8 || (o.ranks.given && bad_list(o))
 }
 
 /// Whether SCOPE refuses the list of these options by 11.
@@ -239,7 +241,7 @@ impl Join {
 
     /// A fresh join of any options that the Rust takes.
     pub fn open_any(o: &Options, ways: Ways) -> Self {
-        let shape = Shape { b: o.b, carried: o.carried as usize, list: List::of(o) };
+        let shape = Shape { b: o.b, carried: o.carried as usize, distance: o.distance == 1, list: List::of(o) };
         Join { shape, ways, node: node(o), accepted: 0, right_waiting: vec![], ended: false, spoiled: None }
     }
 
@@ -461,7 +463,8 @@ fn take_spoiled(sent: usize) -> Option<Spoiled> {
     (left || right).then_some(Spoiled { left, right, sent })
 }
 
-/// SCOPE 12.5: the words of an answer: of the rows that the Rust took, their numbers and what they carry.
+/// SCOPE 12.5: the words of an answer: of the rows that the Rust took, their numbers and what they carry. There is no distance
+/// among them.
 fn written(df: &DataFrame, carried: usize) -> Vec<i64> {
     let names = [NUMBER].into_iter().chain(CARRIED).take(1 + carried);
     let columns: Vec<_> = names.map(|name| df.column(&name).unwrap().values()).collect();
@@ -485,6 +488,15 @@ impl Rust {
     pub fn fed(ways: Ways) -> Self {
         Rust { ways, ..Rust::default() }
     }
+
+    /// What of an answer to the open join's last call the Rust can be asked about: it writes no distance, and so all columns
+    /// but the last where that one is.
+    pub fn shared<'a>(&self, said: &'a Answer) -> Cow<'a, Answer> {
+        match &self.join {
+            Some(join) if join.shape.distance => Cow::Owned(without_distance(said)),
+            _ => Cow::Borrowed(said),
+        }
+    }
 }
 
 impl Judge for Rust {
@@ -492,7 +504,9 @@ impl Judge for Rust {
     fn call(&mut self, call: &Call) -> Answer {
         match (call, self.told.opens(call), &mut self.join) {
             (Call::Spans(spans), ..) => range::answer(spans, range::Ways::default()),
-            (Call::Merge(_) | Call::Standing(_), ..) => self.told.with(|_| Answer::Nothing),
+            (Call::Read(_), ..) => Answer::Nothing,
+            (Call::Merge(_) | Call::Standing(_) | Call::Plan(_), ..)
+            | (Call::Places(_) | Call::TakingsAdd(_) | Call::TakingsJoin(_), ..) => self.told.with(|_| Answer::Nothing),
             (_, Some(Ok(open)), join) => {
                 FAULTS.take();
                 *join = Join::open(&open.options, self.ways);

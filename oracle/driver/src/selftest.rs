@@ -5,16 +5,19 @@ use std::time::Instant;
 
 use judges::exhaustive;
 use judges::generate::{
-    COMPARED, Kind, script, script_with_list, script_with_list_and_runs, script_with_runs, script_without_carried,
+    COMPARED, Kind, script, script_with_distance, script_with_distance_and_runs, script_with_list,
+    script_with_list_and_runs, script_with_runs, script_without_carried,
 };
 use judges::rules::{Rules, frame_rows};
-use judges::script::{Answer, Call, Judge, Options, opening, parse_script, written};
+use judges::script::{
+    Answer, Call, Judge, Options, opening, parse_script, without_distance, without_distances, written,
+};
 use judges::whole_table::{self, Counts};
 
 use crate::compare::{self, Difference, Tally};
 use crate::pulled::{ROOM, all_at_once};
 use crate::rust::{Rust, Spoiled, Ways};
-use crate::{books, ranks, spans};
+use crate::{books, ranks, readers, spans};
 
 /// How a step ends: what it counted, or what went wrong.
 pub type Step = Result<String, String>;
@@ -37,6 +40,9 @@ pub const PLAIN: Makes = Makes { turns: script, runs: script_with_runs };
 
 /// Scripts with lists of codes.
 pub const LISTED: Makes = Makes { turns: script_with_list, runs: script_with_list_and_runs };
+
+/// Scripts whose answers tell the distance.
+pub const DISTANT: Makes = Makes { turns: script_with_distance, runs: script_with_distance_and_runs };
 
 impl Makes {
     /// Every second script with runs.
@@ -72,7 +78,7 @@ pub(crate) fn cases(text: &str) -> Step {
         parted |= opens && ruled == Answer::Ok && said == Answer::Nothing;
         parted |= matches!(call, Call::Put(..));
         let known = !parted && !compare::no_counterpart(&ruled);
-        if ruled.to_string() != *want || (known && !compare::agrees(&said, &ruled)) {
+        if ruled.to_string() != *want || (known && !compare::agrees(&said, &rust.shared(&ruled))) {
             return Err(format!("{call}: wanted {want}, the Rust says {said}, the rules say {ruled}"));
         }
         asked += known as usize;
@@ -94,6 +100,11 @@ pub fn run_cases() -> Step {
 /// SCOPE 5.14: moves.
 pub fn move_cases() -> Step {
     cases(include_str!("../moves.txt"))
+}
+
+/// SCOPE 12.5: the distance.
+pub fn distance_cases() -> Step {
+    cases(include_str!("../distance.txt"))
 }
 
 /// SCOPE 2.2: a frame has at most 4,096 rows, however many columns the right ones carry.
@@ -234,6 +245,30 @@ pub fn carried(seed: u64, count: u64) -> Step {
         return Err("nothing was tested".into());
     }
     Ok(format!("{rows} rows written, with {cells} carried cells: everything else is as without"))
+}
+
+/// SCOPE 3.11: the distance changes nothing else. The same scripts with and without it, by the step rules: the same answers but
+/// for the last column, and after each call the same join.
+pub fn distances(seed: u64, count: u64) -> Step {
+    let mut all = Counts::default();
+    for (kind, i) in COMPARED.into_iter().flat_map(|kind| (0..count).map(move |i| (kind, i))) {
+        let with = script_with_distance(kind, seed, i);
+        let (mut rules, mut plain, mut answers) = (Rules::default(), Rules::default(), vec![]);
+        for (call, other) in with.iter().zip(&without_distances(&with)) {
+            let (said, alone) = (rules.call(call), plain.call(other));
+            if without_distance(&said) != alone || rules.look() != plain.look() {
+                return Err(failure("the distance changes more", &with, &format!("{call}: {said}, else {alone}")));
+            }
+            answers.push(said);
+        }
+        all.add(&whole_table::judge(&with, &answers).map_err(|why| failure("distances", &with, &why))?);
+    }
+    let [written, above, most, next] = all.distances;
+    if all.distances.contains(&0) {
+        return Err("nothing was tested".into());
+    }
+    let said = format!("{written} distances written, {most} of them 2^63 − 1, {above} above, {next} of them 2^63");
+    Ok(format!("{} scripts, {said}: everything else is as without", all.scripts))
 }
 
 /// Scripts with large tables, every second one with runs: by the step rules and by the whole-table judge. Longest frames must
@@ -499,7 +534,7 @@ pub fn run(steps: Vec<Named>) -> bool {
 const DUE: [usize; 8] = [1, 3, 4, 5, 6, 8, 9, 10];
 const DUE_LISTED: [usize; 10] = [1, 3, 4, 5, 6, 8, 9, 10, 11, 12];
 
-/// The whole self-test with so many random scripts a kind, and half as many with lists.
+/// The whole self-test with so many random scripts a kind, half as many with distances, and half as many with lists.
 pub fn all(seed: u64, count: u64) -> bool {
     let mut steps: Vec<Named> = vec![
         ("worked cases", Box::new(counter_cases)),
@@ -517,6 +552,10 @@ pub fn all(seed: u64, count: u64) -> bool {
         ("ways of feeding", Box::new(move || ways(PLAIN, seed, count / 8))),
         ("refusals", Box::new(move || refusals(PLAIN, seed, count, &DUE))),
         ("books, cases", Box::new(books::cases)),
+        ("plans, cases", Box::new(books::plans)),
+        ("places of cuts, cases", Box::new(books::places)),
+        ("takings, cases", Box::new(books::takings)),
+        ("readers, cases", Box::new(readers::cases)),
         ("spans, cases", Box::new(spans::cases)),
         ("spans, longest tables", Box::new(spans::longest)),
         ("spans, findings", Box::new(spans::findings)),
@@ -524,8 +563,22 @@ pub fn all(seed: u64, count: u64) -> bool {
         ("spans, points in intervals", Box::new(move || spans::random(seed, 4 * count))),
         ("spans, ways of feeding", Box::new(move || spans::ways(seed, count))),
     ];
+    steps.extend(with_distances(seed, 250.max(count / 2)));
     steps.extend(with_lists(seed, 250.max(count / 2)));
     run(steps)
+}
+
+/// The steps over scripts whose answers tell the distance.
+pub fn with_distances(seed: u64, count: u64) -> Vec<Named> {
+    vec![
+        ("distance, worked cases", Box::new(distance_cases)),
+        ("distance, the two judges", Box::new(move || judges(DISTANT, seed, count))),
+        ("distance, step rules", Box::new(move || all_kinds(DISTANT, seed, count))),
+        ("distance, runs", Box::new(move || runs(DISTANT, seed, count))),
+        ("distance, large tables", Box::new(move || large(DISTANT, seed, 12.max(count / 200)))),
+        ("distance, refusals", Box::new(move || refusals(DISTANT, seed, 2 * count, &DUE))),
+        ("distance and nothing else", Box::new(move || distances(seed, count))),
+    ]
 }
 
 /// The steps over scripts with lists of codes.

@@ -12,7 +12,12 @@ pub const STANDING_REFUSALS: [u8; 8] = [1, 10, 11, 5, 12, 13, 14, 6];
 
 /// A book's rows; none where its words break the frame rule "without its row limit", or have other columns than a right row.
 fn rows(o: &Options, words: &[i64]) -> Option<Vec<Row>> {
-    let (columns, [n, c, cells @ ..]) = (o.b + 1 + o.carried as usize, words) else { return None };
+    table_rows(o.b + 1 + o.carried as usize, words)
+}
+
+/// The rows of a table of these columns; none where the words are none.
+pub fn table_rows(columns: usize, words: &[i64]) -> Option<Vec<Row>> {
+    let [n, c, cells @ ..] = words else { return None };
     if *n < 0 || *c != columns as i64 || cells.len() as i128 != *n as i128 * 2 * columns as i128 {
         return None;
     }

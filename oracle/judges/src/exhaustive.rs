@@ -56,6 +56,7 @@ fn all_options(s: &Small) -> Vec<Options> {
                     check: on(0),
                     strict: false,
                     carried: s.carried as u64,
+                    distance: s.distance as u64,
                     ranks: s.list.map_or(Ranks::none(), |(at, codes)| Ranks::of(at, codes.len() as u64, codes)),
                     descending: descending.collect(),
                     nulls_last: nulls_last.collect(),
@@ -69,12 +70,12 @@ fn all_options(s: &Small) -> Vec<Options> {
 /// Opens with areas that are enough for one small frame a side.
 fn opens(options: &Options) -> Vec<Call> {
     let open = Open { options: options.clone(), left_words: 64, right_words: 64 };
-    open.calls(options.carried == 0 && !options.ranks.given)
+    open.calls(options.carried == 0 && options.distance == 0 && !options.ranks.given)
 }
 
 /// One right frame, one left frame, a turn with right open and one with right ended.
 fn one_frame_each(o: &Options, left: &[i64], right: &[i64]) -> Vec<Call> {
-    let turn = || Call::Turn(2 + 2 * left[0] as usize * (1 + o.carried as usize));
+    let turn = || Call::Turn(2 + 2 * left[0] as usize * (1 + o.carried as usize + o.distance as usize));
     let (left, right) = (Call::Left(left.to_vec()), Call::Right(right.to_vec()));
     opens(o).into_iter().chain([right, left, turn(), Call::End, turn()]).collect()
 }
@@ -89,15 +90,19 @@ struct Small<'a> {
     most: [usize; 2],
     tolerances: &'a [i64],
     carried: usize,
+    /// Whether the distance is written.
+    distance: bool,
     /// The column of a list, and its codes.
     list: Option<(u64, &'a [i64])>,
 }
 
 /// No by-columns; keys null, 0, 1, 2.
-const KEYS: Small = Small { b: 0, below: [0, 3], most: [2, 3], tolerances: &[-1, 0, 1], carried: 0, list: None };
+const KEYS: Small =
+    Small { b: 0, below: [0, 3], most: [2, 3], tolerances: &[-1, 0, 1], carried: 0, distance: false, list: None };
 
 /// One by-column; groups and keys null, 0, 1.
-const GROUPS: Small = Small { b: 1, below: [2, 2], most: [1, 2], tolerances: &[-1], carried: 0, list: None };
+const GROUPS: Small =
+    Small { b: 1, below: [2, 2], most: [1, 2], tolerances: &[-1], carried: 0, distance: false, list: None };
 
 /// Hands every script of all small tables to `each`, until it says stop.
 fn tables(s: Small, each: &mut dyn FnMut(&[Call]) -> bool) -> bool {
@@ -125,11 +130,13 @@ fn ports(each: &mut dyn FnMut(&[Call]) -> bool) -> bool {
 }
 
 /// All of it without lists: tables without by-columns and with one; the same with fewer rows and one or two carried
-/// columns.
+/// columns, with the distance, and with both.
 pub fn all(each: &mut dyn FnMut(&[Call]) -> bool) -> bool {
     let prices = Small { most: [2, 2], tolerances: &[-1, 0], carried: 2, ..KEYS };
     let group_prices = Small { most: [1, 1], carried: 1, ..GROUPS };
-    ports(each) && [KEYS, GROUPS, prices, group_prices].into_iter().all(|small| tables(small, each))
+    let far = Small { most: [2, 2], distance: true, ..KEYS };
+    let far_prices = Small { distance: true, ..group_prices };
+    ports(each) && [KEYS, GROUPS, prices, group_prices, far, far_prices].into_iter().all(|small| tables(small, each))
 }
 
 /// The same with lists: one by-column whose list turns the numbers round, or lacks one of them; two by-columns, of which

@@ -3,7 +3,7 @@ use crate::generate_ranks::{self, Listed, Values};
 use crate::rules::Rules;
 use crate::script::{Answer, Call, Judge, Open, Options, Place, Ranks, opening};
 use crate::whole_table::{self, Row};
-use crate::words::{CARRIED, CHECK, COUNTERS, ENDED, PRUNED, QUEUE_START, RANKS, ROWS, SEQUENCE, STATE};
+use crate::words::{CARRIED, CHECK, COUNTERS, DISTANCE, ENDED, PRUNED, QUEUE_START, RANKS, ROWS, SEQUENCE, STATE};
 
 /// What a script is made to reach.
 #[derive(Clone, Copy, Debug, PartialEq)]
@@ -32,6 +32,9 @@ pub enum Kind {
     /// The order check strict, many null keys, rows out of order here and there: what the Rust does not have.
     Strict,
 }
+
+/// Numbers in the place of a flag that are none.
+pub(crate) const NO_FLAGS: [u64; 5] = [2, 3, 255, 1 << 63, u64::MAX];
 
 /// The kinds that the recorded sample is made of: it stays as it is when a kind is added.
 pub const RECORDED: [Kind; 6] = [Kind::Whole, Kind::Mixed, Kind::Flush, Kind::NullsLast, Kind::Order, Kind::Ends];
@@ -69,8 +72,13 @@ impl Random {
         Self::of_family(seed, kind as u64 + 129, number)
     }
 
+    /// The source of what a host does to the word for the distance: another one too.
+    fn of_distance(seed: u64, kind: Kind, number: u64) -> Self {
+        Self::of_family(seed, kind as u64 + 193, number)
+    }
+
     /// The source of a number among a seed's scripts of a family: kinds of scripts over joins have 1 to 11, what they carry
-    /// 65 to 75, their lists 129 to 139.
+    /// 65 to 75, their lists 129 to 139, their distances 193 to 203.
     pub(crate) fn of_family(seed: u64, family: u64, number: u64) -> Self {
         let mut out = Random(seed ^ (family << 56));
         out.0 = out.next() ^ number.wrapping_mul(0x9E37_79B9_7F4A_7C15);
@@ -160,7 +168,7 @@ fn tolerance(r: &mut Random, keys: Pool) -> i64 {
     }
 }
 
-/// Options with this many by-columns that carry nothing and have no list.
+/// Options with this many by-columns that carry nothing, write no distance and have no list.
 fn options(r: &mut Random, b: usize, keys: Pool) -> Options {
     let strategy = r.below(3) as i64;
     Options {
@@ -171,6 +179,7 @@ fn options(r: &mut Random, b: usize, keys: Pool) -> Options {
         check: r.percent(50),
         strict: false,
         carried: 0,
+        distance: 0,
         ranks: Ranks::none(),
         descending: (0..b).map(|_| r.percent(50)).collect(),
         nulls_last: (0..b).map(|_| r.percent(50)).collect(),
@@ -258,18 +267,31 @@ fn table(r: &mut Random, s: &Shape, how: Arrangement) -> Vec<Row> {
     rows
 }
 
-/// What a script carries.
+/// What a script carries, and whether its answers tell the distance.
 struct Carried {
     r: Random,
     p: usize,
-    /// Whether one line opens the join, which can only say that nothing is carried.
+    /// The source of what is done to the word for the distance, where it is on.
+    distance: Option<Random>,
+    /// Whether one line opens the join, which can only say that nothing is carried and no distance written.
     one_line: bool,
 }
 
 impl Carried {
     /// Nothing, as one line says.
     fn nothing(seed: u64, kind: Kind, number: u64) -> Self {
-        Carried { r: Random::of_carried(seed, kind, number), p: 0, one_line: true }
+        Carried { r: Random::of_carried(seed, kind, number), p: 0, distance: None, one_line: true }
+    }
+
+    /// What it carries else, with the distance.
+    fn with_distance(seed: u64, kind: Kind, number: u64) -> Self {
+        let distance = Some(Random::of_distance(seed, kind, number));
+        Carried { distance, one_line: false, ..Self::at_least(0, seed, kind, number) }
+    }
+
+    /// True in so many of a hundred cases where the distance is on.
+    fn distance_percent(&mut self, n: usize) -> bool {
+        self.distance.as_mut().is_some_and(|r| r.percent(n))
     }
 
     /// Up to eight columns, often few, and at least so many.
@@ -277,7 +299,7 @@ impl Carried {
         let mut r = Random::of_carried(seed, kind, number);
         let p = if r.percent(12) { 4 + r.below(5) } else { r.pick(&[0, 0, 0, 1, 1, 1, 2, 2, 2, 3]) }.max(least);
         let one_line = p == 0 && r.percent(50);
-        Carried { r, p, one_line }
+        Carried { r, p, distance: None, one_line }
     }
 
     /// Puts carried cells behind the right rows, in no order: nulls, small numbers, any 64 bits and both ends of their range.
@@ -342,6 +364,11 @@ fn cut_large(r: &mut Random, rows: &[Row], c: usize) -> Vec<Vec<i64>> {
     frames
 }
 
+/// The columns of an answer.
+fn answer_columns(o: &Options) -> usize {
+    1 + o.carried as usize + o.distance as usize
+}
+
 /// The columns of left frames, and of right ones.
 fn columns(o: &Options) -> [usize; 2] {
     [o.b + 1, o.b + 1 + o.carried as usize]
@@ -370,7 +397,7 @@ impl Draft {
         let left_words = left.iter().map(Vec::len).sum();
         let right_words = right.iter().map(|f| 2 * right_columns * f[0] as usize).sum();
         let longest = left.iter().map(|f| f[0] as usize).max().unwrap_or(0);
-        let output = 2 + 2 * longest * (1 + options.carried as usize);
+        let output = 2 + 2 * longest * answer_columns(&options);
         left.reverse();
         right.reverse();
         let open = Open { options, left_words, right_words };
@@ -565,6 +592,9 @@ fn small_open(r: &mut Random, d: &mut Draft, carried: &mut Carried, listed: &mut
     if listed.gives && listed.r.percent(if change < 5 { 40 } else { 12 }) {
         listed.spoil(o.b, &mut o.ranks);
     }
+    if carried.distance_percent(if change < 5 { 20 } else { 5 }) {
+        o.distance = carried.distance.as_mut().map_or(0, |r| r.pick(&NO_FLAGS));
+    }
 }
 
 /// Any call, also ones that SCOPE refuses.
@@ -701,6 +731,24 @@ fn alter_listed(r: &mut Random, d: &mut Draft, columns: [usize; 2]) {
     }
 }
 
+/// The host alters the word for the distance: off, so that later answers lack the column, or to what is no flag, most often
+/// for one call.
+fn alter_distance(r: &mut Random, d: &mut Draft, carried: &mut Carried, columns: [usize; 2]) {
+    let Some((words, source)) = d.rules.all_words().map(|(words, ..)| words).zip(carried.distance.as_mut()) else {
+        return;
+    };
+    let word = if source.percent(40) { 1 - words[DISTANCE].clamp(0, 1) } else { source.pick(&NO_FLAGS) as i64 };
+    d.push(Call::Put(Place::Join, DISTANCE, word));
+    if source.percent(50) {
+        d.turn(r)
+    } else {
+        any_call(r, d, columns)
+    }
+    if d.rules.broken() && source.percent(90) {
+        d.push(Call::Put(Place::Join, DISTANCE, source.below(2) as i64));
+    }
+}
+
 /// Calls on joins and areas that no call has left so.
 fn handed(r: &mut Random, mut d: Draft, carried: &mut Carried, listed: &mut Listed) -> Vec<Call> {
     let small = r.percent(50);
@@ -708,6 +756,7 @@ fn handed(r: &mut Random, mut d: Draft, carried: &mut Carried, listed: &mut List
     for _ in 0..10 + r.below(30) {
         match r.below(24) {
             _ if listed.gives && listed.r.percent(25) => alter_listed(r, &mut d, columns),
+            _ if carried.distance_percent(10) => alter_distance(r, &mut d, carried, columns),
             0..=2 => alter_join(r, &mut d, columns),
             3 | 4 => alter_area(r, &mut d),
             5 => alter_row(r, &mut d),
@@ -830,7 +879,8 @@ fn with_runs(r: &mut Random, kind: Kind, calls: Vec<Call>) -> Vec<Call> {
         Kind::Refusals | Kind::Handed => (30, r.pick(&[50, 80, 95])),
         _ => (6, r.pick(&[10, 50, 80])),
     };
-    let spare = if kind == Kind::Large { 2 + 18 * 4096 } else { 0 };
+    let distance = opening(&calls).map_or(0, |(open, _)| open.options.distance as usize % 2);
+    let spare = if kind == Kind::Large { 2 + (18 + 2 * distance) * 4096 } else { 0 };
     let mut out = Runs { calls: vec![], rules: Rules::default(), short, spare, alters: kind == Kind::Handed };
     for call in calls {
         match call {
@@ -897,7 +947,7 @@ fn calls(r: &mut Random, kind: Kind, carried: &mut Carried, listed: &mut Listed)
     s.listed.iter_mut().for_each(|values| values.lacking = listed.lacking);
     let mut right = table(r, &s, hows[1]);
     carried.carry(&mut right);
-    s.options.carried = carried.p as u64;
+    (s.options.carried, s.options.distance) = (carried.p as u64, carried.distance.is_some() as u64);
     let (ranks, one_line) = (s.options.ranks.clone(), carried.one_line && !listed.gives);
     let d = Draft::new(r, s.options, [&left, &right], if large { cut_large } else { cut }, one_line);
     let calls = match kind {
@@ -948,6 +998,13 @@ pub fn script_without_carried(kind: Kind, seed: u64, number: u64) -> Vec<Call> {
     with_turns(kind, seed, number, &mut Carried::nothing(seed, kind, number), listed)
 }
 
+/// The same script, whose answers tell the distance. Where all that it hands in finds room, its calls are the same but for
+/// the opening and the lengths of outputs.
+pub fn script_with_distance(kind: Kind, seed: u64, number: u64) -> Vec<Call> {
+    let listed = &mut Listed::nothing(seed, kind, number);
+    with_turns(kind, seed, number, &mut Carried::with_distance(seed, kind, number), listed)
+}
+
 /// Another script of the kind, in which a by-column has a list of codes, and frames that 12 refuses stand among the others.
 pub fn script_with_list(kind: Kind, seed: u64, number: u64) -> Vec<Call> {
     let listed = &mut Listed::list(0, seed, kind, number);
@@ -962,13 +1019,13 @@ pub fn script_with_lacked(kind: Kind, seed: u64, number: u64) -> Vec<Call> {
 
 /// A script with runs in the place of turns, and with moves in half of all. One for the whole-table rule has outputs
 /// enough, and turns at its end what still waits; so does one with large tables.
-fn with_runs_and_moves(kind: Kind, seed: u64, number: u64, listed: &mut Listed) -> Vec<Call> {
+fn with_runs_and_moves(kind: Kind, seed: u64, number: u64, mut carried: Carried, listed: &mut Listed) -> Vec<Call> {
     let r = &mut Random::new(seed, kind, number);
-    let carried = &mut Carried::at_least(0, seed, kind, number);
+    let carried = &mut carried;
     let calls = calls(r, kind, carried, listed);
     let mut calls = with_runs(r, kind, calls);
     if matches!(kind, Kind::Whole | Kind::Large) {
-        calls.push(Call::Run(1 << 20, (1 + carried.p) << 16));
+        calls.push(Call::Run(1 << 20, (1 + carried.p + carried.distance.is_some() as usize) << 16));
     }
     if with_room(kind) && r.percent(50) {
         tighten(r, &mut calls);
@@ -978,10 +1035,24 @@ fn with_runs_and_moves(kind: Kind, seed: u64, number: u64, listed: &mut Listed) 
 
 /// The script of this number with runs and moves.
 pub fn script_with_runs(kind: Kind, seed: u64, number: u64) -> Vec<Call> {
-    with_runs_and_moves(kind, seed, number, &mut Listed::nothing(seed, kind, number))
+    let (carried, listed) = (Carried::at_least(0, seed, kind, number), &mut Listed::nothing(seed, kind, number));
+    with_runs_and_moves(kind, seed, number, carried, listed)
+}
+
+/// The script with the distance of this number with runs and moves.
+pub fn script_with_distance_and_runs(kind: Kind, seed: u64, number: u64) -> Vec<Call> {
+    let (carried, listed) = (Carried::with_distance(seed, kind, number), &mut Listed::nothing(seed, kind, number));
+    with_runs_and_moves(kind, seed, number, carried, listed)
 }
 
 /// The script with a list of this number with runs and moves.
 pub fn script_with_list_and_runs(kind: Kind, seed: u64, number: u64) -> Vec<Call> {
-    with_runs_and_moves(kind, seed, number, &mut Listed::list(0, seed, kind, number))
+    let (carried, listed) = (Carried::at_least(0, seed, kind, number), &mut Listed::list(0, seed, kind, number));
+    with_runs_and_moves(kind, seed, number, carried, listed)
+}
+
+/// The script with a list of this number with runs and moves, whose answers tell the distance.
+pub fn script_with_list_and_distance(kind: Kind, seed: u64, number: u64) -> Vec<Call> {
+    let (carried, listed) = (Carried::with_distance(seed, kind, number), &mut Listed::list(0, seed, kind, number));
+    with_runs_and_moves(kind, seed, number, carried, listed)
 }

@@ -1,21 +1,22 @@
 //! Random books, made from a seed and a number alone, so that every input can be made again.
 use crate::books;
-use crate::generate::{Pool, Random, words};
+use crate::generate::{NO_FLAGS, Pool, Random, words};
 use crate::rules::Row;
-use crate::script::{MOST_CODES, Merge, Options, Ranks, Standing};
+use crate::script::{MOST_CODES, Merge, Options, Plan, Ranks, Standing};
 use crate::whole_table::sort;
 
 /// The families of these inputs among all random ones.
 const MERGES: u64 = 0x26;
 const STANDINGS: u64 = 0x27;
+const PLANS: u64 = 0x2b;
 
 /// What books are made of: values, how many of a hundred are null, and the codes of the list where there is one.
-struct Shape {
-    keys: Pool,
-    groups: Pool,
+pub(crate) struct Shape {
+    pub(crate) keys: Pool,
+    pub(crate) groups: Pool,
     carried: Pool,
     nulls: usize,
-    codes: Vec<i64>,
+    pub(crate) codes: Vec<i64>,
 }
 
 /// Up to so many codes, no two of them equal, in any order.
@@ -33,7 +34,7 @@ fn codes(r: &mut Random) -> Vec<i64> {
 }
 
 /// Options that no call refuses, and what books under them are made of.
-fn options(r: &mut Random) -> (Options, Shape) {
+pub(crate) fn options(r: &mut Random) -> (Options, Shape) {
     let b = r.pick(&[0, 0, 0, 1, 1, 1, 2, 2, 3, 4]);
     let strategy = r.below(3) as i64;
     let small = [Pool::Below(2), Pool::Below(3), Pool::Below(6), Pool::Below(40), Pool::Ends, Pool::Any];
@@ -48,6 +49,7 @@ fn options(r: &mut Random) -> (Options, Shape) {
         check: r.percent(50),
         strict: false,
         carried: r.pick(&[0, 0, 0, 1, 1, 2, 3, 8]),
+        distance: r.percent(30) as u64,
         ranks,
         descending: (0..b).map(|_| r.percent(50)).collect(),
         nulls_last: (0..b).map(|_| r.percent(50)).collect(),
@@ -58,8 +60,8 @@ fn options(r: &mut Random) -> (Options, Shape) {
 }
 
 /// The same options with something that opening refuses by 1, 10 or 11.
-fn refused(r: &mut Random, o: &mut Options) {
-    match r.below(9) {
+pub(crate) fn refused(r: &mut Random, o: &mut Options) {
+    match r.below(10) {
         0 => o.strategy = r.pick(&[3, 255]),
         1 => o.tolerance = r.pick(&[-2, i64::MIN]),
         2 => (o.strategy, o.eq) = (2, false),
@@ -70,6 +72,7 @@ fn refused(r: &mut Random, o: &mut Options) {
         4 | 5 => o.carried = r.pick(&[9, 10, 1 << 32, 1 << 63, u64::MAX]),
         6 => o.ranks = Ranks::of(r.below(5) as u64, r.pick(&[0, 65, 1 << 40, u64::MAX]), &[3; MOST_CODES]),
         7 => o.ranks = Ranks::of(o.b as u64 + r.below(3) as u64, 2, &[3, 4]),
+        8 => o.distance = r.pick(&NO_FLAGS),
         _ => o.ranks = Ranks::of(0, 3, &[3, 4, 3]),
     }
 }
@@ -90,9 +93,13 @@ fn cell(r: &mut Random, o: &Options, s: &Shape, j: usize) -> Option<i64> {
 
 /// A book's rows: sorted; a few of them exchanged, or one with a value that the list lacks, if it is to be refused.
 fn book(r: &mut Random, o: &Options, s: &Shape, wrong: bool) -> Vec<Row> {
+    rows(r, o, s, o.b + 1 + o.carried as usize, wrong)
+}
+
+/// The same of a table of so many columns.
+pub(crate) fn rows(r: &mut Random, o: &Options, s: &Shape, columns: usize, wrong: bool) -> Vec<Row> {
     let long = 4090 + r.below(20);
     let many = if r.percent(1) && r.percent(10) { long } else { r.pick(&[0, 1, 2, 3, 5, 8, 20]) };
-    let columns = o.b + 1 + o.carried as usize;
     let mut rows: Vec<Row> = (0..many).map(|_| (0..columns).map(|j| cell(r, o, s, j)).collect()).collect();
     sort(o, &mut rows);
     if wrong && many > 0 {
@@ -107,7 +114,7 @@ fn book(r: &mut Random, o: &Options, s: &Shape, wrong: bool) -> Vec<Row> {
 }
 
 /// The same words with something in them that breaks the table rule, most of the time.
-fn broken(r: &mut Random, mut words: Vec<i64>) -> Vec<i64> {
+pub(crate) fn broken(r: &mut Random, mut words: Vec<i64>) -> Vec<i64> {
     let last = words.len() - 1;
     let half = 2 + (words.len() - 2) / 2;
     match r.below(9) {
@@ -131,7 +138,7 @@ fn table(r: &mut Random, o: &Options, s: &Shape, wrong: bool) -> Vec<i64> {
 }
 
 /// The output's length: just enough, longer, one short, or any that is shorter.
-fn output(r: &mut Random, needed: usize) -> usize {
+pub(crate) fn output(r: &mut Random, needed: usize) -> usize {
     match r.below(20) {
         0 | 1 => needed - 1,
         2 => needed - 2,
@@ -181,4 +188,50 @@ pub fn standing(seed: u64, number: u64) -> (Options, Standing) {
     let needed = books::listed(&o, &call).map_or_else(|_| 2 + 4 * r.below(5), |words| words.len());
     call.output = output(r, needed);
     (o, call)
+}
+
+/// Heights that cut so many rows, of at most so many each; now and then others.
+fn heights(r: &mut Random, rows: usize, most: usize, wrong: bool) -> Vec<i64> {
+    let (mut left, mut heights) = (rows, vec![]);
+    while left > 0 || r.percent(10) {
+        let height = r.below(most.min(left) + 1);
+        heights.push(height as i64);
+        left -= height;
+    }
+    if wrong {
+        let at = r.below(heights.len() + 1);
+        match r.below(5) {
+            0 => heights.insert(at, r.pick(&[1, -1, 4097, i64::MIN, i64::MAX])),
+            1 => heights.extend([-1, 1]),
+            2 => heights.extend([i64::MAX, i64::MAX, 2]),
+            _ if at < heights.len() => heights[at] += r.pick(&[-1, 1, 4097, i64::MIN]),
+            _ => heights.truncate(at / 2),
+        }
+    }
+    heights
+}
+
+/// The plan of this number among a seed's, and its options.
+pub fn plan(seed: u64, number: u64) -> (Options, Plan) {
+    let r = &mut Random::of_family(seed, PLANS, number);
+    let (mut o, mut s) = options(r);
+    if r.percent(50) {
+        s.keys = r.pick(&[Pool::Below(40), Pool::Below(200), Pool::Any]);
+    }
+    let (c, w) = (o.b + 1, o.b + 1 + o.carried as usize);
+    let wrong = [r.percent(4), r.percent(4), r.percent(4), r.percent(4)];
+    let (left, right) = (rows(r, &o, &s, c, wrong[0]), rows(r, &o, &s, w, wrong[1]));
+    let most = |r: &mut Random, many: usize| if many > 100 { r.pick(&[700, 4096]) } else { r.pick(&[1, 2, 3, 5, 20]) };
+    let (tall, high) = (most(r, left.len()), most(r, right.len()));
+    let left_heights = heights(r, left.len(), tall, wrong[2]);
+    let right_heights = heights(r, right.len(), high, wrong[3]);
+    let told = |r: &mut Random, rows: &[Row], columns: usize| {
+        let words = words(rows, columns);
+        if r.below(32) == 0 { broken(r, words) } else { words }
+    };
+    let (left, right) = (told(r, &left, c), told(r, &right, w));
+    if r.percent(6) {
+        refused(r, &mut o);
+    }
+    (o, Plan { left, right, left_heights, right_heights })
 }

@@ -3,7 +3,7 @@
 use crate::generate::{Kind, Pool, Random};
 use crate::rules::{self, Rules};
 use crate::script::{Call, Look, MOST_CODES, Options, Place, Ranks};
-use crate::words::{CODES, RANKS, RISING, ROWS, rising_words};
+use crate::words::{CODES, DISTANCE, RANKS, RISING, ROWS, rising_words};
 
 /// The list that a script gives for one of its by-columns, if it gives one.
 pub(crate) struct Listed {
@@ -246,7 +246,7 @@ pub(crate) fn alter_list(r: &mut Random, rules: &Rules) -> Vec<Call> {
     let ranks = other_list(r, o);
     let mut new = words;
     (new[RANKS + 1], new[RANKS + 2]) = (ranks.column as i64, ranks.count as i64);
-    new[CODES..RISING].copy_from_slice(&ranks.codes);
+    new[CODES..DISTANCE].copy_from_slice(&ranks.codes);
     new[RISING..RISING + MOST_CODES / 8].copy_from_slice(&rising_words(&rules::rising(&ranks)));
     let differs = (RANKS..RISING + MOST_CODES / 8).filter(|at| new[*at] != words[*at]);
     differs.map(|at| Call::Put(Place::Join, at, new[at])).collect()

@@ -5,7 +5,7 @@ use std::cmp::Ordering;
 
 use crate::script::{Answer, Call, JoinWords, Judge, Look, MOST_CODES, Open, Options, Place, Ran, Ranks, Stop, Told};
 use crate::words::{self, Rising, RowWords};
-use crate::{books, spans};
+use crate::{books, cuts, plans, readers, spans, takings};
 
 /// A cell: null, or a number.
 pub type Cell = Option<i64>;
@@ -227,12 +227,25 @@ fn match_frame(o: &Options, left: &[Row], held: &[Row]) -> Vec<Option<usize>> {
     out
 }
 
-/// The row of an answer for the place of the match among the held rows, of which the first has the number `first`.
-fn answer_row(o: &Options, first: u64, held: &[Row], chosen: Option<usize>) -> Row {
-    match chosen {
-        Some(i) => [&[Some((first + i as u64) as i64)], &held[i][o.b + 1..]].concat(),
-        None => vec![None; 1 + o.carried as usize],
+/// "An answer frame has 1 + p columns"; "A join may be opened to add a last answer column: the distance".
+fn answer_columns(o: &Options) -> usize {
+    1 + o.carried as usize + o.distance as usize
+}
+
+/// The distance of two keys as a cell: "null for none or above 2^63 − 1".
+fn distance_cell(left: Cell, right: Cell) -> Cell {
+    i64::try_from(distance(left?, right?)).ok()
+}
+
+/// The row of an answer for a left row and the place of its match among the held rows, of which the first has the number
+/// `first`.
+fn answer_row(o: &Options, left: &Row, first: u64, held: &[Row], chosen: Option<usize>) -> Row {
+    let Some(i) = chosen else { return vec![None; answer_columns(o)] };
+    let mut out = [&[Some((first + i as u64) as i64)], &held[i][o.b + 1..]].concat();
+    if o.distance == 1 {
+        out.push(distance_cell(left[o.b], held[i][o.b]));
     }
+    out
 }
 
 /// "Prune": how many held rows stand before the split by this left row.
@@ -242,9 +255,11 @@ fn split(o: &Options, by: &Row, held: &[Row]) -> usize {
     if o.strategy == 1 || first == start { first } else { first - 1 }
 }
 
-/// 1: "Opening with b above 4, strategy outside 0 to 2, tolerance below −1, or Nearest without equality gives no join."
+/// 1: "Opening with b above 4, strategy outside 0 to 2, tolerance below −1, or Nearest without equality gives no join.", or with
+/// a distance that is no flag.
 fn bad_options(o: &Options) -> bool {
-    o.b > 4 || !(0..=2).contains(&o.strategy) || o.tolerance < -1 || (o.strategy == 2 && !o.eq)
+    let strategy = (0..=2).contains(&o.strategy) && (o.eq || o.strategy != 2);
+    o.b > 4 || !strategy || o.tolerance < -1 || o.distance > 1
 }
 
 /// 10: "p above 8, at opening after 1".
@@ -318,7 +333,8 @@ impl Fault {
 
 /// What a turn that writes changes. Where a side has no row to remember, the remembered one stays.
 struct Written {
-    /// "An answer frame has 1 + p columns: the right number, then the matched row's carried values, all null for none."
+    /// "An answer frame has 1 + p columns: the right number, then the matched row's carried values, all null for none.", and
+    /// where it is asked for the distance as "a last answer column".
     answer: Vec<Row>,
     dropped: usize,
     left: Option<Row>,
@@ -624,7 +640,8 @@ impl Join {
             held = &held[dropped..];
         }
         let first = self.look.pruned + dropped as u64;
-        let answer = match_frame(o, left, held).into_iter().map(|m| answer_row(o, first, held, m)).collect();
+        let matches = left.iter().zip(match_frame(o, left, held));
+        let answer = matches.map(|(row, chosen)| answer_row(o, row, first, held, chosen)).collect();
         let mut right = None;
         if let (Some(last), false) = (left.last(), held.is_empty()) {
             let at = split(o, last, held);
@@ -650,7 +667,7 @@ impl Join {
             return Answer::Refused(12);
         } else if !self.look.ended && need_more(&self.o, &left, &held) {
             return Answer::Wants;
-        } else if output < 2 + 2 * left.len() * (1 + self.o.carried as usize) {
+        } else if output < 2 + 2 * left.len() * answer_columns(&self.o) {
             return Answer::Refused(6);
         } else if self.look.sequence == u64::MAX - 1 {
             return Answer::Refused(7);
@@ -665,8 +682,8 @@ impl Join {
         }
     }
 
-    /// "the frame leaves the queue, sequence + 2"; written is a frame of 1 + p columns, "carried values … with mark 1, nulls as
-    /// 0 and 0".
+    /// "the frame leaves the queue, sequence + 2"; written is a frame of 1 + p columns, or 2 + p, "carried values … with mark 1,
+    /// nulls as 0 and 0".
     fn leave(&mut self, length: usize, written: Written) -> Answer {
         let look = &mut self.look;
         let sequence = look.sequence;
@@ -683,7 +700,7 @@ impl Join {
             }
         }
         let cells = || written.answer.iter().flatten();
-        let mut words = vec![written.answer.len() as i64, 1 + self.o.carried as i64];
+        let mut words = vec![written.answer.len() as i64, answer_columns(&self.o) as i64];
         words.extend(cells().map(|cell| cell.unwrap_or(0)));
         words.extend(cells().map(|cell| cell.is_some() as i64));
         Answer::Wrote(sequence, words)
@@ -731,7 +748,12 @@ impl Join {
             | Call::Opens(..)
             | Call::Spans(_)
             | Call::Merge(_)
-            | Call::Standing(_) => unreachable!(),
+            | Call::Standing(_)
+            | Call::Read(_)
+            | Call::Plan(_)
+            | Call::Places(_)
+            | Call::TakingsAdd(_)
+            | Call::TakingsJoin(_) => unreachable!(),
             Call::Run(..) | Call::Move(..) | Call::State | Call::Areas | Call::Words | Call::Put(..) => unreachable!(),
         }
     }
@@ -778,6 +800,11 @@ impl Judge for Rules {
             (Call::Spans(spans), ..) => spans::answer(spans),
             (Call::Merge(merge), ..) => self.told.with(|o| books::merge(o, merge)),
             (Call::Standing(standing), ..) => self.told.with(|o| books::standing(o, standing)),
+            (Call::Plan(plan), ..) => self.told.with(|o| plans::plan(o, plan)),
+            (Call::Places(call), ..) => self.told.with(|o| cuts::place(o, call)),
+            (Call::TakingsAdd(call), ..) => self.told.with(|o| takings::add(o, call)),
+            (Call::TakingsJoin(call), ..) => self.told.with(|o| takings::join(o, call)),
+            (Call::Read(read), ..) => readers::answer(read),
             (_, Some(Ok(open)), join) => {
                 let opened = Join::open(open);
                 let answer = opened.as_ref().map_or_else(|number| Answer::Refused(*number), |_| Answer::Ok);

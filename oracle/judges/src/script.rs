@@ -52,6 +52,8 @@ pub struct Options {
     pub strict: bool,
     /// p, the columns that are carried.
     pub carried: u64,
+    /// Whether the distance is written: 1 on, 0 off, any other number neither.
+    pub distance: u64,
     pub ranks: Ranks,
     pub descending: Vec<bool>,
     pub nulls_last: Vec<bool>,
@@ -66,11 +68,11 @@ pub struct Open {
 }
 
 impl Open {
-    /// The lines that open a join so: one, which says that nothing is carried and no list given, or the options and then
-    /// the areas.
+    /// The lines that open a join so: one, which says that nothing is carried, no list given and no distance written, or the
+    /// options and then the areas.
     pub fn calls(self, one_line: bool) -> Vec<Call> {
         if one_line {
-            assert!(self.options.carried == 0 && !self.options.ranks.given);
+            assert!(self.options.carried == 0 && self.options.distance == 0 && !self.options.ranks.given);
             return vec![Call::Open(self)];
         }
         vec![Call::Options(self.options), Call::Opens(self.left_words, self.right_words)]
@@ -146,10 +148,61 @@ pub struct Standing {
     pub book: Vec<i64>,
 }
 
+/// SCOPE 19.24, how large an area to lend: the words of both tables, and the heights of their frames. Nothing is checked yet. The
+/// options are those of the last `options` line.
+#[derive(Clone, Debug, PartialEq)]
+pub struct Plan {
+    pub left: Vec<i64>,
+    pub right: Vec<i64>,
+    pub left_heights: Vec<i64>,
+    pub right_heights: Vec<i64>,
+}
+
+/// SCOPE 19.27, where a table is cut: whether it is one of left rows, 0, or of right ones, 1, the length of the output in words, the
+/// words of the table and those of the boundaries. Nothing is checked yet. The options are those of the last `options` line.
+#[derive(Clone, Debug, PartialEq)]
+pub struct Places {
+    pub side: u64,
+    pub output: usize,
+    pub table: Vec<i64>,
+    pub boundaries: Vec<i64>,
+}
+
+/// SCOPE 19.30, a frame's sales added to a table of takings: the length of the output in words, the number beside the table, and the
+/// words of the table, of the left frame and of its answer frame. Nothing is checked yet. The options are those of the last `options`
+/// line.
+#[derive(Clone, Debug, PartialEq)]
+pub struct Adding {
+    pub output: usize,
+    pub number: i64,
+    pub table: Vec<i64>,
+    pub left: Vec<i64>,
+    pub answers: Vec<i64>,
+}
+
+/// SCOPE 19.31, two tables of takings joined: the length of the output in words, the numbers beside the tables, and the words of both.
+/// Nothing is checked yet. The options are those of the last `options` line.
+#[derive(Clone, Debug, PartialEq)]
+pub struct Joining {
+    pub output: usize,
+    pub numbers: [i64; 2],
+    pub tables: [Vec<i64>; 2],
+}
+
+/// SCOPE 19.17, a place of an answer frame: which reader, p, the place, and the words of the frame. Nothing is checked yet.
+#[derive(Clone, Debug, PartialEq)]
+pub struct Read {
+    pub distance: bool,
+    pub carried: u64,
+    pub row: u64,
+    pub column: u64,
+    pub frame: Vec<i64>,
+}
+
 /// One line of a script.
 #[derive(Clone, Debug, PartialEq)]
 pub enum Call {
-    /// Opens a join that carries nothing and has no list.
+    /// Opens a join that carries nothing, writes no distance and has no list.
     Open(Open),
     /// The options of all later lines that open.
     Options(Options),
@@ -170,6 +223,12 @@ pub enum Call {
     /// Need no open join, and options that were told.
     Merge(Merge),
     Standing(Standing),
+    Plan(Plan),
+    Places(Places),
+    TakingsAdd(Adding),
+    TakingsJoin(Joining),
+    /// Needs neither.
+    Read(Read),
     /// Not of the shared script form: the words of both areas, for tests of the definitions.
     Areas,
     /// Not of the shared script form: the words of the join, as the C interface lays them out.
@@ -186,9 +245,9 @@ pub enum Place {
     Right,
 }
 
-/// The words of a join as the C interface lays them out (include/rowkeeper.h): the layout's, 14 of options and 67 of their
-/// list, 8 of the places of its codes, 9 of counters and flags, and 11 for each remembered row.
-pub type JoinWords = [i64; 121];
+/// The words of a join as the C interface lays them out (include/rowkeeper.h): the layout's, 14 of options, 67 of their list
+/// and one for the distance, 8 of the places of the list's codes, 9 of counters and flags, and 11 for each remembered row.
+pub type JoinWords = [i64; 122];
 
 /// What `state` tells of a join.
 #[derive(Clone, Debug, PartialEq)]
@@ -244,6 +303,12 @@ pub enum Answer {
     Words(Box<JoinWords>),
     /// All words of the table that was written.
     Table(Vec<i64>),
+    /// The number beside a table of takings, and all words of the table that was written.
+    Took(i64, Vec<i64>),
+    /// The figures of a plan: rows held, turns, right frames.
+    Planned([u64; 3]),
+    /// The value and the mark of a place.
+    Cell(i64, i64),
     /// A refused call altered a word of its output, which none may do.
     Altered,
     /// `-`: the call has no counterpart here.
@@ -277,6 +342,34 @@ pub fn written(words: &[i64]) -> [u64; 3] {
         let present = row[1..].iter().filter(|m| **m == 1).count();
         [rows + 1, values + present as u64, nulls + (c - 1 - present) as u64]
     })
+}
+
+/// The words of a turn's answer without its last column: what is written without the distance.
+fn without_last(words: &[i64]) -> Vec<i64> {
+    let [n, c, cells @ ..] = words else { return words.to_vec() };
+    let kept = cells.chunks(*c as usize).flat_map(|row| &row[..row.len() - 1]);
+    [*n, c - 1].into_iter().chain(kept.copied()).collect()
+}
+
+/// An answer without the last column of all that was written.
+pub fn without_distance(answer: &Answer) -> Answer {
+    match answer {
+        Answer::Wrote(sequence, words) => Answer::Wrote(*sequence, without_last(words)),
+        Answer::Ran(ran) => {
+            let words: Vec<i64> = answers(&ran.words).flat_map(without_last).collect();
+            Answer::Ran(Ran { count: words.len() as u64, words, ..ran.clone() })
+        },
+        other => other.clone(),
+    }
+}
+
+/// The same script with options that write no distance.
+pub fn without_distances(calls: &[Call]) -> Vec<Call> {
+    let plain = |call: &Call| match call {
+        Call::Options(o) => Call::Options(Options { distance: 0, ..o.clone() }),
+        other => other.clone(),
+    };
+    calls.iter().map(plain).collect()
 }
 
 /// Writes words, each after a space.
@@ -334,6 +427,9 @@ impl fmt::Display for Answer {
                 .and_then(|_| words(f, right)),
             Answer::Words(w) => write!(f, "words").and_then(|_| words(f, &w[..])),
             Answer::Table(w) => write!(f, "ok").and_then(|_| words(f, w)),
+            Answer::Took(number, w) => write!(f, "ok {number}").and_then(|_| words(f, w)),
+            Answer::Planned([rows, turns, rights]) => write!(f, "ok {rows} {turns} {rights}"),
+            Answer::Cell(value, mark) => write!(f, "cell {value} {mark}"),
             Answer::Altered => write!(f, "altered"),
             Answer::Nothing => write!(f, "-"),
         }
@@ -400,6 +496,47 @@ impl fmt::Display for Standing {
     }
 }
 
+impl fmt::Display for Plan {
+    /// The call's line.
+    fn fmt(&self, f: &mut fmt::Formatter<'_>) -> fmt::Result {
+        write!(f, "plan")?;
+        tables(f, &[&self.left, &self.right, &self.left_heights, &self.right_heights])
+    }
+}
+
+impl fmt::Display for Places {
+    /// The call's line.
+    fn fmt(&self, f: &mut fmt::Formatter<'_>) -> fmt::Result {
+        write!(f, "place {} {}", self.side as i64, self.output)?;
+        tables(f, &[&self.table, &self.boundaries])
+    }
+}
+
+impl fmt::Display for Adding {
+    /// The call's line.
+    fn fmt(&self, f: &mut fmt::Formatter<'_>) -> fmt::Result {
+        write!(f, "takings-add {} {}", self.output, self.number)?;
+        tables(f, &[&self.table, &self.left, &self.answers])
+    }
+}
+
+impl fmt::Display for Joining {
+    /// The call's line.
+    fn fmt(&self, f: &mut fmt::Formatter<'_>) -> fmt::Result {
+        write!(f, "takings-join {} {} {}", self.output, self.numbers[0], self.numbers[1])?;
+        tables(f, &[&self.tables[0], &self.tables[1]])
+    }
+}
+
+impl fmt::Display for Read {
+    /// The call's line.
+    fn fmt(&self, f: &mut fmt::Formatter<'_>) -> fmt::Result {
+        let reader = if self.distance { "distance" } else { "plain" };
+        write!(f, "read {reader} {} {} {}", self.carried as i64, self.row as i64, self.column as i64)?;
+        tables(f, &[&self.frame])
+    }
+}
+
 impl fmt::Display for Call {
     /// The call's line.
     fn fmt(&self, f: &mut fmt::Formatter<'_>) -> fmt::Result {
@@ -409,9 +546,8 @@ impl fmt::Display for Call {
                 options.flags(f)?;
                 write!(f, " {left_words} {right_words}")
             },
-            // No distance.
             Call::Options(o) => {
-                write!(f, "options {o} {} 0 {}", o.carried as i64, o.ranks)?;
+                write!(f, "options {o} {} {} {}", o.carried as i64, o.distance as i64, o.ranks)?;
                 o.flags(f)
             },
             Call::Opens(left_words, right_words) => write!(f, "opens {left_words} {right_words}"),
@@ -426,6 +562,11 @@ impl fmt::Display for Call {
             Call::Spans(s) => write!(f, "{s}"),
             Call::Merge(m) => write!(f, "{m}"),
             Call::Standing(s) => write!(f, "{s}"),
+            Call::Plan(p) => write!(f, "{p}"),
+            Call::Places(p) => write!(f, "{p}"),
+            Call::TakingsAdd(t) => write!(f, "{t}"),
+            Call::TakingsJoin(t) => write!(f, "{t}"),
+            Call::Read(r) => write!(f, "{r}"),
             Call::Areas => write!(f, "areas"),
             Call::Words => write!(f, "words"),
             Call::Put(Place::Join, at, word) => write!(f, "put {at} {word}"),
@@ -454,8 +595,8 @@ fn setting(word: i64) -> Result<i64, String> {
     (0..=2).contains(&word).then_some(word).ok_or(format!("{word} is no setting of the order check"))
 }
 
-/// The first five words of a line with options, p, the list, and both flags of each by-column.
-fn parse_options(a: &[i64], carried: u64, ranks: Ranks, flags: &[i64]) -> Result<Options, String> {
+/// The first five words of a line with options, p and the distance, the list, and both flags of each by-column.
+fn parse_options(a: &[i64], adds: [u64; 2], ranks: Ranks, flags: &[i64]) -> Result<Options, String> {
     let every = |from: usize| flags.iter().skip(from).step_by(2).map(|w| flag(*w)).collect::<Result<Vec<_>, _>>();
     Ok(Options {
         b: count(a[0])?,
@@ -464,7 +605,8 @@ fn parse_options(a: &[i64], carried: u64, ranks: Ranks, flags: &[i64]) -> Result
         tolerance: a[3],
         check: setting(a[4])? > 0,
         strict: setting(a[4])? == 2,
-        carried,
+        carried: adds[0],
+        distance: adds[1],
         ranks,
         descending: every(0)?,
         nulls_last: every(1)?,
@@ -478,13 +620,12 @@ fn parse_open(a: &[i64]) -> Result<Open, String> {
         return Err(format!("open with {b} by-columns needs 7 + 2 × {b} words, not {}", a.len()));
     }
     let (options, areas) = a.split_at(5 + 2 * b);
-    let options = parse_options(options, 0, Ranks::none(), &options[5..])?;
+    let options = parse_options(options, [0, 0], Ranks::none(), &options[5..])?;
     Ok(Open { options, left_words: count(areas[0])?, right_words: count(areas[1])? })
 }
 
-/// The words of an `options` line: ten, the codes of the list, the flags of the by-columns. The distance has its place
-/// and is not there yet. A p, a column or a count above 2^63 − 1 is written as the negative word of the same bits; of a
-/// count above 64, 64 codes follow.
+/// The words of an `options` line: ten, the codes of the list, the flags of the by-columns. A p, a distance, a column or a
+/// count above 2^63 − 1 is written as the negative word of the same bits; of a count above 64, 64 codes follow.
 fn parse_options_line(a: &[i64]) -> Result<Options, String> {
     let [b, _, _, _, _, carried, distance, ranked, column, codes, rest @ ..] = a else {
         return Err(format!("options needs 10 words or more, not {}", a.len()));
@@ -493,14 +634,12 @@ fn parse_options_line(a: &[i64]) -> Result<Options, String> {
     let follow = codes_in_line(codes);
     if rest.len() != b.saturating_mul(2).saturating_add(follow) {
         return Err(format!("options with {b} by-columns and {follow} codes does not take {} words", a.len()));
-    } else if flag(*distance)? {
-        return Err("options: the distance is not supported yet".to_string());
     } else if !flag(*ranked)? && (column, codes) != (0, 0) {
         return Err("options: without a list of codes COLUMN and K are 0".to_string());
     }
     let (list, flags) = rest.split_at(follow);
     let ranks = if flag(*ranked)? { Ranks::of(column, codes, list) } else { Ranks::none() };
-    parse_options(a, *carried as u64, ranks, flags)
+    parse_options(a, [*carried as u64, *distance as u64], ranks, flags)
 }
 
 /// The words of a `ports` line.
@@ -560,6 +699,44 @@ fn parse_standing(words: &[&str]) -> Result<Call, String> {
     Ok(Call::Standing(Standing { place: place as u64, output: count(output)?, book }))
 }
 
+/// The words of a `plan` line: the left table, the right one, the heights of each.
+fn parse_plan(words: &[&str]) -> Result<Call, String> {
+    let ([], [left, right, left_heights, right_heights]) = parse_tables("plan", words)?;
+    Ok(Call::Plan(Plan { left, right, left_heights, right_heights }))
+}
+
+/// The words of a `place` line: the side, the output's length, the table, the boundaries. A side above 2^63 − 1 is written as the
+/// negative word of the same bits.
+fn parse_place(words: &[&str]) -> Result<Call, String> {
+    let ([side, output], [table, boundaries]) = parse_tables("place", words)?;
+    Ok(Call::Places(Places { side: side as u64, output: count(output)?, table, boundaries }))
+}
+
+/// The words of a `takings-add` line: the output's length, the number, the table, the left frame, its answer frame.
+fn parse_takings_add(words: &[&str]) -> Result<Call, String> {
+    let ([output, number], [table, left, answers]) = parse_tables("takings-add", words)?;
+    Ok(Call::TakingsAdd(Adding { output: count(output)?, number, table, left, answers }))
+}
+
+/// The words of a `takings-join` line: the output's length, both numbers, both tables.
+fn parse_takings_join(words: &[&str]) -> Result<Call, String> {
+    let ([output, number, other], tables) = parse_tables("takings-join", words)?;
+    Ok(Call::TakingsJoin(Joining { output: count(output)?, numbers: [number, other], tables }))
+}
+
+/// The words of a `read` line: which reader, p, row and column, the frame. What is above 2^63 − 1 is written as the negative word
+/// of the same bits.
+fn parse_read(words: &[&str]) -> Result<Call, String> {
+    let distance = match words.first() {
+        Some(&"plain") => false,
+        Some(&"distance") => true,
+        _ => return Err("read needs plain or distance first".to_string()),
+    };
+    let ([carried, row, column], [frame]) = parse_tables("read", &words[1..])?;
+    let (carried, row, column) = (carried as u64, row as u64, column as u64);
+    Ok(Call::Read(Read { distance, carried, row, column, frame }))
+}
+
 /// One line: none where it holds no call, an error where it is malformed.
 pub fn parse_line(line: &str) -> Result<Option<Call>, String> {
     let parts: Vec<&str> = line.split('#').next().unwrap_or("").split_ascii_whitespace().collect();
@@ -568,6 +745,11 @@ pub fn parse_line(line: &str) -> Result<Option<Call>, String> {
         "spans" => return parse_spans(words).map(Some),
         "merge" => return parse_merge(words).map(Some),
         "standing" => return parse_standing(words).map(Some),
+        "plan" => return parse_plan(words).map(Some),
+        "place" => return parse_place(words).map(Some),
+        "takings-add" => return parse_takings_add(words).map(Some),
+        "takings-join" => return parse_takings_join(words).map(Some),
+        "read" => return parse_read(words).map(Some),
         _ => {},
     }
     let a = numbers(words)?;

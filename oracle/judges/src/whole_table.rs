@@ -23,6 +23,8 @@ pub struct Counts {
     pub matched: u64,
     /// Cells, null or not, that came with the matches.
     pub carried: u64,
+    /// Distances of matches: written, and null since they are above 2^63 − 1; of these, exactly 2^63 − 1 and exactly 2^63.
+    pub distances: [u64; 4],
     pub wants: u64,
     /// Order faults, each of them due.
     pub faults: u64,
@@ -42,6 +44,7 @@ impl Counts {
         self.whole += other.whole;
         self.matched += other.matched;
         self.carried += other.carried;
+        (0..4).for_each(|i| self.distances[i] += other.distances[i]);
         self.wants += other.wants;
         self.faults += other.faults;
         self.waiting += other.waiting;
@@ -76,9 +79,14 @@ fn place(standing: Option<i128>, descending: bool, nulls_last: bool) -> i128 {
 }
 
 /// A row's places: "by-columns in order, then key", the key "ascending, nulls first".
-fn places<'a>(o: &'a Options, row: &'a Row) -> impl Iterator<Item = i128> + 'a {
+pub(crate) fn places<'a>(o: &'a Options, row: &'a Row) -> impl Iterator<Item = i128> + 'a {
+    group_places(o, row).chain([place(row[o.b].map(i128::from), false, false)])
+}
+
+/// Those of its group, which is its first b cells.
+pub fn group_places<'a>(o: &'a Options, row: &'a Row) -> impl Iterator<Item = i128> + 'a {
     let by = move |j: usize| place(row[j].map(|v| standing(o, j, v)), o.descending[j], o.nulls_last[j]);
-    (0..o.b).map(by).chain([place(row[o.b].map(i128::from), false, false)])
+    (0..o.b).map(by)
 }
 
 /// Sorts rows as the options declare.
@@ -150,20 +158,55 @@ fn whole_table_match(o: &Options, left: &Row, right: &[Row]) -> Option<usize> {
     .map(|(i, _)| i)
 }
 
-/// The words that a turn writes for these matches: for each left row "the right number, then the matched row's carried values,
-/// all null for none", values row by row, then marks row by row.
-fn written(o: &Options, matches: &[Option<usize>], right: &[Row]) -> Vec<i64> {
+/// The cells of an answer's row: "1 + p columns", and, with the distance, one more.
+fn answer_width(o: &Options) -> usize {
+    match o.distance {
+        0 => 1 + o.carried as usize,
+        _ => 2 + o.carried as usize,
+    }
+}
+
+/// "The distance of two keys is the greater less the smaller, up to 2^64 − 1."
+fn apart(o: &Options, left: &Row, right: &Row) -> Option<u128> {
+    let (one, other) = (left[o.b]? as i128, right[o.b]? as i128);
+    Some((one.max(other) - one.min(other)) as u128)
+}
+
+/// The distance as it is written: "null for none or above 2^63 − 1".
+fn far(o: &Options, left: &Row, right: &Row) -> Option<i64> {
+    const MOST: u128 = (1 << 63) - 1;
+    apart(o, left, right).filter(|distance| *distance <= MOST).map(|distance| distance as i64)
+}
+
+/// The words that a turn writes for the matches of these left rows: for each "the right number, then the matched row's carried
+/// values, all null for none", then, if it is asked for, the distance; values row by row, then marks row by row.
+fn written(o: &Options, front: &[Row], matches: &[Option<usize>], right: &[Row]) -> Vec<i64> {
     let [first, width] = widths(o);
-    let mut values = vec![matches.len() as i64, (width - o.b) as i64];
+    let mut values = vec![matches.len() as i64, answer_width(o) as i64];
     let mut marks = vec![];
-    for found in matches {
-        let carried = (first..width).map(|j| found.and_then(|number| right[number][j]));
-        for cell in [found.map(|number| number as i64)].into_iter().chain(carried) {
+    for (left, found) in front.iter().zip(matches) {
+        let mut cells = vec![found.map(|number| number as i64)];
+        cells.extend((first..width).map(|j| found.and_then(|number| right[number][j])));
+        if o.distance == 1 {
+            cells.push(found.and_then(|number| far(o, left, &right[number])));
+        }
+        for cell in cells {
             values.push(cell.unwrap_or(0));
             marks.push(cell.is_some() as i64);
         }
     }
     [values, marks].concat()
+}
+
+/// How many of these matches have which distance: as in `Counts`. None where no distance is written.
+fn distances(o: &Options, front: &[Row], matches: &[Option<usize>], right: &[Row]) -> [u64; 4] {
+    let of = |(left, found): (&Row, &Option<usize>)| found.and_then(|number| apart(o, left, &right[number]));
+    let all = front.iter().zip(matches).filter_map(of).filter(|_| o.distance == 1);
+    all.fold([0; 4], |[written, above, most, next], distance| {
+        let (is_most, is_next) = (distance == (1 << 63) - 1, distance == 1 << 63);
+        let within = distance < 1 << 63;
+        [written + within as u64, above + !within as u64, most + is_most as u64, next + is_next as u64]
+    })
 }
 
 /// "a list empty or too long, with a code twice or for a column that is no by-column".
@@ -178,6 +221,7 @@ fn no_list(o: &Options) -> bool {
 pub fn no_options(o: &Options) -> u8 {
     match () {
         _ if o.b > 4 || ![0, 1, 2].contains(&o.strategy) || o.tolerance < -1 || (!o.eq && o.strategy == 2) => 1,
+        _ if ![0, 1].contains(&o.distance) => 1,
         _ if o.carried > 8 => 10,
         _ if no_list(o) => 11,
         _ => 0,
@@ -370,15 +414,16 @@ impl<'a> Judged<'a> {
         }
     }
 
-    /// The words of the answer to a frame of so many rows: "6 wants 2 + 2n(1 + p) words of output".
+    /// The words of the answer to a frame of so many rows: "6 wants 2 + 2n(1 + p) words of output", with the distance "then
+    /// wants 2 + 2n(2 + p)".
     fn answer_words(&self, n: usize) -> usize {
-        2 + 2 * n * (1 + self.o.carried as usize)
+        2 + 2 * n * answer_width(self.o)
     }
 
-    /// How many matches these words tell, if each is an accepted right row that qualifies, and the words are what is written
-    /// for them, with the cells that these rows carry.
-    fn all_qualify(&self, front: &[Row], words: &[i64]) -> Option<u64> {
-        let (n, c, rows) = (front.len(), 1 + self.o.carried as usize, &self.right.rows);
+    /// The matches that these words tell, if each is an accepted right row that qualifies, and the words are what is written
+    /// for them, with the cells that these rows carry and with their distances.
+    fn all_qualify(&self, front: &[Row], words: &[i64]) -> Option<Vec<Option<usize>>> {
+        let (n, c, rows) = (front.len(), answer_width(self.o), &self.right.rows);
         if words.len() != self.answer_words(n) {
             return None;
         }
@@ -388,7 +433,7 @@ impl<'a> Judged<'a> {
             |i: usize, number: usize| rows.get(number).is_some_and(|r| qualifies(self.o, &front[i], r).is_some());
         let matches: Vec<_> = (0..n).map(told).collect();
         let all = matches.iter().enumerate().all(|(i, found)| found.is_none_or(|number| fits(i, number)));
-        (all && *words == written(self.o, &matches, rows)).then(|| matches.iter().flatten().count() as u64)
+        (all && *words == written(self.o, front, &matches, rows)).then_some(matches)
     }
 
     /// A turn that wrote these words for the front frame.
@@ -397,12 +442,15 @@ impl<'a> Judged<'a> {
         due(!self.o.check || self.right.is_sorted(), "9 is due")?;
         if let Some(table) = &self.table {
             let want: Vec<_> = front.iter().map(|x| whole_table_match(self.o, x, table)).collect();
-            let want = written(self.o, &want, table);
+            let want = written(self.o, front, &want, table);
             due(*words == want, &format!("the whole table gives {want:?}"))?;
             self.counts.whole += front.len() as u64;
         }
-        let matched =
-            self.all_qualify(front, words).ok_or("a match does not qualify, or its row carries other cells")?;
+        let wrong = "a match does not qualify, its row carries other cells, or has another distance";
+        let matches = self.all_qualify(front, words).ok_or(wrong)?;
+        let matched = matches.iter().flatten().count() as u64;
+        let far = distances(self.o, front, &matches, &self.right.rows);
+        (0..4).for_each(|i| self.counts.distances[i] += far[i]);
         self.counts.rows += front.len() as u64;
         self.counts.matched += matched;
         self.counts.carried += matched * self.o.carried;

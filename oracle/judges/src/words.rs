@@ -9,24 +9,26 @@ pub type RowWords = [i64; 11];
 pub type Rising = [u8; MOST_CODES];
 
 /// The first word of every join: the bytes "rowkeep", then the layout's version.
-const LAYOUT: i64 = 0x726f_776b_6565_7003;
+const LAYOUT: i64 = 0x726f_776b_6565_7004;
 
 /// The place of the order check's setting, and of p.
 pub const CHECK: usize = 5;
 pub const CARRIED: usize = 14;
-/// The place of the list: whether there is one; then its column, its count, its codes; and the place of their places.
+/// The place of the list: whether there is one; then its column, its count, its codes. Behind it whether the distance is
+/// written, then the places of the codes.
 pub const RANKS: usize = 15;
 pub const CODES: usize = 18;
-pub const RISING: usize = 82;
+pub const DISTANCE: usize = 82;
+pub const RISING: usize = 83;
 /// The place of the first counter, and those of counters and flags that have a name elsewhere.
-pub const COUNTERS: usize = 90;
-pub const PRUNED: usize = 92;
-pub const QUEUE_START: usize = 93;
-pub const STATE: usize = 95;
-pub const ENDED: usize = 96;
-pub const SEQUENCE: usize = 98;
+pub const COUNTERS: usize = 91;
+pub const PRUNED: usize = 93;
+pub const QUEUE_START: usize = 94;
+pub const STATE: usize = 96;
+pub const ENDED: usize = 97;
+pub const SEQUENCE: usize = 99;
 /// The place of the left remembered row and of the right one.
-pub const ROWS: [usize; 2] = [99, 110];
+pub const ROWS: [usize; 2] = [100, 111];
 
 /// A row that is remembered: "value and mark 1, or 0 and 0, zeros up to five words".
 pub fn row_words(row: &Row) -> RowWords {
@@ -63,7 +65,7 @@ fn flags(words: &[i64]) -> Option<Vec<bool>> {
     words.iter().map(|w| flag(*w)).collect()
 }
 
-/// The options' words, without their list.
+/// The options' words, without their list and the distance.
 pub fn options(o: &Options) -> [i64; 14] {
     let mut out = [0; 14];
     out[..5].copy_from_slice(&[o.b as i64, o.strategy, o.eq as i64, o.tolerance, o.check as i64 + o.strict as i64]);
@@ -86,11 +88,12 @@ fn rising_of(words: &[i64]) -> Rising {
 
 /// A join's words.
 pub fn encode(o: &Options, rising: &Rising, l: &Look, rows: &[RowWords; 2]) -> JoinWords {
-    let mut out = [0; 121];
+    let mut out = [0; 122];
     out[0] = LAYOUT;
     out[1..RANKS].copy_from_slice(&options(o));
     out[RANKS..CODES].copy_from_slice(&[o.ranks.given as i64, o.ranks.column as i64, o.ranks.count as i64]);
-    out[CODES..RISING].copy_from_slice(&o.ranks.codes);
+    out[CODES..DISTANCE].copy_from_slice(&o.ranks.codes);
+    out[DISTANCE] = o.distance as i64;
     out[RISING..COUNTERS].copy_from_slice(&rising_words(rising));
     let counters = [l.base as i64, l.held as i64, l.pruned as i64, l.queue_start as i64, l.queue_words as i64];
     let flags = [l.state as i64, l.ended as i64, l.failed as i64, l.sequence as i64];
@@ -108,7 +111,7 @@ fn list(w: &JoinWords) -> Option<Ranks> {
         given: flag(w[RANKS])?,
         column: w[RANKS + 1] as u64,
         count: w[RANKS + 2] as u64,
-        codes: w[CODES..RISING].try_into().unwrap(),
+        codes: w[CODES..DISTANCE].try_into().unwrap(),
     })
 }
 
@@ -122,6 +125,7 @@ fn options_of(w: &JoinWords) -> Option<Options> {
         check: setting(w[CHECK])? > 0,
         strict: setting(w[CHECK])? == 2,
         carried: w[CARRIED] as u64,
+        distance: flag(w[DISTANCE])? as u64,
         ranks: list(w)?,
         descending: flags(&w[6..10])?,
         nulls_last: flags(&w[10..14])?,

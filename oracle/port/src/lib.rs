@@ -4,8 +4,12 @@ use judges::words;
 use rowkeeper::raw::{self, safe};
 
 mod books;
+mod cuts;
+mod plans;
+mod readers;
 mod spans;
 mod tables;
+mod takings;
 
 /// The word that stands before and behind everything that is lent, and how often.
 const GUARD: i64 = 0x5A5A_C3C3_0F0F_9696;
@@ -80,6 +84,7 @@ fn raw_options(o: &Options) -> raw::Options {
         nulls_last: flags(9),
         carried: w[13] as u64,
         ranks: raw::Ranks { given: ranks.given as u64, column: ranks.column, count: ranks.count, codes: ranks.codes },
+        with_distance: o.distance,
     }
 }
 
@@ -88,11 +93,15 @@ fn right_columns(o: &Options) -> usize {
     o.b.saturating_add(1).saturating_add(usize::try_from(o.carried).unwrap_or(usize::MAX))
 }
 
-/// The answer to a call over books under these options, and what it did that no answer tells and none may do.
-fn over_books(o: &Options, call: &Call) -> (Answer, Option<&'static str>) {
+/// The answer to a call over tables under these options, and what it did that no answer tells and none may do.
+fn over_tables(o: &Options, call: &Call) -> (Answer, Option<&'static str>) {
     match call {
         Call::Merge(merge) => books::merge(raw_options(o), right_columns(o), merge),
         Call::Standing(standing) => books::standing(raw_options(o), standing),
+        Call::Plan(plan) => plans::plan(raw_options(o), plan),
+        Call::Places(call) => cuts::place(raw_options(o), call),
+        Call::TakingsAdd(call) => takings::add(raw_options(o), o.b, call),
+        Call::TakingsJoin(call) => takings::join(raw_options(o), o.b, call),
         _ => unreachable!(),
     }
 }
@@ -281,10 +290,16 @@ impl Judge for Port {
                 self.wrong = self.wrong.or(wrong);
                 answer
             },
-            (Call::Merge(_) | Call::Standing(_), ..) => {
+            (Call::Read(read), ..) => {
+                let (answer, wrong) = readers::answer(read);
+                self.wrong = self.wrong.or(wrong);
+                answer
+            },
+            (Call::Merge(_) | Call::Standing(_) | Call::Plan(_), ..)
+            | (Call::Places(_) | Call::TakingsAdd(_) | Call::TakingsJoin(_), ..) => {
                 let mut wrong = None;
                 let answer = self.told.with(|o| {
-                    let (answer, did) = over_books(o, call);
+                    let (answer, did) = over_tables(o, call);
                     wrong = did;
                     answer
                 });

@@ -84,7 +84,7 @@ impl Beside {
         self.parted = parted(call, said);
         if no_counterpart(said) {
             return Ok(false);
-        } else if !agrees(&rust, said) {
+        } else if !agrees(&rust, &self.rust.shared(said)) {
             return Err(format!("the port says {said}, the Rust says {rust}"));
         }
         Ok(true)

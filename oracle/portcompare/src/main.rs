@@ -4,11 +4,18 @@ use std::time::Instant;
 
 mod books;
 mod compare;
+mod cuts;
+mod plans;
+mod readers;
 mod spans;
+mod takings;
 
 use compare::Counts;
 use judges::drive::{exit, number};
-use judges::generate::{COMPARED, Kind, script, script_with_list, script_with_list_and_runs, script_with_runs};
+use judges::generate::{
+    COMPARED, Kind, script, script_with_distance, script_with_distance_and_runs, script_with_list,
+    script_with_list_and_distance, script_with_list_and_runs, script_with_runs,
+};
 use judges::script::Call;
 
 /// How many differences are told before a run ends.
@@ -23,11 +30,20 @@ const KINDS: [Kind; 11] = {
 /// The place of the kind that comes once in so many scripts.
 const LARGE: (usize, u64) = (10, 1000);
 
-/// The script of this number among a seed's scripts of a kind: every second one with runs, and two of four with a list of
-/// codes.
+/// How scripts are made, in turn: with runs, with a list of codes, with the distance, and with some of these together.
+const MAKES: [fn(Kind, u64, u64) -> Vec<Call>; 7] = [
+    script,
+    script_with_runs,
+    script_with_list,
+    script_with_list_and_runs,
+    script_with_distance,
+    script_with_distance_and_runs,
+    script_with_list_and_distance,
+];
+
+/// The script of this number among a seed's scripts of a kind.
 fn made(kind: Kind, seed: u64, number: u64) -> Vec<Call> {
-    let makes = [script, script_with_runs, script_with_list, script_with_list_and_runs];
-    makes[number as usize % 4](kind, seed, number)
+    MAKES[number as usize % MAKES.len()](kind, seed, number)
 }
 
 /// Prints a difference with its smallest script.
@@ -76,6 +92,10 @@ fn missing(all: &Counts) -> Option<String> {
         ("idle turns", tally.idle),
         ("Flush", tally.in_flush),
         ("scripts with a list", tally.lists),
+        ("distances", tally.judged.distances[0]),
+        ("distances above 2^63 − 1", tally.judged.distances[1]),
+        ("distances of 2^63 − 1", tally.judged.distances[2]),
+        ("distances of 2^63", tally.judged.distances[3]),
     ];
     let none = met.iter().find(|(_, n)| *n == 0).map(|(what, _)| what.to_string());
     let runs = &tally.runs;
@@ -121,10 +141,16 @@ fn run(args: &[&str]) -> Result<bool, String> {
         [seed, count] => (compare_all, number(seed)?, number(count)?),
         ["spans", seed, count] => (spans::compare_all, number(seed)?, number(count)?),
         ["merge", seed, count] => (books::compare_merges, number(seed)?, number(count)?),
+        ["read", seed, count] => (readers::compare_all, number(seed)?, number(count)?),
         ["standing", seed, count] => (books::compare_standings, number(seed)?, number(count)?),
+        ["plan", seed, count] => (plans::compare_all, number(seed)?, number(count)?),
+        ["place", seed, count] => (cuts::compare_all, number(seed)?, number(count)?),
+        ["takings", seed, count] => (takings::compare_all, number(seed)?, number(count)?),
         _ => {
-            let wants = "a seed and a count of scripts, or spans, merge or standing, a seed and a count of inputs";
-            return Err(format!("compare: wants {wants}"));
+            let names = "spans, merge, standing, plan, place, takings or read";
+            return Err(format!(
+                "compare: wants a seed and a count of scripts, or {names}, a seed and a count of inputs"
+            ));
         },
     };
     // A panic is told as a difference, so its own words need not be.
