@@ -17,19 +17,14 @@ use std::path::Path;
 mod raw;
 
 mod clock;
+mod host;
 mod tables;
 mod walk;
 
 use clock::{median, timed};
-use tables::{FRAME_ROWS, Table, make_frames, make_table};
+use host::{Host, WANTED_ROOM};
+use tables::{Table, make_frames, make_table};
 use walk::{Strategy, walk};
-
-/// Right rows that the right area has room for where right frames come as they are wanted: four frames.
-const WANTED_ROOM: usize = 4 * FRAME_ROWS;
-/// The answers of a turn.
-const WROTE: u64 = 0;
-const WANTS_RIGHT: u64 = 1;
-const IDLE: u64 = 2;
 
 /// What a run is asked to do.
 struct Case {
@@ -64,115 +59,23 @@ fn case_of(words: &[String]) -> Option<Case> {
     (case.runs > 0).then_some(case)
 }
 
-/// A join with its areas, and what its turns wrote, back to back.
-struct Host {
-    join: raw::Join,
-    left: Vec<i64>,
-    right: Vec<i64>,
-    output: Vec<i64>,
-    written: usize,
-    /// Turns that wrote, and the right rows that were held at them.
-    turns: u64,
-    held: u64,
+/// Opens the join of a case.
+fn open(case: &Case) -> Host {
+    let options = raw::Options {
+        by: (case.groups > 0) as u64,
+        strategy: case.strategy as u64,
+        allow_eq: 1,
+        tolerance: -1,
+        check: case.check as u64,
+        ..raw::Options::default()
+    };
+    Host::open(options, if case.right_first || case.one_key { case.rows } else { WANTED_ROOM }, case.rows)
 }
 
-impl Host {
-    /// Opens a join. All memory is there before the first call: areas and output are filled, since zeros would come page by
-    /// page.
-    fn open(case: &Case) -> Host {
-        let by = (case.groups > 0) as usize;
-        let options = raw::Options {
-            by: by as u64,
-            strategy: case.strategy as u64,
-            allow_eq: 1,
-            tolerance: -1,
-            check: case.check as u64,
-            ..raw::Options::default()
-        };
-        let room = if case.right_first || case.one_key { case.rows } else { WANTED_ROOM };
-        let turns = case.rows.div_ceil(FRAME_ROWS);
-        Host {
-            join: took(raw::rowkeeper_open(options)),
-            left: vec![1; 2 + 2 * FRAME_ROWS * (by + 1)],
-            right: vec![1; 2 * room * (by + 1)],
-            output: vec![1; 2 * turns + 2 * case.rows],
-            written: 0,
-            turns: 0,
-            held: 0,
-        }
-    }
-
-    /// Hands in a right frame.
-    fn right(&mut self, frame: &[i64]) {
-        self.join = took(raw::safe::right(self.join, &self.left, &mut self.right, frame));
-    }
-
-    /// Hands in a left frame.
-    fn left(&mut self, frame: &[i64]) {
-        self.join = took(raw::safe::left(self.join, &mut self.left, &self.right, frame));
-    }
-
-    /// Ends right.
-    fn end_right(&mut self) {
-        self.join = took(raw::safe::end_right(self.join, &self.left, &self.right));
-    }
-
-    /// A turn, which writes behind the one before; its answer.
-    fn turn(&mut self) -> u64 {
-        let t = raw::safe::turn(self.join, &self.left, &self.right, &mut self.output[self.written..]);
-        if t.answer == WROTE {
-            self.written += 2 + 2 * self.output[self.written] as usize;
-            self.turns += 1;
-            self.held += self.join.held;
-        }
-        self.join = t.join;
-        t.answer
-    }
-
-    /// What was written, as the walk tells it: a right row's number for each left row, -1 for none.
-    fn matches(&self) -> Vec<i64> {
-        let mut matches = vec![];
-        let mut at = 0;
-        while at < self.written {
-            let n = self.output[at] as usize;
-            let (numbers, marks) = self.output[at + 2..at + 2 + 2 * n].split_at(n);
-            matches.extend(numbers.iter().zip(marks).map(|(number, mark)| if *mark == 1 { *number } else { -1 }));
-            at += 2 + 2 * n;
-        }
-        matches
-    }
-}
-
-/// The join of a call that must be accepted.
-fn took(t: raw::Took) -> raw::Join {
-    if t.refusal != 0 {
-        die(1, &format!("a call is refused by {}", t.refusal));
-    }
-    t.join
-}
-
-/// Makes turns until every left frame is written: the next right frame where one is wanted, the next left frame where none
-/// waits.
-fn run_port(host: &mut Host, case: &Case, left: &[Vec<i64>], right: &[Vec<i64>]) {
-    let (mut lefts, mut rights) = (left.iter(), right.iter());
-    if case.right_first {
-        rights.by_ref().for_each(|frame| host.right(frame));
-        host.end_right();
-    }
-    loop {
-        match host.turn() {
-            WROTE => {},
-            WANTS_RIGHT => match rights.next() {
-                Some(frame) => host.right(frame),
-                None => host.end_right(),
-            },
-            IDLE => match lefts.next() {
-                Some(frame) => host.left(frame),
-                None => return,
-            },
-            _ => die(1, "a turn is refused"),
-        }
-    }
+/// What was written, as the walk tells it: a right row's number for each left row, -1 for none.
+fn matches(host: &Host) -> Vec<i64> {
+    let number = |(number, mark): (&i64, &i64)| if *mark == 1 { *number } else { -1 };
+    host.frames().flat_map(|(numbers, marks)| numbers.iter().zip(marks).map(number)).collect()
 }
 
 /// One pass over the words of the frames: each is read and compared once. It finds none of them.
@@ -227,11 +130,11 @@ fn main() {
     for _ in 0..case.runs {
         let mut walked = room(case.rows);
         let ((), walk_time) = timed(|| walk(&left, &right, case.strategy, &mut walked));
-        let mut host = Host::open(&case);
-        let ((), port_time) = timed(|| run_port(&mut host, &case, &left_frames, &right_frames));
+        let mut host = open(&case);
+        let ((), port_time) = timed(|| host.run(&left_frames, &right_frames, case.right_first));
         let pass = || one_pass(&left_frames, black_box(i64::MIN)) | one_pass(&right_frames, black_box(i64::MIN));
         let (_, pass_time) = timed(pass);
-        compare(&walked, &host.matches());
+        compare(&walked, &matches(&host));
         held = host.held / host.turns.max(1);
         walks.push(walk_time);
         ports.push(port_time);

@@ -46,6 +46,7 @@
  *                               and so how large an area to lend
  *     rowkeeper_cut             without a join: tells where a sorted table is cut for a list of groups, so that the
  *                               parts can be joined apart
+ *     rowkeeper_join_cut        without a join: joins two sorted tables whole, pair by pair at a list of groups
  *     rowkeeper_takings_add     without a join: adds a frame's matched sales to a table of takings by group: totals
  *                               and sale counts
  *     rowkeeper_takings_join    without a join: joins two tables of takings by group
@@ -723,6 +724,37 @@ rowkeeper_planned rowkeeper_plan(rowkeeper_options options, const int64_t *left,
    w is {0, 2} and out is 2, 1, 2, 3, 1, 1: rows 0 and 1, row 2, rows 3 and 4. */
 rowkeeper_written rowkeeper_cut(rowkeeper_options options, uint64_t right, const int64_t *table, size_t table_words,
                                 const int64_t *boundaries, size_t boundary_words, int64_t *out, size_t out_words);
+
+/* Joins two sorted tables, all left rows (by + 1 columns) and all right rows (by + 1 + carried), cut at 0 to 16 boundaries: groups
+   in a frame of `by` columns, strictly ascending, none null (by 0: a frame of no rows and no columns). Each pair of parts is joined by
+   itself, and the answers are appended as one table. That is the answer of the uncut tables, whatever the boundaries (proved:
+   `DriverWrites` in crates/cuts): 1 + carried columns, or 2 + carried with the distance, a row for each left row, right rows numbered
+   from 0 over the whole right table. ROWKEEPER_OUTPUT_WORDS(rows, carried), or ROWKEEPER_DISTANCE_WORDS with the distance, are the
+   output's words; those behind them are untouched, and `rows` is the left table's.
+   The areas are those in which the pairs can be joined one after the other, by the schedule of rowkeeper_plan in frames of 4,096 rows and,
+   if rows are left over, one of these: the left area holds all left frames of a pair, the right one as many rows as that schedule holds at most.
+   This call matches the tables where they lie, so it measures the areas alone: no word of them is read or written.
+   Refused by 1, 10, 11, 5, 12, 14, 18 and 6, in this order: options that opening would refuse; a table that is none of its columns, or boundaries that are
+   no frame of `by` columns; a value that the list of ranks lacks, in any of the three; a table that is not sorted; boundaries that are too
+   many, null, out of order, or any at all where by is 0; an area too short for any pair, or too short an output. The check setting does not
+   matter. Tables and boundaries are only read in every case.
+   Four sales and four notices of performances 1, 2 and 4, cut at 2 and 3:
+
+       static const int64_t left[] = {4, 2, 1, 15, 2, 4, 4, 9, 4, 30, 1, 1, 1, 1, 1, 1, 1, 1};
+       static const int64_t right[] = {4, 2, 1, 10, 2, 3, 4, 1, 4, 20, 1, 1, 1, 1, 1, 1, 1, 1};
+       static const int64_t at[] = {2, 1, 2, 3, 1, 1};
+       int64_t left_area[10], right_area[8], out[10];
+       rowkeeper_options options = {0};
+       options.by = 1;
+       options.allow_eq = 1;
+       options.tolerance = ROWKEEPER_NO_TOLERANCE;
+       rowkeeper_written w = rowkeeper_join_cut(options, left, 18, right, 18, at, 6, left_area, 10, right_area, 8, out, 10);
+
+   w is {0, 4} and out is 4, 1, 0, 1, 2, 3, 1, 1, 1, 1. */
+rowkeeper_written rowkeeper_join_cut(rowkeeper_options options, const int64_t *left, size_t left_words,
+                                     const int64_t *right, size_t right_words, const int64_t *boundaries,
+                                     size_t boundary_words, const int64_t *left_area, size_t left_area_words,
+                                     const int64_t *right_area, size_t right_area_words, int64_t *out, size_t out_words);
 
 /* Adds the first carried column over the matched sales of a left frame and the answer frame that a join wrote for it to a table of
    takings: by + 2 columns, the by-values of a group, its total and its sale count, a row for each group with a sale that has an

@@ -244,10 +244,10 @@ def cells_of(words, place):
     return values[:, place].copy(), None if valid.all() else valid
 
 
-def numbers_of(words, before):
-    """The right rows' numbers that a turn wrote, with so many added, or -1."""
+def numbers_of(words, before, place=0):
+    """The right rows' numbers that a call wrote, or those in another column, with so many added, or -1."""
     rows, width = words[0], words[1]
-    values, marks = numpy.frombuffer(words, dtype='i8')[2:2 + 2 * rows * width].reshape(2, rows, width)[:, :, 0]
+    values, marks = numpy.frombuffer(words, dtype='i8')[2:2 + 2 * rows * width].reshape(2, rows, width)[:, :, place]
     return numpy.where(marks, values + before, -1)
 
 

@@ -199,6 +199,8 @@ CALLS = {
     'rowkeeper_plan': ([Options, c_void_p, c_size_t, c_void_p, c_size_t, c_void_p, c_size_t, c_void_p,
                         c_size_t], Planned),
     'rowkeeper_cut': ([Options, c_uint64, c_void_p, c_size_t, c_void_p, c_size_t, c_void_p, c_size_t], Written),
+    'rowkeeper_join_cut': ([Options, c_void_p, c_size_t, c_void_p, c_size_t, c_void_p, c_size_t, c_void_p, c_size_t,
+                            c_void_p, c_size_t, c_void_p, c_size_t], Written),
     'rowkeeper_takings_add': ([Options, c_void_p, c_size_t, c_int64, c_void_p, c_size_t, c_void_p, c_size_t, c_void_p,
                                c_size_t], Taken),
     'rowkeeper_takings_join': ([Options, c_void_p, c_size_t, c_int64, c_void_p, c_size_t, c_int64, c_void_p,

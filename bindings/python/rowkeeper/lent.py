@@ -1,6 +1,7 @@
 """Words that a call is lent: where they are and how many, held for as long as the call takes."""
 import contextlib
 import ctypes
+import mmap
 from ctypes import c_char_p, c_int, c_ssize_t, c_void_p
 
 # What is asked of a buffer (object.h): its format, in one piece, and that it may be written.
@@ -46,6 +47,13 @@ def lent(owner, what, write=False):
         yield buffer.buf, buffer.len // WORD
     finally:
         release(ctypes.byref(buffer))
+
+
+def untouched(words):
+    """So many words, one at least, for a call that measures them and neither reads nor writes one. They are fresh pages of the system,
+    which take addresses and no memory as long as nobody touches them; an Area would fill all its words with 0. All of them can be read,
+    so their address and number are as a call wants them; none can be written."""
+    return memoryview(mmap.mmap(-1, WORD * max(1, words), mmap.MAP_PRIVATE | mmap.MAP_ANONYMOUS, mmap.PROT_READ)).cast('q')
 
 
 class Area:

@@ -181,10 +181,10 @@ def cells_of(words, place):
     return array('q', words[2 + place:2 + size:width]), None if all(valid) else valid
 
 
-def numbers_of(words, before):
-    """The right rows' numbers that a turn wrote, with so many added, or -1."""
+def numbers_of(words, before, place=0):
+    """The right rows' numbers that a call wrote, or those in another column, with so many added, or -1."""
     cells, width = words[0] * words[1], words[1]
-    values, marks = words[2:2 + cells:width], words[2 + cells:2 + 2 * cells:width]
+    values, marks = words[2 + place:2 + cells:width], words[2 + cells + place:2 + 2 * cells:width]
     return array('q', map((-1).__add__, map(operator.mul, map((before + 1).__add__, values), marks)))
 
 

@@ -1,5 +1,5 @@
 """The calls over whole tables, without a join: which points lie inside which intervals, two sorted books as one, which notices of a book
-stand, how large an area a join over two tables wants, and where a table is cut for groups."""
+stand, how large an area a join over two tables wants, where a table is cut for groups, and two tables joined whole, pair by pair."""
 import collections
 from array import array
 
@@ -7,7 +7,7 @@ from . import asof_join
 from . import interface as c
 from .columns import Column
 from .join import Refused, expect, number_or_bad, options
-from .lent import WORD, Area, lent
+from .lent import WORD, Area, lent, untouched
 from .library import library
 
 # The pairs that the output of one call of spans has room for: those of 16 intervals with any points of a frame.
@@ -26,6 +26,11 @@ null."""
 Plan = collections.namedtuple('Plan', 'rows turns rights')
 Plan.__doc__ = """What a join over two tables comes to if all left frames wait and a right frame is handed in when a turn wants one: the most
 right rows held at once, the turn calls up to the last frame written, and the right frames taken."""
+
+Answers = collections.namedtuple('Answers', 'rows carried distances')
+Answers.__doc__ = """What `join_cut` tells of each left row: `rows`, the place of the right row that it takes, or -1; `carried`, a Column for each
+column that right rows carry, in which a row without a match is null too; `distances`, how far the two keys are apart, -1 where there is
+no match or the distance is above 2^63 - 1, or None where they are not told."""
 
 
 class Table:
@@ -175,6 +180,65 @@ def cut(table, boundaries, side='left', by=None, descending=(), nulls_last=(), c
         written = library().rowkeeper_cut(given, SIDES.index(side), *rows, *groups, *output.lent())
         expect(written.refusal)
     return output.words()[2:2 + written.rows].tolist()
+
+
+def answers_of(words, distance):
+    """The answers that a call wrote as one table, by columns."""
+    tools, end = asof_join.tools(), words[1] - bool(distance)
+    carried = [Column(*tools.cells_of(words, place)) for place in range(1, end)]
+    return Answers(tools.numbers_of(words, 0), carried, tools.numbers_of(words, 0, end) if distance else None)
+
+
+def no_boundaries(by, left):
+    """A frame of no groups, of so many by-columns, or of those that the left table has before its key. A number that no word can be is
+    refused with the options."""
+    by = max(0, width_of(left) - 1) if by is None else by
+    return array('q', [0, by if 0 <= by < 2**63 else 0])
+
+
+def joined_into(output, given, one, other, groups, left_words, right_words):
+    """Makes the call that joins two tables which are lent. Where nothing is said of an area, it is long enough for any pair of their
+    parts: no more right rows are held than there are, and left rows in frames have 2 words more for each 4,096 of them. The two areas
+    are the same words, since the call only measures them."""
+    left_words = one[1] + one[1] // c.MOST_ROWS if left_words is None else left_words
+    right_words = other[1] if right_words is None else right_words
+    if min(left_words, right_words) < 0:
+        raise ValueError(f'areas of {left_words} and {right_words} words: none has fewer than 0')
+    with lent(untouched(max(left_words, right_words)), 'areas') as (area, _):
+        return library().rowkeeper_join_cut(given, *one, *other, *groups, area, left_words, area, right_words, *output.lent())
+
+
+def join_cut(left, right, boundaries=None, by=None, strategy='backward', allow_exact_matches=True, tolerance=None, descending=(),
+             nulls_last=(), carried=None, ranks=None, distance=False, left_words=None, right_words=None):
+    """Joins two sorted tables whole, in one call, cut at up to 16 boundary groups or at none: each pair of parts by itself, the answers
+    as one. These are the Answers of the uncut tables, whatever the boundaries, with the places of right rows in the whole right table.
+    Tables, boundaries and the order are those of `cut`, the other options those of a Join. Where `by` is None it is how many columns
+    the boundaries have, or without boundaries those of the left table before its key.
+
+    The call judges whether areas of `left_words` and `right_words` words are enough to join the pairs one after the other, by the `plan`
+    of each, and uses no word of them: they take no memory. Where no number is said, it is one that is enough.
+
+    ValueError says what is wrong with a column; Refused, by the library's number, what is wrong with options or words, that a table is
+    not sorted (14), that the boundaries are too many, null or out of order (18), or that an area is too short (6).
+
+    >>> sales = [array('q', [1, 1, 2, 4]), array('q', [10, 20, 5, 7])]
+    >>> notices = [array('q', [1, 2, 4]), array('q', [15, 1, 9]), array('q', [1800, 2200, 2500])]
+    >>> found = join_cut(sales, notices, [array('q', [2, 3])], distance=True)
+    >>> [list(map(int, each)) for each in (found.rows, found.carried[0].values, found.distances)]
+    [[-1, 0, 1, -1], [0, 1800, 2200, 0], [-1, 5, 4, -1]]
+    """
+    left, right = words_of(left), words_of(right)
+    with lent(left, 'left') as one, lent(right, 'right') as other:
+        boundaries = no_boundaries(by, left) if boundaries is None else words_of(boundaries)
+        with lent(boundaries, 'boundaries') as groups:
+            by = width_of(boundaries) if by is None else by
+            given = judged_options(right, by, descending, nulls_last, carried, ranks, strategy=strategy,
+                                   allow_exact_matches=allow_exact_matches, tolerance=tolerance, distance=distance)
+            width = 1 + min(given.carried, c.MOST_CARRIED) + given.with_distance
+            output = Area(2 + 2 * width * (one[1] // (2 * (min(given.by, c.MOST_BY) + 1))))
+            written = joined_into(output, given, one, other, groups, left_words, right_words)
+            expect(written.refusal)
+    return answers_of(output.words()[:2 + 2 * written.rows * width], distance)
 
 
 def heights_of(heights, words):

@@ -379,7 +379,7 @@ class Papers(unittest.TestCase):
         for kind in KINDS:
             with using(kind):
                 result = doctest.testmod(tables)
-            self.assertEqual((result.failed, result.attempted), (0, 9))
+            self.assertEqual((result.failed, result.attempted), (0, 13))
 
 
 if __name__ == '__main__':

@@ -95,7 +95,8 @@ pub struct Match<const P: usize> {
     pub distance: Option<u64>,
 }
 
-/// The matches that a turn wrote, one for each row of its frame.
+/// The matches that a turn wrote, one for each row of its frame; or those that [`join_cut`](crate::join_cut) wrote, one for each row of
+/// its left table, which is meant then where a frame is named.
 #[derive(Clone, Copy, Debug, PartialEq, Eq)]
 pub struct Matches<'o> {
     /// The number of a right row, what it carries, and, if that is told, the distance.

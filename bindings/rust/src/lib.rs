@@ -207,6 +207,22 @@
 //! # Ok::<(), Box<dyn std::error::Error>>(())
 //! ```
 //!
+//! Two whole tables need no frames at all: [`join_cut`] joins them where they lie, pair by pair at such groups or at none, and judges
+//! both.
+//!
+//! ```
+//! use rowkeeper::{ByColumn, Frame, Join, Options, join_cut};
+//!
+//! // The same sales and notices, at the same boundaries: right numbers are those of all notices.
+//! let options = Options { by: vec![ByColumn::default()], ..Options::default() };
+//! let sales = Frame::of_columns(&[&[1, 1, 2, 4], &[10, 20, 5, 7]])?;
+//! let notices = Frame::of_columns(&[&[1, 2, 3, 4, 4], &[15, 1, 6, 3, 9]])?;
+//! let mut output = vec![0; Join::output_words(&options, 4)];
+//! let matches = join_cut(&options, &sales, &notices, &Frame::of_columns(&[&[2, 4]])?, &mut output)?;
+//! assert_eq!(matches.iter().collect::<Vec<_>>(), [None, Some(0), Some(1), Some(3)]);
+//! # Ok::<(), Box<dyn std::error::Error>>(())
+//! ```
+//!
 //! [`Takings`] add up what matched sales brought in, by group: frame by frame, or as subtotals that are joined later. In any order the
 //! same comes out.
 //!
@@ -285,7 +301,7 @@ mod takings;
 
 pub use asof::{AsOf, Carrying, asof};
 pub use books::{Book, Notice, Notices, book_words, merge, standing, standing_words};
-pub use cuts::{Side, cut};
+pub use cuts::{Side, cut, join_cut, join_cut_in};
 pub use frame::{Column, Frame, FrameError, Frames};
 pub use join::{Join, Match, Matches, Run, Stop, Turn, Written};
 pub use numbers::{Check, NodeState, Port, Refusal, Strategy};

@@ -464,6 +464,22 @@ unsafe extern "C" {
         out: *mut i64,
         out_words: usize,
     ) -> Written;
+    /// Without a join: joins two sorted tables whole, pair by pair at a list of groups.
+    pub fn rowkeeper_join_cut(
+        options: Options,
+        left: *const i64,
+        left_words: usize,
+        right: *const i64,
+        right_words: usize,
+        boundaries: *const i64,
+        boundary_words: usize,
+        left_area: *const i64,
+        left_area_words: usize,
+        right_area: *const i64,
+        right_area_words: usize,
+        out: *mut i64,
+        out_words: usize,
+    ) -> Written;
     /// Without a join: adds a frame's matched sales to a table of takings by group: totals and sale counts.
     pub fn rowkeeper_takings_add(
         options: Options,
@@ -708,6 +724,36 @@ pub mod safe {
                 table.len(),
                 boundaries.as_ptr(),
                 boundaries.len(),
+                out.as_mut_ptr(),
+                out.len(),
+            )
+        }
+    }
+
+    /// Without a join: joins two sorted tables whole, pair by pair at a list of groups.
+    pub fn join_cut(
+        options: Options,
+        left: &[i64],
+        right: &[i64],
+        boundaries: &[i64],
+        left_area: &[i64],
+        right_area: &[i64],
+        out: &mut [i64],
+    ) -> Written {
+        // SAFETY: see the module.
+        unsafe {
+            rowkeeper_join_cut(
+                options,
+                left.as_ptr(),
+                left.len(),
+                right.as_ptr(),
+                right.len(),
+                boundaries.as_ptr(),
+                boundaries.len(),
+                left_area.as_ptr(),
+                left_area.len(),
+                right_area.as_ptr(),
+                right_area.len(),
                 out.as_mut_ptr(),
                 out.len(),
             )

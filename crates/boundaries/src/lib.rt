@@ -80,7 +80,7 @@ pub fn bad_boundaries(
 }
 
 // The first of n sorted rows, each w wide, whose group is not less than that of the boundary at p; n if there is none. The rows between low and high are halved.
-fn cut_place(
+pub fn cut_place(
     values: &[i64],
     marks: &[i64],
     n: usize,

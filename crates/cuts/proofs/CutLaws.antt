@@ -21,7 +21,7 @@ use Rattle.matching.proofs.MayLaws.{may, may-out, is-false}
 use Rattle.isolation.proofs.PlaceLaws.{hitBy, choiceBy, tolerate-by, step-by}
 use Rattle.boundaries.specs.Boundaries.{cutAt}
 use Rattle.boundaries.proofs.PlaceLaws.{less-is, cut-within}
-use Rattle.cuts.specs.Cut.{later}
+use Rattle.cuts.specs.Appended.{later}
 
 pub is-less : (z : Order) → isLess z ≡ true → z ≡ Less
 is-less Less e = refl

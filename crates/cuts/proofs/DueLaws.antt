@@ -21,7 +21,8 @@ use Rattle.matching.proofs.FromLaws.{From, table-from, row-from}
 use Rattle.lists.specs.Lists.{Entry}
 use Rattle.lists.specs.WholeTables.{asWritten, dueOver}
 use Rattle.boundaries.specs.Boundaries.{cutAt}
-use Rattle.cuts.specs.Cut.{Pair, behind, cutBy, later}
+use Rattle.cutpairs.specs.Cut.{Pair, behind, cutBy}
+use Rattle.cuts.specs.Appended.{later}
 use Rattle.cuts.specs.Apart.{BothSorted, laterEntry}
 use Rattle.boundaries.proofs.PlaceLaws.{cut-within}
 use Rattle.cuts.proofs.CutLaws.{cut-before, cut-behind, match-later, match-before, match-behind}

@@ -2,6 +2,5 @@ pub mod Samples
 pub mod CutLaws
 pub mod DueLaws
 pub mod Uncut
-pub mod DriverSamples
 pub mod LoadLaws
 pub mod PlacesLaw

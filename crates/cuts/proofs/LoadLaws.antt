@@ -1,4 +1,4 @@
--- A pair's frames, cut from the tables' values and marks, are the frames of its rows; where the driver's answer is 0, they fit. Assumes nothing.
+-- A pair's frames, cut from the tables' values and marks, are the frames of its rows; where the call is not refused, they fit. Assumes nothing.
 use mathlib.Core.Path.{_≡_, refl, ap, _∙_}
 use mathlib.Core.Bool.{Bool, true, false, cond, not, _&&_, _||_}
 use mathlib.Core.List.{List, [], _∷_, map}
@@ -26,24 +26,25 @@ use Rattle.outcomes.specs.Answers.{mostRows}
 use Rattle.lists.specs.Lists.{backToBack}
 use Rattle.lists.specs.WholeTables.{Each, ends, pairs}
 use Rattle.planning.specs.Plan.{plan}
-use Rattle.planning.specs.Heights.{total, fullHeights}
+use Rattle.planning.specs.Heights.{total, fullHeights, fullFrames}
 use Rattle.planning.proofs.HeightLaws.{table-values, table-marks, rows-take, full-total, full-few}
 use Rattle.plan.specs.Table.{frameFrom, framesBy}
 use Rattle.plan.proofs.TableLaws.{fine-drop, table-frames, framed}
 use Rattle.plan.proofs.TablePlanned.{frames-count}
 use Rattle.boundaries.specs.Boundaries.{cutAt, badBoundaries}
-use Rattle.cuts.specs.Cut.{Pair, before, behind, cutBy}
+use Rattle.cutpairs.specs.Cut.{Pair, before, behind, cutBy}
 use Rattle.cuts.specs.Scheduled.{Fits}
-use Rattle.cuts.specs.Driver.{fullFrames, wordsFor, tooShort, anyShort, tables, groups, cutAnswer}
+use Rattle.cutcall.specs.Calls.{groupsIn, thenJudged}
+use Rattle.cutpairs.specs.Driver.{wordsFor, tooShort, anyShort, tablesIn, inputJudged, pairsJudged, joinAnswer}
 use Rattle.cuts.specs.Loads.{Stretch, rowsWithin, wholeOf, firstOf, othersOf, framesOf, Lent, loadOf, loads, LentWell, DriverFits, DriverWrites}
-use Rattle.cuts.specs.Apart.{BothSorted}
+use Rattle.refusals.specs.declared.Refusal.{Refusal}
+use Rattle.refusals.specs.declared.Refusal.the-variants.{BadOptions, TooManyCarried, BadRanks, BadFrame, UnknownCode, NoRoom, Unsorted, BadBoundaries}
+use Rattle.outcomes.specs.declared.Took.{Took}
+use Rattle.outcomes.specs.declared.Took.the-variants.{Accepted, Refused as NotTaken}
+use Rattle.tables.specs.declared.Written.{Written}
+use Rattle.tables.specs.declared.Written.the-variants.{Rows as Wrote, Refused}
 use Rattle.cuts.proofs.Uncut.{uncut-scheduled}
 use Rattle.boundaries.proofs.PlaceLaws.{cut-within}
-
--- The chain of refusals, passed.
-passes : (t : Bool) (n k : ℕ) → cond t (suc n) k ≡ 0 → (t ≡ false) × (k ≡ 0)
-passes true n k e = absurd (omega arith)
-passes false n k e = (refl, e)
 
 -- Frames of these heights have as many words as are counted for them.
 frame-words : (c : ℕ) (hs : List ℕ) (vs ms : Words) → total hs * c ≤ length vs → total hs * c ≤ length ms → length (backToBack (framesBy c hs vs ms)) ≡ wordsFor c hs
@@ -109,13 +110,13 @@ sound-drop : (o : Options) (i : ℕ) (rs : Rows) → Sound o rs → Sound o (dro
 sound-drop o i rs s = record { in-order = sorted-drop o i rs (s .in-order); codes = lacks-parts o (take i rs) (drop i rs) (rw (take-append-drop i rs) (s .codes)) .1 }
 
 -- ---- one pair
-module _ (o : Options) (allowed : refusedOptions o ≡ false) (l r : Words) where
+module _ (o : Options) (allowed : refusedOptions o ≡ false) (l r : ℕ) where
   -- The rows of two stretches.
   abbrev pairOf : Stretch → Stretch → Pair
   pairOf x y = record { left = rowsWithin (columns o) x; right = rowsWithin (rightColumns o) y }
 
   pair-fits : (x y : Stretch) → Fine (columns o) x → Fine (rightColumns o) y → Sound o (rowsWithin (columns o) x) → Sound o (rowsWithin (rightColumns o) y) → x .rows < 2 ^ 63 → y .rows ≤ mostRows
-      → tooShort o l r (pairOf x y) ≡ false → (e : Lent) → length (e .left) ≡ length l → length (e .right) ≡ length r
+      → tooShort o l r (pairOf x y) ≡ false → (e : Lent) → length (e .left) ≡ l → length (e .right) ≡ r
       → Each (λ f out. frameWords (rowCount f) (answerColumns o) ≤ length out) (framesOf (columns o) x) (e .outs) → Fits o (pairOf x y) (loadOf o x y e)
   unfolding tooShort
   pair-fits x y fx fy sx sy nx ny short e el er outs =
@@ -134,9 +135,9 @@ module _ (o : Options) (allowed : refusedOptions o ≡ false) (l r : Words) wher
       let ry = rows-length d (y .rows) (y .values) (y .marks) in
       let X₁ = rw tx at (X .1) in
       let Y₁ = rw ty at (Y .1) in
-      let s = or-both (ltb (length l) (wordsFor c (fullHeights (length (rowsWithin c x))))) (ltb (capacity d r) (plan o (fullFrames (rowsWithin c x)) (fullFrames (rowsWithin d y)) .rows)) short in
-      let s₁ = rw rx at (ltb-false (length l) (wordsFor c (fullHeights (length (rowsWithin c x)))) (s .0)) in
-      let s₂ = rw (rx, ry) at (ltb-false (capacity d r) (plan o (fullFrames (rowsWithin c x)) (fullFrames (rowsWithin d y)) .rows) (s .1)) in
+      let s = or-both (ltb l (wordsFor c (fullHeights (length (rowsWithin c x))))) (ltb (r / (2 * d)) (plan o (fullFrames (rowsWithin c x)) (fullFrames (rowsWithin d y)) .rows)) short in
+      let s₁ = rw rx at (ltb-false l (wordsFor c (fullHeights (length (rowsWithin c x)))) (s .0)) in
+      let s₂ = rw (rx, ry) at (ltb-false (r / (2 * d)) (plan o (fullFrames (rowsWithin c x)) (fullFrames (rowsWithin d y)) .rows) (s .1)) in
       record {
         planned = record {
           allowed = allowed;
@@ -157,7 +158,7 @@ module _ (o : Options) (allowed : refusedOptions o ≡ false) (l r : Words) wher
       }
 
   all-fit : (gs : Rows) (x y : Stretch) → Fine (columns o) x → Fine (rightColumns o) y → Sound o (rowsWithin (columns o) x) → Sound o (rowsWithin (rightColumns o) y) → x .rows < 2 ^ 63 → y .rows ≤ mostRows
-      → anyShort o l r (cutBy o gs (pairOf x y)) ≡ false → (es : List Lent) → LentWell o (length l) (length r) gs x es → Each (Fits o) (cutBy o gs (pairOf x y)) (loads o gs x y es)
+      → anyShort o l r (cutBy o gs (pairOf x y)) ≡ false → (es : List Lent) → LentWell o l r gs x es → Each (Fits o) (cutBy o gs (pairOf x y)) (loads o gs x y es)
   unfolding cutBy anyShort LentWell loads
   all-fit [] x y fx fy sx sy nx ny a [] w = absurd w
   all-fit [] x y fx fy sx sy nx ny a (e ∷ es) w = pairs (pair-fits x y fx fy sx sy nx ny (or-both (tooShort o l r (pairOf x y)) false a .0) e (w .0) (w .1) (w .2)) ends
@@ -185,44 +186,68 @@ module _ (o : Options) (allowed : refusedOptions o ≡ false) (l r : Words) wher
 whole-fine : (c : ℕ) (f : Words) → isTable c f ≡ true → Fine c (wholeOf c f)
 whole-fine c f t = record { values = omega (arith, table-values c f t); marks = omega (arith, table-marks c f t); fits = table-parts c f t .fine }
 
-pub driver-fits : DriverFits
-unfolding cutAnswer frameRows
-driver-fits o left right boundaries l r out e nl nr es w =
+-- The chain of refusals, passed, of both parts.
+accepts : (t : Bool) (r : Refusal) (k : Took) → cond t (NotTaken r) k ≡ Accepted → (t ≡ false) × (k ≡ Accepted)
+accepts true r k e = (cc, cc)
+accepts false r k e = (refl, e)
+
+writes : (t : Bool) (r : Refusal) (k : Written) (n : ℕ) → cond t (Refused r) k ≡ Wrote n → (t ≡ false) × (k ≡ Wrote n)
+writes true r k n e = (cc, cc)
+writes false r k n e = (refl, e)
+
+both-judged : (t : Took) (k : Written) (n : ℕ) → thenJudged t k ≡ Wrote n → (t ≡ Accepted) × (k ≡ Wrote n)
+both-judged Accepted k n e = (refl, e)
+both-judged (NotTaken r) k n e = (cc, cc)
+
+-- What is known where the call is not refused.
+record Passed (o : Options) (left right : Words) (l r : ℕ) (gs : Rows) : Type 0 where
+  allowed : refusedOptions o ≡ false
+  left-table : isTable (columns o) left ≡ true
+  right-table : isTable (rightColumns o) right ≡ true
+  left-sound : Sound o (tablesIn o left right .left)
+  right-sound : Sound o (tablesIn o left right .right)
+  room : anyShort o l r (cutBy o gs (tablesIn o left right)) ≡ false
+
+passed : (o : Options) (left right boundaries : Words) (l r n rows : ℕ) → joinAnswer o left right boundaries l r n ≡ Wrote rows → Passed o left right l r (groupsIn o boundaries)
+unfolding joinAnswer inputJudged pairsJudged
+passed o left right boundaries l r n rows e =
     let c = columns o in
     let d = rightColumns o in
-    let t = tables o left right boundaries l r out in
-    let gs = groups o left right boundaries l r out in
-    let p₁ = passes (badOptions o) 0 _ e in
-    let p₁₀ = passes (manyCarried o) 9 _ (p₁ .1) in
-    let p₁₁ = passes (badRanked o) 10 _ (p₁₀ .1) in
-    let p₅ = passes (not (isTable c left && isTable d right && isFrame (o .by) boundaries)) 4 _ (p₁₁ .1) in
+    let t = tablesIn o left right in
+    let gs = groupsIn o boundaries in
+    let j = both-judged (inputJudged o left right boundaries) (pairsJudged o t gs l r n) rows e in
+    let p₁ = accepts (badOptions o) BadOptions _ (j .0) in
+    let p₁₀ = accepts (manyCarried o) TooManyCarried _ (p₁ .1) in
+    let p₁₁ = accepts (badRanked o) BadRanks _ (p₁₀ .1) in
+    let p₅ = accepts (not (isTable c left && isTable d right && isFrame (o .by) boundaries)) BadFrame _ (p₁₁ .1) in
     let u = and-true (isTable c left && isTable d right) (isFrame (o .by) boundaries) (not-false (isTable c left && isTable d right && isFrame (o .by) boundaries) (p₅ .0)) in
     let v = and-true (isTable c left) (isTable d right) (u .0) in
-    let p₁₂ = passes (lacksCode o (t .left) || lacksCode o (t .right) || lacksCode o gs) 11 _ (p₅ .1) in
+    let p₁₂ = accepts (lacksCode o (t .left) || lacksCode o (t .right) || lacksCode o gs) UnknownCode _ (p₅ .1) in
     let k = or-both (lacksCode o (t .left)) (lacksCode o (t .right)) (or-both (lacksCode o (t .left) || lacksCode o (t .right)) (lacksCode o gs) (p₁₂ .0) .0) in
-    let p₁₄ = passes (not (sorted o (t .left) && sorted o (t .right))) 13 _ (p₁₂ .1) in
+    let p₁₄ = writes (not (sorted o (t .left) && sorted o (t .right))) Unsorted _ rows (j .1) in
     let s = and-true (sorted o (t .left)) (sorted o (t .right)) (not-false (sorted o (t .left) && sorted o (t .right)) (p₁₄ .0)) in
-    let p₁₈ = passes (badBoundaries o gs) 17 _ (p₁₄ .1) in
+    let p₁₈ = writes (badBoundaries o gs) BadBoundaries _ rows (p₁₄ .1) in
     let words = frameWords (length (t .left)) (answerColumns o) in
-    let p₆ = passes (anyShort o l r (cutBy o gs t) || ltb (length out) words) 5 0 (p₁₈ .1) in
-    let a = or-both (anyShort o l r (cutBy o gs t)) (ltb (length out) words) (p₆ .0) in
-    all-fit o (good-allowed o (p₁ .0) (p₁₀ .0) (p₁₁ .0)) l r gs (wholeOf c left) (wholeOf d right) (whole-fine c left (v .0)) (whole-fine d right (v .1))
-    (record { in-order = s .0; codes = k .0 }) (record { in-order = s .1; codes = k .1 }) nl nr (a .0) es w
+    let p₆ = writes (anyShort o l r (cutBy o gs t) || ltb n words) NoRoom _ rows (p₁₈ .1) in
+    record {
+      allowed = good-allowed o (p₁ .0) (p₁₀ .0) (p₁₁ .0);
+      left-table = v .0;
+      right-table = v .1;
+      left-sound = record { in-order = s .0; codes = k .0 };
+      right-sound = record { in-order = s .1; codes = k .1 };
+      room = or-both (anyShort o l r (cutBy o gs t)) (ltb n words) (p₆ .0) .0;
+    }
 
--- Both tables are sorted where the answer is 0.
-both-sorted : (o : Options) (left right boundaries l r out : Words) → cutAnswer o left right boundaries l r out ≡ 0 → BothSorted o (tables o left right boundaries l r out)
-unfolding cutAnswer
-both-sorted o left right boundaries l r out e =
-    let t = tables o left right boundaries l r out in
-    let p₁ = passes (badOptions o) 0 _ e in
-    let p₁₀ = passes (manyCarried o) 9 _ (p₁ .1) in
-    let p₁₁ = passes (badRanked o) 10 _ (p₁₀ .1) in
-    let p₅ = passes (not (isTable (columns o) left && isTable (rightColumns o) right && isFrame (o .by) boundaries)) 4 _ (p₁₁ .1) in
-    let p₁₂ = passes (lacksCode o (t .left) || lacksCode o (t .right) || lacksCode o (groups o left right boundaries l r out)) 11 _ (p₅ .1) in
-    let p₁₄ = passes (not (sorted o (t .left) && sorted o (t .right))) 13 _ (p₁₂ .1) in
-    and-true (sorted o (t .left)) (sorted o (t .right)) (not-false (sorted o (t .left) && sorted o (t .right)) (p₁₄ .0))
+pub driver-fits : DriverFits
+unfolding frameRows
+driver-fits o left right boundaries l r n rows e nl nr es w =
+    let c = columns o in
+    let d = rightColumns o in
+    let p = passed o left right boundaries l r n rows e in
+    all-fit o (p .allowed) l r (groupsIn o boundaries) (wholeOf c left) (wholeOf d right) (whole-fine c left (p .left-table)) (whole-fine d right (p .right-table)) (p .left-sound) (p .right-sound) nl nr (p .room) es w
 
 pub driver-writes : DriverWrites
-driver-writes o left right boundaries l r out e nl nr es w =
-    uncut-scheduled o (groups o left right boundaries l r out) (tables o left right boundaries l r out) (both-sorted o left right boundaries l r out e)
-    (loads o (groups o left right boundaries l r out) (wholeOf (columns o) left) (wholeOf (rightColumns o) right) es) (driver-fits o left right boundaries l r out e nl nr es w)
+driver-writes o left right boundaries l r n rows e nl nr es w =
+    let p = passed o left right boundaries l r n rows e in
+    uncut-scheduled o (groupsIn o boundaries) (tablesIn o left right) (p .left-sound .in-order, p .right-sound .in-order)
+    (loads o (groupsIn o boundaries) (wholeOf (columns o) left) (wholeOf (rightColumns o) right) es) (driver-fits o left right boundaries l r n rows e nl nr es w)

@@ -13,7 +13,7 @@ use Rattle.order.specs.Order.{cmpGroup, isLess}
 use Rattle.order.proofs.OrderLaws.{AtMost, cmpGroup-is, less-at-most, at-most}
 use Rattle.order.proofs.SortedLaws.{All, all-map}
 use Rattle.boundaries.specs.Boundaries.{cutAt, ascending}
-use Rattle.cuts.specs.Cut.{Pair, behind, cutBy}
+use Rattle.cutpairs.specs.Cut.{Pair, behind, cutBy}
 use Rattle.cuts.specs.Places.{stretches, placesIn, CutAtPlaces}
 use Rattle.cuts.proofs.CutLaws.{is-less, cut-again}
 

@@ -15,7 +15,8 @@ use Rattle.matching.specs.declared.Choice.the-variants.{Row, Nothing}
 use Rattle.lists.specs.Lists.{Entry}
 use Rattle.boundaries.specs.Boundaries.{cutAt}
 use Rattle.cuts.specs.Apart.{laterEntry}
-use Rattle.cuts.specs.Cut.{Pair, cutBy, joined, appended}
+use Rattle.cutpairs.specs.Cut.{Pair, cutBy, joined}
+use Rattle.cuts.specs.Appended.{appended}
 
 -- Backward, one by-column; the same descending, nulls last.
 abbrev pub up : Options

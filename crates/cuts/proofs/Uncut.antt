@@ -16,7 +16,8 @@ use Rattle.lists.specs.Lists.{rowsIn}
 use Rattle.lists.proofs.WholeTableTheorem.{whole-table-theorem}
 use Rattle.isolation.proofs.Isolated.{all-turned}
 use Rattle.boundaries.specs.Boundaries.{cutAt}
-use Rattle.cuts.specs.Cut.{Pair, before, behind, cutBy, joined, later, appended}
+use Rattle.cutpairs.specs.Cut.{Pair, before, behind, cutBy, joined}
+use Rattle.cuts.specs.Appended.{later, appended}
 use Rattle.cuts.specs.Apart.{BothSorted, UncutTables, Job, Joins, written, allWritten, UncutCalls}
 use Rattle.cuts.specs.Scheduled.{Load, Fits, scheduled, allScheduled, UncutScheduled}
 use Rattle.plan.proofs.Ends.{writes-all}

@@ -13,7 +13,8 @@ use Rattle.options.specs.declared.Options.{Options}
 use Rattle.lists.specs.Lists.{Call, Entry}
 use Rattle.lists.specs.WholeTables.{all, lefts, rights, matches, Each}
 use Rattle.isolation.specs.Isolation.{Finished}
-use Rattle.cuts.specs.Cut.{Pair, cutBy, joined, appended}
+use Rattle.cutpairs.specs.Cut.{Pair, cutBy, joined}
+use Rattle.cuts.specs.Appended.{appended}
 
 -- Both tables are sorted as declared.
 abbrev pub BothSorted : Options → Pair → Type 0

@@ -1,6 +1,5 @@
-pub mod Cut
+pub mod Appended
 pub mod Apart
 pub mod Scheduled
-pub mod Driver
 pub mod Loads
 pub mod Places

@@ -12,9 +12,11 @@ use Rattle.lists.specs.WholeTables.{dueOver, Each}
 use Rattle.planning.specs.Heights.{fullHeights}
 use Rattle.plan.specs.Table.{framesBy}
 use Rattle.boundaries.specs.Boundaries.{cutAt}
-use Rattle.cuts.specs.Cut.{cutBy}
+use Rattle.cutpairs.specs.Cut.{cutBy}
 use Rattle.cuts.specs.Scheduled.{Load, Fits, allScheduled}
-use Rattle.cuts.specs.Driver.{tables, groups, cutAnswer}
+use Rattle.cutcall.specs.Calls.{groupsIn}
+use Rattle.cutpairs.specs.Driver.{tablesIn, joinAnswer}
+use Rattle.tables.specs.declared.Written.the-variants.{Rows as Wrote}
 
 -- A stretch of a table: n rows, from the front of these values and marks.
 pub record Stretch : Type 0 where
@@ -67,17 +69,17 @@ LentWell o l r (g ∷ gs) x (e ∷ es) =
     (length (e .left) ≡ l) × (length (e .right) ≡ r) × Each (λ f out. frameWords (rowCount f) (answerColumns o) ≤ length out) (framesOf (columns o) (firstOf a x)) (e .outs)
     × LentWell o l r gs (othersOf (columns o) a x) es
 
--- Where the driver's answer is 0, every pair's frames fit: so `UncutScheduled` tells what is written.
+-- Where the call is not refused, every pair's frames fit: so `UncutScheduled` tells what is written.
 abbrev pub DriverFits : Type 0
 DriverFits =
-    (o : Options) (left right boundaries l r out : Words) → cutAnswer o left right boundaries l r out ≡ 0 → rowCount left < 2 ^ 63 → rowCount right ≤ mostRows → (es : List Lent)
-    → LentWell o (length l) (length r) (groups o left right boundaries l r out) (wholeOf (columns o) left) es
-    → Each (Fits o) (cutBy o (groups o left right boundaries l r out) (tables o left right boundaries l r out)) (loads o (groups o left right boundaries l r out) (wholeOf (columns o) left) (wholeOf (rightColumns o) right) es)
+    (o : Options) (left right boundaries : Words) (l r n rows : ℕ) → joinAnswer o left right boundaries l r n ≡ Wrote rows → rowCount left < 2 ^ 63 → rowCount right ≤ mostRows → (es : List Lent)
+    → LentWell o l r (groupsIn o boundaries) (wholeOf (columns o) left) es
+    → Each (Fits o) (cutBy o (groupsIn o boundaries) (tablesIn o left right)) (loads o (groupsIn o boundaries) (wholeOf (columns o) left) (wholeOf (rightColumns o) right) es)
 
--- So the pairs, each by its schedule in these frames over these areas, write the answer of the uncut tables.
+-- SCOPE 19.34: so the pairs, each by its schedule in these frames over these areas, write the answer of the uncut tables.
 abbrev pub DriverWrites : Type 0
 DriverWrites =
-    (o : Options) (left right boundaries l r out : Words) → cutAnswer o left right boundaries l r out ≡ 0 → rowCount left < 2 ^ 63 → rowCount right ≤ mostRows → (es : List Lent)
-    → LentWell o (length l) (length r) (groups o left right boundaries l r out) (wholeOf (columns o) left) es
-    → allScheduled o 0 (cutBy o (groups o left right boundaries l r out) (tables o left right boundaries l r out)) (loads o (groups o left right boundaries l r out) (wholeOf (columns o) left) (wholeOf (rightColumns o) right) es)
-    ≡ map (dueOver o (tables o left right boundaries l r out .right)) (tables o left right boundaries l r out .left)
+    (o : Options) (left right boundaries : Words) (l r n rows : ℕ) → joinAnswer o left right boundaries l r n ≡ Wrote rows → rowCount left < 2 ^ 63 → rowCount right ≤ mostRows → (es : List Lent)
+    → LentWell o l r (groupsIn o boundaries) (wholeOf (columns o) left) es
+    → allScheduled o 0 (cutBy o (groupsIn o boundaries) (tablesIn o left right)) (loads o (groupsIn o boundaries) (wholeOf (columns o) left) (wholeOf (rightColumns o) right) es)
+    ≡ map (dueOver o (tablesIn o left right .right)) (tablesIn o left right .left)

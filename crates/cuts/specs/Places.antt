@@ -7,7 +7,7 @@ use lib.ListN.{take, drop}
 use Rattle.frames.specs.Cells.{Rows}
 use Rattle.options.specs.declared.Options.{Options}
 use Rattle.boundaries.specs.Boundaries.{cutAt, ascending}
-use Rattle.cuts.specs.Cut.{Pair, cutBy}
+use Rattle.cutpairs.specs.Cut.{Pair, cutBy}
 
 -- The stretches of a table between one place and the next, from row `from` on; the last goes to the end.
 unfoldable pub stretches : ℕ → List ℕ → Rows → List Rows

@@ -12,7 +12,7 @@ use Rattle.lists.specs.Lists.{start, events, rowsIn, Entry, outputs, matchesIn}
 use Rattle.lists.specs.WholeTables.{dueOver, Each}
 use Rattle.plan.specs.Schedule.{schedule}
 use Rattle.plan.specs.Plan.{Planned, figures}
-use Rattle.cuts.specs.Cut.{Pair, cutBy}
+use Rattle.cutpairs.specs.Cut.{Pair, cutBy}
 use Rattle.cuts.specs.Apart.{BothSorted, laterEntry}
 
 -- A pair's frames on either side, with an output for each left frame, and the two areas as they are when its turn comes: any words.

@@ -1,7 +1,8 @@
-// The calls for hosts in C, over structs of numbers, all of 64 bits, and words that the host lends: the exported functions alone. What each does stands in hostfeed, hostmove, hostturn, bookhost, spanhost, planhost, cuthost, takehost, readhost and version.
+// The calls for hosts in C, over structs of numbers, all of 64 bits, and words that the host lends: the exported functions alone. What each does stands in hostfeed, hostmove, hostturn, bookhost, spanhost, planhost, cuthost, cutjoinhost, takehost, readhost and version.
 use bookhost::merge_host;
 use bookhost::standing_host;
 use cuthost::cut_host;
+use cutjoinhost::join_cut_host;
 use hostfeed::host_end_right;
 use hostfeed::host_left;
 use hostfeed::host_open;
@@ -21,9 +22,11 @@ use takehost::add_host;
 use takehost::join_host;
 use version::version_now;
 ghost use mathlib.Core.Path.{_≡_};
+ghost use lib.ListN.{length};
 ghost use Rattle.hostcalls.specs.Contracts.{HostOpenContract, HostLeftContract, HostRightContract, HostEndContract, HostMoveContract, HostPortsContract, HostTurnContract, HostRunContract};
 ghost use Rattle.bookhost.specs.Calls.{HostMergeContract, HostStandContract};
 ghost use Rattle.cuthost.specs.Calls.{HostCutContract};
+ghost use Rattle.cutjoinhost.specs.Calls.{HostPairsContract};
 ghost use Rattle.takehost.specs.Calls.{HostAddContract, HostJoinContract};
 ghost use Rattle.spanhost.specs.Call.{HostSpanContract};
 ghost use Rattle.planhost.specs.Call.{plannedHost, planHost};
@@ -274,6 +277,22 @@ pub extern "C" fn rowkeeper_cut(
     ensures { λ r. ⌜ HostCutContract h right (now (table .entry)) (now (boundaries .entry)) (now (out .entry)) r (now (out .exit)) ⌝ }
 {
     cut_host(h, right, table, boundaries, out)
+}
+
+// Joins two sorted tables, cut at boundaries: the answer of the pairs, appended as one table. The areas are only measured. No join has a part in it.
+#[no_mangle]
+pub extern "C" fn rowkeeper_join_cut(
+    h: HostOptions,
+    left: &[i64],
+    right: &[i64],
+    boundaries: &[i64],
+    left_area: &[i64],
+    right_area: &[i64],
+    out: &mut [i64],
+) -> HostWritten
+    ensures { λ z. ⌜ HostPairsContract h (now (left .entry)) (now (right .entry)) (now (boundaries .entry)) (length (now («left_area» .entry))) (length (now («right_area» .entry))) (now (out .entry)) z (now (out .exit)) ⌝ }
+{
+    join_cut_host(h, left, right, boundaries, left_area, right_area, out)
 }
 
 // Adds a frame's matched sales to a table of takings by group: the first carried column, summed and counted. No join has a part in it.

@@ -45,3 +45,7 @@ inFrames (h ∷ hs) rs = take h rs ∷ inFrames hs (drop h rs)
 -- Heights of 4,096, and at last what is left over.
 unfoldable pub fullHeights : ℕ → List ℕ
 fullHeights n = replicate (n / 4096) 4096 ++ cond (eqb (n % 4096) 0) [] (n % 4096 ∷ [])
+
+-- SCOPE 19.35: a table in full frames: as many of 4,096 rows as there are, then one with what is left over.
+abbrev pub fullFrames : Rows → List Rows
+fullFrames rs = inFrames (fullHeights (length rs)) rs

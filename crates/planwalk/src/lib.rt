@@ -7,13 +7,15 @@ use turnrows::from_row;
 use turnrows::last_prune;
 ghost use mathlib.Core.Path.{_≡_};
 ghost use Prim.Native.Nat.{suc, _+_, _^_, _≤_, _<_, max};
-ghost use mathlib.Core.Bool.{_&&_};
-ghost use lib.ListN.{length};
+ghost use mathlib.Core.Bool.{false, _&&_};
+ghost use lib.IntN.{pos, natAbs};
+ghost use lib.ListN.{length, getD};
 ghost use Rattle.frames.specs.Cells.{rowsOf};
 ghost use Rattle.options.specs.Options.{withList};
 ghost use Rattle.order.specs.Requires.{RowsIn};
 ghost use Rattle.searching.specs.Reach.{needMore};
-ghost use Rattle.planwalk.specs.Walk.{leftRows, rightRows, takenBy, writtenBy, walked, WalkIn, Stands};
+ghost use Rattle.planning.specs.Heights.{anyBad, heightsOf};
+ghost use Rattle.planwalk.specs.Walk.{leftRows, rightRows, takenBy, writtenBy, turnedBy, frameFrom, heldFrom, walked, WalkIn, TurnIn, Stands};
 
 // Where the walk stands: the left frames written and the rows in them; the right frames taken; the right rows held, from `from` on and below `to`; and the most that were held at once.
 pub struct Walk {
@@ -90,7 +92,49 @@ fn wants(
     need_more(lv, lm, n, c, rv, rm, held, w, o, codes, rising)
 }
 
-// One turn: it takes a right frame where one is left and wanted, else it writes.
+// One turn: it takes a right frame, of h rows, where some is left and wanted, else it writes its left frame, of n rows.
+pub fn take_turn(
+    s: Walk,
+    n: usize,
+    some: bool,
+    h: usize,
+    lv: &[i64],
+    lm: &[i64],
+    c: usize,
+    rv: &[i64],
+    rm: &[i64],
+    w: usize,
+    o: Terms,
+    codes: &[i64],
+    rising: &[u8],
+) -> Walk
+    requires { ⌜ TurnIn (withList o (now codes) (now rising)) c (now lv) (now lm) w (now rv) (now rm) s n some h ⌝ }
+    ensures { λ r. ⌜ r ≡ turnedBy (withList o (now (codes .entry)) (now (rising .entry))) s n some h (frameFrom c (now (lv .entry)) (now (lm .entry)) s n) (heldFrom w (now (rv .entry)) (now (rm .entry)) s) ⌝ }
+{
+    let fv = from_row(lv, s.passed, c);
+    let fm = from_row(lm, s.passed, c);
+    let kv = from_row(rv, s.from, w);
+    let km = from_row(rm, s.from, w);
+    let held = s.to - s.from;
+    if wants(some, fv, fm, n, c, kv, km, held, w, o, codes, rising) {
+        return take_right(s, h);
+    }
+    let d = last_prune(fv, fm, n, kv, km, held, c, w, o, codes, rising);
+    write_left(s, n, d)
+}
+
+// Height i as a number, 0 behind the last.
+fn height_or_none(heights: &[i64], i: usize) -> usize
+    requires { ⌜ anyBad (now heights) ≡ false ⌝ }
+    ensures { λ r. ⌜ r ≡ natAbs (getD (now (heights .entry)) i (pos 0)) ⌝ }
+{
+    if i < heights.len() {
+        return height_at(heights, i);
+    }
+    0
+}
+
+// The turn over the next frames of these heights.
 fn step(
     s: Walk,
     lv: &[i64],
@@ -105,21 +149,13 @@ fn step(
     codes: &[i64],
     rising: &[u8],
 ) -> Walk
-    requires { ⌜ WalkIn (withList o (now codes) (now rising)) c (now hl) (now lv) (now lm) w (now hr) (now rv) (now rm) × Stands (withList o (now codes) (now rising)) (now hl) (now hr) (leftRows c (now hl) (now lv) (now lm)) (rightRows w (now hr) (now rv) (now rm)) s × (s .lefts < length (now hl)) ⌝ }
-    ensures { λ r. ⌜ Stands (withList o (now (codes .entry)) (now (rising .entry))) (now (hl .entry)) (now (hr .entry)) (leftRows c (now (hl .entry)) (now (lv .entry)) (now (lm .entry))) (rightRows w (now (hr .entry)) (now (rv .entry)) (now (rm .entry))) r × (r .lefts + r .rights ≡ suc (s .lefts + s .rights)) ⌝ }
+    requires { ⌜ WalkIn (withList o (now codes) (now rising)) c (now hl) (now lv) (now lm) w (now hr) (now rv) (now rm) × Stands (withList o (now codes) (now rising)) (heightsOf (now hl)) (heightsOf (now hr)) (leftRows c (now hl) (now lv) (now lm)) (rightRows w (now hr) (now rv) (now rm)) s × (s .lefts < length (now hl)) ⌝ }
+    ensures { λ r. ⌜ Stands (withList o (now (codes .entry)) (now (rising .entry))) (heightsOf (now (hl .entry))) (heightsOf (now (hr .entry))) (leftRows c (now (hl .entry)) (now (lv .entry)) (now (lm .entry))) (rightRows w (now (hr .entry)) (now (rv .entry)) (now (rm .entry))) r × (r .lefts + r .rights ≡ suc (s .lefts + s .rights)) ⌝ }
 {
-    let n = height_at(hl, s.lefts);
-    let fv = from_row(lv, s.passed, c);
-    let fm = from_row(lm, s.passed, c);
-    let kv = from_row(rv, s.from, w);
-    let km = from_row(rm, s.from, w);
-    let held = s.to - s.from;
+    let n = height_or_none(hl, s.lefts);
+    let h = height_or_none(hr, s.rights);
     let some = s.rights < hr.len();
-    if wants(some, fv, fm, n, c, kv, km, held, w, o, codes, rising) {
-        return take_right(s, height_at(hr, s.rights));
-    }
-    let d = last_prune(fv, fm, n, kv, km, held, c, w, o, codes, rising);
-    write_left(s, n, d)
+    take_turn(s, n, some, h, lv, lm, c, rv, rm, w, o, codes, rising)
 }
 
 // The figures of the schedule over two sorted tables, c and w wide, cut in frames of these heights.

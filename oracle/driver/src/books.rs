@@ -1,5 +1,5 @@
-//! SCOPE 19.8 to 19.16 and 19.23 to 19.33, books of notices, plans, places of cuts and takings: the plain readings by cases that were
-//! read by hand. The Rust has no counterpart.
+//! SCOPE 19.8 to 19.16 and 19.23 to 19.36, books of notices, plans, places of cuts, joins of cut tables and takings: the plain readings
+//! by cases that were read by hand. The Rust has no counterpart.
 use judges::rules::Rules;
 use judges::script::{Answer, Call, Judge, parse_script};
 
@@ -18,6 +18,11 @@ pub fn plans() -> Result<String, String> {
 /// Cases of places of cuts.
 pub fn places() -> Result<String, String> {
     judged(include_str!("../places.txt"))
+}
+
+/// Cases of two tables cut and joined.
+pub fn cuts() -> Result<String, String> {
+    judged(include_str!("../cuts.txt"))
 }
 
 /// Cases of takings.

@@ -505,8 +505,8 @@ impl Judge for Rust {
         match (call, self.told.opens(call), &mut self.join) {
             (Call::Spans(spans), ..) => range::answer(spans, range::Ways::default()),
             (Call::Read(_), ..) => Answer::Nothing,
-            (Call::Merge(_) | Call::Standing(_) | Call::Plan(_), ..)
-            | (Call::Places(_) | Call::TakingsAdd(_) | Call::TakingsJoin(_), ..) => self.told.with(|_| Answer::Nothing),
+            (Call::Merge(_) | Call::Standing(_) | Call::Plan(_) | Call::Places(_), ..)
+            | (Call::Pairs(_) | Call::TakingsAdd(_) | Call::TakingsJoin(_), ..) => self.told.with(|_| Answer::Nothing),
             (_, Some(Ok(open)), join) => {
                 FAULTS.take();
                 *join = Join::open(&open.options, self.ways);

@@ -554,6 +554,7 @@ pub fn all(seed: u64, count: u64) -> bool {
         ("books, cases", Box::new(books::cases)),
         ("plans, cases", Box::new(books::plans)),
         ("places of cuts, cases", Box::new(books::places)),
+        ("cuts, cases", Box::new(books::cuts)),
         ("takings, cases", Box::new(books::takings)),
         ("readers, cases", Box::new(readers::cases)),
         ("spans, cases", Box::new(spans::cases)),

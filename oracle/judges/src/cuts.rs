@@ -64,7 +64,7 @@ pub fn columns(o: &Options, side: u64) -> usize {
 }
 
 /// "a frame of b columns, one group a row": so with a frame's limit of rows; b may be 0, then it has no cell.
-fn groups(o: &Options, boundaries: &[i64]) -> Option<Vec<Row>> {
+pub(crate) fn groups(o: &Options, boundaries: &[i64]) -> Option<Vec<Row>> {
     match boundaries {
         [n @ 0..=4096, 0] if o.b == 0 => Some(vec![vec![]; *n as usize]),
         [0..=4096, ..] if o.b > 0 => table_rows(o.b, boundaries),
@@ -78,7 +78,7 @@ fn less(o: &Options, x: &Row, y: &Row) -> bool {
 }
 
 /// "more than 16 boundaries, one where b is 0, one that is null in any column, or boundaries that do not ascend strictly".
-fn bad_boundaries(o: &Options, groups: &[Row]) -> Option<Reason> {
+pub(crate) fn bad_boundaries(o: &Options, groups: &[Row]) -> Option<Reason> {
     let equal = |two: &[Row]| group_places(o, &two[0]).eq(group_places(o, &two[1]));
     match () {
         _ if groups.len() > 16 => Some(Reason::Many),

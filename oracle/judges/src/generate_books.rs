@@ -100,17 +100,31 @@ fn book(r: &mut Random, o: &Options, s: &Shape, wrong: bool) -> Vec<Row> {
 pub(crate) fn rows(r: &mut Random, o: &Options, s: &Shape, columns: usize, wrong: bool) -> Vec<Row> {
     let long = 4090 + r.below(20);
     let many = if r.percent(1) && r.percent(10) { long } else { r.pick(&[0, 1, 2, 3, 5, 8, 20]) };
-    let mut rows: Vec<Row> = (0..many).map(|_| (0..columns).map(|j| cell(r, o, s, j)).collect()).collect();
-    sort(o, &mut rows);
-    if wrong && many > 0 {
-        let (i, j) = (r.below(many), r.below(many));
-        if o.ranks.given && r.percent(50) {
-            rows[i][o.ranks.column as usize] = Some(Pool::Any.value(r));
-        } else {
-            rows.swap(i, j);
-        }
+    let mut rows = sorted(r, o, s, columns, many);
+    if wrong {
+        spoil(r, o, &mut rows);
     }
     rows
+}
+
+/// So many rows of so many columns, sorted.
+pub(crate) fn sorted(r: &mut Random, o: &Options, s: &Shape, columns: usize, many: usize) -> Vec<Row> {
+    let mut rows: Vec<Row> = (0..many).map(|_| (0..columns).map(|j| cell(r, o, s, j)).collect()).collect();
+    sort(o, &mut rows);
+    rows
+}
+
+/// Exchanges two rows, or puts a value into one that the list lacks.
+pub(crate) fn spoil(r: &mut Random, o: &Options, rows: &mut [Row]) {
+    if rows.is_empty() {
+        return;
+    }
+    let (i, j) = (r.below(rows.len()), r.below(rows.len()));
+    if o.ranks.given && r.percent(50) {
+        rows[i][o.ranks.column as usize] = Some(Pool::Any.value(r));
+    } else {
+        rows.swap(i, j);
+    }
 }
 
 /// The same words with something in them that breaks the table rule, most of the time.

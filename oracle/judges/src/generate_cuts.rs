@@ -46,7 +46,7 @@ pub(crate) fn ascending(r: &mut Random, o: &Options, s: &Shape, rows: &[Row], ma
 }
 
 /// The same groups with something that is refused: a null, one twice, two exchanged, a code that the list lacks.
-fn spoiled(r: &mut Random, o: &Options, groups: &mut Vec<Row>) {
+pub(crate) fn spoiled(r: &mut Random, o: &Options, groups: &mut Vec<Row>) {
     if o.b == 0 || groups.is_empty() {
         groups.extend(vec![vec![Some(1); o.b]; r.pick(&[1, 1, 2, 16, 17])]);
         return;
@@ -61,7 +61,7 @@ fn spoiled(r: &mut Random, o: &Options, groups: &mut Vec<Row>) {
 }
 
 /// As many boundaries as a frame may have, or one more.
-fn frameful(r: &mut Random, o: &Options) -> Vec<Row> {
+pub(crate) fn frameful(r: &mut Random, o: &Options) -> Vec<Row> {
     (0..r.pick(&[4096, 4097])).map(|i| vec![Some(i); o.b]).collect()
 }
 

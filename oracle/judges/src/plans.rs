@@ -68,6 +68,11 @@ fn held(judge: &mut dyn Judge) -> u64 {
 /// "all left frames waiting, a right frame handed over only when a turn wants one, right ended after the last, or at the start where
 /// there is none", with a right area for R rows; "Left words and output are taken as enough". Ends at a 6 on the right.
 pub fn schedule(judge: &mut dyn Judge, o: &Options, of: &FramesOf, r: usize) -> Scheduled {
+    answered(judge, o, of, r, &mut vec![])
+}
+
+/// The same, with the answers of all turns that wrote, row by row. The left area has just the words of all left frames.
+pub fn answered(judge: &mut dyn Judge, o: &Options, of: &FramesOf, r: usize, out: &mut Vec<Row>) -> Scheduled {
     let (w, wide) = (o.b + 1 + o.carried as usize, 1 + o.carried as usize + o.distance as usize);
     let ok = |answer: Answer| assert_eq!(answer, Answer::Ok);
     let mut said = Scheduled::default();
@@ -82,7 +87,10 @@ pub fn schedule(judge: &mut dyn Judge, o: &Options, of: &FramesOf, r: usize) -> 
         let rows = of.lefts[said.written as usize][0] as usize;
         said.turns += 1;
         match judge.call(&Call::Turn(2 + 2 * rows * wide)) {
-            Answer::Wrote(..) => said.written += 1,
+            Answer::Wrote(_, words) => {
+                said.written += 1;
+                out.extend(table_rows(wide, &words).expect("a turn writes a frame"));
+            },
             Answer::Wants => {
                 let frame = rights.next().expect("no turn wants right rows once right has ended");
                 match judge.call(&Call::Right(frame.clone())) {

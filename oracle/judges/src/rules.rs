@@ -5,7 +5,7 @@ use std::cmp::Ordering;
 
 use crate::script::{Answer, Call, JoinWords, Judge, Look, MOST_CODES, Open, Options, Place, Ran, Ranks, Stop, Told};
 use crate::words::{self, Rising, RowWords};
-use crate::{books, cuts, plans, readers, spans, takings};
+use crate::{books, cuts, pairs, plans, readers, spans, takings};
 
 /// A cell: null, or a number.
 pub type Cell = Option<i64>;
@@ -752,6 +752,7 @@ impl Join {
             | Call::Read(_)
             | Call::Plan(_)
             | Call::Places(_)
+            | Call::Pairs(_)
             | Call::TakingsAdd(_)
             | Call::TakingsJoin(_) => unreachable!(),
             Call::Run(..) | Call::Move(..) | Call::State | Call::Areas | Call::Words | Call::Put(..) => unreachable!(),
@@ -802,6 +803,7 @@ impl Judge for Rules {
             (Call::Standing(standing), ..) => self.told.with(|o| books::standing(o, standing)),
             (Call::Plan(plan), ..) => self.told.with(|o| plans::plan(o, plan)),
             (Call::Places(call), ..) => self.told.with(|o| cuts::place(o, call)),
+            (Call::Pairs(call), ..) => self.told.with(|o| pairs::cut(o, call)),
             (Call::TakingsAdd(call), ..) => self.told.with(|o| takings::add(o, call)),
             (Call::TakingsJoin(call), ..) => self.told.with(|o| takings::join(o, call)),
             (Call::Read(read), ..) => readers::answer(read),

@@ -168,6 +168,18 @@ pub struct Places {
     pub boundaries: Vec<i64>,
 }
 
+/// SCOPE 19.34, two tables cut at boundaries and joined pair by pair: the lengths of the left area, of the right one and of the output
+/// in words, and the words of both tables and of the boundaries. Nothing is checked yet. The options are those of the last `options`
+/// line.
+#[derive(Clone, Debug, PartialEq)]
+pub struct Pairs {
+    pub areas: [usize; 2],
+    pub output: usize,
+    pub left: Vec<i64>,
+    pub right: Vec<i64>,
+    pub boundaries: Vec<i64>,
+}
+
 /// SCOPE 19.30, a frame's sales added to a table of takings: the length of the output in words, the number beside the table, and the
 /// words of the table, of the left frame and of its answer frame. Nothing is checked yet. The options are those of the last `options`
 /// line.
@@ -225,6 +237,7 @@ pub enum Call {
     Standing(Standing),
     Plan(Plan),
     Places(Places),
+    Pairs(Pairs),
     TakingsAdd(Adding),
     TakingsJoin(Joining),
     /// Needs neither.
@@ -512,6 +525,14 @@ impl fmt::Display for Places {
     }
 }
 
+impl fmt::Display for Pairs {
+    /// The call's line.
+    fn fmt(&self, f: &mut fmt::Formatter<'_>) -> fmt::Result {
+        write!(f, "cut {} {} {}", self.areas[0], self.areas[1], self.output)?;
+        tables(f, &[&self.left, &self.right, &self.boundaries])
+    }
+}
+
 impl fmt::Display for Adding {
     /// The call's line.
     fn fmt(&self, f: &mut fmt::Formatter<'_>) -> fmt::Result {
@@ -564,6 +585,7 @@ impl fmt::Display for Call {
             Call::Standing(s) => write!(f, "{s}"),
             Call::Plan(p) => write!(f, "{p}"),
             Call::Places(p) => write!(f, "{p}"),
+            Call::Pairs(p) => write!(f, "{p}"),
             Call::TakingsAdd(t) => write!(f, "{t}"),
             Call::TakingsJoin(t) => write!(f, "{t}"),
             Call::Read(r) => write!(f, "{r}"),
@@ -712,6 +734,13 @@ fn parse_place(words: &[&str]) -> Result<Call, String> {
     Ok(Call::Places(Places { side: side as u64, output: count(output)?, table, boundaries }))
 }
 
+/// The words of a `cut` line: the lengths of both areas and of the output, the left table, the right one, the boundaries.
+fn parse_cut(words: &[&str]) -> Result<Call, String> {
+    let ([left_words, right_words, output], [left, right, boundaries]) = parse_tables("cut", words)?;
+    let areas = [count(left_words)?, count(right_words)?];
+    Ok(Call::Pairs(Pairs { areas, output: count(output)?, left, right, boundaries }))
+}
+
 /// The words of a `takings-add` line: the output's length, the number, the table, the left frame, its answer frame.
 fn parse_takings_add(words: &[&str]) -> Result<Call, String> {
     let ([output, number], [table, left, answers]) = parse_tables("takings-add", words)?;
@@ -737,20 +766,28 @@ fn parse_read(words: &[&str]) -> Result<Call, String> {
     Ok(Call::Read(Read { distance, carried, row, column, frame }))
 }
 
+/// A call that brings tables, if the line is one.
+fn parse_over_tables(name: &str, words: &[&str]) -> Option<Result<Call, String>> {
+    Some(match name {
+        "spans" => parse_spans(words),
+        "merge" => parse_merge(words),
+        "standing" => parse_standing(words),
+        "plan" => parse_plan(words),
+        "place" => parse_place(words),
+        "cut" => parse_cut(words),
+        "takings-add" => parse_takings_add(words),
+        "takings-join" => parse_takings_join(words),
+        "read" => parse_read(words),
+        _ => return None,
+    })
+}
+
 /// One line: none where it holds no call, an error where it is malformed.
 pub fn parse_line(line: &str) -> Result<Option<Call>, String> {
     let parts: Vec<&str> = line.split('#').next().unwrap_or("").split_ascii_whitespace().collect();
     let [name, words @ ..] = parts.as_slice() else { return Ok(None) };
-    match *name {
-        "spans" => return parse_spans(words).map(Some),
-        "merge" => return parse_merge(words).map(Some),
-        "standing" => return parse_standing(words).map(Some),
-        "plan" => return parse_plan(words).map(Some),
-        "place" => return parse_place(words).map(Some),
-        "takings-add" => return parse_takings_add(words).map(Some),
-        "takings-join" => return parse_takings_join(words).map(Some),
-        "read" => return parse_read(words).map(Some),
-        _ => {},
+    if let Some(call) = parse_over_tables(name, words) {
+        return call.map(Some);
     }
     let a = numbers(words)?;
     let call = match (*name, a.as_slice()) {

@@ -159,7 +159,7 @@ fn whole_table_match(o: &Options, left: &Row, right: &[Row]) -> Option<usize> {
 }
 
 /// The cells of an answer's row: "1 + p columns", and, with the distance, one more.
-fn answer_width(o: &Options) -> usize {
+pub(crate) fn answer_width(o: &Options) -> usize {
     match o.distance {
         0 => 1 + o.carried as usize,
         _ => 2 + o.carried as usize,
@@ -196,6 +196,12 @@ fn written(o: &Options, front: &[Row], matches: &[Option<usize>], right: &[Row])
         }
     }
     [values, marks].concat()
+}
+
+/// The answer of two whole tables, as one table: the match of each left row among all right rows.
+pub fn whole_table(o: &Options, left: &[Row], right: &[Row]) -> Vec<i64> {
+    let matches: Vec<_> = left.iter().map(|row| whole_table_match(o, row, right)).collect();
+    written(o, left, &matches, right)
 }
 
 /// How many of these matches have which distance: as in `Counts`. None where no distance is written.

@@ -5,6 +5,7 @@ use rowkeeper::raw::{self, safe};
 
 mod books;
 mod cuts;
+mod pairs;
 mod plans;
 mod readers;
 mod spans;
@@ -93,6 +94,12 @@ fn right_columns(o: &Options) -> usize {
     o.b.saturating_add(1).saturating_add(usize::try_from(o.carried).unwrap_or(usize::MAX))
 }
 
+/// The columns of an answer, as far as these options say so.
+fn answer_columns(o: &Options) -> usize {
+    let carried = usize::try_from(o.carried).unwrap_or(usize::MAX);
+    carried.saturating_add(if o.distance == 0 { 1 } else { 2 })
+}
+
 /// The answer to a call over tables under these options, and what it did that no answer tells and none may do.
 fn over_tables(o: &Options, call: &Call) -> (Answer, Option<&'static str>) {
     match call {
@@ -100,6 +107,7 @@ fn over_tables(o: &Options, call: &Call) -> (Answer, Option<&'static str>) {
         Call::Standing(standing) => books::standing(raw_options(o), standing),
         Call::Plan(plan) => plans::plan(raw_options(o), plan),
         Call::Places(call) => cuts::place(raw_options(o), call),
+        Call::Pairs(call) => pairs::cut(raw_options(o), answer_columns(o), call),
         Call::TakingsAdd(call) => takings::add(raw_options(o), o.b, call),
         Call::TakingsJoin(call) => takings::join(raw_options(o), o.b, call),
         _ => unreachable!(),
@@ -295,8 +303,8 @@ impl Judge for Port {
                 self.wrong = self.wrong.or(wrong);
                 answer
             },
-            (Call::Merge(_) | Call::Standing(_) | Call::Plan(_), ..)
-            | (Call::Places(_) | Call::TakingsAdd(_) | Call::TakingsJoin(_), ..) => {
+            (Call::Merge(_) | Call::Standing(_) | Call::Plan(_) | Call::Places(_), ..)
+            | (Call::Pairs(_) | Call::TakingsAdd(_) | Call::TakingsJoin(_), ..) => {
                 let mut wrong = None;
                 let answer = self.told.with(|o| {
                     let (answer, did) = over_tables(o, call);

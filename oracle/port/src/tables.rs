@@ -14,6 +14,11 @@ pub fn output(length: usize) -> Guarded {
     Guarded::new((0..length).map(blank))
 }
 
+/// Whether an output's words are as they were before the call, from this one on.
+pub fn untouched(out: &Guarded, from: usize) -> bool {
+    out.get().iter().enumerate().skip(from).all(|(i, w)| *w == blank(i))
+}
+
 /// The answer of a call that writes a table of so many columns, and what it did that no answer tells and none may do. Each table
 /// comes with the words that it had. A refused call that altered its output answers that it did.
 pub fn answer(
@@ -26,7 +31,7 @@ pub fn answer(
     let cells = said.rows.saturating_mul(2).saturating_mul(columns as u64);
     let written = if said.refusal == 0 { cells.saturating_add(2) } else { 0 };
     let end = usize::try_from(written).unwrap_or(usize::MAX).min(length);
-    let rest = out.get().iter().enumerate().skip(end).all(|(i, w)| *w == blank(i));
+    let rest = untouched(out, end);
     let altered = tables.iter().any(|(table, words)| !table.intact() || table.get() != *words);
     let wrongs = [
         (altered, "a table was altered"),

@@ -5,6 +5,7 @@ use std::time::Instant;
 mod books;
 mod compare;
 mod cuts;
+mod pairs;
 mod plans;
 mod readers;
 mod spans;
@@ -145,9 +146,10 @@ fn run(args: &[&str]) -> Result<bool, String> {
         ["standing", seed, count] => (books::compare_standings, number(seed)?, number(count)?),
         ["plan", seed, count] => (plans::compare_all, number(seed)?, number(count)?),
         ["place", seed, count] => (cuts::compare_all, number(seed)?, number(count)?),
+        ["cut", seed, count] => (pairs::compare_all, number(seed)?, number(count)?),
         ["takings", seed, count] => (takings::compare_all, number(seed)?, number(count)?),
         _ => {
-            let names = "spans, merge, standing, plan, place, takings or read";
+            let names = "spans, merge, standing, plan, place, cut, takings or read";
             return Err(format!(
                 "compare: wants a seed and a count of scripts, or {names}, a seed and a count of inputs"
             ));

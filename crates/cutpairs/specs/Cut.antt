@@ -1,13 +1,11 @@
--- Two tables cut by boundary groups, and the answers of the pairs appended. Assumes nothing.
-use mathlib.Core.List.{List, [], _∷_, _++_, map}
-use Prim.Native.Nat.{ℕ, _+_}
-use lib.ListN.{length, take, drop}
+-- Two tables cut by boundary groups, and the join of a pair. Assumes nothing.
+use mathlib.Core.List.{List, [], _∷_, map}
+use lib.ListN.{take, drop}
 use Rattle.frames.specs.Cells.{Cell, Rows}
 use Rattle.options.specs.declared.Options.{Options}
 use Rattle.boundaries.specs.Boundaries.{cutAt}
 use Rattle.matching.specs.Match.{wholeTable}
 use Rattle.matching.specs.declared.Choice.{Choice}
-use Rattle.matching.specs.declared.Choice.the-variants.{Row, Nothing}
 
 -- A left table and a right table.
 pub record Pair : Type 0 where
@@ -29,13 +27,3 @@ cutBy o (g ∷ gs) p = before o g p ∷ cutBy o gs (behind o g p)
 -- The join of a pair: the whole-table rule for each left row.
 unfoldable pub joined : Options → Pair → List Choice
 joined o p = map (wholeTable o (p .right)) (p .left)
-
--- A right number of a later pair: the count of right rows before that pair is added.
-abbrev pub later : ℕ → Choice → Choice
-later n (Row i) = Row (n + i)
-later n Nothing = Nothing
-
--- The answers of pairs appended as one table, where n right rows stand before the first.
-unfoldable pub appended : Options → ℕ → List Pair → List Choice
-appended o n [] = []
-appended o n (p ∷ ps) = map (later n) (joined o p) ++ appended o (n + length (p .right)) ps
