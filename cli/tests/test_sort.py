@@ -6,7 +6,7 @@ from unittest import mock
 from ..cells import parted
 from ..order import Order
 from ..feed import Part
-from ..sorting import Coding, HeldTexts, Rows, Sorter, decoded, encoded
+from ..sorting import Coding, HeldTexts, Placed, Rows, Sorter, decoded, encoded
 from .command import Case, within
 from .judge import in_order, matches
 
@@ -42,6 +42,23 @@ class Sorts(Case):
                 self.assertEqual(found, sorted(rows))
                 self.assertAlmostEqual(len(sorter.runs), runs, delta=8)
                 sorter.close()
+
+    def test_placed(self):
+        """Texts come out by their places, in whatever order and parts they came: no place at all, one, stretches that are just full."""
+        r = random.Random(5)
+        for count in (0, 1, 6, 7, 8, 700):
+            texts = [bytes(r.choice(b'ab\n') for _ in range(r.choice((0, 1, 3, 90)))) for _ in range(count)]
+            places = r.sample(range(count), count)
+            for run, run_bytes, stretch, stretches in ((5, 9999, 7, 256), (9999, 600, 7, 3), (9999, 99999, 1, 1000), (1, 1, 9999, 1)):
+                with mock.patch.multiple('cli.sorting', RUN=run, RUN_BYTES=run_bytes, STRETCH=stretch, STRETCHES=stretches):
+                    placed = Placed(count)
+                    for first in range(0, count, 9):
+                        part = places[first:first + 9]
+                        placed.add(array('Q', part), [texts[place] for place in part])
+                    found = list(placed.sorted())
+                    self.assertEqual([text for each in found for text in each], texts)
+                    self.assertEqual([len(each) for each in found[:-1]], [placed.width] * (len(found) - 1))
+                    placed.close()
 
     def test_held(self):
         """The texts of notices: those that came last from memory, others from the file, near to each other or not."""
