@@ -77,7 +77,7 @@ class Covered:
         """How many passes cover a performance, in words."""
         none = self.passes - self.covering
         have = (f'{self.rows:,} row{"" if self.rows == 1 else "s"}: {self.covering:,} of {self.passes:,} '
-                f'pass{"" if self.passes == 1 else "es"} cover{"s" if self.covering == 1 else ""} a performance')
+                f'pass{"" if self.passes == 1 else "es"} cover{"s" if 1 in (self.covering, self.passes) else ""} a performance')
         if not none:
             return have
         return f'{have}; {none:,} cover{"s" if none == 1 else ""} none, {"it is" if none == 1 else "the first"} in line {self.first}'

@@ -71,7 +71,7 @@ def said(pairs, passes):
     count, covering = len(passes), {row for row, _ in pairs}
     none = [row for row in range(count) if row not in covering]
     line = f'rowkeeper: {len(pairs):,} row{"s" * (len(pairs) != 1)}: {len(covering):,} of {count:,} pass{"es" * (count != 1)} '
-    line += 'covers a performance' if len(covering) == 1 else 'cover a performance'
+    line += 'covers a performance' if 1 in (len(covering), count) else 'cover a performance'
     if none:
         line += f'; {len(none):,} cover{"s" * (len(none) == 1)} none, {"it is" if len(none) == 1 else "the first"} in line {none[0] + 2}'
     return line + '\n'
@@ -188,8 +188,8 @@ class Forms(Case):
         none, one = self.file('none.csv', 'a,z\n'), self.file('one.csv', 'a,z\n1,2\n')
         empty, three = self.file('empty.csv', 't\n'), self.file('three.csv', 't\n3\n')
         for paths, counted in (((none, empty), '0 of 0 passes cover a performance'), ((none, three), '0 of 0 passes cover a performance'),
-                               ((one, empty), '0 of 1 pass cover a performance; 1 covers none, it is in line 2'),
-                               ((self.file('nulls.csv', 'a,z\n,\n'), three), '0 of 1 pass cover a performance; 1 covers none, it is in line 2')):
+                               ((one, empty), '0 of 1 pass covers a performance; 1 covers none, it is in line 2'),
+                               ((self.file('nulls.csv', 'a,z\n,\n'), three), '0 of 1 pass covers a performance; 1 covers none, it is in line 2')):
             for more in ([], ['--sort']):
                 run = within(['passes', *paths, *COLUMNS, *more])
                 self.assertEqual((run.status, run.out, run.err), (0, 'a,z,t\n', f'rowkeeper: 0 rows: {counted}\n'))
