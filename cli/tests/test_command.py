@@ -336,18 +336,30 @@ class Ends(Case):
         self.assertEqual((run.stderr.read(), run.wait()), (b'', 128 + signal.SIGPIPE))
         run.stderr.close()
 
+    def signalled(self, number, long, out):
+        """Sends a signal to a run that has begun to write; what it said, and its status."""
+        run = subprocess.Popen([sys.executable, PROGRAM, 'join', long, NOTICES, *ON, '--output', out],
+                               stdout=subprocess.DEVNULL, stderr=subprocess.PIPE, preexec_fn=heed_signals)
+        until = time.monotonic() + 30
+        while len(os.listdir(self.folder)) < 2 and time.monotonic() < until:
+            time.sleep(0.005)
+        run.send_signal(number)
+        with run.stderr:
+            return run.stderr.read(), run.wait()
+
     def test_signals(self):
-        """Whenever it comes, the file of --output is not there, nor a part of it."""
+        """Whenever it comes, the file of --output is not there, nor a part of it. A busy machine may bring it when all is written: then the
+        file is whole, and another run is made."""
         long, out = self.long(), os.path.join(self.folder, 'out.csv')
         for number in (signal.SIGTERM, signal.SIGINT, signal.SIGHUP):
-            run = subprocess.Popen([sys.executable, PROGRAM, 'join', long, NOTICES, *ON, '--output', out],
-                                   stdout=subprocess.DEVNULL, stderr=subprocess.PIPE, preexec_fn=heed_signals)
-            until = time.monotonic() + 30
-            while len(os.listdir(self.folder)) < 2 and time.monotonic() < until:
-                time.sleep(0.005)
-            run.send_signal(number)
-            self.assertEqual((run.stderr.read(), run.wait()), (b'', 128 + number))
-            run.stderr.close()
+            for _ in range(9):
+                said, status = self.signalled(number, long, out)
+                if status:
+                    break
+                with open(out, 'rb') as file:
+                    self.assertEqual(sum(1 for _ in file), 300001)
+                os.remove(out)
+            self.assertEqual((said, status), (b'', 128 + number))
             self.assertEqual(os.listdir(self.folder), ['long.csv'])
 
 
