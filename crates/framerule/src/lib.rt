@@ -1,12 +1,15 @@
 // The rules of frames and tables: rows n, columns c, then n * c values, then n * c marks; for any words of any length.
 use frames::Front;
 ghost use mathlib.Core.Path.{_≡_};
-ghost use Prim.Native.Nat.{_≤_};
+ghost use mathlib.Core.Bool.{true, _&&_};
+ghost use Prim.Native.Nat.{_+_, _%_, _≤_, _<_};
 ghost use lib.Dec.{leb};
 ghost use lib.IntN.{pos};
-ghost use lib.ListN.{length};
+ghost use lib.ListN.{length, drop, getD};
+ghost use Rattle.frames.specs.Cells.{Words};
 ghost use Rattle.frames.specs.Frame.{isTable, isFrame, rowCount, frameWords, sameZ, pairFine, pairsFine};
 ghost use Rattle.frames.specs.Front.{HasCount, fewRows, frontOf, frontLength, fitting};
+ghost use Rattle.framerule.specs.Pairs.{FineBetween};
 
 // Whether a word is a number of rows, 0 to 4,096.
 fn few_rows(word: i64) -> bool
@@ -79,19 +82,101 @@ fn pair_fine(value: i64, mark: i64) -> bool
     value == 0
 }
 
-// Whether each mark fits its value.
-fn pairs_fine(values: &[i64], marks: &[i64]) -> bool
-    requires { ⌜ length (now values) ≤ length (now marks) ⌝ }
-    ensures { λ r. ⌜ r ≡ pairsFine (now (values .entry)) (now (marks .entry)) ⌝ }
+// Whether the mark at place k fits the value there.
+fn fine_at(values: &[i64], marks: &[i64], k: usize) -> bool
+    requires { ⌜ (k < length (now values)) × (k < length (now marks)) ⌝ }
+    ensures { λ r. ⌜ r ≡ pairFine (getD (now (values .entry)) k (pos 0)) (getD (now (marks .entry)) k (pos 0)) ⌝ }
+{
+    pair_fine(values[k], marks[k])
+}
+
+// Whether the mark at place k is 1.
+fn one_at(marks: &[i64], k: usize) -> bool
+    requires { ⌜ k < length (now marks) ⌝ }
+    ensures { λ r. ⌜ r ≡ sameZ (getD (now (marks .entry)) k (pos 0)) (pos 1) ⌝ }
+{
+    marks[k] == 1
+}
+
+// Whether the four marks from place i on are all 1: then they fit whatever values are there.
+fn four_ones(marks: &[i64], i: usize) -> bool
+    requires { ⌜ i + 4 ≤ length (now marks) ⌝ }
+    ensures { λ r. ⌜ (r ≡ true → (vs : Words) → FineBetween i (i + 4) vs (now (marks .entry))) ⌝ }
+{
+    if !one_at(marks, i) {
+        return false;
+    }
+    if !one_at(marks, i + 1) {
+        return false;
+    }
+    if !one_at(marks, i + 2) {
+        return false;
+    }
+    one_at(marks, i + 3)
+}
+
+// A place up to `end`, in fours, before which all marks are 1. Most frames have no null: of these no value is read.
+fn skip_ones(marks: &[i64], end: usize) -> usize
+    requires { ⌜ (end % 4 ≡ 0) × (end ≤ length (now marks)) ⌝ }
+    ensures { λ r. ⌜ (r % 4 ≡ 0) × (r ≤ end) × ((vs : Words) → FineBetween 0 r vs (now (marks .entry))) ⌝ }
 {
     let mut i = 0;
+    while i < end {
+        if !four_ones(marks, i) {
+            return i;
+        }
+        i += 4;
+    }
+    i
+}
+
+// Whether the four marks from place i on fit their values.
+fn four_fine(values: &[i64], marks: &[i64], i: usize) -> bool
+    requires { ⌜ (i + 4 ≤ length (now values)) × (i + 4 ≤ length (now marks)) ⌝ }
+    ensures { λ r. ⌜ pairsFine (drop i (now (values .entry))) (drop i (now (marks .entry))) ≡ (r && pairsFine (drop (i + 4) (now (values .entry))) (drop (i + 4) (now (marks .entry)))) ⌝ }
+{
+    if !fine_at(values, marks, i) {
+        return false;
+    }
+    if !fine_at(values, marks, i + 1) {
+        return false;
+    }
+    if !fine_at(values, marks, i + 2) {
+        return false;
+    }
+    fine_at(values, marks, i + 3)
+}
+
+// Whether each mark from place `from` on fits its value.
+fn rest_fine(values: &[i64], marks: &[i64], from: usize) -> bool
+    requires { ⌜ (from ≤ length (now values)) × (length (now values) ≤ length (now marks)) ⌝ }
+    ensures { λ r. ⌜ r ≡ pairsFine (drop from (now (values .entry))) (drop from (now (marks .entry))) ⌝ }
+{
+    let mut i = from;
     while i < values.len() {
-        if !pair_fine(values[i], marks[i]) {
+        if !fine_at(values, marks, i) {
             return false;
         }
         i += 1;
     }
     true
+}
+
+// Whether each mark fits its value: four at a time, and the last fewer than four one by one.
+fn pairs_fine(values: &[i64], marks: &[i64]) -> bool
+    requires { ⌜ length (now values) ≤ length (now marks) ⌝ }
+    ensures { λ r. ⌜ r ≡ pairsFine (now (values .entry)) (now (marks .entry)) ⌝ }
+{
+    let len = values.len();
+    let end = len - len % 4;
+    let mut i = skip_ones(marks, end);
+    while i < end {
+        if !four_fine(values, marks, i) {
+            return false;
+        }
+        i += 4;
+    }
+    rest_fine(values, marks, i)
 }
 
 // Whether the words are a table of c columns, of any number of rows.
