@@ -1,10 +1,17 @@
-// Opening, frames and the end of right, over structs of numbers: each reads the join, makes its call and hands the join back in numbers.
+// Opening, frames and the end of right, over structs of numbers. A frame's call reads what it needs of the numbers where they lie, and hands them back with those changed that the call changes.
+use codes::flag_of;
+use codes::state_of;
+use codes::took_code;
+use consistency::bad_numbers;
 use convert::HostJoin;
 use convert::is_join;
 use convert::join_of;
 use hostoptions::HostOptions;
 use hostoptions::is_options;
 use hostoptions::options_of;
+use hostoptions::terms_from;
+use intake::feed_left;
+use intake::feed_right;
 use node::Join;
 use results::HostTook;
 use results::bad_took;
@@ -26,23 +33,91 @@ pub fn host_open(h: HostOptions) -> HostTook
 }
 
 // Takes a left frame into the left area, behind those that wait.
-pub fn host_left(h: HostJoin, left: &mut [i64], right: &[i64], frame: &[i64]) -> HostTook
+pub fn host_left(mut h: HostJoin, left: &mut [i64], right: &[i64], frame: &[i64]) -> HostTook
     ensures { λ r. ⌜ HostLeftContract h (now (left .entry)) (now (right .entry)) (now (frame .entry)) r (now (left .exit)) ⌝ }
 {
-    if is_join(h) {
-        return took_host(join_of(h).left(left, right, frame));
+    if !is_join(h) {
+        return bad_took(h);
     }
-    bad_took(h)
+    let terms = terms_from(h.options);
+    let rising = h.rising;
+    let bad = bad_numbers(
+        terms,
+        &h.options.ranks.codes,
+        &rising,
+        h.base,
+        h.held,
+        h.pruned,
+        h.queue_start,
+        h.queue_words,
+        h.sequence,
+        left,
+        right,
+    );
+    let fed = feed_left(
+        bad,
+        flag_of(h.failed),
+        state_of(h.state),
+        terms,
+        &h.options.ranks.codes,
+        &rising,
+        h.queue_start,
+        h.queue_words,
+        left,
+        frame,
+    );
+    let answer = fed.answer;
+    h.queue_start = fed.start;
+    h.queue_words = fed.words;
+    HostTook {
+        refusal: took_code(answer),
+        join: h,
+    }
 }
 
 // Takes a right frame's rows into the right area, behind the held ones.
-pub fn host_right(h: HostJoin, left: &[i64], right: &mut [i64], frame: &[i64]) -> HostTook
+pub fn host_right(mut h: HostJoin, left: &[i64], right: &mut [i64], frame: &[i64]) -> HostTook
     ensures { λ r. ⌜ HostRightContract h (now (left .entry)) (now (right .entry)) (now (frame .entry)) r (now (right .exit)) ⌝ }
 {
-    if is_join(h) {
-        return took_host(join_of(h).right(left, right, frame));
+    if !is_join(h) {
+        return bad_took(h);
     }
-    bad_took(h)
+    let terms = terms_from(h.options);
+    let rising = h.rising;
+    let bad = bad_numbers(
+        terms,
+        &h.options.ranks.codes,
+        &rising,
+        h.base,
+        h.held,
+        h.pruned,
+        h.queue_start,
+        h.queue_words,
+        h.sequence,
+        left,
+        right,
+    );
+    let fed = feed_right(
+        bad,
+        flag_of(h.failed),
+        flag_of(h.right_ended),
+        state_of(h.state),
+        terms,
+        &h.options.ranks.codes,
+        &rising,
+        h.base,
+        h.held,
+        h.pruned,
+        right,
+        frame,
+    );
+    let answer = fed.answer;
+    h.base = fed.base;
+    h.held = fed.held;
+    HostTook {
+        refusal: took_code(answer),
+        join: h,
+    }
 }
 
 // Ends right: no right frame comes any more.
