@@ -1,23 +1,24 @@
 -- A frame's call over the numbers of a join: what is fed goes by the join that they tell, and the numbers handed back are its own. Assumes nothing.
-use mathlib.Core.Path.{_≡_, refl, sym, ap, _∙_}
+use mathlib.Core.Path.{_≡_, refl, sym, ap}
 use mathlib.Core.Bool.{Bool, true, false}
 use Prim.Native.Nat.{ℕ}
 use lib.ListN.{length}
 use Rattle.frames.specs.Cells.{Words}
 use Rattle.options.specs.Options.{termsOf, withList}
 use Rattle.options.specs.declared.Terms.{Terms}
-use Rattle.callrules.specs.Judged.{badNumbers, LeftHolds, LeftFed, RightHolds, RightFed}
+use Rattle.callrules.specs.Judged.{LeftHolds, LeftFed, RightHolds, RightFed}
 use Rattle.callrules.specs.declared.FedLeft.{FedLeft}
 use Rattle.callrules.specs.declared.FedRight.{FedRight}
 use Rattle.codes.specs.Codes.{flagOf, stateOf}
 use Rattle.node.specs.State.{badJoin, queueAt, heldAt}
-use Rattle.node.proofs.Good.{Good, good, few-told, bad-told}
+use Rattle.node.proofs.Good.{few-told}
 use Rattle.node.proofs.CallLaws.{left-leaves, right-leaves}
 use Rattle.convert.specs.Convert.{isJoin, joinOf, encode}
 use Rattle.convert.specs.declared.HostJoin.{HostJoin}
 use Rattle.convert.proofs.ConvertLaws.{join-numbers}
 use Rattle.results.specs.Results.{tookHost}
 use Rattle.hostcalls.specs.Contracts.{HostLeftContract, HostRightContract}
+use Rattle.hostcalls.proofs.NumberLaws.{good-is}
 use Rattle.hostcalls.proofs.CallLaws.{left-through, right-through}
 
 -- The numbers with another queue, and with other held rows.
@@ -57,29 +58,20 @@ heldIn h base held = record {
   «last_right» = h .«last_right»;
 }
 
-module _ (h : HostJoin) (left right : Words) (e : isJoin h ≡ true) (t : Terms) (told : t ≡ termsOf (joinOf h .options)) (b : Bool)
-    (is : b ≡ badNumbers (withList t (h .options .ranks .codes) (h .rising)) (h .base) (h .held) (h .pruned) (h .«queue_start») (h .«queue_words») (h .sequence) left right) where
-  -- Whether it is bad is told of the join.
-  bad-is : b ≡ badJoin (joinOf h) left right
-  bad-is = bad-told (joinOf h) left right t b told is
-
-  -- A join that is not bad holds together.
-  pub good-is : b ≡ false → Good (joinOf h) left right
-  good-is n = good (joinOf h) left right (sym bad-is ∙ n)
-
+module _ (h : HostJoin) (left right : Words) (e : isJoin h ≡ true) (t : Terms) (told : t ≡ termsOf (joinOf h .options)) (b : Bool) (is : b ≡ badJoin (joinOf h) left right) where
   module _ (codes-long : length (h .options .ranks .codes) ≡ 64) (rising-long : length (h .rising) ≡ 64) where
     pub left-holds : b ≡ false → LeftHolds (withList t (h .options .ranks .codes) (h .rising)) (h .«queue_start») (h .«queue_words») left
-    left-holds n = let g = good-is n in rw told (record { few = few-told (joinOf h) left right g codes-long rising-long; room = g .left-room })
+    left-holds n = let g = good-is h left right b is n in rw told (record { few = few-told (joinOf h) left right g codes-long rising-long; room = g .left-room })
 
     pub right-holds : b ≡ false → RightHolds (withList t (h .options .ranks .codes) (h .rising)) (h .base) (h .held) (h .pruned) right
-    right-holds n = let g = good-is n in rw told (record { few = few-told (joinOf h) left right g codes-long rising-long; carried = g .carried; room = g .right-room; rows = g .rows })
+    right-holds n = let g = good-is h left right b is n in rw told (record { few = few-told (joinOf h) left right g codes-long rising-long; carried = g .carried; room = g .right-room; rows = g .rows })
 
   -- ---- a left frame
   pub left-fed : (f : Words) (r : FedLeft) (left′ : Words) → LeftFed b (flagOf (h .failed)) (stateOf (h .state)) (withList t (h .options .ranks .codes) (h .rising)) (h .«queue_start») (h .«queue_words») left f r left′
       → HostLeftContract h left right f (tookHost (r .answer) (queueIn h (r .start) (r .words))) left′
   left-fed f r left′ x =
       left-through h left right f (joinOf h) (record { answer = r .answer; join = queueAt (joinOf h) (r .start) (r .words) }) (tookHost (r .answer) (queueIn h (r .start) (r .words))) left′ e refl
-      (left-leaves (joinOf h) left right f b bad-is r left′ (rw told at x))
+      (left-leaves (joinOf h) left right f b is r left′ (rw told at x))
       (ap (λ y. tookHost (r .answer) (queueIn y (r .start) (r .words))) (sym (join-numbers h e)))
 
   -- ---- a right frame
@@ -87,5 +79,5 @@ module _ (h : HostJoin) (left right : Words) (e : isJoin h ≡ true) (t : Terms)
       → HostRightContract h left right f (tookHost (r .answer) (heldIn h (r .base) (r .held))) right′
   right-fed f r right′ x =
       right-through h left right f (joinOf h) (record { answer = r .answer; join = heldAt (joinOf h) (r .base) (r .held) (joinOf h .pruned) }) (tookHost (r .answer) (heldIn h (r .base) (r .held))) right′ e refl
-      (right-leaves (joinOf h) left right f b bad-is r right′ (rw told at x))
+      (right-leaves (joinOf h) left right f b is r right′ (rw told at x))
       (ap (λ y. tookHost (r .answer) (heldIn y (r .base) (r .held))) (sym (join-numbers h e)))

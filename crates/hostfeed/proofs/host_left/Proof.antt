@@ -2,8 +2,10 @@
 use mathlib.Core.Path.{_≡_, sym, _∙_}
 use native.Mathlib.Omega.{arith}
 use borrow.Author.Tests.{not-true, not-false}
+use denote.Ref.{now}
 use lib.ListN.{length, length-map}
 use Rattle.convert.proofs.ConvertLaws.{join-parts}
+use Rattle.hostcalls.proofs.NumberLaws.{bad-is}
 use Rattle.hostcalls.proofs.CallLaws.{left-bad}
 use Rattle.hostfeed.proofs.FedLaws.{left-holds, left-fed}
 use borrow.Author.Needs.{needs}
@@ -58,7 +60,8 @@ feed-left-requires : tie.Need-feed-left-requires
 feed-left-requires c κs =
     let k = c .before .before .before .before .before .before .before .before .before .before .before .before .before .before in
     let s = k .before .before .before .before in
-    left-holds _ _ _ (sym (k .before .before .before .is-join .ensures) ∙ not-false (k .before .before .before .is-join .result) (k .before .before .if1 .left)) _ (k .terms-from .ensures (k .before .before .before .before .args .t1 .rising)) _ (c .before .before .before .before .before .before .before .bad-numbers .ensures) (codes-long s) (rising-long s)
+    let told = k .terms-from .ensures (s .args .t1 .rising) in
+    left-holds (s .args .t1) (now (s .args .left)) (now (s .args .right)) (sym (k .before .before .before .is-join .ensures) ∙ not-false (k .before .before .before .is-join .result) (k .before .before .if1 .left)) _ told _ (bad-is (s .args .t1) (now (s .args .left)) (now (s .args .right)) _ _ told (c .before .before .before .before .before .before .before .bad-numbers .ensures)) (codes-long s) (rising-long s)
 
 took-code-requires : tie.Need-took-code-requires
 took-code-requires c κs = search needs
@@ -69,7 +72,9 @@ same-length c = search needs
 returns-2 : tie.Need-returns-2
 returns-2 c =
     let k = c .before .before .before .before .before .before .before .before .before .before .before .before .before .before .before .before .before in
-    rw (c .took-code .ensures) (left-fed _ _ _ (sym (k .before .before .before .is-join .ensures) ∙ not-false (k .before .before .before .is-join .result) (k .before .before .if1 .left)) _ (k .terms-from .ensures (k .before .before .before .before .args .t1 .rising)) _ (c .before .before .before .before .before .before .before .before .before .before .bad-numbers .ensures) _ _ _ (rw (c .before .before .before .before .before .before .before .before .before .flag-of .ensures, c .before .before .before .before .before .before .before .before .state-of .ensures) at (c .before .before .feed-left .ensures)))
+    let s = k .before .before .before .before in
+    let told = k .terms-from .ensures (s .args .t1 .rising) in
+    rw (c .took-code .ensures) (left-fed (s .args .t1) (now (s .args .left)) (now (s .args .right)) (sym (k .before .before .before .is-join .ensures) ∙ not-false (k .before .before .before .is-join .result) (k .before .before .if1 .left)) _ told _ (bad-is (s .args .t1) (now (s .args .left)) (now (s .args .right)) _ _ told (c .before .before .before .before .before .before .before .before .before .before .bad-numbers .ensures)) _ _ _ (rw (c .before .before .before .before .before .before .before .before .before .flag-of .ensures, c .before .before .before .before .before .before .before .before .state-of .ensures) at (c .before .before .feed-left .ensures)))
 
 pub host-left-spec : {M : Type 1} → statement M
 host-left-spec =

@@ -2,8 +2,10 @@
 use mathlib.Core.Path.{_≡_, sym, _∙_}
 use native.Mathlib.Omega.{arith}
 use borrow.Author.Tests.{not-true, not-false}
+use denote.Ref.{now}
 use lib.ListN.{length, length-map}
 use Rattle.convert.proofs.ConvertLaws.{join-parts}
+use Rattle.hostcalls.proofs.NumberLaws.{bad-is}
 use Rattle.hostcalls.proofs.CallLaws.{right-bad}
 use Rattle.hostfeed.proofs.FedLaws.{right-holds, right-fed}
 use borrow.Author.Needs.{needs}
@@ -61,7 +63,8 @@ feed-right-requires : tie.Need-feed-right-requires
 feed-right-requires c κs =
     let k = c .before .before .before .before .before .before .before .before .before .before .before .before .before .before .before in
     let s = k .before .before .before .before in
-    right-holds _ _ _ (sym (k .before .before .before .is-join .ensures) ∙ not-false (k .before .before .before .is-join .result) (k .before .before .if1 .left)) _ (k .terms-from .ensures (k .before .before .before .before .args .t1 .rising)) _ (c .before .before .before .before .before .before .before .before .bad-numbers .ensures) (codes-long s) (rising-long s)
+    let told = k .terms-from .ensures (s .args .t1 .rising) in
+    right-holds (s .args .t1) (now (s .args .left)) (now (s .args .right)) (sym (k .before .before .before .is-join .ensures) ∙ not-false (k .before .before .before .is-join .result) (k .before .before .if1 .left)) _ told _ (bad-is (s .args .t1) (now (s .args .left)) (now (s .args .right)) _ _ told (c .before .before .before .before .before .before .before .before .bad-numbers .ensures)) (codes-long s) (rising-long s)
 
 took-code-requires : tie.Need-took-code-requires
 took-code-requires c κs = search needs
@@ -72,7 +75,9 @@ same-length c = search needs
 returns-2 : tie.Need-returns-2
 returns-2 c =
     let k = c .before .before .before .before .before .before .before .before .before .before .before .before .before .before .before .before .before .before in
-    rw (c .took-code .ensures) (right-fed _ _ _ (sym (k .before .before .before .is-join .ensures) ∙ not-false (k .before .before .before .is-join .result) (k .before .before .if1 .left)) _ (k .terms-from .ensures (k .before .before .before .before .args .t1 .rising)) _ (c .before .before .before .before .before .before .before .before .before .before .before .bad-numbers .ensures) _ _ _ (rw (c .before .before .before .before .before .before .before .before .before .before .flag-of .ensures, c .before .before .before .before .before .before .before .before .before .flag-of2 .ensures, c .before .before .before .before .before .before .before .before .state-of .ensures) at (c .before .before .feed-right .ensures)))
+    let s = k .before .before .before .before in
+    let told = k .terms-from .ensures (s .args .t1 .rising) in
+    rw (c .took-code .ensures) (right-fed (s .args .t1) (now (s .args .left)) (now (s .args .right)) (sym (k .before .before .before .is-join .ensures) ∙ not-false (k .before .before .before .is-join .result) (k .before .before .if1 .left)) _ told _ (bad-is (s .args .t1) (now (s .args .left)) (now (s .args .right)) _ _ told (c .before .before .before .before .before .before .before .before .before .before .before .bad-numbers .ensures)) _ _ _ (rw (c .before .before .before .before .before .before .before .before .before .before .flag-of .ensures, c .before .before .before .before .before .before .before .before .before .flag-of2 .ensures, c .before .before .before .before .before .before .before .before .state-of .ensures) at (c .before .before .feed-right .ensures)))
 
 pub host-right-spec : {M : Type 1} → statement M
 host-right-spec =
