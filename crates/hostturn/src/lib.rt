@@ -1,9 +1,14 @@
-// Port calls, turns and runs, over structs of numbers: each reads the join, makes its call and hands the join back in numbers.
+// Port calls, turns and runs, over structs of numbers. A turn reads what it needs of the numbers where they lie; port calls and runs read the join whole. Each hands the join back in numbers.
 use codes::are_codes;
 use codes::port_of;
+use codes::state_of;
+use consistency::bad_numbers;
 use convert::HostJoin;
 use convert::is_join;
 use convert::join_of;
+use hostoptions::terms_from;
+use hostpart::part_from;
+use hostpart::turned_with;
 use results::HostPorted;
 use results::HostRan;
 use results::HostTurned;
@@ -12,8 +17,8 @@ use results::bad_ran;
 use results::bad_turned;
 use results::ported_host;
 use results::ran_host;
-use results::turned_host;
 use runs::run;
+use turncall::turn_queue;
 ghost use Rattle.hostcalls.specs.Contracts.{HostPortsContract, HostTurnContract, HostRunContract};
 
 // A port call: l, r and s are what left, right and send come with.
@@ -33,10 +38,37 @@ pub fn host_ports(h: HostJoin, left: &[i64], right: &[i64], l: u64, r: u64, s: u
 pub fn host_turn(h: HostJoin, left: &[i64], right: &[i64], out: &mut [i64]) -> HostTurned
     ensures { λ r. ⌜ HostTurnContract h (now (left .entry)) (now (right .entry)) (now (out .entry)) r (now (out .exit)) ⌝ }
 {
-    if is_join(h) {
-        return turned_host(join_of(h).turn(left, right, out));
+    if !is_join(h) {
+        return bad_turned(h);
     }
-    bad_turned(h)
+    let terms = terms_from(h.options);
+    let rising = h.rising;
+    let bad = bad_numbers(
+        terms,
+        &h.options.ranks.codes,
+        &rising,
+        h.base,
+        h.held,
+        h.pruned,
+        h.queue_start,
+        h.queue_words,
+        h.sequence,
+        left,
+        right,
+    );
+    let part = part_from(h);
+    let t = turn_queue(
+        bad,
+        state_of(h.state),
+        part,
+        terms,
+        &h.options.ranks.codes,
+        &rising,
+        left,
+        right,
+        out,
+    );
+    turned_with(h, t)
 }
 
 // At most k turns, each writing behind the one before; the first that does not write ends it.

@@ -1,51 +1,95 @@
-use mathlib.Core.Path.{sym, _∙_}
-use Rattle.hostcalls.proofs.CallLaws.{turn-bad, turn-through}
+-- `hostturn::host_turn` meets its contract. Assumes nothing.
+use mathlib.Core.Path.{_≡_, sym, _∙_}
+use native.Mathlib.Omega.{arith}
+use borrow.Author.Tests.{not-true, not-false}
+use denote.Ref.{now}
+use lib.ListN.{length, length-map}
+use Rattle.convert.proofs.ConvertLaws.{join-parts}
+use Rattle.hostcalls.proofs.NumberLaws.{bad-is}
+use Rattle.hostcalls.proofs.CallLaws.{turn-bad}
+use Rattle.hostturn.proofs.TurnLaws.{queue-holds, turn-numbers}
 use borrow.Author.Needs.{needs}
 use Rattle.hostturn.proofs.host_turn.Statement.{statement}
 use Rattle.hostturn.proofs.host_turn.Tie as tie
 use Rattle.hostturn.proofs.host_turn.Reads as reads
 use Rattle.hostturn.proofs.host_turn.Lts as lts
-use Rattle.results.proofs.bad_turned.Reads as bad-turned-reads
-use Rattle.results.proofs.turned_host.Reads as turned-host-reads
+use Rattle.codes.proofs.state_of.Reads as state-of-reads
+use Rattle.consistency.proofs.bad_numbers.Reads as bad-numbers-reads
 use Rattle.convert.proofs.is_join.Reads as is-join-reads
-use Rattle.convert.proofs.join_of.Reads as join-of-reads
-use Rattle.node.proofs.Join.turn.Reads as turn-reads
+use Rattle.hostoptions.proofs.terms_from.Reads as terms-from-reads
+use Rattle.hostpart.proofs.part_from.Reads as part-from-reads
+use Rattle.hostpart.proofs.turned_with.Reads as turned-with-reads
+use Rattle.results.proofs.bad_turned.Reads as bad-turned-reads
+use Rattle.turncall.proofs.turn_queue.Reads as turn-queue-reads
+
+-- The lengths of the list's arrays, from what the type says of its fields.
+codes-long : (s : tie.Start) → length (s .args .t1 .options .ranks .codes) ≡ 64
+codes-long s = let g = s .good .0 .1 .1 .1 .0 .1 .1 .1 .1 .1 .1 .1 .1 .1 .1 .0 in sym (length-map (s .args .t1 .options .ranks .codes) (λ v. v)) ∙ g .1 .1 .1 .1 .1 .0 .1 .0 .1
+
+rising-long : (s : tie.Start) → length (s .args .t1 .rising) ≡ 64
+rising-long s = sym (length-map (s .args .t1 .rising) (λ v. v)) ∙ s .good .0 .1 .1 .1 .1 .0 .1 .0 .1
 
 is-join-requires : tie.Need-is-join-requires
 is-join-requires c κs = search needs
 
-join-of-requires : tie.Need-join-of-requires
-join-of-requires c κs = sym (c .before .is-join .ensures) ∙ c .if1 .taken
+bad-turned-requires : tie.Need-bad-turned-requires
+bad-turned-requires c κs = search needs
 
-turn-requires : tie.Need-turn-requires
-turn-requires c κs = search needs
+returns : tie.Need-returns
+returns c = turn-bad _ _ _ _ _ (sym (c .before .before .is-join .ensures) ∙ not-true (c .before .before .is-join .result) (c .before .if1 .taken)) (c .bad-turned .ensures)
 
-turned-host-requires : tie.Need-turned-host-requires
-turned-host-requires c κs = search needs
+terms-from-requires : tie.Need-terms-from-requires
+terms-from-requires c κs = join-parts _ (sym (c .before .before .is-join .ensures) ∙ not-false (c .before .before .is-join .result) (c .before .if1 .left)) .options
+
+slice-aggregate-bad-numbers : tie.Need-slice-aggregate-bad-numbers
+slice-aggregate-bad-numbers c = search needs
+
+bad-numbers-requires : tie.Need-bad-numbers-requires
+bad-numbers-requires c κs = let s = c .before .before .before .before .before .before .before .before .before in (omega (arith, codes-long s), omega (arith, rising-long s))
+
+part-from-requires : tie.Need-part-from-requires
+part-from-requires c κs = search needs
+
+state-of-requires : tie.Need-state-of-requires
+state-of-requires c κs = search needs
+
+slice-aggregate-turn-queue : tie.Need-slice-aggregate-turn-queue
+slice-aggregate-turn-queue c = sym (rising-long (c .before .before .before .before .before .before .before .before .before .before .before .before .before .before .before .before))
+
+turn-queue-requires : tie.Need-turn-queue-requires
+turn-queue-requires c κs =
+    let k = c .before .before .before .before .before .before .before .before .before .before .before .before .before in
+    let s = k .before .before .before .before in
+    let told = k .terms-from .ensures (s .args .t1 .rising) in
+    rw (c .before .before .before .before .before .before .part-from .ensures) (queue-holds (s .args .t1) (now (s .args .left)) (now (s .args .right)) (sym (k .before .before .before .is-join .ensures) ∙ not-false (k .before .before .before .is-join .result) (k .before .before .if1 .left)) _ told _ (bad-is (s .args .t1) (now (s .args .left)) (now (s .args .right)) _ _ told (c .before .before .before .before .before .before .before .bad-numbers .ensures)) (codes-long s) (rising-long s))
+
+turned-with-requires : tie.Need-turned-with-requires
+turned-with-requires c κs = search needs
 
 same-length : tie.Need-same-length
 same-length c = search needs
 
-returns : tie.Need-returns
-returns c =
-    let j = c .before .before .before .before in
-    turn-through _ _ _ _ _ _ _ _ (sym (j .before .before .is-join .ensures) ∙ j .before .if1 .taken) (j .join-of .ensures) (c .before .before .turn .ensures) (c .turned-host .ensures)
-
-bad-turned-requires : tie.Need-bad-turned-requires
-bad-turned-requires c κs = search needs
-
 returns-2 : tie.Need-returns-2
-returns-2 c = turn-bad _ _ _ _ _ (sym (c .before .before .is-join .ensures) ∙ c .before .if1 .left) (c .bad-turned .ensures)
+returns-2 c =
+    let k = c .before .before .before .before .before .before .before .before .before .before .before .before .before .before .before .before in
+    let s = k .before .before .before .before in
+    let told = k .terms-from .ensures (s .args .t1 .rising) in
+    rw (c .turned-with .ensures) (turn-numbers (s .args .t1) (now (s .args .left)) (now (s .args .right)) (sym (k .before .before .before .is-join .ensures) ∙ not-false (k .before .before .before .is-join .result) (k .before .before .if1 .left)) _ told _ (bad-is (s .args .t1) (now (s .args .left)) (now (s .args .right)) _ _ told (c .before .before .before .before .before .before .before .before .before .before .bad-numbers .ensures)) _ _ _ (rw (c .before .before .before .before .before .before .before .before .before .part-from .ensures, c .before .before .before .before .before .before .before .before .state-of .ensures) at (c .before .before .turn-queue .ensures)))
 
 pub host-turn-spec : {M : Type 1} → statement M
 host-turn-spec =
     tie.close
     (tie.spec
     is-join-requires
-    join-of-requires
-    turn-requires
-    turned-host-requires
-    same-length
-    returns
     bad-turned-requires
+    returns
+    terms-from-requires
+    slice-aggregate-bad-numbers
+    bad-numbers-requires
+    part-from-requires
+    state-of-requires
+    slice-aggregate-turn-queue
+    turn-queue-requires
+    turned-with-requires
+    same-length
     returns-2)
