@@ -1,7 +1,6 @@
 -- A frame's call over the numbers of a join: what is fed goes by the join that they tell, and the numbers handed back are its own. Assumes nothing.
 use mathlib.Core.Path.{_≡_, refl, sym, ap}
 use mathlib.Core.Bool.{Bool, true, false}
-use Prim.Native.Nat.{ℕ}
 use lib.ListN.{length}
 use Rattle.frames.specs.Cells.{Words}
 use Rattle.options.specs.Options.{termsOf, withList}
@@ -17,48 +16,12 @@ use Rattle.convert.specs.Convert.{isJoin, joinOf, encode}
 use Rattle.convert.specs.declared.HostJoin.{HostJoin}
 use Rattle.convert.proofs.ConvertLaws.{join-numbers}
 use Rattle.results.specs.Results.{tookHost}
+use Rattle.hostfeed.specs.Fed.{queueIn, heldIn}
 use Rattle.hostcalls.specs.Contracts.{HostLeftContract, HostRightContract}
 use Rattle.hostcalls.proofs.NumberLaws.{good-is}
 use Rattle.hostcalls.proofs.CallLaws.{left-through, right-through}
 
--- The numbers with another queue, and with other held rows.
-abbrev pub queueIn : HostJoin → ℕ → ℕ → HostJoin
-queueIn h start words = record {
-  layout = h .layout;
-  options = h .options;
-  rising = h .rising;
-  base = h .base;
-  held = h .held;
-  pruned = h .pruned;
-  «queue_start» = start;
-  «queue_words» = words;
-  state = h .state;
-  «right_ended» = h .«right_ended»;
-  failed = h .failed;
-  sequence = h .sequence;
-  «last_left» = h .«last_left»;
-  «last_right» = h .«last_right»;
-}
-
-abbrev pub heldIn : HostJoin → ℕ → ℕ → HostJoin
-heldIn h base held = record {
-  layout = h .layout;
-  options = h .options;
-  rising = h .rising;
-  base = base;
-  held = held;
-  pruned = h .pruned;
-  «queue_start» = h .«queue_start»;
-  «queue_words» = h .«queue_words»;
-  state = h .state;
-  «right_ended» = h .«right_ended»;
-  failed = h .failed;
-  sequence = h .sequence;
-  «last_left» = h .«last_left»;
-  «last_right» = h .«last_right»;
-}
-
-module _ (h : HostJoin) (left right : Words) (e : isJoin h ≡ true) (t : Terms) (told : t ≡ termsOf (joinOf h .options)) (b : Bool) (is : b ≡ badJoin (joinOf h) left right) where
+module _ (h : HostJoin) (left right : Words) (t : Terms) (told : t ≡ termsOf (joinOf h .options)) (b : Bool) (is : b ≡ badJoin (joinOf h) left right) where
   module _ (codes-long : length (h .options .ranks .codes) ≡ 64) (rising-long : length (h .rising) ≡ 64) where
     pub left-holds : b ≡ false → LeftHolds (withList t (h .options .ranks .codes) (h .rising)) (h .«queue_start») (h .«queue_words») left
     left-holds n = let g = good-is h left right b is n in rw told (record { few = few-told (joinOf h) left right g codes-long rising-long; room = g .left-room })
@@ -67,17 +30,17 @@ module _ (h : HostJoin) (left right : Words) (e : isJoin h ≡ true) (t : Terms)
     right-holds n = let g = good-is h left right b is n in rw told (record { few = few-told (joinOf h) left right g codes-long rising-long; carried = g .carried; room = g .right-room; rows = g .rows })
 
   -- ---- a left frame
-  pub left-fed : (f : Words) (r : FedLeft) (left′ : Words) → LeftFed b (flagOf (h .failed)) (stateOf (h .state)) (withList t (h .options .ranks .codes) (h .rising)) (h .«queue_start») (h .«queue_words») left f r left′
+  pub left-numbers : isJoin h ≡ true → (f : Words) (r : FedLeft) (left′ : Words) → LeftFed b (flagOf (h .failed)) (stateOf (h .state)) (withList t (h .options .ranks .codes) (h .rising)) (h .«queue_start») (h .«queue_words») left f r left′
       → HostLeftContract h left right f (tookHost (r .answer) (queueIn h (r .start) (r .words))) left′
-  left-fed f r left′ x =
+  left-numbers e f r left′ x =
       left-through h left right f (joinOf h) (record { answer = r .answer; join = queueAt (joinOf h) (r .start) (r .words) }) (tookHost (r .answer) (queueIn h (r .start) (r .words))) left′ e refl
       (left-leaves (joinOf h) left right f b is r left′ (rw told at x))
       (ap (λ y. tookHost (r .answer) (queueIn y (r .start) (r .words))) (sym (join-numbers h e)))
 
   -- ---- a right frame
-  pub right-fed : (f : Words) (r : FedRight) (right′ : Words) → RightFed b (flagOf (h .failed)) (flagOf (h .«right_ended»)) (stateOf (h .state)) (withList t (h .options .ranks .codes) (h .rising)) (h .base) (h .held) (h .pruned) right f r right′
+  pub right-numbers : isJoin h ≡ true → (f : Words) (r : FedRight) (right′ : Words) → RightFed b (flagOf (h .failed)) (flagOf (h .«right_ended»)) (stateOf (h .state)) (withList t (h .options .ranks .codes) (h .rising)) (h .base) (h .held) (h .pruned) right f r right′
       → HostRightContract h left right f (tookHost (r .answer) (heldIn h (r .base) (r .held))) right′
-  right-fed f r right′ x =
+  right-numbers e f r right′ x =
       right-through h left right f (joinOf h) (record { answer = r .answer; join = heldAt (joinOf h) (r .base) (r .held) (joinOf h .pruned) }) (tookHost (r .answer) (heldIn h (r .base) (r .held))) right′ e refl
       (right-leaves (joinOf h) left right f b is r right′ (rw told at x))
       (ap (λ y. tookHost (r .answer) (heldIn y (r .base) (r .held))) (sym (join-numbers h e)))

@@ -1,67 +1,20 @@
 -- `hostfeed::host_left` meets its contract. Assumes nothing.
-use mathlib.Core.Path.{_≡_, sym, _∙_}
-use native.Mathlib.Omega.{arith}
-use borrow.Author.Tests.{not-true, not-false}
-use denote.Ref.{now}
-use lib.ListN.{length, length-map}
-use Rattle.convert.proofs.ConvertLaws.{join-parts}
-use Rattle.hostcalls.proofs.NumberLaws.{bad-is}
+use mathlib.Core.Path.{refl, sym, _∙_}
 use Rattle.hostcalls.proofs.CallLaws.{left-bad}
-use Rattle.hostfeed.proofs.FedLaws.{left-holds, left-fed}
 use borrow.Author.Needs.{needs}
 use Rattle.hostfeed.proofs.host_left.Statement.{statement}
 use Rattle.hostfeed.proofs.host_left.Tie as tie
 use Rattle.hostfeed.proofs.host_left.Reads as reads
 use Rattle.hostfeed.proofs.host_left.Lts as lts
-use Rattle.codes.proofs.flag_of.Reads as flag-of-reads
-use Rattle.codes.proofs.state_of.Reads as state-of-reads
 use Rattle.codes.proofs.took_code.Reads as took-code-reads
-use Rattle.consistency.proofs.bad_numbers.Reads as bad-numbers-reads
 use Rattle.convert.proofs.is_join.Reads as is-join-reads
-use Rattle.hostoptions.proofs.terms_from.Reads as terms-from-reads
-use Rattle.intake.proofs.feed_left.Reads as feed-left-reads
-use Rattle.results.proofs.bad_took.Reads as bad-took-reads
-
--- The lengths of the list's arrays, from what the type says of its fields.
-codes-long : (s : tie.Start) → length (s .args .t1 .options .ranks .codes) ≡ 64
-codes-long s = let g = s .good .0 .1 .1 .1 .0 .1 .1 .1 .1 .1 .1 .1 .1 .1 .1 .0 in sym (length-map (s .args .t1 .options .ranks .codes) (λ v. v)) ∙ g .1 .1 .1 .1 .1 .0 .1 .0 .1
-
-rising-long : (s : tie.Start) → length (s .args .t1 .rising) ≡ 64
-rising-long s = sym (length-map (s .args .t1 .rising) (λ v. v)) ∙ s .good .0 .1 .1 .1 .1 .0 .1 .0 .1
+use Rattle.hostfeed.proofs.left_fed.Reads as left-fed-reads
 
 is-join-requires : tie.Need-is-join-requires
 is-join-requires c κs = search needs
 
-bad-took-requires : tie.Need-bad-took-requires
-bad-took-requires c κs = search needs
-
-returns : tie.Need-returns
-returns c = left-bad _ _ _ _ _ (sym (c .before .before .is-join .ensures) ∙ not-true (c .before .before .is-join .result) (c .before .if1 .taken)) (c .bad-took .ensures)
-
-terms-from-requires : tie.Need-terms-from-requires
-terms-from-requires c κs = join-parts _ (sym (c .before .before .is-join .ensures) ∙ not-false (c .before .before .is-join .result) (c .before .if1 .left)) .options
-
-slice-aggregate-bad-numbers : tie.Need-slice-aggregate-bad-numbers
-slice-aggregate-bad-numbers c = search needs
-
-bad-numbers-requires : tie.Need-bad-numbers-requires
-bad-numbers-requires c κs = let s = c .before .before .before .before .before .before .before .before .before .before in (omega (arith, codes-long s), omega (arith, rising-long s))
-
-flag-of-requires : tie.Need-flag-of-requires
-flag-of-requires c κs = search needs
-
-state-of-requires : tie.Need-state-of-requires
-state-of-requires c κs = search needs
-
-slice-aggregate-feed-left : tie.Need-slice-aggregate-feed-left
-slice-aggregate-feed-left c = sym (rising-long (c .before .before .before .before .before .before .before .before .before .before .before .before .before .before .before .before .before))
-
-feed-left-requires : tie.Need-feed-left-requires
-feed-left-requires c κs =
-    let k = c .before .before .before .before .before .before .before .before .before .before .before .before .before .before in
-    let s = k .before .before .before .before in
-    let told = k .terms-from .ensures (s .args .t1 .rising) in
-    left-holds (s .args .t1) (now (s .args .left)) (now (s .args .right)) (sym (k .before .before .before .is-join .ensures) ∙ not-false (k .before .before .before .is-join .result) (k .before .before .if1 .left)) _ told _ (bad-is (s .args .t1) (now (s .args .left)) (now (s .args .right)) _ _ told (c .before .before .before .before .before .before .before .bad-numbers .ensures)) (codes-long s) (rising-long s)
+left-fed-requires : tie.Need-left-fed-requires
+left-fed-requires c κs = sym (c .before .before .is-join .ensures) ∙ c .before .if1 .taken
 
 took-code-requires : tie.Need-took-code-requires
 took-code-requires c κs = search needs
@@ -69,27 +22,13 @@ took-code-requires c κs = search needs
 same-length : tie.Need-same-length
 same-length c = search needs
 
+returns : tie.Need-returns
+returns c = rw (c .took-code .ensures) (c .before .before .left-fed .ensures)
+
 returns-2 : tie.Need-returns-2
-returns-2 c =
-    let k = c .before .before .before .before .before .before .before .before .before .before .before .before .before .before .before .before .before in
-    let s = k .before .before .before .before in
-    let told = k .terms-from .ensures (s .args .t1 .rising) in
-    rw (c .took-code .ensures) (left-fed (s .args .t1) (now (s .args .left)) (now (s .args .right)) (sym (k .before .before .before .is-join .ensures) ∙ not-false (k .before .before .before .is-join .result) (k .before .before .if1 .left)) _ told _ (bad-is (s .args .t1) (now (s .args .left)) (now (s .args .right)) _ _ told (c .before .before .before .before .before .before .before .before .before .before .bad-numbers .ensures)) _ _ _ (rw (c .before .before .before .before .before .before .before .before .before .flag-of .ensures, c .before .before .before .before .before .before .before .before .state-of .ensures) at (c .before .before .feed-left .ensures)))
+returns-2 c = left-bad _ _ _ _ _ (sym (c .before .is-join .ensures) ∙ c .if1 .left) refl
 
 pub host-left-spec : {M : Type 1} → statement M
 host-left-spec =
     tie.close
-    (tie.spec
-    is-join-requires
-    bad-took-requires
-    returns
-    terms-from-requires
-    slice-aggregate-bad-numbers
-    bad-numbers-requires
-    flag-of-requires
-    state-of-requires
-    slice-aggregate-feed-left
-    feed-left-requires
-    took-code-requires
-    same-length
-    returns-2)
+    (tie.spec is-join-requires left-fed-requires took-code-requires same-length returns returns-2)
