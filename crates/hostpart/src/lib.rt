@@ -6,8 +6,6 @@ use convert::encode_row;
 use convert::row_of;
 use outcomes::Answer;
 use refusals::number_of;
-use results::HostTurned;
-use turnfront::TurnedPart;
 use turnparts::Part;
 ghost use mathlib.Core.Path.{_≡_};
 ghost use Rattle.node.specs.TurnPart.{partOf};
@@ -37,7 +35,7 @@ pub fn part_from(h: HostJoin) -> Part
 }
 
 // The number of a turn's answer.
-fn answer_code(a: Answer) -> u64
+pub fn answer_code(a: Answer) -> u64
     ensures { λ r. ⌜ ((h : HostJoin) → r ≡ turnedHost a h .answer) ⌝ }
 {
     match a {
@@ -49,7 +47,7 @@ fn answer_code(a: Answer) -> u64
 }
 
 // The number of its refusal, 0 if there is none.
-fn answer_refusal(a: Answer) -> u64
+pub fn answer_refusal(a: Answer) -> u64
     ensures { λ r. ⌜ ((h : HostJoin) → r ≡ turnedHost a h .refusal) ⌝ }
 {
     match a {
@@ -61,7 +59,7 @@ fn answer_refusal(a: Answer) -> u64
 }
 
 // The sequence that it wrote, else 0.
-fn answer_sequence(a: Answer) -> u64
+pub fn answer_sequence(a: Answer) -> u64
     ensures { λ r. ⌜ ((h : HostJoin) → r ≡ turnedHost a h .sequence) ⌝ }
 {
     match a {
@@ -72,12 +70,10 @@ fn answer_sequence(a: Answer) -> u64
     }
 }
 
-// The numbers with the part that a turn leaves, and its answer.
-pub fn turned_with(mut h: HostJoin, t: TurnedPart) -> HostTurned
-    ensures { λ r. ⌜ r ≡ turnedHost (t .answer) (partIn h (t .part)) ⌝ }
+// The numbers with the part that a turn leaves.
+pub fn part_in(mut h: HostJoin, p: Part) -> HostJoin
+    ensures { λ r. ⌜ r ≡ partIn h p ⌝ }
 {
-    let answer = t.answer;
-    let p = t.part;
     let l = encode_row(p.last_left);
     let r = encode_row(p.last_right);
     h.base = p.base;
@@ -90,10 +86,5 @@ pub fn turned_with(mut h: HostJoin, t: TurnedPart) -> HostTurned
     h.sequence = p.sequence;
     h.last_left = l;
     h.last_right = r;
-    HostTurned {
-        answer: answer_code(answer),
-        refusal: answer_refusal(answer),
-        sequence: answer_sequence(answer),
-        join: h,
-    }
+    h
 }

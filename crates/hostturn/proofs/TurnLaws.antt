@@ -21,15 +21,15 @@ use Rattle.hostcalls.specs.Contracts.{HostTurnContract}
 use Rattle.hostcalls.proofs.NumberLaws.{good-is}
 use Rattle.hostcalls.proofs.CallLaws.{turn-through}
 
-module _ (h : HostJoin) (left right : Words) (e : isJoin h ≡ true) (t : Terms) (told : t ≡ termsOf (joinOf h .options)) (b : Bool) (is : b ≡ badJoin (joinOf h) left right) where
+module _ (h : HostJoin) (left right : Words) (t : Terms) (told : t ≡ termsOf (joinOf h .options)) (b : Bool) (is : b ≡ badJoin (joinOf h) left right) where
   pub queue-holds : length (h .options .ranks .codes) ≡ 64 → length (h .rising) ≡ 64 → b ≡ false → QueueIn (withList t (h .options .ranks .codes) (h .rising)) (partOf (joinOf h)) left right
   queue-holds codes-long rising-long n =
       let g = good-is h left right b is n in
       rw told (record { few = few-told (joinOf h) left right g codes-long rising-long; carried = g .carried; right-room = g .right-room; left-room = g .left-room; rows = g .rows; even = g .even })
 
-  pub turn-numbers : (out : Words) (r : TurnedPart) (out′ : Words) → QueueTurned (withList t (h .options .ranks .codes) (h .rising)) b (stateOf (h .state)) (partOf (joinOf h)) left right out r out′
+  pub turn-numbers : isJoin h ≡ true → (out : Words) (r : TurnedPart) (out′ : Words) → QueueTurned (withList t (h .options .ranks .codes) (h .rising)) b (stateOf (h .state)) (partOf (joinOf h)) left right out r out′
       → HostTurnContract h left right out (turnedHost (r .answer) (partIn h (r .part))) out′
-  turn-numbers out r out′ x =
+  turn-numbers e out r out′ x =
       turn-through h left right out (joinOf h) (record { answer = r .answer; join = joinWith (joinOf h) (r .part) }) (turnedHost (r .answer) (partIn h (r .part))) out′ e refl
       (queue-turns (joinOf h) left right out b is r out′ (rw told at x))
       (ap (turnedHost (r .answer)) (part-numbers h (r .part) e))

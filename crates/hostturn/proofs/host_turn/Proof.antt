@@ -1,95 +1,61 @@
 -- `hostturn::host_turn` meets its contract. Assumes nothing.
-use mathlib.Core.Path.{_≡_, sym, _∙_}
-use native.Mathlib.Omega.{arith}
-use borrow.Author.Tests.{not-true, not-false}
-use denote.Ref.{now}
-use lib.ListN.{length, length-map}
-use Rattle.convert.proofs.ConvertLaws.{join-parts}
-use Rattle.hostcalls.proofs.NumberLaws.{bad-is}
+use mathlib.Core.Path.{refl, sym, _∙_}
+use Rattle.hostpart.specs.Parts.{partIn}
+use Rattle.hostpart.proofs.PartLaws.{turned-parts}
 use Rattle.hostcalls.proofs.CallLaws.{turn-bad}
-use Rattle.hostturn.proofs.TurnLaws.{queue-holds, turn-numbers}
 use borrow.Author.Needs.{needs}
 use Rattle.hostturn.proofs.host_turn.Statement.{statement}
 use Rattle.hostturn.proofs.host_turn.Tie as tie
 use Rattle.hostturn.proofs.host_turn.Reads as reads
 use Rattle.hostturn.proofs.host_turn.Lts as lts
-use Rattle.codes.proofs.state_of.Reads as state-of-reads
-use Rattle.consistency.proofs.bad_numbers.Reads as bad-numbers-reads
 use Rattle.convert.proofs.is_join.Reads as is-join-reads
-use Rattle.hostoptions.proofs.terms_from.Reads as terms-from-reads
-use Rattle.hostpart.proofs.part_from.Reads as part-from-reads
-use Rattle.hostpart.proofs.turned_with.Reads as turned-with-reads
-use Rattle.results.proofs.bad_turned.Reads as bad-turned-reads
-use Rattle.turncall.proofs.turn_queue.Reads as turn-queue-reads
-
--- The lengths of the list's arrays, from what the type says of its fields.
-codes-long : (s : tie.Start) → length (s .args .t1 .options .ranks .codes) ≡ 64
-codes-long s = let g = s .good .0 .1 .1 .1 .0 .1 .1 .1 .1 .1 .1 .1 .1 .1 .1 .0 in sym (length-map (s .args .t1 .options .ranks .codes) (λ v. v)) ∙ g .1 .1 .1 .1 .1 .0 .1 .0 .1
-
-rising-long : (s : tie.Start) → length (s .args .t1 .rising) ≡ 64
-rising-long s = sym (length-map (s .args .t1 .rising) (λ v. v)) ∙ s .good .0 .1 .1 .1 .1 .0 .1 .0 .1
+use Rattle.hostpart.proofs.answer_code.Reads as answer-code-reads
+use Rattle.hostpart.proofs.answer_refusal.Reads as answer-refusal-reads
+use Rattle.hostpart.proofs.answer_sequence.Reads as answer-sequence-reads
+use Rattle.hostpart.proofs.part_in.Reads as part-in-reads
+use Rattle.hostturn.proofs.part_turned.Reads as part-turned-reads
 
 is-join-requires : tie.Need-is-join-requires
 is-join-requires c κs = search needs
 
-bad-turned-requires : tie.Need-bad-turned-requires
-bad-turned-requires c κs = search needs
+part-turned-requires : tie.Need-part-turned-requires
+part-turned-requires c κs = sym (c .before .before .is-join .ensures) ∙ c .before .if1 .taken
 
-returns : tie.Need-returns
-returns c = turn-bad _ _ _ _ _ (sym (c .before .before .is-join .ensures) ∙ not-true (c .before .before .is-join .result) (c .before .if1 .taken)) (c .bad-turned .ensures)
+answer-code-requires : tie.Need-answer-code-requires
+answer-code-requires c κs = search needs
 
-terms-from-requires : tie.Need-terms-from-requires
-terms-from-requires c κs = join-parts _ (sym (c .before .before .is-join .ensures) ∙ not-false (c .before .before .is-join .result) (c .before .if1 .left)) .options
+answer-refusal-requires : tie.Need-answer-refusal-requires
+answer-refusal-requires c κs = search needs
 
-slice-aggregate-bad-numbers : tie.Need-slice-aggregate-bad-numbers
-slice-aggregate-bad-numbers c = search needs
+answer-sequence-requires : tie.Need-answer-sequence-requires
+answer-sequence-requires c κs = search needs
 
-bad-numbers-requires : tie.Need-bad-numbers-requires
-bad-numbers-requires c κs = let s = c .before .before .before .before .before .before .before .before .before in (omega (arith, codes-long s), omega (arith, rising-long s))
-
-part-from-requires : tie.Need-part-from-requires
-part-from-requires c κs = search needs
-
-state-of-requires : tie.Need-state-of-requires
-state-of-requires c κs = search needs
-
-slice-aggregate-turn-queue : tie.Need-slice-aggregate-turn-queue
-slice-aggregate-turn-queue c = sym (rising-long (c .before .before .before .before .before .before .before .before .before .before .before .before .before .before .before .before))
-
-turn-queue-requires : tie.Need-turn-queue-requires
-turn-queue-requires c κs =
-    let k = c .before .before .before .before .before .before .before .before .before .before .before .before .before in
-    let s = k .before .before .before .before in
-    let told = k .terms-from .ensures (s .args .t1 .rising) in
-    rw (c .before .before .before .before .before .before .part-from .ensures) (queue-holds (s .args .t1) (now (s .args .left)) (now (s .args .right)) (sym (k .before .before .before .is-join .ensures) ∙ not-false (k .before .before .before .is-join .result) (k .before .before .if1 .left)) _ told _ (bad-is (s .args .t1) (now (s .args .left)) (now (s .args .right)) _ _ told (c .before .before .before .before .before .before .before .bad-numbers .ensures)) (codes-long s) (rising-long s))
-
-turned-with-requires : tie.Need-turned-with-requires
-turned-with-requires c κs = search needs
+part-in-requires : tie.Need-part-in-requires
+part-in-requires c κs = search needs
 
 same-length : tie.Need-same-length
 same-length c = search needs
 
+returns : tie.Need-returns
+returns c =
+    let t = c .before .before .before .before .before in
+    let r = t .part-turned .result in
+    let h = partIn (t .before .before .before .before .args .h) (r .part) in
+    rw (c .before .before .before .answer-code .ensures h, c .before .before .answer-refusal .ensures h, c .before .answer-sequence .ensures h, c .part-in .ensures, turned-parts (r .answer) h) (t .part-turned .ensures)
+
 returns-2 : tie.Need-returns-2
-returns-2 c =
-    let k = c .before .before .before .before .before .before .before .before .before .before .before .before .before .before .before .before in
-    let s = k .before .before .before .before in
-    let told = k .terms-from .ensures (s .args .t1 .rising) in
-    rw (c .turned-with .ensures) (turn-numbers (s .args .t1) (now (s .args .left)) (now (s .args .right)) (sym (k .before .before .before .is-join .ensures) ∙ not-false (k .before .before .before .is-join .result) (k .before .before .if1 .left)) _ told _ (bad-is (s .args .t1) (now (s .args .left)) (now (s .args .right)) _ _ told (c .before .before .before .before .before .before .before .before .before .before .bad-numbers .ensures)) _ _ _ (rw (c .before .before .before .before .before .before .before .before .before .part-from .ensures, c .before .before .before .before .before .before .before .before .state-of .ensures) at (c .before .before .turn-queue .ensures)))
+returns-2 c = turn-bad _ _ _ _ _ (sym (c .before .is-join .ensures) ∙ c .if1 .left) refl
 
 pub host-turn-spec : {M : Type 1} → statement M
 host-turn-spec =
     tie.close
     (tie.spec
     is-join-requires
-    bad-turned-requires
-    returns
-    terms-from-requires
-    slice-aggregate-bad-numbers
-    bad-numbers-requires
-    part-from-requires
-    state-of-requires
-    slice-aggregate-turn-queue
-    turn-queue-requires
-    turned-with-requires
+    part-turned-requires
+    answer-code-requires
+    answer-refusal-requires
+    answer-sequence-requires
+    part-in-requires
     same-length
+    returns
     returns-2)
