@@ -73,29 +73,6 @@ pub fn kept_ranks(h: HostRanks, rising: [u8; 64]) -> Ranks
     }
 }
 
-// The options that the numbers tell, with this list of ranks.
-pub fn options_with(h: HostOptions, k: Ranks) -> Options
-    requires { ⌜ isOptions h ≡ true ⌝ }
-    ensures { λ r. ⌜ r ≡ optionsWith h k ⌝ }
-{
-    let d = h.descending;
-    let n = h.nulls_last;
-    let descending = flags_of(d);
-    let nulls_last = flags_of(n);
-    Options {
-        by: h.by,
-        strategy: h.strategy as u8,
-        allow_eq: flag_of(h.allow_eq),
-        tolerance: h.tolerance,
-        check: check_of(h.check),
-        descending: descending,
-        nulls_last: nulls_last,
-        carried: h.carried,
-        ranks: k,
-        with_distance: flag_of(h.with_distance),
-    }
-}
-
 // What the options that the numbers tell have beside the codes of their list, whatever these codes' places are.
 pub fn terms_from(h: HostOptions) -> Terms
     requires { ⌜ isOptions h ≡ true ⌝ }
@@ -118,6 +95,29 @@ pub fn terms_from(h: HostOptions) -> Terms
         column: h.ranks.column,
         count: h.ranks.count,
         with_distance: flag_of(h.with_distance),
+    }
+}
+
+// The options that the numbers tell, with this list of ranks.
+pub fn options_with(h: HostOptions, k: Ranks) -> Options
+    requires { ⌜ isOptions h ≡ true ⌝ }
+    ensures { λ r. ⌜ r ≡ optionsWith h k ⌝ }
+{
+    let t = terms_from(h);
+    let check = t.check;
+    let descending = t.descending;
+    let nulls_last = t.nulls_last;
+    Options {
+        by: t.by,
+        strategy: t.strategy,
+        allow_eq: t.allow_eq,
+        tolerance: t.tolerance,
+        check: check,
+        descending: descending,
+        nulls_last: nulls_last,
+        carried: t.carried,
+        ranks: k,
+        with_distance: t.with_distance,
     }
 }
 
