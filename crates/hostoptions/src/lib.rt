@@ -10,10 +10,14 @@ use codes::flags_of;
 use codes::is_code;
 use codes::is_flag;
 use options::Options;
+use options::Terms;
 use ranking::ranks_of;
 use ranks::Ranks;
 ghost use mathlib.Core.Path.{_≡_};
 ghost use mathlib.Core.Bool.{true};
+ghost use mathlib.Core.List.{List};
+ghost use Prim.Native.Nat.{ℕ};
+ghost use Rattle.options.specs.Options.{termsOf};
 ghost use Rattle.hostoptions.specs.HostOptions.{isOptions, keptRanks, encodeRanks, optionsWith, optionsOf, encodeOptions};
 
 // A list of codes for one by-column, where given is 1: the first count words of codes.
@@ -69,16 +73,16 @@ pub fn kept_ranks(h: HostRanks, rising: [u8; 64]) -> Ranks
     }
 }
 
-// The options that the numbers tell, with this list of ranks.
-pub fn options_with(h: HostOptions, k: Ranks) -> Options
+// What the options that the numbers tell have beside the codes of their list, whatever these codes' places are.
+pub fn terms_from(h: HostOptions) -> Terms
     requires { ⌜ isOptions h ≡ true ⌝ }
-    ensures { λ r. ⌜ r ≡ optionsWith h k ⌝ }
+    ensures { λ r. ⌜ ((rising : List ℕ) → r ≡ termsOf (optionsWith h (keptRanks (h .ranks) rising))) ⌝ }
 {
     let d = h.descending;
     let n = h.nulls_last;
     let descending = flags_of(d);
     let nulls_last = flags_of(n);
-    Options {
+    Terms {
         by: h.by,
         strategy: h.strategy as u8,
         allow_eq: flag_of(h.allow_eq),
@@ -87,8 +91,33 @@ pub fn options_with(h: HostOptions, k: Ranks) -> Options
         descending: descending,
         nulls_last: nulls_last,
         carried: h.carried,
-        ranks: k,
+        given: flag_of(h.ranks.given),
+        column: h.ranks.column,
+        count: h.ranks.count,
         with_distance: flag_of(h.with_distance),
+    }
+}
+
+// The options that the numbers tell, with this list of ranks.
+pub fn options_with(h: HostOptions, k: Ranks) -> Options
+    requires { ⌜ isOptions h ≡ true ⌝ }
+    ensures { λ r. ⌜ r ≡ optionsWith h k ⌝ }
+{
+    let t = terms_from(h);
+    let check = t.check;
+    let descending = t.descending;
+    let nulls_last = t.nulls_last;
+    Options {
+        by: t.by,
+        strategy: t.strategy,
+        allow_eq: t.allow_eq,
+        tolerance: t.tolerance,
+        check: check,
+        descending: descending,
+        nulls_last: nulls_last,
+        carried: t.carried,
+        ranks: k,
+        with_distance: t.with_distance,
     }
 }
 

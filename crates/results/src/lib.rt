@@ -11,8 +11,6 @@ use hostoptions::HostOptions;
 use keyed::no_row;
 use node::PortedJoin;
 use node::TookJoin;
-use node::TurnedJoin;
-use outcomes::Answer;
 use outcomes::Ported;
 use refusals::number_of;
 use runs::RanJoin;
@@ -20,9 +18,8 @@ ghost use mathlib.Core.Path.{_≡_};
 ghost use Rattle.refusals.specs.declared.Refusal.the-variants.{BadJoin};
 ghost use Rattle.outcomes.specs.declared.Took.the-variants.{Refused};
 ghost use Rattle.outcomes.specs.declared.Ported.the-variants.{Refused as PortsRefused};
-ghost use Rattle.outcomes.specs.declared.Answer.the-variants.{Refused as TurnRefused};
 ghost use Rattle.convert.specs.Convert.{encode};
-ghost use Rattle.results.specs.Results.{tookHost, portedHost, turnedHost, ranHost, refusedRun, freshHost};
+ghost use Rattle.results.specs.Results.{tookHost, portedHost, ranHost, refusedRun, freshHost};
 
 // The answer of opening, of a left or right frame, and of the end of right: refusal is 0 where the call was accepted.
 #[repr(C)]
@@ -138,52 +135,6 @@ pub fn ported_host(p: PortedJoin) -> HostPorted
             left: 0,
             right: 0,
             send: 0,
-            join: join,
-        },
-    }
-}
-
-// The same of a turn.
-pub fn bad_turned(h: HostJoin) -> HostTurned
-    ensures { λ r. ⌜ r ≡ turnedHost (TurnRefused BadJoin) h ⌝ }
-{
-    HostTurned {
-        answer: 3,
-        refusal: 2,
-        sequence: 0,
-        join: h,
-    }
-}
-
-// The answer of a turn.
-pub fn turned_host(t: TurnedJoin) -> HostTurned
-    ensures { λ r. ⌜ r ≡ turnedHost (t .answer) (encode (t .join)) ⌝ }
-{
-    let answer = t.answer;
-    let join = encode_join(t.join);
-    match answer {
-        Answer::Wrote(s) => HostTurned {
-            answer: 0,
-            refusal: 0,
-            sequence: s,
-            join: join,
-        },
-        Answer::WantsRight => HostTurned {
-            answer: 1,
-            refusal: 0,
-            sequence: 0,
-            join: join,
-        },
-        Answer::Idle => HostTurned {
-            answer: 2,
-            refusal: 0,
-            sequence: 0,
-            join: join,
-        },
-        Answer::Refused(n) => HostTurned {
-            answer: 3,
-            refusal: number_of(n),
-            sequence: 0,
             join: join,
         },
     }

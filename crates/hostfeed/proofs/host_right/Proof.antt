@@ -1,51 +1,34 @@
-use mathlib.Core.Path.{sym, _∙_}
-use Rattle.hostcalls.proofs.CallLaws.{right-bad, right-through}
+-- `hostfeed::host_right` meets its contract. Assumes nothing.
+use mathlib.Core.Path.{refl, sym, _∙_}
+use Rattle.hostcalls.proofs.CallLaws.{right-bad}
 use borrow.Author.Needs.{needs}
 use Rattle.hostfeed.proofs.host_right.Statement.{statement}
 use Rattle.hostfeed.proofs.host_right.Tie as tie
 use Rattle.hostfeed.proofs.host_right.Reads as reads
 use Rattle.hostfeed.proofs.host_right.Lts as lts
-use Rattle.results.proofs.bad_took.Reads as bad-took-reads
-use Rattle.results.proofs.took_host.Reads as took-host-reads
+use Rattle.codes.proofs.took_code.Reads as took-code-reads
 use Rattle.convert.proofs.is_join.Reads as is-join-reads
-use Rattle.convert.proofs.join_of.Reads as join-of-reads
-use Rattle.node.proofs.Join.right.Reads as right-reads
+use Rattle.hostfeed.proofs.right_fed.Reads as right-fed-reads
 
 is-join-requires : tie.Need-is-join-requires
 is-join-requires c κs = search needs
 
-join-of-requires : tie.Need-join-of-requires
-join-of-requires c κs = sym (c .before .is-join .ensures) ∙ c .if1 .taken
+right-fed-requires : tie.Need-right-fed-requires
+right-fed-requires c κs = sym (c .before .before .is-join .ensures) ∙ c .before .if1 .taken
 
-right-requires : tie.Need-right-requires
-right-requires c κs = search needs
-
-took-host-requires : tie.Need-took-host-requires
-took-host-requires c κs = search needs
+took-code-requires : tie.Need-took-code-requires
+took-code-requires c κs = search needs
 
 same-length : tie.Need-same-length
 same-length c = search needs
 
 returns : tie.Need-returns
-returns c =
-    let j = c .before .before .before .before in
-    right-through _ _ _ _ _ _ _ _ (sym (j .before .before .is-join .ensures) ∙ j .before .if1 .taken) (j .join-of .ensures) (c .before .before .right .ensures) (c .took-host .ensures)
-
-bad-took-requires : tie.Need-bad-took-requires
-bad-took-requires c κs = search needs
+returns c = rw (c .took-code .ensures) (c .before .before .right-fed .ensures)
 
 returns-2 : tie.Need-returns-2
-returns-2 c = right-bad _ _ _ _ _ (sym (c .before .before .is-join .ensures) ∙ c .before .if1 .left) (c .bad-took .ensures)
+returns-2 c = right-bad _ _ _ _ _ (sym (c .before .is-join .ensures) ∙ c .if1 .left) refl
 
 pub host-right-spec : {M : Type 1} → statement M
 host-right-spec =
     tie.close
-    (tie.spec
-    is-join-requires
-    join-of-requires
-    right-requires
-    took-host-requires
-    same-length
-    returns
-    bad-took-requires
-    returns-2)
+    (tie.spec is-join-requires right-fed-requires took-code-requires same-length returns returns-2)

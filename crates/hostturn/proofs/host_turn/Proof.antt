@@ -1,51 +1,61 @@
-use mathlib.Core.Path.{sym, _∙_}
-use Rattle.hostcalls.proofs.CallLaws.{turn-bad, turn-through}
+-- `hostturn::host_turn` meets its contract. Assumes nothing.
+use mathlib.Core.Path.{refl, sym, _∙_}
+use Rattle.hostpart.specs.Parts.{partIn}
+use Rattle.hostpart.proofs.PartLaws.{turned-parts}
+use Rattle.hostcalls.proofs.CallLaws.{turn-bad}
 use borrow.Author.Needs.{needs}
 use Rattle.hostturn.proofs.host_turn.Statement.{statement}
 use Rattle.hostturn.proofs.host_turn.Tie as tie
 use Rattle.hostturn.proofs.host_turn.Reads as reads
 use Rattle.hostturn.proofs.host_turn.Lts as lts
-use Rattle.results.proofs.bad_turned.Reads as bad-turned-reads
-use Rattle.results.proofs.turned_host.Reads as turned-host-reads
 use Rattle.convert.proofs.is_join.Reads as is-join-reads
-use Rattle.convert.proofs.join_of.Reads as join-of-reads
-use Rattle.node.proofs.Join.turn.Reads as turn-reads
+use Rattle.hostpart.proofs.answer_code.Reads as answer-code-reads
+use Rattle.hostpart.proofs.answer_refusal.Reads as answer-refusal-reads
+use Rattle.hostpart.proofs.answer_sequence.Reads as answer-sequence-reads
+use Rattle.hostpart.proofs.part_in.Reads as part-in-reads
+use Rattle.hostturn.proofs.part_turned.Reads as part-turned-reads
 
 is-join-requires : tie.Need-is-join-requires
 is-join-requires c κs = search needs
 
-join-of-requires : tie.Need-join-of-requires
-join-of-requires c κs = sym (c .before .is-join .ensures) ∙ c .if1 .taken
+part-turned-requires : tie.Need-part-turned-requires
+part-turned-requires c κs = sym (c .before .before .is-join .ensures) ∙ c .before .if1 .taken
 
-turn-requires : tie.Need-turn-requires
-turn-requires c κs = search needs
+answer-code-requires : tie.Need-answer-code-requires
+answer-code-requires c κs = search needs
 
-turned-host-requires : tie.Need-turned-host-requires
-turned-host-requires c κs = search needs
+answer-refusal-requires : tie.Need-answer-refusal-requires
+answer-refusal-requires c κs = search needs
+
+answer-sequence-requires : tie.Need-answer-sequence-requires
+answer-sequence-requires c κs = search needs
+
+part-in-requires : tie.Need-part-in-requires
+part-in-requires c κs = search needs
 
 same-length : tie.Need-same-length
 same-length c = search needs
 
 returns : tie.Need-returns
 returns c =
-    let j = c .before .before .before .before in
-    turn-through _ _ _ _ _ _ _ _ (sym (j .before .before .is-join .ensures) ∙ j .before .if1 .taken) (j .join-of .ensures) (c .before .before .turn .ensures) (c .turned-host .ensures)
-
-bad-turned-requires : tie.Need-bad-turned-requires
-bad-turned-requires c κs = search needs
+    let t = c .before .before .before .before .before in
+    let r = t .part-turned .result in
+    let h = partIn (t .before .before .before .before .args .h) (r .part) in
+    rw (c .before .before .before .answer-code .ensures h, c .before .before .answer-refusal .ensures h, c .before .answer-sequence .ensures h, c .part-in .ensures, turned-parts (r .answer) h) (t .part-turned .ensures)
 
 returns-2 : tie.Need-returns-2
-returns-2 c = turn-bad _ _ _ _ _ (sym (c .before .before .is-join .ensures) ∙ c .before .if1 .left) (c .bad-turned .ensures)
+returns-2 c = turn-bad _ _ _ _ _ (sym (c .before .is-join .ensures) ∙ c .if1 .left) refl
 
 pub host-turn-spec : {M : Type 1} → statement M
 host-turn-spec =
     tie.close
     (tie.spec
     is-join-requires
-    join-of-requires
-    turn-requires
-    turned-host-requires
+    part-turned-requires
+    answer-code-requires
+    answer-refusal-requires
+    answer-sequence-requires
+    part-in-requires
     same-length
     returns
-    bad-turned-requires
     returns-2)
