@@ -62,7 +62,7 @@ not-greater : (t u : Bool) → cond t Less (cond u Greater Equal) ≡ Greater �
 not-greater true u e = cc
 not-greater false u e = refl
 
-below-at : (v a : ℤ) → below true v a ≡ not (ltZ v a)
+pub below-at : (v a : ℤ) → below true v a ≡ not (ltZ v a)
 below-at v a = by (ltZ a v) (ltZ v a) (λ e. not-greater (ltZ v a) (ltZ a v) (less-greater cmpZ-is a v (rw e)))
   where
     by : (t u : Bool) → (t ≡ true → u ≡ false) → (isLess (cond t Less (cond u Greater Equal)) || isEqual (cond t Less (cond u Greater Equal))) ≡ not u
@@ -72,15 +72,6 @@ below-at v a = by (ltZ a v) (ltZ v a) (λ e. not-greater (ltZ v a) (ltZ a v) (le
 
 pub below-next : (v a : ℤ) → below true v a ≡ ltZ a (v +ℤ pos 1)
 below-next v a = below-at v a ∙ sym (lt-next a v)
-
--- Every word is at the greatest one or below it.
-pub below-greatest : (v a : ℤ) → ltZ (pos 9223372036854775806) v ≡ true → mag a < 2 ^ 63 → below true v a ≡ true
-below-greatest v a e h = below-at v a ∙ ap not (by v a e h)
-  where
-    by : (v a : ℤ) → ltZ (pos 9223372036854775806) v ≡ true → mag a < 2 ^ 63 → ltZ v a ≡ false
-    by (pos n) (pos m) e h = le-ltb n m (omega (arith, ltb-true 9223372036854775806 n e))
-    by (pos n) (negsuc m) e h = refl
-    by (negsuc n) a e h = cc
 
 -- ---- a key at most one that is below u is below u
 pub lt-down : (a b u : ℤ) → NotAbove (value a) (value b) → ltZ b u ≡ true → ltZ a u ≡ true

@@ -21,11 +21,7 @@ pub struct Position {
 fn gain(a: i64, u: i64, unit: usize) -> usize
     ensures { λ r. ⌜ (r ≤ unit) × (r ≡ cond (ltZ a u) unit 0) ⌝ }
 {
-    if a < u {
-        unit
-    } else {
-        0
-    }
+    if a < u { unit } else { 0 }
 }
 
 // `unit` for each key below u of three rows, the first of which has its key at place p.
@@ -38,15 +34,25 @@ fn three(rv: &[i64], p: usize, w: usize, u: i64, unit: usize) -> usize
     gain(rv[p], u, unit) + gain(rv[q], u, unit) + gain(rv[r], u, unit)
 }
 
-// The first row of at..end whose key is not below u, looked for row by row; the key of row `at` is at place p.
-fn rest(rv: &[i64], at: usize, p: usize, end: usize, w: usize, u: i64) -> Position
+// Whether the key a is below v, or at it where that counts too.
+fn is_below(a: i64, v: i64, inclusive: bool) -> bool
+    ensures { λ r. ⌜ r ≡ below inclusive v a ⌝ }
+{
+    if inclusive {
+        return !(v < a);
+    }
+    a < v
+}
+
+// The first row of at..end whose key is not below v, nor at it where that counts too, looked for row by row; the key of row `at` is at place p.
+fn rest(rv: &[i64], at: usize, p: usize, end: usize, w: usize, v: i64, inclusive: bool) -> Position
     requires { ⌜ Stands w end (now rv) at p ⌝ }
-    ensures { λ r. ⌜ Passed w (p - at * w) at end (now (rv .entry)) (λ a. ltZ a u) r ⌝ }
+    ensures { λ r. ⌜ Passed w (p - at * w) at end (now (rv .entry)) (below inclusive v) r ⌝ }
 {
     let mut row = at;
     let mut place = p;
     while row < end {
-        if !(rv[place] < u) {
+        if !is_below(rv[place], v, inclusive) {
             return Position {
                 row: row,
                 place: place,
@@ -61,7 +67,7 @@ fn rest(rv: &[i64], at: usize, p: usize, end: usize, w: usize, u: i64) -> Positi
     }
 }
 
-// The same, four rows at a time up to row `stop`. Of four rows the last is asked first: where its key is not below u, the others are counted.
+// The first row of at..end whose key is not below u, four rows at a time up to row `stop`. Of four rows the last is asked first: where its key is not below u, the others are counted.
 fn skip(rv: &[i64], at: usize, p: usize, stop: usize, end: usize, w: usize, u: i64) -> Position
     requires { ⌜ Stands w end (now rv) at p × (stop ≤ end) × Rising (keyed w (p - at * w) (now rv)) at end ⌝ }
     ensures { λ r. ⌜ Passed w (p - at * w) at end (now (rv .entry)) (λ a. ltZ a u) r ⌝ }
@@ -79,11 +85,11 @@ fn skip(rv: &[i64], at: usize, p: usize, stop: usize, end: usize, w: usize, u: i
         row += 4;
         place = last + w;
     }
-    rest(rv, row, place, end, w, u)
+    rest(rv, row, place, end, w, u, false)
 }
 
-// Whether every key is below v, or at it where that counts too.
-fn all_below(v: i64, inclusive: bool) -> bool
+// Whether v counts too and is the greatest word: then there is no next one.
+fn is_greatest(v: i64, inclusive: bool) -> bool
     ensures { λ r. ⌜ r ≡ (inclusive && ltZ (pos 9223372036854775806) v) ⌝ }
 {
     if inclusive {
@@ -92,7 +98,7 @@ fn all_below(v: i64, inclusive: bool) -> bool
     false
 }
 
-// What the keys are below that are below v, or at it where that counts too.
+// The key that all keys below v are below, and those at it too where that counts: v, or the next one.
 fn bound(v: i64, inclusive: bool) -> i64
     requires { ⌜ (inclusive ≡ true → ltZ (pos 9223372036854775806) v ≡ false) ⌝ }
     ensures { λ r. ⌜ ((a : ℤ) → below inclusive v a ≡ ltZ a r) ⌝ }
@@ -117,11 +123,8 @@ pub fn advance(
     requires { ⌜ Stands w end (now rv) at p × (stop ≤ end) × Rising (keyed w (p - at * w) (now rv)) at end ⌝ }
     ensures { λ r. ⌜ Passed w (p - at * w) at end (now (rv .entry)) (below inclusive v) r ⌝ }
 {
-    if all_below(v, inclusive) {
-        return Position {
-            row: end,
-            place: p + (end - at) * w,
-        };
+    if is_greatest(v, inclusive) {
+        return rest(rv, at, p, end, w, v, inclusive);
     }
     skip(rv, at, p, stop, end, w, bound(v, inclusive))
 }

@@ -65,8 +65,7 @@ fn walk_keys(
     number: usize,
     o: Terms,
     out: &mut [i64],
-) -> usize
-{
+) -> usize {
     let s = strategy_of(o);
     match s {
         // Backward selects the last row in the right DataFrame whose 'on' key is less than or equal to the left's key.

@@ -6,8 +6,7 @@ use matching::Choice;
 use options::Terms;
 
 // The right number of a choice; 0 for none.
-fn number_word(choice: Choice) -> i64
-{
+fn number_word(choice: Choice) -> i64 {
     match choice {
         Choice::Row(i) => i as i64,
         Choice::Nothing => 0,
@@ -15,8 +14,7 @@ fn number_word(choice: Choice) -> i64
 }
 
 // The mark of a choice: 1, or 0 for none.
-fn choice_mark(choice: Choice) -> i64
-{
+fn choice_mark(choice: Choice) -> i64 {
     match choice {
         Choice::Row(_) => 1,
         Choice::Nothing => 0,
@@ -24,15 +22,13 @@ fn choice_mark(choice: Choice) -> i64
 }
 
 // The choice of row i goes to its two places in an answer of m cells.
-pub fn put(out: &mut [i64], m: usize, i: usize, choice: Choice)
-{
+pub fn put(out: &mut [i64], m: usize, i: usize, choice: Choice) {
     out[2 + i] = number_word(choice);
     out[2 + m + i] = choice_mark(choice);
 }
 
 // Nothing is the choice of rows from..to.
-pub fn put_nothing(out: &mut [i64], m: usize, from: usize, to: usize)
-{
+pub fn put_nothing(out: &mut [i64], m: usize, from: usize, to: usize) {
     let mut i = from;
     while i < to {
         put(out, m, i, Choice::Nothing);
@@ -41,8 +37,7 @@ pub fn put_nothing(out: &mut [i64], m: usize, from: usize, to: usize)
 }
 
 // Row n, whose key is at place k, unless it is too far from v.
-fn near_row(rv: &[i64], k: usize, v: i64, tolerance: i64, n: usize) -> Choice
-{
+fn near_row(rv: &[i64], k: usize, v: i64, tolerance: i64, n: usize) -> Choice {
     if too_far(rv[k], v, tolerance) {
         return Choice::Nothing;
     }
@@ -50,8 +45,7 @@ fn near_row(rv: &[i64], k: usize, v: i64, tolerance: i64, n: usize) -> Choice
 }
 
 // Up to which row of at..end a walk of so many left rows takes four rows at a time: none where the left rows are many beside the right ones.
-fn fours_to(left: usize, at: usize, end: usize) -> usize
-{
+fn fours_to(left: usize, at: usize, end: usize) -> usize {
     if end - at < left / 4 {
         return at;
     }
@@ -59,8 +53,16 @@ fn fours_to(left: usize, at: usize, end: usize) -> usize
 }
 
 // The choice for v where rows at..c are those on its side: the last of them.
-fn choice_back(rv: &[i64], at: usize, c: usize, k: usize, w: usize, v: i64, tolerance: i64, number: usize) -> Choice
-{
+fn choice_back(
+    rv: &[i64],
+    at: usize,
+    c: usize,
+    k: usize,
+    w: usize,
+    v: i64,
+    tolerance: i64,
+    number: usize,
+) -> Choice {
     if c == at {
         return Choice::Nothing;
     }
@@ -68,8 +70,15 @@ fn choice_back(rv: &[i64], at: usize, c: usize, k: usize, w: usize, v: i64, tole
 }
 
 // The choice for v where rows c..end are those on its side: the first of them.
-fn choice_fore(rv: &[i64], c: usize, end: usize, k: usize, v: i64, tolerance: i64, number: usize) -> Choice
-{
+fn choice_fore(
+    rv: &[i64],
+    c: usize,
+    end: usize,
+    k: usize,
+    v: i64,
+    tolerance: i64,
+    number: usize,
+) -> Choice {
     if c == end {
         return Choice::Nothing;
     }
@@ -89,8 +98,7 @@ pub fn backward(
     number: usize,
     o: Terms,
     out: &mut [i64],
-) -> usize
-{
+) -> usize {
     let by = o.by;
     let eq = o.allow_eq;
     let tolerance = o.tolerance;
@@ -125,8 +133,7 @@ pub fn forward(
     number: usize,
     o: Terms,
     out: &mut [i64],
-) -> usize
-{
+) -> usize {
     let by = o.by;
     let inclusive = !o.allow_eq;
     let tolerance = o.tolerance;
@@ -161,8 +168,7 @@ pub fn nearest(
     number: usize,
     o: Terms,
     out: &mut [i64],
-) -> usize
-{
+) -> usize {
     let by = o.by;
     let tolerance = o.tolerance;
     let mut row = at;
