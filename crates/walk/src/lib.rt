@@ -4,9 +4,22 @@ use advance::approach;
 use fits::too_far;
 use matching::Choice;
 use options::Terms;
+ghost use mathlib.Core.Path.{_≡_};
+ghost use Prim.Native.Nat.{_+_, _-_, _*_, _^_, _≤_, _<_};
+ghost use lib.IntN.{pos};
+ghost use lib.ListN.{length, getD, set};
+ghost use Rattle.options.specs.Options.{withoutList, strategyOf};
+ghost use Rattle.options.specs.declared.Strategy.the-variants.{Backward, Forward, Nearest};
+ghost use Rattle.matching.specs.Answer.{numberWord, choiceMark};
+ghost use Rattle.matching.specs.Loops.{Small, PutRoom};
+ghost use Rattle.matching.specs.declared.Choice.the-variants.{Nothing};
+ghost use Rattle.walk.specs.Keyed.{unlessFar, KeysRoom, Walked, NothingRoom, NothingLaid};
 
 // The right number of a choice; 0 for none.
-fn number_word(choice: Choice) -> i64 {
+fn number_word(choice: Choice) -> i64
+    requires { ⌜ Small choice ⌝ }
+    ensures { λ r. ⌜ r ≡ numberWord choice ⌝ }
+{
     match choice {
         Choice::Row(i) => i as i64,
         Choice::Nothing => 0,
@@ -14,7 +27,9 @@ fn number_word(choice: Choice) -> i64 {
 }
 
 // The mark of a choice: 1, or 0 for none.
-fn choice_mark(choice: Choice) -> i64 {
+fn choice_mark(choice: Choice) -> i64
+    ensures { λ r. ⌜ r ≡ choiceMark choice ⌝ }
+{
     match choice {
         Choice::Row(_) => 1,
         Choice::Nothing => 0,
@@ -22,13 +37,19 @@ fn choice_mark(choice: Choice) -> i64 {
 }
 
 // The choice of row i goes to its two places in an answer of m cells.
-pub fn put(out: &mut [i64], m: usize, i: usize, choice: Choice) {
+pub fn put(out: &mut [i64], m: usize, i: usize, choice: Choice)
+    requires { ⌜ PutRoom m i (now out) × Small choice ⌝ }
+    ensures { λ _. ⌜ now (out .exit) ≡ set (set (now (out .entry)) (2 + i) (numberWord choice)) (2 + m + i) (choiceMark choice) ⌝ }
+{
     out[2 + i] = number_word(choice);
     out[2 + m + i] = choice_mark(choice);
 }
 
 // Nothing is the choice of rows from..to.
-pub fn put_nothing(out: &mut [i64], m: usize, from: usize, to: usize) {
+pub fn put_nothing(out: &mut [i64], m: usize, from: usize, to: usize)
+    requires { ⌜ NothingRoom m from to (now out) ⌝ }
+    ensures { λ _. ⌜ NothingLaid m from to (now (out .entry)) (now (out .exit)) ⌝ }
+{
     let mut i = from;
     while i < to {
         put(out, m, i, Choice::Nothing);
@@ -37,7 +58,10 @@ pub fn put_nothing(out: &mut [i64], m: usize, from: usize, to: usize) {
 }
 
 // Row n, whose key is at place k, unless it is too far from v.
-fn near_row(rv: &[i64], k: usize, v: i64, tolerance: i64, n: usize) -> Choice {
+fn near_row(rv: &[i64], k: usize, v: i64, tolerance: i64, n: usize) -> Choice
+    requires { ⌜ (k < length (now rv)) × (n < 2 ^ 63) ⌝ }
+    ensures { λ r. ⌜ Small r × (r ≡ unlessFar tolerance v (getD (now (rv .entry)) k (pos 0)) n) ⌝ }
+{
     if too_far(rv[k], v, tolerance) {
         return Choice::Nothing;
     }
@@ -45,7 +69,10 @@ fn near_row(rv: &[i64], k: usize, v: i64, tolerance: i64, n: usize) -> Choice {
 }
 
 // Up to which row of at..end a walk of so many left rows takes four rows at a time: none where the left rows are many beside the right ones.
-fn fours_to(left: usize, at: usize, end: usize) -> usize {
+fn fours_to(left: usize, at: usize, end: usize) -> usize
+    requires { ⌜ at ≤ end ⌝ }
+    ensures { λ r. ⌜ r ≤ end ⌝ }
+{
     if end - at < left / 4 {
         return at;
     }
@@ -62,7 +89,10 @@ fn choice_back(
     v: i64,
     tolerance: i64,
     number: usize,
-) -> Choice {
+) -> Choice
+    requires { ⌜ (at ≤ c) × (at < c → w ≤ k) × (at < c → k - w < length (now rv)) × (number + c < 2 ^ 63) ⌝ }
+    ensures { λ r. ⌜ Small r × (c ≡ at → r ≡ Nothing) × (at < c → r ≡ unlessFar tolerance v (getD (now (rv .entry)) (k - w) (pos 0)) (number + (c - 1))) ⌝ }
+{
     if c == at {
         return Choice::Nothing;
     }
@@ -78,13 +108,17 @@ fn choice_fore(
     v: i64,
     tolerance: i64,
     number: usize,
-) -> Choice {
+) -> Choice
+    requires { ⌜ (c ≤ end) × (c < end → k < length (now rv)) × (number + c < 2 ^ 63) ⌝ }
+    ensures { λ r. ⌜ Small r × (c ≡ end → r ≡ Nothing) × (c < end → r ≡ unlessFar tolerance v (getD (now (rv .entry)) k (pos 0)) (number + c)) ⌝ }
+{
     if c == end {
         return Choice::Nothing;
     }
     near_row(rv, k, v, tolerance, number + c)
 }
 
+// Left rows from..to, each matched to the last right row of at..end on its side: the one before the cursor. Where the cursor has come to.
 pub fn backward(
     lv: &[i64],
     m: usize,
@@ -98,10 +132,11 @@ pub fn backward(
     number: usize,
     o: Terms,
     out: &mut [i64],
-) -> usize {
+) -> usize
+    requires { ⌜ KeysRoom (withoutList o) wl m (now lv) from to wr (now rv) at end number (now out) × (strategyOf (withoutList o) ≡ Backward) ⌝ }
+    ensures { λ r. ⌜ Walked (withoutList o) wl m (now (lv .entry)) from to wr (now (rv .entry)) at end number (now (out .entry)) r (now (out .exit)) ⌝ }
+{
     let by = o.by;
-    let eq = o.allow_eq;
-    let tolerance = o.tolerance;
     let stop = fours_to(to - from, at, end);
     let mut row = at;
     let mut place = at * wr + by;
@@ -109,10 +144,10 @@ pub fn backward(
     let mut p = from * wl + by;
     while i < to {
         let v = lv[p];
-        let c = advance(rv, row, place, stop, end, wr, v, eq);
+        let c = advance(rv, row, place, stop, end, wr, v, o.allow_eq);
         row = c.row;
         place = c.place;
-        let choice = choice_back(rv, at, row, place, wr, v, tolerance, number);
+        let choice = choice_back(rv, at, row, place, wr, v, o.tolerance, number);
         put(out, m, i, choice);
         i += 1;
         p += wl;
@@ -120,6 +155,7 @@ pub fn backward(
     row
 }
 
+// Left rows from..to, each matched to the first right row of at..end on its side: the one at the cursor. Where the cursor has come to.
 pub fn forward(
     lv: &[i64],
     m: usize,
@@ -133,10 +169,11 @@ pub fn forward(
     number: usize,
     o: Terms,
     out: &mut [i64],
-) -> usize {
+) -> usize
+    requires { ⌜ KeysRoom (withoutList o) wl m (now lv) from to wr (now rv) at end number (now out) × (strategyOf (withoutList o) ≡ Forward) ⌝ }
+    ensures { λ r. ⌜ Walked (withoutList o) wl m (now (lv .entry)) from to wr (now (rv .entry)) at end number (now (out .entry)) r (now (out .exit)) ⌝ }
+{
     let by = o.by;
-    let inclusive = !o.allow_eq;
-    let tolerance = o.tolerance;
     let stop = fours_to(to - from, at, end);
     let mut row = at;
     let mut place = at * wr + by;
@@ -144,10 +181,10 @@ pub fn forward(
     let mut p = from * wl + by;
     while i < to {
         let v = lv[p];
-        let c = advance(rv, row, place, stop, end, wr, v, inclusive);
+        let c = advance(rv, row, place, stop, end, wr, v, !o.allow_eq);
         row = c.row;
         place = c.place;
-        let choice = choice_fore(rv, row, end, place, v, tolerance, number);
+        let choice = choice_fore(rv, row, end, place, v, o.tolerance, number);
         put(out, m, i, choice);
         i += 1;
         p += wl;
@@ -155,6 +192,7 @@ pub fn forward(
     row
 }
 
+// Left rows from..to, each matched to the nearest right row of at..end, of which there is one: the one at which the cursor rests. Where the cursor has come to.
 pub fn nearest(
     lv: &[i64],
     m: usize,
@@ -168,9 +206,11 @@ pub fn nearest(
     number: usize,
     o: Terms,
     out: &mut [i64],
-) -> usize {
+) -> usize
+    requires { ⌜ KeysRoom (withoutList o) wl m (now lv) from to wr (now rv) at end number (now out) × (strategyOf (withoutList o) ≡ Nearest) × (at < end) ⌝ }
+    ensures { λ r. ⌜ Walked (withoutList o) wl m (now (lv .entry)) from to wr (now (rv .entry)) at end number (now (out .entry)) r (now (out .exit)) ⌝ }
+{
     let by = o.by;
-    let tolerance = o.tolerance;
     let mut row = at;
     let mut place = at * wr + by;
     let mut i = from;
@@ -180,7 +220,7 @@ pub fn nearest(
         let c = approach(rv, row, place, end, wr, v);
         row = c.row;
         place = c.place;
-        let choice = near_row(rv, place, v, tolerance, number + row);
+        let choice = near_row(rv, place, v, o.tolerance, number + row);
         put(out, m, i, choice);
         i += 1;
         p += wl;

@@ -1,6 +1,6 @@
 use borrow.Author.Needs.{needs}
-use Rattle.matchrun.proofs.choice_mark.Statement.{statement}
-use Rattle.matchrun.proofs.choice_mark.Tie as tie
+use Rattle.walk.proofs.choice_mark.Statement.{statement}
+use Rattle.walk.proofs.choice_mark.Tie as tie
 
 enum-told : tie.Need-enum-told
 enum-told c = search needs
