@@ -1,5 +1,7 @@
 // A run of left rows, matched over a right run: walked or scanned, its choices laid into the answer.
 use candidates::candidates;
+use choices::put;
+use choices::put_nothing;
 use cursor::first_key;
 use cursor::keys_sorted;
 use matching::Choice;
@@ -10,8 +12,6 @@ use scan::match_row;
 use walk::backward;
 use walk::forward;
 use walk::nearest;
-use walk::put;
-use walk::put_nothing;
 ghost use mathlib.Core.Path.{_≡_};
 ghost use mathlib.Core.List.{map};
 ghost use Prim.Native.Nat.{_+_};

@@ -28,7 +28,8 @@ use Rattle.matching.proofs.BestLaws.{key-at, none-far, row-near}
 use Rattle.matching.proofs.CursorLaws.{back-up, back-down, later}
 use Rattle.matching.proofs.RestLaws.{all-between, rest-hit}
 use Rattle.advance.specs.Below.{valueAt, keyed, below}
-use Rattle.walk.specs.Keyed.{unlessFar, Marked}
+use Rattle.choices.specs.Choices.{unlessFar}
+use Rattle.walk.specs.Keyed.{Marked}
 
 -- Forward's side is where Backward's is not, with equality the other way.
 fore-not : (eq : Bool) (z : Order) → onSide Forward eq z ≡ not (onSide Backward (not eq) z)

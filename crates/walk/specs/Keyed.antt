@@ -1,25 +1,15 @@
 -- A left run over a right run, where every row has a key and the keys do not fall: what the walk by each strategy is handed, and what it answers. Assumes nothing.
 use mathlib.Core.Path.{_≡_}
-use mathlib.Core.Bool.{cond, _&&_}
-use mathlib.Core.List.{List, map}
+use mathlib.Core.List.{map}
 use Prim.Native.Nat.{ℕ, _+_, _-_, _*_, _^_, _≤_, _<_}
-use lib.Dec.{ltb}
-use lib.IntN.{ℤ, pos, natAbs, _-ℤ_}
 use lib.ListN.{length}
-use lib.Signed.{leZ}
-use Rattle.frames.specs.Cells.{Cell, Words, rowFrom}
+use Rattle.frames.specs.Cells.{Words}
 use Rattle.order.specs.Requires.{RowsIn}
 use Rattle.options.specs.declared.Options.{Options}
 use Rattle.matching.specs.Match.{matchIn}
 use Rattle.matching.specs.Moves.{Rising, keyAt}
 use Rattle.matching.specs.Stretches.{between, lay}
-use Rattle.matching.specs.declared.Choice.{Choice}
-use Rattle.matching.specs.declared.Choice.the-variants.{Row, Nothing}
 use Rattle.advance.specs.Below.{keyed}
-
--- SCOPE 10.4: the row numbered n, whose key is a, unless it is too far from v.
-abbrev pub unlessFar : ℤ → ℤ → ℤ → ℕ → Choice
-unlessFar tolerance v a n = cond (leZ (pos 0) tolerance && ltb (natAbs tolerance) (natAbs (a -ℤ v))) Nothing (Row n)
 
 -- Left rows from..to over right rows at..end, into an answer of m cells: the values of both are there, and those of the keys do not fall.
 pub record KeysRoom (o : Options) (wl m : ℕ) (lv : Words) (from to wr : ℕ) (rv : Words) (at end number : ℕ) (out : Words) : Type 0 where
@@ -47,14 +37,3 @@ pub record Walked (o : Options) (wl m : ℕ) (lv : Words) (from to wr : ℕ) (rv
   pub within : r ≤ end
   pub laid : (lm rm : Words) → Marked o wl from to lv lm → Marked o wr at end rv rm
       → out' ≡ lay m from (map (matchIn o (number + at) (between wr at end rv rm)) (between wl from to lv lm)) out
-
--- Rows from..to have a place in an answer of m cells.
-pub record NothingRoom (m from to : ℕ) (out : Words) : Type 0 where
-  pub upward : from ≤ to
-  pub within : to ≤ m
-  pub room : 2 + 2 * m ≤ length out
-
--- Nothing is laid for rows from..to: for all rows and every way to choose that gives none of them a match.
-abbrev pub NothingLaid : ℕ → ℕ → ℕ → Words → Words → Type 0
-NothingLaid m from to out out' = (f : List Cell → Choice) (w : ℕ) (vs ms : Words) → ((k : ℕ) → from ≤ k → k < to → f (rowFrom w (k * w) vs ms) ≡ Nothing)
-    → out' ≡ lay m from (map f (between w from to vs ms)) out

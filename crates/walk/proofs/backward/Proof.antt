@@ -18,7 +18,8 @@ use Rattle.matching.specs.declared.Choice.the-variants.{Nothing}
 use Rattle.matching.proofs.BestLaws.{key-at}
 use Rattle.matching.proofs.LayLaws.{lay-more, lay-done}
 use Rattle.advance.specs.Below.{valueAt, keyed, below, Passed}
-use Rattle.walk.specs.Keyed.{Marked, unlessFar}
+use Rattle.choices.specs.Choices.{unlessFar}
+use Rattle.walk.specs.Keyed.{Marked}
 use Rattle.walk.proofs.KeyedLaws.{Reached, reached-here, below-later, below-on, back-choice, row-before}
 use Rattle.walk.proofs.backward.Statement.{statement}
 use Rattle.walk.proofs.backward.Tie as tie

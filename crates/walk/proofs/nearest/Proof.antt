@@ -20,7 +20,8 @@ use Rattle.matching.proofs.BestLaws.{key-at}
 use Rattle.matching.proofs.CursorLaws.{later}
 use Rattle.matching.proofs.LayLaws.{lay-more, lay-done}
 use Rattle.advance.specs.Below.{valueAt, keyed, Approached}
-use Rattle.walk.specs.Keyed.{Marked, unlessFar}
+use Rattle.choices.specs.Choices.{unlessFar}
+use Rattle.walk.specs.Keyed.{Marked}
 use Rattle.walk.proofs.KeyedLaws.{Reached, reached-here, near-rests}
 use Rattle.walk.proofs.nearest.Statement.{statement}
 use Rattle.walk.proofs.nearest.Tie as tie

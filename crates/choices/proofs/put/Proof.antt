@@ -2,8 +2,8 @@ use native.Mathlib.Omega.{arith}
 use lib.ListN.{length-set}
 use Rattle.frames.proofs.Signed.{back}
 use borrow.Author.Needs.{needs}
-use Rattle.walk.proofs.put.Statement.{statement}
-use Rattle.walk.proofs.put.Tie as tie
+use Rattle.choices.proofs.put.Statement.{statement}
+use Rattle.choices.proofs.put.Tie as tie
 
 number-word-requires : tie.Need-number-word-requires
 number-word-requires c κs = search needs

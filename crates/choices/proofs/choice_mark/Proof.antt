@@ -1,6 +1,6 @@
 use borrow.Author.Needs.{needs}
-use Rattle.walk.proofs.choice_mark.Statement.{statement}
-use Rattle.walk.proofs.choice_mark.Tie as tie
+use Rattle.choices.proofs.choice_mark.Statement.{statement}
+use Rattle.choices.proofs.choice_mark.Tie as tie
 
 enum-told : tie.Need-enum-told
 enum-told c = search needs

@@ -8,8 +8,8 @@ use Rattle.matching.specs.Stretches.{between, lay}
 use Rattle.matching.specs.declared.Choice.{Choice}
 use Rattle.matching.specs.declared.Choice.the-variants.{Nothing}
 use Rattle.matching.proofs.LayLaws.{lay-more, lay-done}
-use Rattle.walk.proofs.put_nothing.Statement.{statement}
-use Rattle.walk.proofs.put_nothing.Tie as tie
+use Rattle.choices.proofs.put_nothing.Statement.{statement}
+use Rattle.choices.proofs.put_nothing.Tie as tie
 
 abbrev Inv-loop : tie.InvT-loop
 Inv-loop out₀ m from to i₀ out i =

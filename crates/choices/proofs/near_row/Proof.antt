@@ -8,8 +8,8 @@ use lib.ListN.{getD}
 use lib.Signed.{leZ}
 use mir.Facts.{toZ-ofZ}
 use Rattle.frames.proofs.Signed.{back}
-use Rattle.walk.proofs.near_row.Statement.{statement}
-use Rattle.walk.proofs.near_row.Tie as tie
+use Rattle.choices.proofs.near_row.Statement.{statement}
+use Rattle.choices.proofs.near_row.Tie as tie
 
 -- what `too_far` says of the two keys
 far : (c : tie.After-too-far) →

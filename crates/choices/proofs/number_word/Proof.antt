@@ -3,8 +3,8 @@ use mir.Syntax.{w64}
 use mir.ValLaws.{toZ-pos}
 use Rattle.matching.specs.Loops.{Small}
 use borrow.Author.Needs.{needs}
-use Rattle.walk.proofs.number_word.Statement.{statement}
-use Rattle.walk.proofs.number_word.Tie as tie
+use Rattle.choices.proofs.number_word.Statement.{statement}
+use Rattle.choices.proofs.number_word.Tie as tie
 
 enum-known-choice : tie.Need-enum-known-choice
 enum-known-choice c = search needs
