@@ -1,16 +1,16 @@
 -- Keys below a left key: the test of an inclusive bound by an exclusive one, four rows at once, and nearness by distance alone. Assumes nothing.
 use mathlib.Core.Path.{_≡_, refl, sym, ap, _∙_}
-use mathlib.Core.Bool.{Bool, true, false, cond, not, _&&_, _||_}
+use mathlib.Core.Bool.{Bool, true, false, cond, not, _||_}
 use Prim.Native.Nat.{ℕ, zero, suc, _+_, _-_, _*_, _^_, _≤_, _<_}
 use native.Mathlib.Omega.{arith}
 use native.Mathlib.Decide.{decLt}
-use borrow.Author.Tests.{lt-ltb, le-ltb, ltb-true, ltb-false, leb-true, leb-false}
+use borrow.Author.Tests.{lt-ltb, le-ltb, ltb-false, leb-true, leb-false}
 use lib.Dec.{ltb, leb}
 use lib.IntN.{ℤ, pos, negsuc, natAbs, _+ℤ_, _-ℤ_}
 use lib.Signed.{ltZ, mag}
 use Rattle.frames.specs.Cells.{value}
 use Rattle.options.specs.Options.{keyRule}
-use Rattle.order.specs.Order.{cmpCell, isLess, isEqual, cmpZ}
+use Rattle.order.specs.Order.{isLess, isEqual}
 use Rattle.order.proofs.OrderLaws.{cmpZ-is, cmpCell-is, three-less, less-greater, then-less}
 use Rattle.order.specs.declared.Order.the-variants.{Less, Equal, Greater}
 use Rattle.matching.specs.Match.{nearer}

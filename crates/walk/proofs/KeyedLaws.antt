@@ -11,7 +11,6 @@ use lib.Signed.{leZ}
 use Rattle.frames.specs.Cells.{Cell, value, Words, rowFrom}
 use Rattle.options.specs.Options.{strategyOf, keyRule}
 use Rattle.order.specs.Order.{cmpCell, keyOf}
-use Rattle.order.proofs.OrderLaws.{at-most, cmpCell-is}
 use Rattle.options.specs.declared.Options.{Options}
 use Rattle.order.specs.declared.Order.{Order}
 use Rattle.order.specs.declared.Order.the-variants.{Less, Equal, Greater}
@@ -21,11 +20,11 @@ use Rattle.matching.specs.Match.{nobody, onSide, fits, choose, tolerate, matchI
 use Rattle.matching.specs.Moves.{keyAt, NotAbove, Rising, fitsKey, Behind, Stopped, CursorAt}
 use Rattle.matching.specs.Stretches.{between, hitAt}
 use Rattle.matching.specs.declared.Choice.{Choice}
-use Rattle.matching.specs.declared.Choice.the-variants.{Row, Nothing}
+use Rattle.matching.specs.declared.Choice.the-variants.{Nothing}
 use Rattle.matching.proofs.ChoiceLaws.{choose-dead}
 use Rattle.matching.proofs.MayLaws.{never, is-false}
 use Rattle.matching.proofs.BestLaws.{key-at, none-far, row-near}
-use Rattle.matching.proofs.CursorLaws.{back-up, back-down, later}
+use Rattle.matching.proofs.CursorLaws.{back-up, back-down}
 use Rattle.matching.proofs.RestLaws.{all-between, rest-hit}
 use Rattle.advance.specs.Below.{valueAt, keyed, below}
 use Rattle.choices.specs.Choices.{unlessFar}
