@@ -4,7 +4,6 @@ use choices::put;
 use choices::put_nothing;
 use cursor::first_key;
 use cursor::keys_sorted;
-use matching::Choice;
 use options::Strategy;
 use options::Terms;
 use options::strategy_of;
@@ -14,14 +13,13 @@ use walk::forward;
 use walk::nearest;
 ghost use mathlib.Core.Path.{_≡_};
 ghost use mathlib.Core.List.{map};
-ghost use Prim.Native.Nat.{_+_};
-ghost use lib.ListN.{set};
+ghost use Prim.Native.Nat.{_+_, _<_};
 ghost use Rattle.options.specs.Options.{withoutList};
 ghost use Rattle.matching.specs.Match.{matchIn};
-ghost use Rattle.matching.specs.Answer.{numberWord, choiceMark};
 ghost use Rattle.matching.specs.Stretches.{between, lay};
-ghost use Rattle.matching.specs.Loops.{Small, PutRoom, RunRoom};
+ghost use Rattle.matching.specs.Loops.{RunRoom};
 ghost use Rattle.matching.specs.Moves.{WalkRoom, Counted};
+ghost use Rattle.walk.specs.Keyed.{KeysRoom, Walked};
 
 // Left rows from..to, each matched by a scan over right rows at..end, into an answer of m cells.
 pub fn scan_run(
@@ -65,7 +63,10 @@ fn walk_keys(
     number: usize,
     o: Terms,
     out: &mut [i64],
-) -> usize {
+) -> usize
+    requires { ⌜ KeysRoom (withoutList o) wl m (now lv) from to wr (now rv) at end number (now out) × (at < end) ⌝ }
+    ensures { λ r. ⌜ Walked (withoutList o) wl m (now (lv .entry)) from to wr (now (rv .entry)) at end number (now (out .entry)) r (now (out .exit)) ⌝ }
+{
     let s = strategy_of(o);
     match s {
         // Backward selects the last row in the right DataFrame whose 'on' key is less than or equal to the left's key.
