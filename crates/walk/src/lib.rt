@@ -1,6 +1,5 @@
-// Matching a sorted left run over a sorted right run, where every row has a key: one cursor each, which only moves forward, and a loop for each strategy.
+// Matching a sorted left run over a sorted right run, where every row has a key: one cursor each, which only moves forward. Backward and Forward.
 use advance::advance;
-use advance::approach;
 use choices::near_row;
 use choices::put;
 use matching::Choice;
@@ -10,7 +9,7 @@ ghost use Prim.Native.Nat.{_+_, _-_, _*_, _^_, _≤_, _<_};
 ghost use lib.IntN.{pos};
 ghost use lib.ListN.{length, getD};
 ghost use Rattle.options.specs.Options.{withoutList, strategyOf};
-ghost use Rattle.options.specs.declared.Strategy.the-variants.{Backward, Forward, Nearest};
+ghost use Rattle.options.specs.declared.Strategy.the-variants.{Backward, Forward};
 ghost use Rattle.matching.specs.Loops.{Small};
 ghost use Rattle.matching.specs.declared.Choice.the-variants.{Nothing};
 ghost use Rattle.choices.specs.Choices.{unlessFar};
@@ -133,42 +132,6 @@ pub fn forward(
         row = c.row;
         place = c.place;
         let choice = choice_fore(rv, row, end, place, v, o.tolerance, number);
-        put(out, m, i, choice);
-        i += 1;
-        p += wl;
-    }
-    row
-}
-
-// Left rows from..to, each matched to the nearest right row of at..end, of which there is one: the one at which the cursor rests. Where the cursor has come to.
-pub fn nearest(
-    lv: &[i64],
-    m: usize,
-    wl: usize,
-    from: usize,
-    to: usize,
-    rv: &[i64],
-    wr: usize,
-    at: usize,
-    end: usize,
-    number: usize,
-    o: Terms,
-    out: &mut [i64],
-) -> usize
-    requires { ⌜ KeysRoom (withoutList o) wl m (now lv) from to wr (now rv) at end number (now out) × (strategyOf (withoutList o) ≡ Nearest) × (at < end) ⌝ }
-    ensures { λ r. ⌜ Walked (withoutList o) wl m (now (lv .entry)) from to wr (now (rv .entry)) at end number (now (out .entry)) r (now (out .exit)) ⌝ }
-{
-    let by = o.by;
-    let mut row = at;
-    let mut place = at * wr + by;
-    let mut i = from;
-    let mut p = from * wl + by;
-    while i < to {
-        let v = lv[p];
-        let c = approach(rv, row, place, end, wr, v);
-        row = c.row;
-        place = c.place;
-        let choice = near_row(rv, place, v, o.tolerance, number + row);
         put(out, m, i, choice);
         i += 1;
         p += wl;

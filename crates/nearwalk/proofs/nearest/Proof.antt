@@ -21,10 +21,10 @@ use Rattle.matching.proofs.CursorLaws.{later}
 use Rattle.matching.proofs.LayLaws.{lay-more, lay-done}
 use Rattle.advance.specs.Below.{valueAt, keyed, Approached}
 use Rattle.choices.specs.Choices.{unlessFar}
 use Rattle.walk.specs.Keyed.{Marked}
 use Rattle.walk.proofs.KeyedLaws.{Reached, reached-here, near-rests}
-use Rattle.walk.proofs.nearest.Statement.{statement}
-use Rattle.walk.proofs.nearest.Tie as tie
+use Rattle.nearwalk.proofs.nearest.Statement.{statement}
+use Rattle.nearwalk.proofs.nearest.Tie as tie
 
 abbrev Inv-loop : tie.InvT-loop
 Inv-loop lv m wl from to rv wr at end number o out₀ by row₀ place₀ i₀ p₀ out row place i p =
