@@ -101,10 +101,6 @@ gains-scaled w false true false = omega arith
 gains-scaled w false false true = omega arith
 gains-scaled w false false false = omega arith
 
-pub gain-most : (t : Bool) (unit : ℕ) → cond t unit 0 ≤ unit
-gain-most true unit = omega arith
-gain-most false unit = omega arith
-
 -- ---- of keys a ≤ b: b takes the place of a where it is no farther
 pub near-by-distance : (v a b : ℤ) → NotAbove (value a) (value b) → leb (natAbs (b -ℤ v)) (natAbs (a -ℤ v)) ≡ nearer (value v) (value b) (value a)
 near-by-distance v a b h = by (leb (natAbs (b -ℤ v)) (natAbs (a -ℤ v))) refl

@@ -29,14 +29,14 @@ abbrev pub gains : ℕ → Bool → Bool → Bool → ℕ
 gains unit a b c = cond a unit 0 + cond b unit 0 + cond c unit 0
 
 -- Rows up to `end` are there, each w wide; row `at` is one of them or their end, and its key is at place p.
-pub record Stands (w end : ℕ) (vs : Words) (at p : ℕ) : Type 0 where
+pub record AtPlace (w end : ℕ) (vs : Words) (at p : ℕ) : Type 0 where
   pub within : at ≤ end
   pub values : end * w ≤ length vs
   pub start : at * w ≤ p
   pub wide : p < at * w + w
 
 -- Row r is the first of at..end whose key does not pass the test, or all do and r is `end`.
-pub record Passed (w by at end : ℕ) (vs : Words) (test : ℤ → Bool) (r : Position) : Type 0 where
+pub record Skipped (w by at end : ℕ) (vs : Words) (test : ℤ → Bool) (r : Position) : Type 0 where
   pub upward : at ≤ r .row
   pub within : r .row ≤ end
   pub place : r .place ≡ r .row * w + by

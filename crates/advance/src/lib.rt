@@ -9,7 +9,7 @@ ghost use lib.Signed.{ltZ};
 ghost use Rattle.frames.specs.Cells.{value};
 ghost use Rattle.matching.specs.Match.{nearer};
 ghost use Rattle.matching.specs.Moves.{NotAbove, Rising};
-ghost use Rattle.advance.specs.Below.{keyed, below, gains, Stands, Passed, Approached};
+ghost use Rattle.advance.specs.Below.{keyed, below, gains, AtPlace, Skipped, Approached};
 
 // A row of a run, and the place of its key.
 pub struct Position {
@@ -24,7 +24,7 @@ fn gain(a: i64, u: i64, unit: usize) -> usize
     if a < u { unit } else { 0 }
 }
 
-// `unit` for each key below u of three rows, the first of which has its key at place p.
+// `unit` for each key below u of three rows, the first of which has its key at place p; a fourth row is there too.
 fn three(rv: &[i64], p: usize, w: usize, u: i64, unit: usize) -> usize
     requires { ⌜ (p + w + w + w < length (now rv)) × (unit ≤ w) ⌝ }
     ensures { λ r. ⌜ r ≡ gains unit (ltZ (getD (now (rv .entry)) p (pos 0)) u) (ltZ (getD (now (rv .entry)) (p + w) (pos 0)) u) (ltZ (getD (now (rv .entry)) (p + w + w) (pos 0)) u) ⌝ }
@@ -46,8 +46,8 @@ fn is_below(a: i64, v: i64, inclusive: bool) -> bool
 
 // The first row of at..end whose key is not below v, nor at it where that counts too, looked for row by row; the key of row `at` is at place p.
 fn rest(rv: &[i64], at: usize, p: usize, end: usize, w: usize, v: i64, inclusive: bool) -> Position
-    requires { ⌜ Stands w end (now rv) at p ⌝ }
-    ensures { λ r. ⌜ Passed w (p - at * w) at end (now (rv .entry)) (below inclusive v) r ⌝ }
+    requires { ⌜ AtPlace w end (now rv) at p ⌝ }
+    ensures { λ r. ⌜ Skipped w (p - at * w) at end (now (rv .entry)) (below inclusive v) r ⌝ }
 {
     let mut row = at;
     let mut place = p;
@@ -69,8 +69,8 @@ fn rest(rv: &[i64], at: usize, p: usize, end: usize, w: usize, v: i64, inclusive
 
 // The first row of at..end whose key is not below u, four rows at a time up to row `stop`. Of four rows the last is asked first: where its key is not below u, the others are counted.
 fn skip(rv: &[i64], at: usize, p: usize, stop: usize, end: usize, w: usize, u: i64) -> Position
-    requires { ⌜ Stands w end (now rv) at p × (stop ≤ end) × Rising (keyed w (p - at * w) (now rv)) at end ⌝ }
-    ensures { λ r. ⌜ Passed w (p - at * w) at end (now (rv .entry)) (λ a. ltZ a u) r ⌝ }
+    requires { ⌜ AtPlace w end (now rv) at p × (stop ≤ end) × Rising (keyed w (p - at * w) (now rv)) at end ⌝ }
+    ensures { λ r. ⌜ Skipped w (p - at * w) at end (now (rv .entry)) (λ a. ltZ a u) r ⌝ }
 {
     let mut row = at;
     let mut place = p;
@@ -109,7 +109,7 @@ fn bound(v: i64, inclusive: bool) -> i64
     v
 }
 
-// The first row of at..end whose key is not below v, nor at it where that counts too; the key of row `at` is at place p.
+// The first row of at..end whose key is not below v, nor at it where that counts too, four rows at a time up to row `stop`; the key of row `at` is at place p.
 pub fn advance(
     rv: &[i64],
     at: usize,
@@ -120,8 +120,8 @@ pub fn advance(
     v: i64,
     inclusive: bool,
 ) -> Position
-    requires { ⌜ Stands w end (now rv) at p × (stop ≤ end) × Rising (keyed w (p - at * w) (now rv)) at end ⌝ }
-    ensures { λ r. ⌜ Passed w (p - at * w) at end (now (rv .entry)) (below inclusive v) r ⌝ }
+    requires { ⌜ AtPlace w end (now rv) at p × (stop ≤ end) × Rising (keyed w (p - at * w) (now rv)) at end ⌝ }
+    ensures { λ r. ⌜ Skipped w (p - at * w) at end (now (rv .entry)) (below inclusive v) r ⌝ }
 {
     if is_greatest(v, inclusive) {
         return rest(rv, at, p, end, w, v, inclusive);
@@ -138,7 +138,7 @@ fn as_near(v: i64, b: i64, a: i64) -> bool
 
 // The row of at..end at which the cursor rests for v: it moves on while the next key is as near as its own, or nearer.
 pub fn approach(rv: &[i64], at: usize, p: usize, end: usize, w: usize, v: i64) -> Position
-    requires { ⌜ Stands w end (now rv) at p × (at < end) × Rising (keyed w (p - at * w) (now rv)) at end ⌝ }
+    requires { ⌜ AtPlace w end (now rv) at p × (at < end) × Rising (keyed w (p - at * w) (now rv)) at end ⌝ }
     ensures { λ r. ⌜ Approached w (p - at * w) at end (now (rv .entry)) v r ⌝ }
 {
     let mut row = at;
