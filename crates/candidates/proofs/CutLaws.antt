@@ -73,7 +73,7 @@ module _ (o : Options) (x : List Cell) (w at end : ℕ) (vs ms : Words) (first :
   part lo hi = choose o x (fits o x) nobody (first + lo) (between w lo hi vs ms)
 
   -- Rows before lo give way to row lo, or do not fit; rows behind hi do not take the place of what is chosen among lo..hi.
-  cut : (lo hi : ℕ) → at ≤ lo → lo ≤ hi → hi ≤ end
+  pub cut : (lo hi : ℕ) → at ≤ lo → lo ≤ hi → hi ≤ end
       → ((k : ℕ) → at ≤ k → k < lo → fits o x (row k) ≡ true → (lo < end) × (fits o x (row lo) ≡ true) × (takesOver o (strategyOf o) x (row lo) (row k) ≡ true))
       → ((k : ℕ) → hi ≤ k → k < end → Keeps o x (fits o x) (part lo hi) (row k))
       → matchIn o (first + at) (between w at end vs ms) x ≡ matchIn o (first + lo) (between w lo hi vs ms) x

@@ -1,21 +1,16 @@
-// The first key of a run, whether the run is sorted by key, and when the right cursor moves on.
-use fits::fits_key;
-use fits::nearer_key;
+// The first key of a run, and whether the run is sorted by key.
 use keyed::null_at;
-use options::Strategy;
 use options::Terms;
 ghost use mathlib.Core.Path.{_≡_};
-ghost use mathlib.Core.Bool.{true, false, not, _&&_, _||_};
+ghost use mathlib.Core.Bool.{true, false, not};
 ghost use Prim.Native.Nat.{_+_, _-_, _*_, _%_, _<_, _≤_};
 ghost use lib.ListN.{length};
-ghost use Rattle.frames.specs.Cells.{value, isNull};
+ghost use Rattle.frames.specs.Cells.{isNull};
 ghost use Rattle.options.specs.Options.{withoutList, keyRule};
 ghost use Rattle.order.specs.Order.{cmpCell, isGreater};
 ghost use Rattle.order.specs.Requires.{cellAt, CellIn, KeysIn, RowsIn};
-ghost use Rattle.options.specs.declared.Strategy.the-variants.{Backward, Forward};
-ghost use Rattle.matching.specs.Match.{onSide, nearer};
 ghost use Rattle.matching.specs.Stretches.{between};
-ghost use Rattle.matching.specs.Moves.{keysSorted, FirstKey, keyAt, movesOn, fitsKey, knownFit};
+ghost use Rattle.matching.specs.Moves.{keysSorted, FirstKey, keyAt};
 ghost use Rattle.cursor.specs.Risen.{Risen};
 
 // The first row of from..to that has a key; `to` where none has.
@@ -139,61 +134,4 @@ pub fn keys_sorted(
         return true;
     }
     keys_rise(values, marks, start, to, w, o)
-}
-
-// Backward: whether the cursor moves on to the right key at q, which is null or lies on the side of v.
-fn backward_moves(rv: &[i64], rm: &[i64], q: usize, v: i64, eq: bool) -> bool
-    requires { ⌜ CellIn q (now rv) (now rm) ⌝ }
-    ensures { λ r. ⌜ r ≡ (isNull (cellAt q (now (rv .entry)) (now (rm .entry))) || onSide Backward eq (cmpCell keyRule (cellAt q (now (rv .entry)) (now (rm .entry))) (value v))) ⌝ }
-{
-    if null_at(rm, q) {
-        return true;
-    }
-    fits_key(rv, rm, q, v, Strategy::Backward, eq)
-}
-
-// Forward: whether the cursor moves on from the right key at p, which does not fit v.
-fn forward_moves(rv: &[i64], rm: &[i64], p: usize, v: i64, eq: bool) -> bool
-    requires { ⌜ CellIn p (now rv) (now rm) ⌝ }
-    ensures { λ r. ⌜ r ≡ not (fitsKey Forward eq (value v) (cellAt p (now (rv .entry)) (now (rm .entry)))) ⌝ }
-{
-    !fits_key(rv, rm, p, v, Strategy::Forward, eq)
-}
-
-// Nearest: whether the cursor moves on from the right key at p, which is null, or to the one at q, which takes its place.
-fn nearest_moves(rv: &[i64], rm: &[i64], p: usize, q: usize, v: i64) -> bool
-    requires { ⌜ CellIn p (now rv) (now rm) × CellIn q (now rv) (now rm) ⌝ }
-    ensures { λ r. ⌜ r ≡ (isNull (cellAt p (now (rv .entry)) (now (rm .entry))) || (not (isNull (cellAt q (now (rv .entry)) (now (rm .entry)))) && nearer (value v) (cellAt q (now (rv .entry)) (now (rm .entry))) (cellAt p (now (rv .entry)) (now (rm .entry))))) ⌝ }
-{
-    if null_at(rm, p) {
-        return true;
-    }
-    if null_at(rm, q) {
-        return false;
-    }
-    nearer_key(v, rv[q], rv[p])
-}
-
-// Whether the right cursor moves on from the key at p to the next one, at q, for the left key v.
-pub fn moves(rv: &[i64], rm: &[i64], p: usize, q: usize, v: i64, s: Strategy, eq: bool) -> bool
-    requires { ⌜ CellIn p (now rv) (now rm) × CellIn q (now rv) (now rm) ⌝ }
-    ensures { λ r. ⌜ r ≡ movesOn s eq (value v) (cellAt p (now (rv .entry)) (now (rm .entry))) (cellAt q (now (rv .entry)) (now (rm .entry))) ⌝ }
-{
-    match s {
-        Strategy::Backward => backward_moves(rv, rm, q, v, eq),
-        Strategy::Forward => forward_moves(rv, rm, p, v, eq),
-        Strategy::Nearest => nearest_moves(rv, rm, p, q, v),
-    }
-}
-
-// Whether row c fits if it has a key, by where the cursor stands.
-pub fn known(s: Strategy, at: usize, c: usize, end: usize) -> bool
-    requires { ⌜ c ≤ end ⌝ }
-    ensures { λ r. ⌜ r ≡ knownFit s at c end ⌝ }
-{
-    match s {
-        Strategy::Backward => at < c,
-        Strategy::Forward => 1 < end - c,
-        Strategy::Nearest => true,
-    }
 }

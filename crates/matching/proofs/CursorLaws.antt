@@ -68,7 +68,7 @@ module _ (q : Bool) where
       by (inr (inl g)) = rw (K .same b v u g) (back-equal q (cmpCell keyRule v u) (rw g at e) h)
       by (inr (inr g)) = absurd (back-side q (cmpCell keyRule b v) e g)
 
-  back-down : (n k v : Cell) → AtMost (cmpCell keyRule) n k → onSide Backward q (cmpCell keyRule k v) ≡ true → onSide Backward q (cmpCell keyRule n v) ≡ true
+  pub back-down : (n k v : Cell) → AtMost (cmpCell keyRule) n k → onSide Backward q (cmpCell keyRule k v) ≡ true → onSide Backward q (cmpCell keyRule n v) ≡ true
   back-down n k v h e = by (three K k v)
     where
       by : (cmpCell keyRule k v ≡ Less) ⊎ ((cmpCell keyRule k v ≡ Equal) ⊎ (cmpCell keyRule k v ≡ Greater)) → onSide Backward q (cmpCell keyRule n v) ≡ true

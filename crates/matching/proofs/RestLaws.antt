@@ -1,12 +1,11 @@
 -- Sorted runs by their keys, and the choice where the cursor rests: it is that of the scan. Assumes nothing.
 use mathlib.Core.Path.{_≡_, refl, sym, ap, _∙_, subst}
-use mathlib.Core.Bool.{Bool, true, false, not, _&&_, _||_, and-true as and-yes}
+use mathlib.Core.Bool.{true, false, not, _&&_}
 use mathlib.Core.List.{List, [], _∷_, _++_}
 use Prim.Native.Nat.{ℕ, zero, suc, _+_, _-_, _*_, _≤_, _<_}
 use native.Mathlib.Nat.{mul-le-mul-right}
 use native.Mathlib.Omega.{arith}
 use native.Mathlib.Decide.{decLt}
-use borrow.Author.Tests.{ltb-true}
 use lib.IntN.{ℤ}
 use lib.ListN.{length, drop, getD}
 use lib.Seq.{drop-drop}
@@ -22,16 +21,14 @@ use Rattle.options.specs.declared.Options.{Options}
 use Rattle.order.specs.declared.Order.the-variants.{Equal}
 use Rattle.options.specs.declared.Strategy.{Strategy}
 use Rattle.options.specs.declared.Strategy.the-variants.{Backward, Forward, Nearest}
-use Rattle.matching.specs.Match.{nobody, hit, onSide, fits, takesOver, choose, tolerate, matchIn}
+use Rattle.matching.specs.Match.{nobody, hit, fits, takesOver, choose}
 use Rattle.matching.specs.Stretches.{between, hitAt}
-use Rattle.matching.specs.Moves.{keysSorted, keyAt, Rising, fitsKey, movesOn, knownFit, Behind, CursorAt, Stopped}
-use Rattle.matching.specs.declared.Choice.the-variants.{Nothing}
-use Rattle.matching.proofs.ChoiceLaws.{Keeps, Wins, choose-keep, choose-dead, choose-skip}
-use Rattle.matching.proofs.MayLaws.{never, is-false}
+use Rattle.matching.specs.Moves.{keysSorted, keyAt, Rising, fitsKey, CursorAt, Stopped}
+use Rattle.matching.proofs.ChoiceLaws.{Keeps, Wins, choose-keep, choose-skip}
 use Rattle.matching.proofs.Runs.{Near}
-use Rattle.matching.proofs.WalkLaws.{between-length, between-more, between-none, between-cut}
-use Rattle.matching.proofs.BestLaws.{key-at, hit-none, hit-some}
-use Rattle.matching.proofs.CursorLaws.{moved, takesKey, gives-way, holds-place}
+use Rattle.matching.proofs.WalkLaws.{between-length, between-more, between-cut}
+use Rattle.matching.proofs.BestLaws.{key-at, hit-some}
+use Rattle.matching.proofs.CursorLaws.{takesKey, gives-way, holds-place}
 
 -- ---- rows whose keys do not fall
 module _ (o : Options) where
@@ -152,55 +149,7 @@ module _ (o : Options) (w : ℕ) (vs ms : Words) where
             rw z at (keys-on from to p (to - 1 - from) (omega arith) (λ k g m. null-first (keyAt o w vs ms k) (keyAt o w vs ms (k + 1)) (n k g (omega arith)))) ∙ keys-few (to - 1) to (omega arith)
         by (no h) = keys-few from to (omega arith)
 
--- ---- one move of the cursor
-pub cursor-on : (o : Options) (s : Strategy) (w at end : ℕ) (vs ms : Words) (v : ℤ) (c : ℕ) → CursorAt o s w at end vs ms v c → c + 1 < end
-    → movesOn s (o .«allow_eq») (value v) (keyAt o w vs ms c) (keyAt o w vs ms (c + 1)) ≡ true → CursorAt o s w at end vs ms v (c + 1)
-cursor-on o s w at end vs ms v c p h m =
-    record {
-      rows = p .rows;
-      rising = p .rising;
-      told = p .told;
-      upward = omega (arith, p .upward);
-      there = h;
-      behind = moved (o .«allow_eq») (keyAt o w vs ms) at end (p .rising) s (value v) c (p .upward) h m (p .behind);
-    }
-
--- ---- where the cursor stands says whether row c fits
-known-back : (n t : Bool) → (n || t) ≡ true → not n ≡ (not n && t)
-known-back true t e = refl
-known-back false t e = sym e
-
-known-fore : (n t : Bool) → not (not n && t) ≡ false → not n ≡ (not n && t)
-known-fore true t e = refl
-known-fore false true e = refl
-known-fore false false e = cc
-
-pub known-fits : (s : Strategy) (eq : Bool) (key : ℕ → Cell) (at end : ℕ) (v : Cell) (c : ℕ) → Behind s eq key at v c → Stopped s eq key end v c → knownFit s at c end ≡ true
-    → not (isNull (key c)) ≡ fitsKey s eq v (key c)
-known-fits Backward eq key at end v c b st e = known-back (isNull (key c)) (onSide Backward eq (cmpCell keyRule (key c) v)) (b at (omega arith) (ltb-true at c e))
-known-fits Forward eq key at end v c b st e = known-fore (isNull (key c)) (onSide Forward eq (cmpCell keyRule (key c) v)) (st (omega (arith, ltb-true 1 (end - c) e)))
-known-fits Nearest eq key at end v c b st e = sym (and-yes (not (isNull (key c))))
-
--- No right row, no choice.
-pub none-rows : (o : Options) (x : List Cell) (i w at end : ℕ) (vs ms : Words) → at ≡ end → matchIn o i (between w at end vs ms) x ≡ Nothing
-unfolding matchIn tolerate choose
-none-rows o x i w at end vs ms e = rw (e, between-none w vs ms end)
-
 -- ---- where the cursor rests
--- A place is before another, the same or after it.
-data Place (k c : ℕ) : Type 0 where
-  before : k < c → Place k c
-  here : k ≡ c → Place k c
-  after : c < k → Place k c
-
-place : (k c : ℕ) → Place k c
-place k c = go (decLt k c) (decLt c k)
-  where
-    go : Dec (k < c) → Dec (c < k) → Place k c
-    go (yes l) d = before l
-    go (no l) (yes g) = after g
-    go (no l) (no g) = here (omega arith)
-
 module _ (o : Options) (s : Strategy) (w at end : ℕ) (vs ms : Words) (v : ℤ) (c : ℕ) (p : CursorAt o s w at end vs ms v c)
     (st : Stopped s (o .«allow_eq») (keyAt o w vs ms) end (value v) c) (first : ℕ) (x : List Cell) (ex : keyOf o x ≡ value v) where
   abbrev pub key : ℕ → Cell
@@ -250,15 +199,3 @@ module _ (o : Options) (s : Strategy) (w at end : ℕ) (vs ms : Words) (v : ℤ)
       let kp = choose-keep o x (fits o x) (hit (first + c) (row c)) (suc (first + c)) B (all-between w vs ms (Keeps o x (fits o x) (hit (first + c) (row c))) (c + 1) end (λ k l h t. waits k (omega arith) h t .1)) in
       let last : choose o x (fits o x) nobody (first + c) (row c ∷ B) ≡ hit (first + c) (row c) = rw (choose, fc) kp in
       hit-some first w end vs ms c (p .there) ∙ sym (ap (choose o x (fits o x) nobody (first + at)) parts ∙ sk ∙ rw n last)
-
-  -- It does not: nor does any other row.
-  pub rest-none : fitsKey s (o .«allow_eq») (value v) (key c) ≡ false → hitAt first w end vs ms end ≡ choose o x (fits o x) nobody (first + at) (between w at end vs ms)
-  rest-none e =
-      let fc : fits o x (row c) ≡ false = fit c (p .there) ∙ e in
-      hit-none first w end vs ms end refl ∙ sym (choose-dead o x (fits o x) nobody (first + at) (between w at end vs ms) (all-between w vs ms (λ r. fits o x r ≡ false) at end (λ k l h.
-      is-false (fits o x (row k)) (λ t. by k l h t fc (place k c)))))
-    where
-      by : (k : ℕ) → at ≤ k → k < end → fits o x (row k) ≡ true → fits o x (row c) ≡ false → Place k c → ⊥
-      by k l h t fc (before b) = never (fits o x (row c)) (loses k l b t .0) fc
-      by k l h t fc (here b) = never (fits o x (row c)) (rw b at t) fc
-      by k l h t fc (after b) = never (fits o x (row c)) (waits k b h t .0) fc

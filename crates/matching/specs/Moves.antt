@@ -1,22 +1,20 @@
 -- The walk of a sorted left run over a sorted right run: when the right cursor moves on, what lies behind it and ahead of it. Assumes nothing.
 use mathlib.Core.Path.{_≡_}
 use mathlib.Core.Bool.{Bool, true, false, not, _&&_, _||_}
-use mathlib.Core.List.{List, [], _∷_}
-use Prim.Native.Nat.{ℕ, _+_, _-_, _*_, _^_, _≤_, _<_}
-use lib.Dec.{ltb}
+use mathlib.Core.List.{[], _∷_}
+use Prim.Native.Nat.{ℕ, _+_, _-_, _*_, _≤_, _<_}
 use lib.IntN.{ℤ}
-use Rattle.frames.specs.Cells.{Cell, value, isNull, Rows, Words, rowFrom}
+use Rattle.frames.specs.Cells.{Cell, value, isNull, Rows, Words}
 use Rattle.options.specs.Options.{strategyOf, keyRule}
 use Rattle.order.specs.Order.{cmpCell, isGreater, keyOf}
-use Rattle.order.specs.Requires.{cellAt, RowAt, RowsIn}
+use Rattle.order.specs.Requires.{cellAt, RowsIn}
 use Rattle.options.specs.declared.Options.{Options}
 use Rattle.order.specs.declared.Order.the-variants.{Greater}
 use Rattle.options.specs.declared.Strategy.{Strategy}
 use Rattle.options.specs.declared.Strategy.the-variants.{Backward, Forward, Nearest}
-use Rattle.matching.specs.Match.{onSide, nearer, matchIn}
+use Rattle.matching.specs.Match.{onSide, nearer}
 use Rattle.matching.specs.Stretches.{between}
 use Rattle.matching.specs.Loops.{RunRoom}
-use Rattle.matching.specs.declared.Step.{Step}
 
 -- A run is sorted: no key is greater than the next.
 unfoldable pub keysSorted : Options → Rows → Bool
@@ -67,12 +65,6 @@ Behind s eq key at v c = (k : ℕ) → at ≤ k → k < c → passed s eq v (key
 abbrev pub Stopped : Strategy → Bool → (ℕ → Cell) → ℕ → Cell → ℕ → Type 0
 Stopped s eq key end v c = c + 1 < end → movesOn s eq v (key c) (key (c + 1)) ≡ false
 
--- Row c fits, if it has a key, by where the cursor stands: Backward moved on to it, Forward stopped at it before the last row, for Nearest each key fits.
-abbrev pub knownFit : Strategy → ℕ → ℕ → ℕ → Bool
-knownFit Backward at c end = ltb at c
-knownFit Forward at c end = ltb 1 (end - c)
-knownFit Nearest at c end = true
-
 -- The right cursor stands at row c of rows at..end, of which there is one, for the left key v.
 pub record CursorAt (o : Options) (s : Strategy) (w at end : ℕ) (vs ms : Words) (v : ℤ) (c : ℕ) : Type 0 where
   pub rows : RowsIn o w end vs ms
@@ -81,43 +73,6 @@ pub record CursorAt (o : Options) (s : Strategy) (w at end : ℕ) (vs ms : Words
   pub upward : at ≤ c
   pub there : c < end
   pub behind : Behind s (o .«allow_eq») (keyAt o w vs ms) at (value v) c
-
--- It has moved from row c to row r, and does not move on.
-pub record Came (o : Options) (s : Strategy) (w at end : ℕ) (vs ms : Words) (v : ℤ) (c r : ℕ) : Type 0 where
-  pub forward : c ≤ r
-  pub rests : CursorAt o s w at end vs ms v r
-  pub stopped : Stopped s (o .«allow_eq») (keyAt o w vs ms) end (value v) r
-
--- It rests at row c, and the numbers of the rows fit.
-pub record Rests (o : Options) (s : Strategy) (w at end : ℕ) (vs ms : Words) (number : ℕ) (v : ℤ) (c : ℕ) : Type 0 where
-  pub rests : CursorAt o s w at end vs ms v c
-  pub stopped : Stopped s (o .«allow_eq») (keyAt o w vs ms) end (value v) c
-  pub numbers : number + end ≤ 2 ^ 63 - 1
-
--- A step for the left key v: the cursor moves on from row c, and the choice is that of the scan.
-pub record Stepped (o : Options) (s : Strategy) (w at end : ℕ) (vs ms : Words) (number : ℕ) (v : ℤ) (c : ℕ) (r : Step) : Type 0 where
-  pub came : Came o s w at end vs ms v c (r .row)
-  pub chosen : (x : List Cell) → keyOf o x ≡ value v → r .choice ≡ matchIn o (number + at) (between w at end vs ms) x
-
--- The right cursor at row c of rows at..end, or at their end where there is none, for the left row at p and every later key.
-pub record WalkAt (o : Options) (s : Strategy) (p : ℕ) (lv lm : Words) (w at end : ℕ) (vs ms : Words) (number c : ℕ) : Type 0 where
-  pub left : RowAt o p lv lm
-  pub rows : RowsIn o w end vs ms
-  pub rising : Rising (keyAt o w vs ms) at end
-  pub told : s ≡ strategyOf o
-  pub upward : at ≤ c
-  pub within : c ≤ end
-  pub there : at < end → c < end
-  pub numbers : number + end ≤ 2 ^ 63 - 1
-  pub behind : (u : ℤ) → NotAbove (cellAt (p + o .by) lv lm) (value u) → Behind s (o .«allow_eq») (keyAt o w vs ms) at (value u) c
-
--- The left row's choice, and where the cursor stands then.
-pub record WalkedRow (o : Options) (s : Strategy) (p : ℕ) (lv lm : Words) (w at end : ℕ) (vs ms : Words) (number c : ℕ) (r : Step) : Type 0 where
-  pub upward : c ≤ r .row
-  pub within : r .row ≤ end
-  pub there : at < end → r .row < end
-  pub behind : (u : ℤ) → NotAbove (cellAt (p + o .by) lv lm) (value u) → Behind s (o .«allow_eq») (keyAt o w vs ms) at (value u) (r .row)
-  pub chosen : (wl : ℕ) → o .by < wl → r .choice ≡ matchIn o (number + at) (between w at end vs ms) (rowFrom wl p lv lm)
 
 -- Both runs are sorted.
 pub record WalkRoom (o : Options) (wl m : ℕ) (lv lm : Words) (from to : ℕ) (wr : ℕ) (rv rm : Words) (at end number : ℕ) (out : Words) : Type 0 where

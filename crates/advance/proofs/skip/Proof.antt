@@ -1,0 +1,261 @@
+use mathlib.Core.Path.{_≡_, sym, _∙_}
+use mathlib.Core.Bool.{Bool, true, false}
+use Prim.Native.Nat.{ℕ, _+_, _-_, _*_, _≤_, _<_}
+use native.Mathlib.Nat.{mul-le-mul-right}
+use native.Mathlib.Omega.{arith}
+use native.Mathlib.Decide.{decLt}
+use borrow.Author.Tests.{not-true, not-false}
+use denote.Ref.{now}
+use lib.IntN.{pos}
+use lib.ListN.{length, getD}
+use lib.Signed.{ltZ}
+use mir.Syntax.{w64}
+use mir.Val.{toZ, ofZ}
+use mir.Facts.{toZ-ofZ}
+use Rattle.frames.proofs.Signed.{back}
+use Rattle.order.proofs.RowLaws.{row-room}
+use Rattle.advance.specs.Below.{valueAt, gains}
+use Rattle.advance.proofs.BelowLaws.{below-strict, lt-down, three-counted, gains-scaled}
+use Rattle.advance.proofs.skip.Statement.{statement}
+use Rattle.advance.proofs.skip.Tie as tie
+
+abbrev Inv-loop : tie.InvT-loop
+Inv-loop rv at p stop end w u row₀ place₀ row place =
+    (at ≤ row) × (row ≤ end) × (place ≡ row * w + (p - at * w)) × ((k : ℕ) → at ≤ k → k < row → ltZ (getD rv (k * w + (p - at * w)) (pos 0)) (toZ w64 u) ≡ true)
+
+abbrev μ-loop : tie.MeasureT-loop
+μ-loop rv at p stop end w u row₀ place₀ row place = end - row
+
+-- four rows end within the rows
+room : (c : tie.In-loop Inv-loop μ-loop) → let a = c .before .before .args in c .before .loop .row * a .w + a .w + a .w + a .w + a .w ≤ a .end * a .w
+room c =
+    let a = c .before .before .args in
+    let row = c .before .loop .row in
+    let z : (row + 3) * a .w ≡ row * a .w + a .w + a .w + a .w = omega arith in
+    omega (arith, z, row-room (row + 3) (a .end) (a .w) (omega (arith, c .loop-test .taken, c .before .before .pre .1)))
+
+-- as many rows as words, at most
+fits-end : (s : tie.Start Inv-loop μ-loop) → s .args .end ≤ length (now (s .args .rv))
+fits-end s =
+    let m = mul-le-mul-right {m = 1} {n = s .args .w} (s .args .end) (omega (arith, s .pre .0)) in
+    omega (arith, m, s .pre .0)
+
+-- row k is below u
+abbrev passes : (s : tie.Start Inv-loop μ-loop) → ℕ → Bool
+passes s k = ltZ (valueAt (s .args .w) (s .args .p - s .args .at * s .args .w) (now (s .args .rv)) k) (toZ w64 (ofZ w64 (s .args .u)))
+
+-- what stands before a row that is below u is below u
+down : (s : tie.Start Inv-loop μ-loop) (i k : ℕ) → s .args .at ≤ i → i ≤ k → k < s .args .end → passes s k ≡ true → passes s i ≡ true
+down s i k l g h e =
+    let a = s .args in
+    let val = valueAt (a .w) (a .p - a .at * a .w) (now (a .rv)) in
+    lt-down (val i) (val k) (toZ w64 (ofZ w64 (a .u))) (s .pre .2 i k l g h) e
+
+-- the test of the fourth row
+told : (c : tie.After-if12 Inv-loop μ-loop) (t : Bool) →
+    let s = c .before .before .before in
+    let l = c .before .before .loop in
+    ltZ (toZ w64 (ofZ w64 (getD (now (s .args .rv)) (l .place + s .args .w + s .args .w + s .args .w) (pos 0)))) (toZ w64 (ofZ w64 (s .args .u))) ≡ t
+    → passes s (l .row + 3) ≡ t
+told c t h =
+    let s = c .before .before .before in
+    let a = s .args in
+    let l = c .before .before .loop in
+    let z : l .place + a .w + a .w + a .w ≡ (l .row + 3) * a .w + (a .p - a .at * a .w) = omega (arith, l .inv .2) in
+    rw (back (getD (now (a .rv)) (l .place + a .w + a .w + a .w) (pos 0)) (c .if12 .given), z) at h
+
+-- the three rows before it, counted
+counted : (c : tie.Then1 Inv-loop μ-loop) →
+    let s = c .before .before .before .before in
+    let a = s .args in
+    let l = c .before .before .before .loop in
+    let u = toZ w64 (ofZ w64 (a .u)) in
+    let n = gains 1 (ltZ (getD (now (a .rv)) (l .place) (pos 0)) u) (ltZ (getD (now (a .rv)) (l .place + a .w) (pos 0)) u) (ltZ (getD (now (a .rv)) (l .place + a .w + a .w) (pos 0)) u) in
+    ((k : ℕ) → l .row ≤ k → k < l .row + n → passes s k ≡ true) × (passes s (l .row + n) ≡ false) × (n ≤ 3)
+counted c =
+    let s = c .before .before .before .before in
+    let a = s .args in
+    let l = c .before .before .before .loop in
+    let u = toZ w64 (ofZ w64 (a .u)) in
+    let x : l .place + a .w ≡ (l .row + 1) * a .w + (a .p - a .at * a .w) = omega (arith, l .inv .2) in
+    let y : l .place + a .w + a .w ≡ (l .row + 2) * a .w + (a .p - a .at * a .w) = omega (arith, l .inv .2) in
+    three-counted (passes s) (l .row) (λ i k h g t. down s i k (omega (arith, h, l .inv .0)) g (omega (arith, t, c .before .before .loop-test .taken, s .pre .1)))
+    (told (c .before) false (not-true _ (c .if1 .taken)))
+    (ltZ (getD (now (a .rv)) (l .place) (pos 0)) u) (ltZ (getD (now (a .rv)) (l .place + a .w) (pos 0)) u) (ltZ (getD (now (a .rv)) (l .place + a .w + a .w) (pos 0)) u)
+    (rw (l .inv .2)) (rw x) (rw y)
+
+-- what the first count says
+moved : (c : tie.After-three Inv-loop μ-loop) →
+    let s = c .before .before .before .before .before in
+    let l = c .before .before .before .before .loop in
+    ((k : ℕ) → l .row ≤ k → k < l .row + c .three .result → passes s k ≡ true) × (passes s (l .row + c .three .result) ≡ false) × (c .three .result ≤ 3)
+moved c = rw (← c .three .ensures) at (counted (c .before))
+
+-- the second count is the first one, in words
+scaled : (c : tie.After-three2 Inv-loop μ-loop) → c .three2 .result ≡ c .before .three .result * c .before .before .before .before .before .before .args .w
+scaled c =
+    let a = c .before .before .before .before .before .before .args in
+    let l = c .before .before .before .before .before .loop in
+    let u = toZ w64 (ofZ w64 (a .u)) in
+    let g = gains-scaled (a .w) (ltZ (getD (now (a .rv)) (l .place) (pos 0)) u) (ltZ (getD (now (a .rv)) (l .place + a .w) (pos 0)) u) (ltZ (getD (now (a .rv)) (l .place + a .w + a .w) (pos 0)) u) in
+    c .three2 .ensures ∙ g ∙ rw (c .before .three .ensures)
+
+loop-holds : tie.Need-loop-holds Inv-loop μ-loop
+loop-holds c = (omega arith, c .pre .0 .within, omega (arith, c .pre .0 .start), λ k l h. absurd (omega (arith, l, h)))
+
+add-loop : tie.Need-add-loop Inv-loop μ-loop
+add-loop c =
+    omega (arith, fits-end (c .before), c .loop .inv .1)
+
+add-last : tie.Need-add-last Inv-loop μ-loop
+add-last c = let r = room c in omega (arith, c .before .before .pre .0, c .before .loop .inv .2)
+
+add-last-2 : tie.Need-add-last-2 Inv-loop μ-loop
+add-last-2 c = let r = room c in omega (arith, c .before .before .pre .0, c .before .loop .inv .2)
+
+add-last-3 : tie.Need-add-last-3 Inv-loop μ-loop
+add-last-3 c = let r = room c in omega (arith, c .before .before .pre .0, c .before .loop .inv .2)
+
+mul-if1 : tie.Need-mul-if1 Inv-loop μ-loop
+mul-if1 c = let r = room c in omega (arith, c .before .before .pre .0, c .before .loop .inv .2)
+
+shared-slice-copy-out-if1 : tie.Need-shared-slice-copy-out-if1 Inv-loop μ-loop
+shared-slice-copy-out-if1 c = let r = room c in omega (arith, c .before .before .pre .0, c .before .loop .inv .2)
+
+three-requires : tie.Need-three-requires Inv-loop μ-loop
+three-requires c κs =
+    let i = c .before .before in
+    let r = room i in
+    let p = i .before .before .pre .0 in
+    (omega (arith, p, i .before .loop .inv .2), omega (arith, p))
+
+add-t18 : tie.Need-add-t18 Inv-loop μ-loop
+add-t18 c =
+    let i = c .before .before .before in
+    omega (arith, moved c .2, fits-end (i .before .before), i .loop-test .taken, i .before .before .pre .1)
+
+three-requires-2 : tie.Need-three-requires-2 Inv-loop μ-loop
+three-requires-2 c κs =
+    let i = c .before .before .before in
+    let r = room i in
+    let p = i .before .before .pre .0 in
+    (omega (arith, p, i .before .loop .inv .2), omega arith)
+
+add-t20 : tie.Need-add-t20 Inv-loop μ-loop
+add-t20 c =
+    let i = c .before .before .before .before in
+    let a = i .before .before .args in
+    let m = mul-le-mul-right {m = c .before .three .result} {n = 3} (a .w) (moved (c .before) .2) in
+    let r = room i in
+    omega (arith, m, scaled c, i .before .before .pre .0, i .before .loop .inv .2)
+
+returns : tie.Need-returns Inv-loop μ-loop
+returns c =
+    let i = c .before .before .before .before in
+    let s = i .before .before in
+    let a = s .args in
+    let l = i .before .loop in
+    let n = c .before .three .result in
+    let v = toZ-ofZ (s .fits .u) in
+    let m = moved (c .before) in
+    let e : (l .row + n) * a .w ≡ l .row * a .w + n * a .w = omega arith in
+    record {
+      upward = omega (arith, l .inv .0);
+      within = omega (arith, m .2, i .loop-test .taken, s .pre .1);
+      place = omega (arith, e, scaled c, l .inv .2);
+      before = λ k g h. rw v at (by k g h (decLt k (l .row)));
+      stop = λ h. rw v at (m .1);
+    }
+  where
+    by : let s = c .before .before .before .before .before .before in
+        let l = c .before .before .before .before .before .loop in
+        (k : ℕ) → s .args .at ≤ k → k < l .row + c .before .three .result → Dec (k < l .row) → passes s k ≡ true
+    by k g h (yes e) = c .before .before .before .before .before .loop .inv .3 k g e
+    by k g h (no e) = moved (c .before) .0 k (omega (arith, e)) h
+
+add-row : tie.Need-add-row Inv-loop μ-loop
+add-row c =
+    let i = c .before .before in
+    omega (arith, fits-end (i .before .before), i .loop-test .taken, i .before .before .pre .1)
+
+add-place : tie.Need-add-place Inv-loop μ-loop
+add-place c = let i = c .before .before in let r = room i in omega (arith, i .before .before .pre .0, i .before .loop .inv .2)
+
+loop-less : tie.Need-loop-less Inv-loop μ-loop
+loop-less c = let i = c .before .before in omega (arith, i .loop-test .taken, i .before .before .pre .1)
+
+loop-again : tie.Need-loop-again Inv-loop μ-loop
+loop-again c =
+    let i = c .before .before in
+    let s = i .before .before in
+    let a = s .args in
+    let l = i .before .loop in
+    let e : (l .row + 4) * a .w ≡ l .row * a .w + a .w + a .w + a .w + a .w = omega arith in
+    (omega (arith, l .inv .0), omega (arith, i .loop-test .taken, s .pre .1), omega (arith, e, l .inv .2), λ k g h. by k g h (decLt k (l .row)))
+  where
+    by : let s = c .before .before .before .before in
+        let l = c .before .before .before .loop in
+        (k : ℕ) → s .args .at ≤ k → k < l .row + 4 → Dec (k < l .row) → passes s k ≡ true
+    by k g h (yes e) = c .before .before .before .loop .inv .3 k g e
+    by k g h (no e) =
+        let i = c .before .before in
+        let l = i .before .loop in
+        down (i .before .before) k (l .row + 3) g (omega (arith, h)) (omega (arith, i .loop-test .taken, i .before .before .pre .1)) (told (c .before) true (not-false _ (c .if1 .left)))
+
+rest-requires : tie.Need-rest-requires Inv-loop μ-loop
+rest-requires c κs =
+    let s = c .before .before in
+    let l = c .before .loop in
+    record { within = l .inv .1; values = s .pre .0 .values; start = omega (arith, l .inv .2); wide = omega (arith, l .inv .2, s .pre .0) }
+
+returns-2 : tie.Need-returns-2 Inv-loop μ-loop
+returns-2 c =
+    let s = c .before .before .before in
+    let a = s .args in
+    let l = c .before .before .loop in
+    let e : l .place - l .row * a .w ≡ a .p - a .at * a .w = omega (arith, l .inv .2) in
+    let r = rw (e, toZ-ofZ (s .fits .u)) at (c .rest .ensures) in
+    record {
+      upward = omega (arith, l .inv .0, r .upward);
+      within = r .within;
+      place = r .place;
+      before = λ k g h. by k g h (decLt k (l .row));
+      stop = λ h. sym (below-strict (a .u) (valueAt (a .w) (a .p - a .at * a .w) (now (a .rv)) (c .rest .result .row))) ∙ r .stop h;
+    }
+  where
+    by : let s = c .before .before .before in
+        let a = s .args in
+        (k : ℕ) → a .at ≤ k → k < c .rest .result .row → Dec (k < c .before .before .loop .row) → ltZ (valueAt (a .w) (a .p - a .at * a .w) (now (a .rv)) k) (a .u) ≡ true
+    by k g h (yes d) = let s = c .before .before .before in rw (toZ-ofZ (s .fits .u)) at (c .before .before .loop .inv .3 k g d)
+    by k g h (no d) =
+        let s = c .before .before .before in
+        let a = s .args in
+        let l = c .before .before .loop in
+        let e : l .place - l .row * a .w ≡ a .p - a .at * a .w = omega (arith, l .inv .2) in
+        let r = rw (e, toZ-ofZ (s .fits .u)) at (c .rest .ensures) in
+        sym (below-strict (a .u) (valueAt (a .w) (a .p - a .at * a .w) (now (a .rv)) k)) ∙ r .before k (omega (arith, d)) h
+
+pub skip-spec : {M : Type 1} → statement M
+skip-spec =
+    tie.close
+    (tie.spec
+    Inv-loop
+    μ-loop
+    loop-holds
+    add-loop
+    add-last
+    add-last-2
+    add-last-3
+    mul-if1
+    shared-slice-copy-out-if1
+    three-requires
+    add-t18
+    three-requires-2
+    add-t20
+    returns
+    add-row
+    add-place
+    loop-less
+    loop-again
+    rest-requires
+    returns-2)

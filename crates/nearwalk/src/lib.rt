@@ -1,0 +1,46 @@
+// Matching a sorted left run over a sorted right run, where every row has a key: one cursor each, which only moves forward. Nearest.
+use advance::approach;
+use choices::near_row;
+use choices::put;
+use options::Terms;
+ghost use mathlib.Core.Path.{_≡_};
+ghost use Prim.Native.Nat.{_<_};
+ghost use Rattle.options.specs.Options.{withoutList, strategyOf};
+ghost use Rattle.options.specs.declared.Strategy.the-variants.{Nearest};
+ghost use Rattle.walk.specs.Keyed.{KeysRoom, Walked};
+
+// Left rows from..to, each matched to the nearest right row of at..end, of which there is one: the one at which the cursor rests. Where the cursor has come to.
+pub fn nearest(
+    lv: &[i64],
+    m: usize,
+    wl: usize,
+    from: usize,
+    to: usize,
+    rv: &[i64],
+    wr: usize,
+    at: usize,
+    end: usize,
+    number: usize,
+    o: Terms,
+    out: &mut [i64],
+) -> usize
+    requires { ⌜ KeysRoom (withoutList o) wl m (now lv) from to wr (now rv) at end number (now out) × (strategyOf (withoutList o) ≡ Nearest) × (at < end) ⌝ }
+    ensures { λ r. ⌜ Walked (withoutList o) wl m (now (lv .entry)) from to wr (now (rv .entry)) at end number (now (out .entry)) r (now (out .exit)) ⌝ }
+{
+    let by = o.by;
+    let mut row = at;
+    let mut place = at * wr + by;
+    let mut i = from;
+    let mut p = from * wl + by;
+    while i < to {
+        let v = lv[p];
+        let c = approach(rv, row, place, end, wr, v);
+        row = c.row;
+        place = c.place;
+        let choice = near_row(rv, place, v, o.tolerance, number + row);
+        put(out, m, i, choice);
+        i += 1;
+        p += wl;
+    }
+    row
+}
