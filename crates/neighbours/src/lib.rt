@@ -3,6 +3,7 @@ use compare::cmp_row;
 use keyed::null_at;
 use options::Terms;
 use order::Order;
+use stretch::same_words;
 ghost use mathlib.Core.Path.{_≡_};
 ghost use mathlib.Core.Bool.{true};
 ghost use mathlib.Core.List.{List};
@@ -13,34 +14,12 @@ ghost use Rattle.order.specs.Order.{cmpCell, cmpGroup, cmpRow, isGreater, sorte
 ghost use Rattle.order.specs.Requires.{cellAt, CellIn, RowAt, RowsIn};
 ghost use Rattle.order.specs.declared.Order.the-variants.{Equal};
 
-// Whether the cells at a and b have the same words: then they are the same cell.
-fn same_value(values: &[i64], marks: &[i64], a: usize, b: usize) -> bool
-    requires { ⌜ CellIn a (now values) (now marks) × CellIn b (now values) (now marks) ⌝ }
-    ensures { λ r. ⌜ (r ≡ true → cellAt a (now (values .entry)) (now (marks .entry)) ≡ cellAt b (now (values .entry)) (now (marks .entry))) ⌝ }
-{
-    if values[a] != values[b] {
-        return false;
-    }
-    if marks[a] != marks[b] {
-        return false;
-    }
-    true
-}
-
 // Whether the by-values of the rows at p and q have the same words: then they are of one run, by whatever list. Most rows are told so.
 pub fn same_values(values: &[i64], marks: &[i64], p: usize, q: usize, o: Terms) -> bool
     requires { ⌜ RowAt (withoutList o) p (now values) (now marks) × RowAt (withoutList o) q (now values) (now marks) ⌝ }
     ensures { λ r. ⌜ (r ≡ true → (codes : Words) (rising : List ℕ) (w : ℕ) → o .by < w → cmpGroup (withList o codes rising) (rowFrom w p (now (values .entry)) (now (marks .entry))) (rowFrom w q (now (values .entry)) (now (marks .entry))) ≡ Equal) ⌝ }
 {
-    let by = o.by;
-    let mut j = 0;
-    while j < by {
-        if !same_value(values, marks, p + j, q + j) {
-            return false;
-        }
-        j += 1;
-    }
-    true
+    same_words(values, marks, p, q, o.by)
 }
 
 // Whether the key at p is greater than the one at q: keys ascend, nulls first.
