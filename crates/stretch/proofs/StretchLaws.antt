@@ -105,6 +105,14 @@ same-more by w n vs ms i e p s h q f = record { start = omega (arith, s .start);
         rw b (f j z)
     pair k g l j z (no y) = s .same k g (omega arith) j z
 
+-- With one by-column its cell is all.
+pub first-same : (p q : ℕ) (vs ms : Words) → cellAt p vs ms ≡ cellAt q vs ms → (j : ℕ) → j < 1 → cellAt (p + j) vs ms ≡ cellAt (q + j) vs ms
+first-same p q vs ms e j h =
+    let z : j ≡ 0 = omega arith in
+    let a : p + 0 ≡ p = omega arith in
+    let b : q + 0 ≡ q = omega arith in
+    rw (z, a, b) e
+
 pub same-none : (w n : ℕ) (vs ms : Words) (i : ℕ) → i < n → SameTo 0 w n vs ms i n
 same-none w n vs ms i h = record { start = h; within = omega arith; same = λ k g l j z. absurd (omega (arith, z)) }
 
