@@ -32,15 +32,15 @@ pub fn key_falls(values: &[i64], marks: &[i64], p: usize, q: usize) -> bool
     false
 }
 
-// Whether there is a key at q, and its value is not below the one at p: then the key at p, or the null, is not greater.
-fn key_rises(values: &[i64], marks: &[i64], p: usize, q: usize) -> bool
-    requires { ⌜ CellIn p (now values) (now marks) × CellIn q (now values) (now marks) ⌝ }
-    ensures { λ r. ⌜ (r ≡ true → keyFalls p q (now (values .entry)) (now (marks .entry)) ≡ false) ⌝ }
+// Whether there is a key at `next`, and its value is not below the one at `at`: then the key at `at`, or the null, is not greater.
+fn key_rises(values: &[i64], marks: &[i64], at: usize, next: usize) -> bool
+    requires { ⌜ CellIn at (now values) (now marks) × CellIn next (now values) (now marks) ⌝ }
+    ensures { λ r. ⌜ (r ≡ true → keyFalls at next (now (values .entry)) (now (marks .entry)) ≡ false) ⌝ }
 {
-    if null_at(marks, q) {
+    if null_at(marks, next) {
         return false;
     }
-    if values[q] < values[p] {
+    if values[next] < values[at] {
         return false;
     }
     true
@@ -105,15 +105,15 @@ pub fn keys_sorted(values: &[i64], marks: &[i64], n: usize, w: usize) -> bool
     true
 }
 
-// Whether the mark at q is m, as at p, and the value at q is not below the one at p: then the key at p is not greater. Both may be null.
-fn key_follows(values: &[i64], marks: &[i64], p: usize, q: usize, m: i64) -> bool
-    requires { ⌜ CellIn p (now values) (now marks) × CellIn q (now values) (now marks) × (getD (now marks) p (pos 0) ≡ m) ⌝ }
-    ensures { λ r. ⌜ (r ≡ true → (keyFalls p q (now (values .entry)) (now (marks .entry)) ≡ false) × (getD (now (marks .entry)) q (pos 0) ≡ m)) ⌝ }
+// Whether the mark at `next` is m, as at `at`, and the value there is not below the one at `at`: then the key at `at` is not greater. Both may be null.
+fn key_follows(values: &[i64], marks: &[i64], at: usize, next: usize, m: i64) -> bool
+    requires { ⌜ CellIn at (now values) (now marks) × CellIn next (now values) (now marks) × (getD (now marks) at (pos 0) ≡ m) ⌝ }
+    ensures { λ r. ⌜ (r ≡ true → (keyFalls at next (now (values .entry)) (now (marks .entry)) ≡ false) × (getD (now (marks .entry)) next (pos 0) ≡ m)) ⌝ }
 {
-    if marks[q] != m {
+    if marks[next] != m {
         return false;
     }
-    if values[q] < values[p] {
+    if values[next] < values[at] {
         return false;
     }
     true

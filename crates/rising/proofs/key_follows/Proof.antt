@@ -43,9 +43,9 @@ returns-3 c = λ e.
     let a = s .args in
     let vs = now (a .values) in
     let ms = now (a .marks) in
-    let t = lt-flag {a = getD vs (a .q) (pos 0)} {b = getD vs (a .p) (pos 0)} (record { sfits = c .before .before .if22 .given }) (record { sfits = c .before .if23 .given }) (c .if2 .left) in
-    let m = sym (back (getD ms (a .q) (pos 0)) (c .before .before .before .before .if12 .given)) ∙ ap (toZ w64) (c .before .before .before .if1 .left) ∙ toZ-ofZ (s .fits .m) in
-    (key-follow (getD vs (a .p) (pos 0)) (getD vs (a .q) (pos 0)) (getD ms (a .p) (pos 0)) (getD ms (a .q) (pos 0)) (m ∙ sym (s .pre .2)) t, m)
+    let t = lt-flag {a = getD vs (a .next) (pos 0)} {b = getD vs (a .at) (pos 0)} (record { sfits = c .before .before .if22 .given }) (record { sfits = c .before .if23 .given }) (c .if2 .left) in
+    let m = sym (back (getD ms (a .next) (pos 0)) (c .before .before .before .before .if12 .given)) ∙ ap (toZ w64) (c .before .before .before .if1 .left) ∙ toZ-ofZ (s .fits .m) in
+    (key-follow (getD vs (a .at) (pos 0)) (getD vs (a .next) (pos 0)) (getD ms (a .at) (pos 0)) (getD ms (a .next) (pos 0)) (m ∙ sym (s .pre .2)) t, m)
 
 pub key-follows-spec : {M : Type 1} → statement M
 key-follows-spec =

@@ -36,8 +36,8 @@ returns-3 c = λ e.
     let a = s .args in
     let vs = now (a .values) in
     let ms = now (a .marks) in
-    let t = lt-flag {a = getD vs (a .q) (pos 0)} {b = getD vs (a .p) (pos 0)} (record { sfits = c .before .before .if22 .given }) (record { sfits = c .before .if23 .given }) (c .if2 .left) in
-    key-rise (getD vs (a .p) (pos 0)) (getD ms (a .p) (pos 0)) (getD vs (a .q) (pos 0)) (getD ms (a .q) (pos 0)) (sym (c .before .before .before .before .null-at .ensures vs) ∙ c .before .before .before .if1 .left) t
+    let t = lt-flag {a = getD vs (a .next) (pos 0)} {b = getD vs (a .at) (pos 0)} (record { sfits = c .before .before .if22 .given }) (record { sfits = c .before .if23 .given }) (c .if2 .left) in
+    key-rise (getD vs (a .at) (pos 0)) (getD ms (a .at) (pos 0)) (getD vs (a .next) (pos 0)) (getD ms (a .next) (pos 0)) (sym (c .before .before .before .before .null-at .ensures vs) ∙ c .before .before .before .if1 .left) t
 
 pub key-rises-spec : {M : Type 1} → statement M
 key-rises-spec =
