@@ -13,10 +13,10 @@ use Rattle.order.specs.Requires.{cellAt}
 use Rattle.order.proofs.RowLaws.{row-room}
 use Rattle.stretch.specs.Stretch.{SameTo}
 use Rattle.stretch.proofs.StretchLaws.{same-cell, same-first, same-more, first-same}
 use Rattle.rising.specs.Rising.{Rises}
 use Rattle.rising.proofs.RiseLaws.{rises-first, rises-more}
-use Rattle.rising.proofs.one_rise.Statement.{statement}
-use Rattle.rising.proofs.one_rise.Tie as tie
+use Rattle.stretchkeys.proofs.one_rise.Statement.{statement}
+use Rattle.stretchkeys.proofs.one_rise.Tie as tie
 
 abbrev Inv-loop : tie.InvT-loop
 Inv-loop values marks n w i left₀ p₀ v m k left p =

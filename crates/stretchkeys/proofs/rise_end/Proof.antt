@@ -1,6 +1,6 @@
 use borrow.Author.Needs.{needs}
-use Rattle.rising.proofs.rise_end.Statement.{statement}
-use Rattle.rising.proofs.rise_end.Tie as tie
+use Rattle.stretchkeys.proofs.rise_end.Statement.{statement}
+use Rattle.stretchkeys.proofs.rise_end.Tie as tie
 
 one-rise-requires : tie.Need-one-rise-requires
 one-rise-requires c κs = search needs

@@ -8,10 +8,10 @@ use mir.Val.{toZ}
 use mir.Facts.{toZ-ofZ}
 use Rattle.frames.proofs.Signed.{back, lt-flag}
 use Rattle.matching.proofs.MayLaws.{never}
 use Rattle.rising.proofs.RiseLaws.{key-follow}
 use borrow.Author.Needs.{needs}
-use Rattle.rising.proofs.key_follows.Statement.{statement}
-use Rattle.rising.proofs.key_follows.Tie as tie
+use Rattle.stretchkeys.proofs.key_follows.Statement.{statement}
+use Rattle.stretchkeys.proofs.key_follows.Tie as tie
 
 mul-if1 : tie.Need-mul-if1
 mul-if1 c = search needs

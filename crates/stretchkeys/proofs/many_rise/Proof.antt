@@ -6,10 +6,10 @@ use denote.Ref.{now}
 use Rattle.order.proofs.RowLaws.{row-room}
 use Rattle.stretch.specs.Stretch.{SameTo}
 use Rattle.stretch.proofs.StretchLaws.{same-first, same-more}
 use Rattle.rising.specs.Rising.{Rises}
 use Rattle.rising.proofs.RiseLaws.{rises-first, rises-more}
-use Rattle.rising.proofs.many_rise.Statement.{statement}
-use Rattle.rising.proofs.many_rise.Tie as tie
+use Rattle.stretchkeys.proofs.many_rise.Statement.{statement}
+use Rattle.stretchkeys.proofs.many_rise.Tie as tie
 
 abbrev Inv-loop : tie.InvT-loop
 Inv-loop values marks n w i by left₀ p₀ left p = (i + left < n) × (p + w ≡ (n - left) * w) × SameTo by w n values marks i (n - left) × Rises by w values marks i (n - left)
