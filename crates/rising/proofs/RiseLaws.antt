@@ -1,19 +1,19 @@
 -- Rows whose keys do not fall: two keys, one row more, and what they say of sorted rows. Assumes nothing.
-use mathlib.Core.Path.{_≡_, refl, sym, ap, _∙_}
-use mathlib.Core.Bool.{Bool, true, false, not, _&&_}
+use mathlib.Core.Path.{_≡_, refl, ap, _∙_}
+use mathlib.Core.Bool.{Bool, true, false, not}
 use Prim.Native.Nat.{ℕ, zero, suc, _+_, _-_, _*_, _≤_, _<_}
 use native.Mathlib.Omega.{arith}
 use native.Mathlib.Decide.{ℕ-discrete}
 use lib.IntN.{ℤ}
 use lib.ListN.{length}
 use lib.Signed.{ltZ}
-use Rattle.frames.specs.Cells.{Cell, Words, cellOf, isNull, isZero, rowFrom, rowsOf}
+use Rattle.frames.specs.Cells.{Words, cellOf, isNull, isZero, rowFrom, rowsOf}
 use Rattle.options.specs.Options.{keyRule}
 use Rattle.options.specs.declared.Options.{Options}
 use Rattle.order.specs.Order.{cmpCell, cmpGroup, cmpRow, isGreater, sorted}
 use Rattle.order.specs.Requires.{cellAt}
 use Rattle.order.specs.declared.Order.the-variants.{Equal}
-use Rattle.order.proofs.RowLaws.{row-cell, row-room, null-mark, rest, rest-all, sorted-more, sorted-few}
+use Rattle.order.proofs.RowLaws.{row-cell, row-room, null-mark, rest, rest-all, sorted-more}
 use Rattle.matching.proofs.ScanLaws.{falls-not}
 use Rattle.stretch.specs.Stretch.{SameTo}
 use Rattle.stretch.proofs.StretchLaws.{same-group}

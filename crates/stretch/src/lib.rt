@@ -2,7 +2,6 @@
 ghost use mathlib.Core.Path.{_≡_};
 ghost use mathlib.Core.Bool.{true};
 ghost use Prim.Native.Nat.{ℕ, _+_, _*_, _<_};
-ghost use lib.ListN.{length};
 ghost use Rattle.frames.specs.Cells.{cellOf};
 ghost use Rattle.order.specs.Requires.{cellAt, CellIn};
 ghost use Rattle.stretch.specs.Stretch.{CellsIn, RowsTo, Have, SameTo};
