@@ -26,7 +26,7 @@ fn key_follows(values: &[i64], marks: &[i64], at: usize, next: usize, m: i64) ->
 }
 
 // With one by-column: how many rows are left behind those that go on so. The words of row i's by-value and the mark of its key are kept, and
-// each row behind it is compared with them.
+// each row behind it is compared with them, two rows in a turn of the loop. A last row that has no second is left.
 fn one_rise(values: &[i64], marks: &[i64], n: usize, w: usize, i: usize) -> usize
     requires { ⌜ RowsTo 2 w n (now values) (now marks) i × (i < n) ⌝ }
     ensures { λ r. ⌜ (r ≤ n) × SameTo 1 w n (now (values .entry)) (now (marks .entry)) i (n - r) × Rises 1 w (now (values .entry)) (now (marks .entry)) i (n - r) ⌝ }
@@ -36,7 +36,7 @@ fn one_rise(values: &[i64], marks: &[i64], n: usize, w: usize, i: usize) -> usiz
     let v = values[p];
     let m = marks[p];
     let k = marks[p + 1];
-    while 0 < left {
+    while 1 < left {
         let q = p + w;
         if !has_words(values, marks, q, v, m) {
             return left;
@@ -44,8 +44,15 @@ fn one_rise(values: &[i64], marks: &[i64], n: usize, w: usize, i: usize) -> usiz
         if !key_follows(values, marks, p + 1, q + 1, k) {
             return left;
         }
-        p = q;
-        left -= 1;
+        let r = q + w;
+        if !has_words(values, marks, r, v, m) {
+            return left - 1;
+        }
+        if !key_follows(values, marks, q + 1, r + 1, k) {
+            return left - 1;
+        }
+        p = r;
+        left -= 2;
     }
     left
 }

@@ -1,30 +1,45 @@
-use mathlib.Core.Path.{_≡_, sym, _∙_}
-use Prim.Native.Nat.{_+_, _-_, _*_, _<_}
+use mathlib.Core.Path.{_≡_, sym}
+use Prim.Native.Nat.{_+_, _-_, _*_, _≤_, _<_}
 use native.Mathlib.Omega.{arith}
 use borrow.Author.Tests.{not-false}
 use denote.Ref.{now}
 use lib.IntN.{pos}
 use lib.ListN.{getD}
 use mir.Syntax.{w64}
-use mir.Val.{toZ}
+use mir.Val.{toZ, ofZ}
 use Rattle.frames.specs.Cells.{cellOf}
 use Rattle.frames.proofs.Signed.{back}
-use Rattle.order.specs.Requires.{cellAt}
 use Rattle.order.proofs.RowLaws.{row-room}
-use Rattle.stretch.specs.Stretch.{SameTo}
-use Rattle.stretch.proofs.StretchLaws.{same-cell, same-first, same-more, first-same}
-use Rattle.rising.specs.Rising.{Rises}
-use Rattle.rising.proofs.RiseLaws.{rises-first, rises-more}
+use Rattle.stretch.proofs.StretchLaws.{same-cell}
+use Rattle.stretchkeys.proofs.GoLaws.{Goes, goes-first, goes-on, goes-room}
 use Rattle.stretchkeys.proofs.one_rise.Statement.{statement}
 use Rattle.stretchkeys.proofs.one_rise.Tie as tie
 
 abbrev Inv-loop : tie.InvT-loop
-Inv-loop values marks n w i left₀ p₀ v m k left p =
-    (i + left < n) × (p + w ≡ (n - left) * w) × SameTo 1 w n values marks i (n - left) × Rises 1 w values marks i (n - left)
-    × (cellAt p values marks ≡ cellOf (toZ w64 v) (toZ w64 m)) × (getD marks (p + 1) (pos 0) ≡ toZ w64 k)
+Inv-loop values marks n w i left₀ p₀ v m k left p = Goes w n values marks i (cellOf (toZ w64 v) (toZ w64 m)) (toZ w64 k) left p
 
 abbrev μ-loop : tie.MeasureT-loop
 μ-loop values marks n w i left₀ p₀ v m k left p = left
+
+-- two rows more end within the rows
+room : (c : tie.In-loop Inv-loop μ-loop) → let l = c .before .loop in let a = c .before .before .before .before .before .args in l .p + a .w + a .w + a .w ≤ a .n * a .w
+room c =
+    let l = c .before .loop in
+    let a = c .before .before .before .before .before .args in
+    goes-room (a .w) (a .n) (now (a .values)) (now (a .marks)) (a .i) _ _ (l .left) (l .p) (l .inv) (c .loop-test .taken)
+
+-- the first of them goes on
+next : (c : tie.Else2 Inv-loop μ-loop) → let l = c .before .before .before .before .before .loop in let s = c .before .before .before .before .before .before in let a = s .before .before .before .args in
+    Goes (a .w) (a .n) (now (a .values)) (now (a .marks)) (a .i) (cellOf (toZ w64 (ofZ w64 (getD (now (a .values)) (a .i * a .w) (pos 0)))) (toZ w64 (ofZ w64 (getD (now (a .marks)) (a .i * a .w) (pos 0))))) (toZ w64 (ofZ w64 (getD (now (a .marks)) (a .i * a .w + 1) (pos 0)))) (l .left - 1) (l .p + a .w)
+next c =
+    let l = c .before .before .before .before .before .loop in
+    let a = c .before .before .before .before .before .before .before .before .before .args in
+    let t = c .before .before .before .before .loop-test .taken in
+    let h = c .before .before .before in
+    let f = c .before in
+    goes-on (a .w) (a .n) (now (a .values)) (now (a .marks)) (a .i) _ _ (l .left) (l .p) (l .inv) (omega arith)
+    (h .has-words .ensures (not-false (h .has-words .result) (c .before .before .if1 .left)))
+    (f .key-follows .ensures (not-false (f .key-follows .result) (c .if2 .left)))
 
 sub-left : tie.Need-sub-left Inv-loop μ-loop
 sub-left c = omega (arith, c .pre .1)
@@ -60,94 +75,93 @@ loop-holds : tie.Need-loop-holds Inv-loop μ-loop
 loop-holds c =
     let s = c .before .before .before in
     let a = s .args in
-    let h = s .pre .1 in
     let vs = now (a .values) in
     let ms = now (a .marks) in
-    let z : a .n - (a .n - a .i - 1) ≡ a .i + 1 = omega arith in (
-      omega arith,
-      rw z (omega arith),
-      rw z (same-first 1 (a .w) (a .n) vs ms (a .i) h),
-      rw z (rises-first 1 (a .w) vs ms (a .i)),
-      same-cell (sym (back (getD vs (a .i * a .w) (pos 0)) (c .before .before .v .given))) (sym (back (getD ms (a .i * a .w) (pos 0)) (c .before .m .given))),
-      sym (back (getD ms (a .i * a .w + 1) (pos 0)) (c .k .given)),
-    )
+    goes-first (a .w) (a .n) vs ms (a .i) _ _ (s .pre .1)
+    (same-cell (sym (back (getD vs (a .i * a .w) (pos 0)) (c .before .before .v .given))) (sym (back (getD ms (a .i * a .w) (pos 0)) (c .before .m .given))))
+    (sym (back (getD ms (a .i * a .w + 1) (pos 0)) (c .k .given)))
 
 add-q : tie.Need-add-q Inv-loop μ-loop
 add-q c =
-    let l = c .before .loop in
-    let s = c .before .before .before .before .before in
-    let t = c .loop-test .taken in
-    let r = row-room (s .args .n - l .left) (s .args .n) (s .args .w) (omega (arith, l .inv .0, t)) in
-    let p = s .pre .0 in
-    omega arith
+    let i = c in let s = i .before .before .before .before .before in let r = room i in let p = s .pre .0 in omega arith
 
 has-words-requires : tie.Need-has-words-requires Inv-loop μ-loop
 has-words-requires c κs =
-    let l = c .before .loop in
-    let s = c .before .before .before .before .before in
-    let t = c .loop-test .taken in
-    let r = row-room (s .args .n - l .left) (s .args .n) (s .args .w) (omega (arith, l .inv .0, t)) in
-    let p = s .pre .0 in
-    record { values = omega arith; marks = omega arith }
+    let i = c in let s = i .before .before .before .before .before in let r = room i in let p = s .pre .0 in record { values = omega arith; marks = omega arith }
 
 returns : tie.Need-returns Inv-loop μ-loop
-returns c = let l = c .before .before .before .loop in let h = l .inv .0 in (omega arith, l .inv .2, l .inv .3)
+returns c = let g = c .before .before .before .loop .inv in let h = g .0 in (omega arith, g .2, g .3)
 
 add-key-follows : tie.Need-add-key-follows Inv-loop μ-loop
 add-key-follows c =
-    let l = c .before .before .before .loop in
-    let s = c .before .before .before .before .before .before .before in
-    let t = c .before .before .loop-test .taken in
-    let r = row-room (s .args .n - l .left) (s .args .n) (s .args .w) (omega (arith, l .inv .0, t)) in
-    let p = s .pre .0 in
-    omega arith
+    let i = c .before .before in let s = i .before .before .before .before .before in let r = room i in let p = s .pre .0 in omega arith
 
 add-key-follows-2 : tie.Need-add-key-follows-2 Inv-loop μ-loop
 add-key-follows-2 c =
-    let l = c .before .before .before .loop in
-    let s = c .before .before .before .before .before .before .before in
-    let t = c .before .before .loop-test .taken in
-    let r = row-room (s .args .n - l .left) (s .args .n) (s .args .w) (omega (arith, l .inv .0, t)) in
-    let p = s .pre .0 in
-    omega arith
+    let i = c .before .before in let s = i .before .before .before .before .before in let r = room i in let p = s .pre .0 in omega arith
 
 key-follows-requires : tie.Need-key-follows-requires Inv-loop μ-loop
 key-follows-requires c κs =
-    let l = c .before .before .before .loop in
-    let s = c .before .before .before .before .before .before .before in
-    let t = c .before .before .loop-test .taken in
-    let r = row-room (s .args .n - l .left) (s .args .n) (s .args .w) (omega (arith, l .inv .0, t)) in
-    let p = s .pre .0 in
-    (record { values = omega arith; marks = omega arith }, record { values = omega arith; marks = omega arith }, l .inv .5)
+    let i = c .before .before in let s = i .before .before .before .before .before in let r = room i in let p = s .pre .0 in
+    (record { values = omega arith; marks = omega arith }, record { values = omega arith; marks = omega arith }, i .before .loop .inv .5)
 
 returns-2 : tie.Need-returns-2 Inv-loop μ-loop
-returns-2 c = let l = c .before .before .before .before .before .loop in let h = l .inv .0 in (omega arith, l .inv .2, l .inv .3)
+returns-2 c = let g = c .before .before .before .before .before .loop .inv in let h = g .0 in (omega arith, g .2, g .3)
+
+add-r : tie.Need-add-r Inv-loop μ-loop
+add-r c =
+    let i = c .before .before .before .before in let s = i .before .before .before .before .before in let r = room i in let p = s .pre .0 in omega arith
+
+has-words-requires-2 : tie.Need-has-words-requires-2 Inv-loop μ-loop
+has-words-requires-2 c κs =
+    let i = c .before .before .before .before in let s = i .before .before .before .before .before in let r = room i in let p = s .pre .0 in record { values = omega arith; marks = omega arith }
+
+sub-result : tie.Need-sub-result Inv-loop μ-loop
+sub-result c = let t = c .before .before .before .before .before .before .loop-test .taken in omega arith
+
+returns-3 : tie.Need-returns-3 Inv-loop μ-loop
+returns-3 c = let g = next (c .before .before) in let h = g .0 in (omega arith, g .2, g .3)
+
+add-key-follows-3 : tie.Need-add-key-follows-3 Inv-loop μ-loop
+add-key-follows-3 c =
+    let i = c .before .before .before .before .before .before in let s = i .before .before .before .before .before in let r = room i in let p = s .pre .0 in omega arith
+
+add-key-follows-4 : tie.Need-add-key-follows-4 Inv-loop μ-loop
+add-key-follows-4 c =
+    let i = c .before .before .before .before .before .before in let s = i .before .before .before .before .before in let r = room i in let p = s .pre .0 in omega arith
+
+key-follows-requires-2 : tie.Need-key-follows-requires-2 Inv-loop μ-loop
+key-follows-requires-2 c κs =
+    let i = c .before .before .before .before .before .before in let s = i .before .before .before .before .before in let r = room i in let p = s .pre .0 in
+    (record { values = omega arith; marks = omega arith }, record { values = omega arith; marks = omega arith }, next (c .before .before) .5)
+
+sub-result-2 : tie.Need-sub-result-2 Inv-loop μ-loop
+sub-result-2 c = let t = c .before .before .before .before .before .before .before .before .loop-test .taken in omega arith
+
+returns-4 : tie.Need-returns-4 Inv-loop μ-loop
+returns-4 c = let g = next (c .before .before .before .before) in let h = g .0 in (omega arith, g .2, g .3)
 
 sub-left-3 : tie.Need-sub-left-3 Inv-loop μ-loop
-sub-left-3 c = omega arith
+sub-left-3 c = let t = c .before .before .before .before .before .before .before .before .loop-test .taken in omega arith
 
 loop-less : tie.Need-loop-less Inv-loop μ-loop
-loop-less c = omega arith
+loop-less c = let t = c .before .before .before .before .before .before .before .before .loop-test .taken in omega arith
 
 loop-again : tie.Need-loop-again Inv-loop μ-loop
 loop-again c =
-    let l = c .before .before .before .before .before .loop in
-    let a = c .before .before .before .before .before .before .before .before .before .args in
-    let t = c .before .before .before .before .loop-test .taken in
-    let h = l .inv .0 in
-    let word = c .before .before .before .has-words .ensures (not-false (c .before .before .before .has-words .result) (c .before .before .if1 .left)) in
-    let key = c .before .key-follows .ensures (not-false (c .before .key-follows .result) (c .if2 .left)) in
-    let z : a .n - (l .left - 1) ≡ a .n - l .left + 1 = omega arith in (
-      omega arith,
-      rw z (omega arith),
-      rw z (same-more 1 (a .w) (a .n) (now (a .values)) (now (a .marks)) (a .i) (a .n - l .left) (l .p) (l .inv .2) (omega arith) (l .inv .1) (first-same (l .p) (l .p + a .w) (now (a .values)) (now (a .marks)) (l .inv .4 ∙ sym word))),
-      rw z (rises-more 1 (a .w) (now (a .values)) (now (a .marks)) (a .i) (a .n - l .left) (l .p) (l .inv .3) (l .inv .1) (key .0)),
-      word,
-      key .1,
-    )
+    let l = c .before .before .before .before .before .before .before .before .before .loop in
+    let a = c .before .before .before .before .before .before .before .before .before .before .before .before .before .args in
+    let t = c .before .before .before .before .before .before .before .before .loop-test .taken in
+    let h = c .before .before .before in
+    let f = c .before in
+    let z : l .left - 2 ≡ l .left - 1 - 1 = omega arith in
+    rw z
+    (goes-on (a .w) (a .n) (now (a .values)) (now (a .marks)) (a .i) _ _ (l .left - 1) (l .p + a .w) (next (c .before .before .before .before)) (omega arith)
+    (h .has-words2 .ensures (not-false (h .has-words2 .result) (c .before .before .if3 .left)))
+    (f .key-follows2 .ensures (not-false (f .key-follows2 .result) (c .if4 .left))))
 
-returns-3 : tie.Need-returns-3 Inv-loop μ-loop
-returns-3 c = let l = c .before .loop in let h = l .inv .0 in (omega arith, l .inv .2, l .inv .3)
+returns-5 : tie.Need-returns-5 Inv-loop μ-loop
+returns-5 c = let g = c .before .loop .inv in let h = g .0 in (omega arith, g .2, g .3)
 
 pub one-rise-spec : {M : Type 1} → statement M
 one-rise-spec =
@@ -173,7 +187,16 @@ one-rise-spec =
     add-key-follows-2
     key-follows-requires
     returns-2
+    add-r
+    has-words-requires-2
+    sub-result
+    returns-3
+    add-key-follows-3
+    add-key-follows-4
+    key-follows-requires-2
+    sub-result-2
+    returns-4
     sub-left-3
     loop-less
     loop-again
-    returns-3)
+    returns-5)
