@@ -7,7 +7,8 @@ ghost use mathlib.Core.Bool.{true, false};
 ghost use Prim.Native.Nat.{_+_, _-_, _≤_, _<_};
 ghost use lib.IntN.{pos};
 ghost use lib.ListN.{getD};
-ghost use Rattle.order.specs.Requires.{CellIn};
+ghost use Rattle.frames.specs.Cells.{cellOf};
+ghost use Rattle.order.specs.Requires.{cellAt, CellIn};
 ghost use Rattle.stretch.specs.Stretch.{RowsTo, SameTo};
 ghost use Rattle.rising.specs.Rising.{keyFalls, Rises};
 
@@ -25,6 +26,17 @@ fn key_follows(values: &[i64], marks: &[i64], at: usize, next: usize, m: i64) ->
     true
 }
 
+// With one by-column: whether the row at q goes on from the one at p. Its by-value has the words v and m, its key the mark k, as at p, and does not fall.
+fn row_follows(values: &[i64], marks: &[i64], p: usize, q: usize, v: i64, m: i64, k: i64) -> bool
+    requires { ⌜ CellIn (p + 1) (now values) (now marks) × CellIn (q + 1) (now values) (now marks) × (getD (now marks) (p + 1) (pos 0) ≡ k) ⌝ }
+    ensures { λ r. ⌜ (r ≡ true → (cellAt q (now (values .entry)) (now (marks .entry)) ≡ cellOf v m) × (keyFalls (p + 1) (q + 1) (now (values .entry)) (now (marks .entry)) ≡ false) × (getD (now (marks .entry)) (q + 1) (pos 0) ≡ k)) ⌝ }
+{
+    if !has_words(values, marks, q, v, m) {
+        return false;
+    }
+    key_follows(values, marks, p + 1, q + 1, k)
+}
+
 // With one by-column: how many rows are left behind those that go on so. The words of row i's by-value and the mark of its key are kept, and
 // each row behind it is compared with them, two rows in a turn of the loop. A last row that has no second is left.
 fn one_rise(values: &[i64], marks: &[i64], n: usize, w: usize, i: usize) -> usize
@@ -38,17 +50,11 @@ fn one_rise(values: &[i64], marks: &[i64], n: usize, w: usize, i: usize) -> usiz
     let k = marks[p + 1];
     while 1 < left {
         let q = p + w;
-        if !has_words(values, marks, q, v, m) {
-            return left;
-        }
-        if !key_follows(values, marks, p + 1, q + 1, k) {
+        if !row_follows(values, marks, p, q, v, m, k) {
             return left;
         }
         let r = q + w;
-        if !has_words(values, marks, r, v, m) {
-            return left - 1;
-        }
-        if !key_follows(values, marks, q + 1, r + 1, k) {
+        if !row_follows(values, marks, q, r, v, m, k) {
             return left - 1;
         }
         p = r;

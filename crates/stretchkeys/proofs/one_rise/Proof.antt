@@ -1,5 +1,5 @@
 use mathlib.Core.Path.{_≡_, sym}
-use Prim.Native.Nat.{_+_, _-_, _*_, _≤_, _<_}
+use Prim.Native.Nat.{_+_, _-_, _*_, _≤_}
 use native.Mathlib.Omega.{arith}
 use borrow.Author.Tests.{not-false}
 use denote.Ref.{now}
@@ -29,17 +29,17 @@ room c =
     goes-room (a .w) (a .n) (now (a .values)) (now (a .marks)) (a .i) _ _ (l .left) (l .p) (l .inv) (c .loop-test .taken)
 
 -- the first of them goes on
-next : (c : tie.Else2 Inv-loop μ-loop) → let l = c .before .before .before .before .before .loop in let s = c .before .before .before .before .before .before in let a = s .before .before .before .args in
-    Goes (a .w) (a .n) (now (a .values)) (now (a .marks)) (a .i) (cellOf (toZ w64 (ofZ w64 (getD (now (a .values)) (a .i * a .w) (pos 0)))) (toZ w64 (ofZ w64 (getD (now (a .marks)) (a .i * a .w) (pos 0))))) (toZ w64 (ofZ w64 (getD (now (a .marks)) (a .i * a .w + 1) (pos 0)))) (l .left - 1) (l .p + a .w)
+next : (c : tie.Else1 Inv-loop μ-loop) →
+    let l = c .before .before .before .loop in
+    let a = c .before .before .before .before .before .before .before .args in
+    let at = a .i * a .w in
+    Goes (a .w) (a .n) (now (a .values)) (now (a .marks)) (a .i) (cellOf (toZ w64 (ofZ w64 (getD (now (a .values)) at (pos 0)))) (toZ w64 (ofZ w64 (getD (now (a .marks)) at (pos 0))))) (toZ w64 (ofZ w64 (getD (now (a .marks)) (at + 1) (pos 0)))) (l .left - 1) (l .p + a .w)
 next c =
-    let l = c .before .before .before .before .before .loop in
-    let a = c .before .before .before .before .before .before .before .before .before .args in
-    let t = c .before .before .before .before .loop-test .taken in
-    let h = c .before .before .before in
-    let f = c .before in
-    goes-on (a .w) (a .n) (now (a .values)) (now (a .marks)) (a .i) _ _ (l .left) (l .p) (l .inv) (omega arith)
-    (h .has-words .ensures (not-false (h .has-words .result) (c .before .before .if1 .left)))
-    (f .key-follows .ensures (not-false (f .key-follows .result) (c .if2 .left)))
+    let l = c .before .before .before .loop in
+    let a = c .before .before .before .before .before .before .before .args in
+    let t = c .before .before .loop-test .taken in
+    let f = c .before .row-follows .ensures (not-false (c .before .row-follows .result) (c .if1 .left)) in
+    goes-on (a .w) (a .n) (now (a .values)) (now (a .marks)) (a .i) _ _ (l .left) (l .p) (l .inv) (omega arith) (f .0) (f .1, f .2)
 
 sub-left : tie.Need-sub-left Inv-loop μ-loop
 sub-left c = omega (arith, c .pre .1)
@@ -85,83 +85,46 @@ add-q : tie.Need-add-q Inv-loop μ-loop
 add-q c =
     let i = c in let s = i .before .before .before .before .before in let r = room i in let p = s .pre .0 in omega arith
 
-has-words-requires : tie.Need-has-words-requires Inv-loop μ-loop
-has-words-requires c κs =
-    let i = c in let s = i .before .before .before .before .before in let r = room i in let p = s .pre .0 in record { values = omega arith; marks = omega arith }
+row-follows-requires : tie.Need-row-follows-requires Inv-loop μ-loop
+row-follows-requires c κs =
+    let i = c in let s = i .before .before .before .before .before in let r = room i in let p = s .pre .0 in
+    (record { values = omega arith; marks = omega arith }, record { values = omega arith; marks = omega arith }, i .before .loop .inv .5)
 
 returns : tie.Need-returns Inv-loop μ-loop
 returns c = let g = c .before .before .before .loop .inv in let h = g .0 in (omega arith, g .2, g .3)
 
-add-key-follows : tie.Need-add-key-follows Inv-loop μ-loop
-add-key-follows c =
-    let i = c .before .before in let s = i .before .before .before .before .before in let r = room i in let p = s .pre .0 in omega arith
-
-add-key-follows-2 : tie.Need-add-key-follows-2 Inv-loop μ-loop
-add-key-follows-2 c =
-    let i = c .before .before in let s = i .before .before .before .before .before in let r = room i in let p = s .pre .0 in omega arith
-
-key-follows-requires : tie.Need-key-follows-requires Inv-loop μ-loop
-key-follows-requires c κs =
-    let i = c .before .before in let s = i .before .before .before .before .before in let r = room i in let p = s .pre .0 in
-    (record { values = omega arith; marks = omega arith }, record { values = omega arith; marks = omega arith }, i .before .loop .inv .5)
-
-returns-2 : tie.Need-returns-2 Inv-loop μ-loop
-returns-2 c = let g = c .before .before .before .before .before .loop .inv in let h = g .0 in (omega arith, g .2, g .3)
-
 add-r : tie.Need-add-r Inv-loop μ-loop
 add-r c =
-    let i = c .before .before .before .before in let s = i .before .before .before .before .before in let r = room i in let p = s .pre .0 in omega arith
+    let i = c .before .before in let s = i .before .before .before .before .before in let r = room i in let p = s .pre .0 in omega arith
 
-has-words-requires-2 : tie.Need-has-words-requires-2 Inv-loop μ-loop
-has-words-requires-2 c κs =
-    let i = c .before .before .before .before in let s = i .before .before .before .before .before in let r = room i in let p = s .pre .0 in record { values = omega arith; marks = omega arith }
+row-follows-requires-2 : tie.Need-row-follows-requires-2 Inv-loop μ-loop
+row-follows-requires-2 c κs =
+    let i = c .before .before in let s = i .before .before .before .before .before in let r = room i in let p = s .pre .0 in
+    (record { values = omega arith; marks = omega arith }, record { values = omega arith; marks = omega arith }, next c .5)
 
 sub-result : tie.Need-sub-result Inv-loop μ-loop
-sub-result c = let t = c .before .before .before .before .before .before .loop-test .taken in omega arith
+sub-result c = let t = c .before .before .before .before .loop-test .taken in omega arith
 
-returns-3 : tie.Need-returns-3 Inv-loop μ-loop
-returns-3 c = let g = next (c .before .before) in let h = g .0 in (omega arith, g .2, g .3)
-
-add-key-follows-3 : tie.Need-add-key-follows-3 Inv-loop μ-loop
-add-key-follows-3 c =
-    let i = c .before .before .before .before .before .before in let s = i .before .before .before .before .before in let r = room i in let p = s .pre .0 in omega arith
-
-add-key-follows-4 : tie.Need-add-key-follows-4 Inv-loop μ-loop
-add-key-follows-4 c =
-    let i = c .before .before .before .before .before .before in let s = i .before .before .before .before .before in let r = room i in let p = s .pre .0 in omega arith
-
-key-follows-requires-2 : tie.Need-key-follows-requires-2 Inv-loop μ-loop
-key-follows-requires-2 c κs =
-    let i = c .before .before .before .before .before .before in let s = i .before .before .before .before .before in let r = room i in let p = s .pre .0 in
-    (record { values = omega arith; marks = omega arith }, record { values = omega arith; marks = omega arith }, next (c .before .before) .5)
-
-sub-result-2 : tie.Need-sub-result-2 Inv-loop μ-loop
-sub-result-2 c = let t = c .before .before .before .before .before .before .before .before .loop-test .taken in omega arith
-
-returns-4 : tie.Need-returns-4 Inv-loop μ-loop
-returns-4 c = let g = next (c .before .before .before .before) in let h = g .0 in (omega arith, g .2, g .3)
+returns-2 : tie.Need-returns-2 Inv-loop μ-loop
+returns-2 c = let g = next (c .before .before) in let h = g .0 in (omega arith, g .2, g .3)
 
 sub-left-3 : tie.Need-sub-left-3 Inv-loop μ-loop
-sub-left-3 c = let t = c .before .before .before .before .before .before .before .before .loop-test .taken in omega arith
+sub-left-3 c = let t = c .before .before .before .before .loop-test .taken in omega arith
 
 loop-less : tie.Need-loop-less Inv-loop μ-loop
-loop-less c = let t = c .before .before .before .before .before .before .before .before .loop-test .taken in omega arith
+loop-less c = let t = c .before .before .before .before .loop-test .taken in omega arith
 
 loop-again : tie.Need-loop-again Inv-loop μ-loop
 loop-again c =
-    let l = c .before .before .before .before .before .before .before .before .before .loop in
-    let a = c .before .before .before .before .before .before .before .before .before .before .before .before .before .args in
-    let t = c .before .before .before .before .before .before .before .before .loop-test .taken in
-    let h = c .before .before .before in
-    let f = c .before in
+    let l = c .before .before .before .before .before .loop in
+    let a = c .before .before .before .before .before .before .before .before .before .args in
+    let t = c .before .before .before .before .loop-test .taken in
+    let f = c .before .row-follows2 .ensures (not-false (c .before .row-follows2 .result) (c .if2 .left)) in
     let z : l .left - 2 ≡ l .left - 1 - 1 = omega arith in
-    rw z
-    (goes-on (a .w) (a .n) (now (a .values)) (now (a .marks)) (a .i) _ _ (l .left - 1) (l .p + a .w) (next (c .before .before .before .before)) (omega arith)
-    (h .has-words2 .ensures (not-false (h .has-words2 .result) (c .before .before .if3 .left)))
-    (f .key-follows2 .ensures (not-false (f .key-follows2 .result) (c .if4 .left))))
+    rw z (goes-on (a .w) (a .n) (now (a .values)) (now (a .marks)) (a .i) _ _ (l .left - 1) (l .p + a .w) (next (c .before .before)) (omega arith) (f .0) (f .1, f .2))
 
-returns-5 : tie.Need-returns-5 Inv-loop μ-loop
-returns-5 c = let g = c .before .loop .inv in let h = g .0 in (omega arith, g .2, g .3)
+returns-3 : tie.Need-returns-3 Inv-loop μ-loop
+returns-3 c = let g = c .before .loop .inv in let h = g .0 in (omega arith, g .2, g .3)
 
 pub one-rise-spec : {M : Type 1} → statement M
 one-rise-spec =
@@ -181,22 +144,13 @@ one-rise-spec =
     shared-slice-copy-out-k
     loop-holds
     add-q
-    has-words-requires
+    row-follows-requires
     returns
-    add-key-follows
-    add-key-follows-2
-    key-follows-requires
-    returns-2
     add-r
-    has-words-requires-2
+    row-follows-requires-2
     sub-result
-    returns-3
-    add-key-follows-3
-    add-key-follows-4
-    key-follows-requires-2
-    sub-result-2
-    returns-4
+    returns-2
     sub-left-3
     loop-less
     loop-again
-    returns-5)
+    returns-3)
