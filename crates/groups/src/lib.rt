@@ -5,6 +5,7 @@ use matching::RunCursor;
 use neighbours::same_values;
 use options::Terms;
 use order::Order;
+use stretch::same_end;
 ghost use mathlib.Core.Path.{_≡_};
 ghost use Prim.Native.Nat.{ℕ, _+_, _<_};
 ghost use Rattle.frames.specs.Cells.{rowFrom};
@@ -39,7 +40,7 @@ fn same_run(
 }
 
 // The end of the run that starts at row i, of n rows that are each w wide; i itself behind the last of them. Most rows have the by-values of
-// the row before, word for word: these are not compared by the rules.
+// the row before, word for word: these are passed together, and not compared by the rules.
 pub fn run_end(
     values: &[i64],
     marks: &[i64],
@@ -56,13 +57,14 @@ pub fn run_end(
     if i == n {
         return i;
     }
+    let by = o.by;
     let mut p = i * w;
     let mut e = i + 1;
     while e < n {
         let q = p + w;
         if same_values(values, marks, p, q, o) {
-            p = q;
-            e += 1;
+            e = same_end(values, marks, n, w, e, by);
+            p = (e - 1) * w;
         } else {
             if !same_run(values, marks, p, q, o, codes, rising) {
                 return e;

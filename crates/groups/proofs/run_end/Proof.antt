@@ -1,28 +1,30 @@
 use mathlib.Core.Path.{_≡_, sym, _∙_}
 use mathlib.Core.Bool.{Bool, true, false}
 use Prim.Native.Nat.{_+_, _-_, _*_, _≤_, _<_}
+use native.Mathlib.Nat.{mul-le-mul-right}
 use native.Mathlib.Omega.{arith}
 use borrow.Author.Tests.{not-true, not-false}
 use denote.Ref.{now}
 use Rattle.options.specs.Options.{withList}
 use Rattle.frames.specs.Cells.{rowFrom}
 use Rattle.order.specs.Requires.{RowAt}
-use Rattle.order.proofs.RowLaws.{row-room}
+use Rattle.order.proofs.RowLaws.{row-room, one-row}
 use Rattle.order.proofs.TermLaws.{row-terms}
 use Rattle.matching.specs.Groups.{sameRun}
 use Rattle.matching.specs.Stretches.{between, runOn, runLength}
 use Rattle.matching.proofs.ScanLaws.{same-yes}
 use Rattle.matching.proofs.WalkLaws.{run-past, on-first, on-more, on-stop, on-end}
+use Rattle.groups.proofs.RunLaws.{on-stretch}
 use Rattle.groups.proofs.run_end.Statement.{statement}
 use Rattle.groups.proofs.run_end.Tie as tie
 
 abbrev Inv-loop : tie.InvT-loop
-Inv-loop values marks n w i o codes rising p₀ e₀ p e =
+Inv-loop values marks n w i o codes rising by p₀ e₀ p e =
     (i < e) × (e ≤ n) × (p + w ≡ e * w)
     × (i + runLength (withList o codes rising) (between w i n values marks) ≡ e + runOn (withList o codes rising) (rowFrom w p values marks) (between w e n values marks))
 
 abbrev μ-loop : tie.MeasureT-loop
-μ-loop values marks n w i o codes rising p₀ e₀ p e = n - e
+μ-loop values marks n w i o codes rising by p₀ e₀ p e = n - e
 
 -- row i is among the rows
 low : (c : tie.Else1 Inv-loop μ-loop) → c .before .before .args .i < c .before .before .args .n
@@ -87,17 +89,43 @@ same-values-requires c κs =
     let plain = row-terms (a .o) (now (a .codes)) (now (a .rising)) in
     (plain (c .before .loop .p) (now (a .values)) (now (a .marks)) (r .0), plain (c .before .loop .p + a .w) (now (a .values)) (now (a .marks)) (r .1))
 
-add-e-2 : tie.Need-add-e-2 Inv-loop μ-loop
-add-e-2 c = omega arith
+same-end-requires : tie.Need-same-end-requires Inv-loop μ-loop
+same-end-requires c κs =
+    let t = c .before .before .loop-test .taken in
+    let r = c .before .before .before .before .before .before .pre .rows in
+    (record { wide = omega (arith, r .wide); within = omega arith; values = r .values; marks = r .marks }, t)
+
+-- the row before the one where the stretch ends is among the rows
+last : (c : tie.After-same-end Inv-loop μ-loop) → let a = c .before .before .before .before .before .before .before .args in
+    (c .same-end .result - 1) * a .w + a .w ≡ c .same-end .result * a .w
+last c =
+    let s = c .same-end .ensures .start in
+    sym (one-row (c .same-end .result) (c .before .before .before .before .before .before .before .args .w) (omega arith))
+
+sub-p : tie.Need-sub-p Inv-loop μ-loop
+sub-p c = omega (arith, c .same-end .ensures .start)
+
+mul-p-2 : tie.Need-mul-p-2 Inv-loop μ-loop
+mul-p-2 c =
+    let s = c .before .before .before .before .before .before .before in
+    let m = mul-le-mul-right {m = c .same-end .result} {n = s .args .n} (s .args .w) (c .same-end .ensures .within) in
+    omega (arith, last c, m, s .pre .rows .values)
 
 loop-less : tie.Need-loop-less Inv-loop μ-loop
-loop-less c = omega arith
+loop-less c =
+    let t = c .before .before .before .loop-test .taken in
+    omega (arith, c .same-end .ensures .start, c .same-end .ensures .within)
 
 loop-again : tie.Need-loop-again Inv-loop μ-loop
 loop-again c =
-    let l = c .before .before .before .loop in
-    let m = on-more _ _ _ _ _ _ (l .e) (c .before .before .loop-test .taken) (alike c) in
-    (omega arith, omega arith, omega arith, l .inv .3 ∙ rw (l .inv .2) m)
+    let l = c .before .before .before .before .loop in
+    let s = c .before .before .before .before .before .before .before in
+    let a = s .args in
+    let t = c .before .before .before .loop-test .taken in
+    let k = c .same-end .ensures in
+    let m = on-more _ _ _ _ _ _ (l .e) t (alike (c .before)) in
+    let n = on-stretch (withList (a .o) (now (a .codes)) (now (a .rising))) (a .w) (a .n) (now (a .values)) (now (a .marks)) (s .pre .rows .wide) (s .pre .rows .values) (l .e) (c .same-end .result) k in
+    (omega (arith, k .start), k .within, last c, l .inv .3 ∙ m ∙ n)
 
 same-run-requires : tie.Need-same-run-requires Inv-loop μ-loop
 same-run-requires c κs = rows-at (c .before .before)
@@ -107,8 +135,8 @@ returns-2 c =
     let l = c .before .before .before .before .before .loop in
     sym (l .inv .3 ∙ on-stop _ _ _ _ _ _ (l .e) (c .before .before .before .before .loop-test .taken) (told (c .before) false (not-true _ (c .if3 .taken))))
 
-add-e-3 : tie.Need-add-e-3 Inv-loop μ-loop
-add-e-3 c = omega arith
+add-e-2 : tie.Need-add-e-2 Inv-loop μ-loop
+add-e-2 c = omega arith
 
 loop-less-2 : tie.Need-loop-less-2 Inv-loop μ-loop
 loop-less-2 c = omega arith
@@ -136,12 +164,14 @@ run-end-spec =
     loop-holds
     add-q
     same-values-requires
-    add-e-2
+    same-end-requires
+    sub-p
+    mul-p-2
     loop-less
     loop-again
     same-run-requires
     returns-2
-    add-e-3
+    add-e-2
     loop-less-2
     loop-again-2
     returns-3)

@@ -8,7 +8,7 @@ use Rattle.frames.specs.Cells.{rowFrom}
 use Rattle.order.specs.Order.{isEqual}
 use Rattle.order.proofs.RowLaws.{row-cell}
 use Rattle.order.proofs.TermLaws.{row-terms}
-use Rattle.neighbours.proofs.FallLaws.{keys-decide}
+use Rattle.rising.proofs.FallLaws.{keys-decide}
 use Rattle.notices.proofs.NoticeLaws.{not-equal-arm}
 use Rattle.notices.proofs.list.same_row.Statement.{statement}
 use Rattle.notices.proofs.list.same_row.Tie as tie

@@ -1,4 +1,4 @@
--- `neighbours::same_value` meets its contract. Assumes nothing.
+-- `stretch::same_value` meets its contract. Assumes nothing.
 use borrow.Author.Needs.{needs}
 use mathlib.Core.Path.{_≡_, sym, ap, _∙_}
 use mathlib.Core.Bool.{true, false}
@@ -8,9 +8,9 @@ use lib.ListN.{getD}
 use mir.Syntax.{w64}
 use mir.Val.{toZ}
 use Rattle.frames.proofs.Signed.{back}
-use Rattle.neighbours.proofs.FallLaws.{same-cell}
-use Rattle.neighbours.proofs.same_value.Statement.{statement}
-use Rattle.neighbours.proofs.same_value.Tie as tie
+use Rattle.stretch.proofs.StretchLaws.{same-cell}
+use Rattle.stretch.proofs.same_value.Statement.{statement}
+use Rattle.stretch.proofs.same_value.Tie as tie
 
 mul-if1 : tie.Need-mul-if1
 mul-if1 c = search needs

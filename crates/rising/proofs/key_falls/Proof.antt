@@ -6,9 +6,9 @@ use lib.ListN.{getD}
 use Rattle.frames.proofs.Signed.{lt-flag}
 use Rattle.matching.proofs.ScanLaws.{falls-end, falls-less, falls-not}
 use Rattle.order.specs.Requires.{cellAt}
-use Rattle.neighbours.proofs.FallLaws.{null-first}
-use Rattle.neighbours.proofs.key_falls.Statement.{statement}
-use Rattle.neighbours.proofs.key_falls.Tie as tie
+use Rattle.rising.proofs.FallLaws.{null-first}
+use Rattle.rising.proofs.key_falls.Statement.{statement}
+use Rattle.rising.proofs.key_falls.Tie as tie
 
 null-at-requires : tie.Need-null-at-requires
 null-at-requires c κs = search needs

@@ -1,1 +1,2 @@
 pub mod FallLaws
+pub mod RiseLaws

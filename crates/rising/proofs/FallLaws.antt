@@ -2,8 +2,7 @@
 use mathlib.Core.Path.{_≡_, refl}
 use mathlib.Core.Bool.{true, false}
 use mathlib.Core.List.{List}
-use lib.IntN.{ℤ}
-use Rattle.frames.specs.Cells.{Cell, null, value, cellOf, isNull}
+use Rattle.frames.specs.Cells.{Cell, null, value, isNull}
 use Rattle.options.specs.Options.{keyRule}
 use Rattle.options.specs.declared.Options.{Options}
 use Rattle.order.specs.Order.{cmpCell, cmpGroup, cmpRow, isGreater, keyOf}
@@ -19,7 +18,3 @@ null-first (value a) y e = cc
 pub keys-decide : (o : Options) (r s : List Cell) → cmpGroup o r s ≡ Equal → cmpRow o r s ≡ cmpCell keyRule (keyOf o r) (keyOf o s)
 unfolding cmpRow
 keys-decide o r s e = rw e
-
--- The same words tell the same cell.
-pub same-cell : {v w m n : ℤ} → v ≡ w → m ≡ n → cellOf v m ≡ cellOf w n
-same-cell e f = rw (e, f)
