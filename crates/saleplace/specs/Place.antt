@@ -1,7 +1,7 @@
 -- Rows of subtotals without marks, and where a group stands among them. Assumes nothing.
 use mathlib.Core.Path.{_≡_}
+use mathlib.Core.Bool.{Bool, true, false}
 use mathlib.Core.List.{List, map}
-use mathlib.Core.Logic.{_⊎_}
 use Prim.Native.Nat.{ℕ, suc, _+_, _-_, _*_, _≤_, _<_}
 use lib.ListN.{length, take, drop}
 use Rattle.frames.specs.Cells.{Cell, value, Words}
@@ -26,15 +26,18 @@ pub record SaleAt (o : Options) (p : ℕ) (body : Words) (q : ℕ) (vs ms : Word
   pub values : q + o .by < length vs
   pub marks : q + o .by < length ms
 
--- n rows are there, each w wide, and a left row at q.
-pub record PlaceIn (o : Options) (w n : ℕ) (body : Words) (q : ℕ) (vs ms : Words) : Type 0 where
+-- The rows up to `high` are there, each w wide, and a left row at q; the search is among those from `low` on.
+pub record PlaceIn (o : Options) (w low high : ℕ) (body : Words) (q : ℕ) (vs ms : Words) : Type 0 where
   pub compare : Few o
   pub wide : o .by < w
-  pub rows : n * w ≤ length body
+  pub range : low ≤ high
+  pub rows : high * w ≤ length body
   pub values : q + o .by < length vs
   pub marks : q + o .by < length ms
 
--- Row r is of the group g, or g belongs before row r and behind the row before it.
-pub record Placed (o : Options) (w n : ℕ) (body : Words) (g : List Cell) (r : ℕ) : Type 0 where
-  pub within : r ≤ n
-  pub here : ((r < n) × (cmpAt o w body g r ≡ Equal)) ⊎ ((0 < r → cmpAt o w body g (r - 1) ≡ Less) × (r < n → cmpAt o w body g r ≡ Greater))
+-- Among the rows from `low` to `high`: row r is of the group g; or, where none is, g belongs before row r and behind the row before it.
+pub record Placed (o : Options) (w low high : ℕ) (body : Words) (g : List Cell) (r : ℕ) (here : Bool) : Type 0 where
+  pub least : low ≤ r
+  pub within : r ≤ high
+  pub yes : here ≡ true → (r < high) × (cmpAt o w body g r ≡ Equal)
+  pub no : here ≡ false → (low < r → cmpAt o w body g (r - 1) ≡ Less) × (r < high → cmpAt o w body g r ≡ Greater)

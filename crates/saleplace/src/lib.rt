@@ -27,10 +27,17 @@ pub fn cmp_sale(
     cmp_group(&body[p..], &ones, 0, values, marks, q, o, codes, rising)
 }
 
-// The place among n rows in group order: that of the row of the same group, else where such a row belongs.
+// The row of a group; or, if none is here, the row before which it belongs.
+pub struct Place {
+    pub row: usize,
+    pub here: bool,
+}
+
+// The place among the rows from `low` to `high`, which are in group order, by halving.
 pub fn find_place(
     body: &[i64],
-    n: usize,
+    low: usize,
+    high: usize,
     w: usize,
     values: &[i64],
     marks: &[i64],
@@ -38,28 +45,36 @@ pub fn find_place(
     o: Terms,
     codes: &[i64],
     rising: &[u8],
-) -> usize
-    requires { ⌜ PlaceIn (withList o (now codes) (now rising)) w n (now body) q (now values) (now marks) ⌝ }
-    ensures { λ r. ⌜ Placed (withList o (now (codes .entry)) (now (rising .entry))) w n (now (body .entry)) (rowFrom (suc (o .by)) q (now (values .entry)) (now (marks .entry))) r ⌝ }
+) -> Place
+    requires { ⌜ PlaceIn (withList o (now codes) (now rising)) w low high (now body) q (now values) (now marks) ⌝ }
+    ensures { λ r. ⌜ Placed (withList o (now (codes .entry)) (now (rising .entry))) w low high (now (body .entry)) (rowFrom (suc (o .by)) q (now (values .entry)) (now (marks .entry))) (r .row) (r .here) ⌝ }
 {
-    let mut low = 0;
-    let mut high = n;
-    while low < high {
-        let mid = (low + high) / 2;
+    let mut from = low;
+    let mut to = high;
+    while from < to {
+        let mid = (from + to) / 2;
         match cmp_sale(body, mid * w, values, marks, q, o, codes, rising) {
             Order::Less => {
-                low = mid + 1;
+                from = mid + 1;
             }
-            Order::Equal => return mid,
+            Order::Equal => {
+                return Place {
+                    row: mid,
+                    here: true,
+                };
+            }
             Order::Greater => {
-                high = mid;
+                to = mid;
             }
         }
     }
-    low
+    Place {
+        row: from,
+        here: false,
+    }
 }
 
-// The same, with a place that is looked at first: a sale is often of the group of the sale before it.
+// The place among n rows, with a row that is looked at first: a sale is often of the group of the sale before it, or of the next one.
 pub fn place_near(
     body: &[i64],
     n: usize,
@@ -71,14 +86,56 @@ pub fn place_near(
     o: Terms,
     codes: &[i64],
     rising: &[u8],
-) -> usize
-    requires { ⌜ PlaceIn (withList o (now codes) (now rising)) w n (now body) q (now values) (now marks) ⌝ }
-    ensures { λ r. ⌜ Placed (withList o (now (codes .entry)) (now (rising .entry))) w n (now (body .entry)) (rowFrom (suc (o .by)) q (now (values .entry)) (now (marks .entry))) r ⌝ }
+) -> Place
+    requires { ⌜ PlaceIn (withList o (now codes) (now rising)) w 0 n (now body) q (now values) (now marks) ⌝ }
+    ensures { λ r. ⌜ Placed (withList o (now (codes .entry)) (now (rising .entry))) w 0 n (now (body .entry)) (rowFrom (suc (o .by)) q (now (values .entry)) (now (marks .entry))) (r .row) (r .here) ⌝ }
 {
-    if near < n {
-        if let Order::Equal = cmp_sale(body, near * w, values, marks, q, o, codes, rising) {
-            return near;
+    if n <= near {
+        return find_place(body, 0, n, w, values, marks, q, o, codes, rising);
+    }
+    match cmp_sale(body, near * w, values, marks, q, o, codes, rising) {
+        Order::Less => find_place(body, near + 1, n, w, values, marks, q, o, codes, rising),
+        Order::Equal => Place {
+            row: near,
+            here: true,
+        },
+        Order::Greater => find_place(body, 0, near, w, values, marks, q, o, codes, rising),
+    }
+}
+
+// The place among the rows from `start` to n, in steps that double from the first one on: near rows are found by few comparisons.
+pub fn reach(
+    body: &[i64],
+    start: usize,
+    n: usize,
+    w: usize,
+    values: &[i64],
+    marks: &[i64],
+    q: usize,
+    o: Terms,
+    codes: &[i64],
+    rising: &[u8],
+) -> Place
+    requires { ⌜ PlaceIn (withList o (now codes) (now rising)) w start n (now body) q (now values) (now marks) ⌝ }
+    ensures { λ r. ⌜ Placed (withList o (now (codes .entry)) (now (rising .entry))) w start n (now (body .entry)) (rowFrom (suc (o .by)) q (now (values .entry)) (now (marks .entry))) (r .row) (r .here) ⌝ }
+{
+    let mut low = start;
+    while low - start < n - low {
+        let at = low + (low - start);
+        match cmp_sale(body, at * w, values, marks, q, o, codes, rising) {
+            Order::Less => {
+                low = at + 1;
+            }
+            Order::Equal => {
+                return Place {
+                    row: at,
+                    here: true,
+                };
+            }
+            Order::Greater => {
+                return find_place(body, low, at, w, values, marks, q, o, codes, rising);
+            }
         }
     }
-    find_place(body, n, w, values, marks, q, o, codes, rising)
+    find_place(body, low, n, w, values, marks, q, o, codes, rising)
 }
