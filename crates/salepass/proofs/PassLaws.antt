@@ -242,10 +242,10 @@ module _ (o : Options) where
     pub among-added : Placed o w 0 m body x p here → p < m → (m′ : ℕ) (body′ : Words) → Inserted o m p here q vs ms amount body m′ body′ → Added o n m taken table q vs ms amount body m′ taken body′
     among-added h l m′ body′ i = record {
       adds = λ T W b₀ a f e s.
-      let t = placed-stands m (s .ts) b₀ body x p here (s .held) h in
-      added-written n m′ taken T (s .ts) W table b₀ body′ (unitOf o x amount) (s .source) (s .within) (s .order) (s .whole)
-      (stands-above (s .ts) (drop taken T) (take (o .by) x) p here (rising o (s .ts ++ drop taken T) (rw (s .whole) (s .order))) (omega (arith, s .held .rows)) t)
-      (i .holds (s .ts) b₀ a f e t (s .held));
+          let t = placed-stands m (s .ts) b₀ body x p here (s .held) h in
+          added-written n m′ taken T (s .ts) W table b₀ body′ (unitOf o x amount) (s .source) (s .within) (s .order) (s .whole)
+          (stands-above (s .ts) (drop taken T) (take (o .by) x) p here (rising o (s .ts ++ drop taken T) (rw (s .whole) (s .order))) (omega (arith, s .held .rows)) t)
+          (i .holds (s .ts) b₀ a f e t (s .held));
     }
 
     -- A sale behind them: the rows up to its group are passed first.
@@ -256,14 +256,14 @@ module _ (o : Options) where
         let l : taken ≤ end = omega (arith, h .least, g .0) in
         record {
           adds = λ T W b₀ a f z s.
-          let S : List Subtotal = take (end - taken) (drop taken T) in
-          let c : ascending o (s .ts ++ drop taken T) ≡ true = rw (s .whole) (s .order) in
-          let k = passed-held n m T (s .ts) table b₀ body (s .held) (s .source) taken end l (g .1) c room body₁ e in
-          let t = behind-stands n m taken T (s .ts) table b₀ body (s .held) (s .source) x p b here h in
-          let all : (s .ts ++ S) ++ drop end T ≡ W = append-assoc (s .ts) S (drop end T) ∙ ap (λ (y : List Subtotal). s .ts ++ y) (rest-passed taken end T l) ∙ s .whole in
-          added-written n m′ end T (s .ts ++ S) W table b₀ body′ (unitOf o x amount) (s .source) (g .1) (s .order) all
-          (behind-above n m taken T (s .ts) table b₀ body (s .held) (s .source) x p b here c h)
-          (i .holds (s .ts ++ S) b₀ a f z t k);
+              let S : List Subtotal = take (end - taken) (drop taken T) in
+              let c : ascending o (s .ts ++ drop taken T) ≡ true = rw (s .whole) (s .order) in
+              let k = passed-held n m T (s .ts) table b₀ body (s .held) (s .source) taken end l (g .1) c room body₁ e in
+              let t = behind-stands n m taken T (s .ts) table b₀ body (s .held) (s .source) x p b here h in
+              let all : (s .ts ++ S) ++ drop end T ≡ W = append-assoc (s .ts) S (drop end T) ∙ ap (λ (y : List Subtotal). s .ts ++ y) (rest-passed taken end T l) ∙ s .whole in
+              added-written n m′ end T (s .ts ++ S) W table b₀ body′ (unitOf o x amount) (s .source) (g .1) (s .order) all
+              (behind-above n m taken T (s .ts) table b₀ body (s .held) (s .source) x p b here c h)
+              (i .holds (s .ts ++ S) b₀ a f z t k);
         }
 
 -- ---- the words of a row that was passed

@@ -95,7 +95,20 @@ pub fn add_sale(
     let p = place_near(body, m, w, near, values, marks, q, o, codes, rising);
     let place = p.row;
     if m <= place {
-        return put_behind(body, m, table, taken, n, values, marks, q, amount, o, codes, rising);
+        return put_behind(
+            body,
+            m,
+            table,
+            taken,
+            n,
+            values,
+            marks,
+            q,
+            amount,
+            o,
+            codes,
+            rising,
+        );
     }
     let rows = put_at(body, m, place, p.here, values, q, amount, o);
     Pass {

@@ -139,8 +139,8 @@ loop-again c =
       omega (arith, l .inv .2),
       c .before .add-sale .kept .0 ∙ l .inv .3,
       λ ts y. let g = l .inv .4 ts y in running-amount (O s) (a .n) (a .rows) (a .d) (now (a .table)) (now (a .lv)) (now (a .lm)) (now (a .av)) (now (a .am)) (now (a .body)) (s .pre .frames .wide) (s .pre .frames .values-in) (s .pre .frames .paired) (s .pre .frames .fine) (l .i) (n .loop-test .taken) k ts (l .m) (l .taken) (l .body) g _ _ _
-      (rw (l .inv .1, v) at (c .before .add-sale .ensures) .adds ts (g .whole) (now (a .body)) (s .pre .left-paired) (s .pre .left-fine)
-      (group-told (O s) (rowFrom (suc (a .o .by)) (l .i * suc (a .o .by)) (now (a .lv)) (now (a .lm))) (rowFrom (a .d) (l .i * a .d) (now (a .av)) (now (a .am))) k) (g .written)),
+          (rw (l .inv .1, v) at (c .before .add-sale .ensures) .adds ts (g .whole) (now (a .body)) (s .pre .left-paired) (s .pre .left-fine)
+          (group-told (O s) (rowFrom (suc (a .o .by)) (l .i * suc (a .o .by)) (now (a .lv)) (now (a .lm))) (rowFrom (a .d) (l .i * a .d) (now (a .av)) (now (a .am))) k) (g .written)),
     )
 
 add-i-2 : tie.Need-add-i-2 Inv-loop μ-loop
