@@ -19,6 +19,12 @@ plain b p body = map value (take b (drop p body))
 abbrev pub cmpAt : Options → ℕ → Words → List Cell → ℕ → Order
 cmpAt o w body g i = cmpGroup o (plain (o .by) (i * w) body) g
 
+-- The first words of a row at p and of a left row at q are there.
+pub record FirstAt (p : ℕ) (body : Words) (q : ℕ) (vs ms : Words) : Type 0 where
+  pub row : p < length body
+  pub values : q < length vs
+  pub marks : q < length ms
+
 -- A row is at p, a left row at q, and their groups compare.
 pub record SaleAt (o : Options) (p : ℕ) (body : Words) (q : ℕ) (vs ms : Words) : Type 0 where
   pub compare : Few o

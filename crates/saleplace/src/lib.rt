@@ -1,16 +1,33 @@
 // Where a sale's group stands among the rows of subtotals, each w wide, that words hold without marks, since none of their cells is null.
+use cells::cmp_cell;
 use compare::cmp_group;
 use options::Terms;
+use options::is_ranked;
 use order::Order;
 ghost use mathlib.Core.Path.{_≡_};
+ghost use mathlib.Core.Bool.{false};
+ghost use mathlib.Core.List.{[]};
 ghost use Prim.Native.Nat.{suc};
-ghost use Rattle.frames.specs.Cells.{rowFrom};
+ghost use lib.IntN.{pos};
+ghost use lib.ListN.{getD};
+ghost use Rattle.frames.specs.Cells.{value, rowFrom};
 ghost use Rattle.options.specs.Options.{withList};
-ghost use Rattle.order.specs.Order.{cmpGroup};
-ghost use Rattle.saleplace.specs.Place.{plain, SaleAt, PlaceIn, Placed};
+ghost use Rattle.order.specs.Order.{cmpCell, cmpGroup};
+ghost use Rattle.order.specs.Requires.{cellAt};
+ghost use Rattle.saleplace.specs.Place.{plain, FirstAt, SaleAt, PlaceIn, Placed};
 
-// The group of the row at p against the group of the left row at q.
-pub fn cmp_sale(
+// The first by-value of the row at p against that of the left row at q, in a column without a list.
+fn cmp_first(body: &[i64], p: usize, values: &[i64], marks: &[i64], q: usize, o: Terms) -> Order
+    requires { ⌜ FirstAt p (now body) q (now values) (now marks) ⌝ }
+    ensures { λ r. ⌜ r ≡ cmpCell (record { descending = getD (o .descending) 0 false; nullsLast = getD (o .«nulls_last») 0 false; codes = [] }) (value (getD (now (body .entry)) p (pos 0))) (cellAt q (now (values .entry)) (now (marks .entry))) ⌝ }
+{
+    let descending = o.descending;
+    let last = o.nulls_last;
+    cmp_cell(body[p], 1, values[q], marks[q], descending[0], last[0])
+}
+
+// The group of the row at p against the group of the left row at q, column by column.
+fn cmp_all(
     body: &[i64],
     p: usize,
     values: &[i64],
@@ -25,6 +42,38 @@ pub fn cmp_sale(
 {
     let ones = [1; 5];
     cmp_group(&body[p..], &ones, 0, values, marks, q, o, codes, rising)
+}
+
+// The group of the row at p against the group of the left row at q. Most groups are told apart by their first column, by number.
+pub fn cmp_sale(
+    body: &[i64],
+    p: usize,
+    values: &[i64],
+    marks: &[i64],
+    q: usize,
+    o: Terms,
+    codes: &[i64],
+    rising: &[u8],
+) -> Order
+    requires { ⌜ SaleAt (withList o (now codes) (now rising)) p (now body) q (now values) (now marks) ⌝ }
+    ensures { λ r. ⌜ r ≡ cmpGroup (withList o (now (codes .entry)) (now (rising .entry))) (plain (o .by) p (now (body .entry))) (rowFrom (suc (o .by)) q (now (values .entry)) (now (marks .entry))) ⌝ }
+{
+    let by = o.by;
+    if by == 0 {
+        return Order::Equal;
+    }
+    if is_ranked(o, 0) {
+        return cmp_all(body, p, values, marks, q, o, codes, rising);
+    }
+    let r = cmp_first(body, p, values, marks, q, o);
+    match r {
+        Order::Equal => {}
+        _ => return r,
+    }
+    if by == 1 {
+        return r;
+    }
+    cmp_all(body, p, values, marks, q, o, codes, rising)
 }
 
 // The row of a group; or, if none is here, the row before which it belongs.
