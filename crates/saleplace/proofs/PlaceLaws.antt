@@ -1,15 +1,16 @@
 -- A row without marks compares as one whose marks are all 1; places among rows. Assumes nothing.
 use mathlib.Core.Path.{_≡_, refl, sym, ap, _∙_}
-use mathlib.Core.Bool.{Bool, true, false}
+use mathlib.Core.Bool.{Bool, true, false, not, _&&_}
 use mathlib.Core.List.{List, [], _∷_, map}
-use mathlib.Core.Logic.{_⊎_, ⊎-elim}
 use Prim.Native.Nat.{ℕ, zero, suc, _+_, _-_, _*_, _≤_, _<_}
 use native.Mathlib.Omega.{arith}
 use native.Mathlib.Decide.{decLt}
-use denote.Enum.Declared.{tagOf}
+use borrow.Author.Tests.{eqb-true, not-true}
+use lib.Dec.{eqb}
 use lib.IntN.{ℤ, pos}
 use lib.ListN.{length, take, drop, getD, length-drop, getD-replicate, replicate}
 use lib.Seq.{length-take-le, getD-take, getD-drop}
+use Rattle.frames.proofs.BoolLaws.{and-true}
 use Rattle.frames.specs.Cells.{Cell, null, value, cell, cellOf, isZero, Words, rowFrom}
 use Rattle.options.specs.Options.{byRule, isRanked}
 use Rattle.options.proofs.OptionLaws.{plain-rule}
@@ -19,7 +20,6 @@ use Rattle.order.specs.Requires.{cellAt}
 use Rattle.order.proofs.RowLaws.{row-cell}
 use Rattle.order.specs.declared.Order.{Order}
 use Rattle.order.specs.declared.Order.the-variants.{Less, Equal, Greater}
-use Rattle.order.proofs.Order.{the-type}
 use Rattle.saleplace.specs.Place.{plain, cmpAt, SaleAt, Placed}
 
 -- An order of groups reads its by-values alone.
@@ -44,42 +44,24 @@ as-marked o p body ms s few e h =
     (λ i l. let z : 0 + i ≡ i = omega arith in rw z at (row-cell (suc (o .by)) 0 i (drop p body) ms (omega arith) (omega arith)) ∙ ones-cell i (getD (drop p body) i (pos 0)) ms e (omega arith)
     ∙ sym (value-at (take (o .by) (drop p body)) i (omega (arith, length-take-le (o .by) (drop p body) (omega arith))) ∙ ap value (getD-take (o .by) (drop p body) i (pos 0) l)))
 
--- ---- the first column
--- It decides, unless the first by-values are equal.
-pub first-decides : (o : Options) (j : ℕ) (r s : List Cell) (z : Order) → (tagOf the-type z ≡ 0) ⊎ (tagOf the-type z ≡ 2) → z ≡ cmpCell (byRule o 0) (cell 0 r) (cell 0 s) → z ≡ cmpFirst o (suc j) r s
+-- ---- groups of one by-value
+single-decides : (o : Options) (r s : List Cell) (z : Order) → o .by ≡ 1 → z ≡ cmpCell (byRule o 0) (cell 0 r) (cell 0 s) → z ≡ cmpGroup o r s
 unfolding cmpFirst
-first-decides o zero r s z t e = e
-first-decides o (suc j) r s z t e = stays z (cmpCell (byRule o (suc j)) (cell (suc j) r) (cell (suc j) s)) t ∙ ap (λ (y : Order). next y (cmpCell (byRule o (suc j)) (cell (suc j) r) (cell (suc j) s))) (first-decides o j r s z t e)
-  where
-    stays : (z y : Order) → (tagOf the-type z ≡ 0) ⊎ (tagOf the-type z ≡ 2) → z ≡ next z y
-    stays Less y t = refl
-    stays Equal y t = absurd (⊎-elim (λ l. omega arith) (λ l. omega arith) t)
-    stays Greater y t = refl
+single-decides o r s z b e = e ∙ ap (λ (k : ℕ). cmpFirst o k r s) (sym b)
 
-pub group-decides : (o : Options) (r s : List Cell) (z : Order) → 0 < o .by → (tagOf the-type z ≡ 0) ⊎ (tagOf the-type z ≡ 2) → z ≡ cmpCell (byRule o 0) (cell 0 r) (cell 0 s) → z ≡ cmpGroup o r s
-group-decides o r s z l t e = let j : o .by ≡ suc (o .by - 1) = omega arith in first-decides o (o .by - 1) r s z t e ∙ ap (λ (k : ℕ). cmpFirst o k r s) (sym j)
-
--- A group of one by-value, or of none.
-pub one-decides : (o : Options) (r s : List Cell) (z : Order) → o .by ≡ 1 → z ≡ cmpCell (byRule o 0) (cell 0 r) (cell 0 s) → z ≡ cmpGroup o r s
-unfolding cmpFirst
-one-decides o r s z b e = e ∙ ap (λ (k : ℕ). cmpFirst o k r s) (sym b)
-
-pub none-decides : (o : Options) (r s : List Cell) → o .by ≡ 0 → Equal ≡ cmpGroup o r s
-unfolding cmpFirst
-none-decides o r s b = ap (λ (k : ℕ). cmpFirst o k r s) (sym b)
-
--- The first cells by their words.
-pub first-told : (o : Options) (p : ℕ) (body : Words) (q : ℕ) (vs ms : Words) (z : Order) → SaleAt o p body q vs ms → 0 < o .by → isRanked o 0 ≡ false
+pub single-told : (o : Options) (p : ℕ) (body : Words) (q : ℕ) (vs ms : Words) (z : Order) → SaleAt o p body q vs ms → (eqb (o .by) 1 && not (isRanked o 0)) ≡ true
     → z ≡ cmpCell (record { descending = getD (o .descending) 0 false; nullsLast = getD (o .«nulls_last») 0 false; codes = [] }) (value (getD body p (pos 0))) (cellAt q vs ms)
-    → z ≡ cmpCell (byRule o 0) (cell 0 (plain (o .by) p body)) (cell 0 (rowFrom (suc (o .by)) q vs ms))
-first-told o p body q vs ms z h l f e =
+    → z ≡ cmpGroup o (plain (o .by) p body) (rowFrom (suc (o .by)) q vs ms)
+single-told o p body q vs ms z h t e =
+    let y = and-true (eqb (o .by) 1) (not (isRanked o 0)) t in
+    let one : o .by ≡ 1 = eqb-true (o .by) 1 (y .0) in
     let k : p + 0 ≡ p = omega arith in
     let i : q + 0 ≡ q = omega arith in
     let d = length-drop p body in
     let a : cell 0 (plain (o .by) p body) ≡ value (getD body p (pos 0)) =
-    value-at (take (o .by) (drop p body)) 0 (omega (arith, length-take-le (o .by) (drop p body) (omega (arith, h .row)))) ∙ ap value (getD-take (o .by) (drop p body) 0 (pos 0) l ∙ getD-drop p body 0 (pos 0) ∙ rw k) in
+    value-at (take (o .by) (drop p body)) 0 (omega (arith, length-take-le (o .by) (drop p body) (omega (arith, h .row)))) ∙ ap value (getD-take (o .by) (drop p body) 0 (pos 0) (omega arith) ∙ getD-drop p body 0 (pos 0) ∙ rw k) in
     let b : cell 0 (rowFrom (suc (o .by)) q vs ms) ≡ cellAt q vs ms = rw i at (row-cell (suc (o .by)) q 0 vs ms (omega arith) (omega (arith, h .values))) in
-    rw (a, b, ← plain-rule o 0 f) e
+    single-decides o (plain (o .by) p body) (rowFrom (suc (o .by)) q vs ms) z one (rw (a, b, ← plain-rule o 0 (not-true (isRanked o 0) (y .1))) e)
 
 -- The words of rows bound the rows.
 pub at-least : (n w : ℕ) → 0 < w → n ≤ n * w

@@ -5,13 +5,14 @@ use options::Terms;
 use options::is_ranked;
 use order::Order;
 ghost use mathlib.Core.Path.{_≡_};
-ghost use mathlib.Core.Bool.{false};
+ghost use mathlib.Core.Bool.{false, not, _&&_};
 ghost use mathlib.Core.List.{[]};
 ghost use Prim.Native.Nat.{suc};
+ghost use lib.Dec.{eqb};
 ghost use lib.IntN.{pos};
 ghost use lib.ListN.{getD};
 ghost use Rattle.frames.specs.Cells.{value, rowFrom};
-ghost use Rattle.options.specs.Options.{withList};
+ghost use Rattle.options.specs.Options.{withList, hasList};
 ghost use Rattle.order.specs.Order.{cmpCell, cmpGroup};
 ghost use Rattle.order.specs.Requires.{cellAt};
 ghost use Rattle.saleplace.specs.Place.{plain, FirstAt, SaleAt, PlaceIn, Placed};
@@ -44,7 +45,17 @@ fn cmp_all(
     cmp_group(&body[p..], &ones, 0, values, marks, q, o, codes, rising)
 }
 
-// The group of the row at p against the group of the left row at q. Most groups are told apart by their first column, by number.
+// Whether groups are of one by-value, without a list.
+fn is_single(o: Terms) -> bool
+    ensures { λ r. ⌜ r ≡ (eqb (o .by) 1 && not (hasList o 0)) ⌝ }
+{
+    if o.by == 1 {
+        return !is_ranked(o, 0);
+    }
+    false
+}
+
+// The group of the row at p against the group of the left row at q. Groups of one by-value without a list compare by that alone.
 pub fn cmp_sale(
     body: &[i64],
     p: usize,
@@ -58,20 +69,8 @@ pub fn cmp_sale(
     requires { ⌜ SaleAt (withList o (now codes) (now rising)) p (now body) q (now values) (now marks) ⌝ }
     ensures { λ r. ⌜ r ≡ cmpGroup (withList o (now (codes .entry)) (now (rising .entry))) (plain (o .by) p (now (body .entry))) (rowFrom (suc (o .by)) q (now (values .entry)) (now (marks .entry))) ⌝ }
 {
-    let by = o.by;
-    if by == 0 {
-        return Order::Equal;
-    }
-    if is_ranked(o, 0) {
-        return cmp_all(body, p, values, marks, q, o, codes, rising);
-    }
-    let r = cmp_first(body, p, values, marks, q, o);
-    match r {
-        Order::Equal => {}
-        _ => return r,
-    }
-    if by == 1 {
-        return r;
+    if is_single(o) {
+        return cmp_first(body, p, values, marks, q, o);
     }
     cmp_all(body, p, values, marks, q, o, codes, rising)
 }
