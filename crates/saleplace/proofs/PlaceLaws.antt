@@ -20,7 +20,7 @@ use Rattle.order.specs.Requires.{cellAt}
 use Rattle.order.proofs.RowLaws.{row-cell}
 use Rattle.order.specs.declared.Order.{Order}
 use Rattle.order.specs.declared.Order.the-variants.{Less, Equal, Greater}
-use Rattle.saleplace.specs.Place.{plain, cmpAt, SaleAt, Placed}
+use Rattle.saleplace.specs.Place.{plain, cmpAt, SaleAt, PlacedBy, Placed}
 
 -- An order of groups reads its by-values alone.
 first-same : (o : Options) (j : ℕ) (r r′ s : List Cell) → ((i : ℕ) → i < j → cell i r ≡ cell i r′) → cmpFirst o j r s ≡ cmpFirst o j r′ s
@@ -71,6 +71,21 @@ at-least (suc n) w h = let i = at-least n w h in let e : suc n * w ≡ w + n * w
 -- ---- a place among the rows from low to high
 true-false : {A : Type 0} → true ≡ false → A
 true-false e = let z : _≡_ {A = ℕ} 0 1 = cc in absurd (omega arith)
+
+pub found-by : (f : ℕ → Order) (low high r : ℕ) → low ≤ r → r < high → f r ≡ Equal → PlacedBy f low high r true
+found-by f low high r l h e = record { least = l; within = omega arith; yes = λ t. (h, e); no = λ t. true-false t }
+
+pub missing-by : (f : ℕ → Order) (low high r : ℕ) → low ≤ r → r ≤ high → (low < r → f (r - 1) ≡ Less) → (r < high → f r ≡ Greater) → PlacedBy f low high r false
+missing-by f low high r l h a b = record { least = l; within = h; yes = λ t. true-false (sym t); no = λ t. (a, b) }
+
+-- Comparisons that say the same of each row place alike.
+pub placed-alike : (o : Options) (w low high : ℕ) (body : Words) (g : List Cell) (f : ℕ → Order) (r : ℕ) (here : Bool) → ((i : ℕ) → i < high → f i ≡ cmpAt o w body g i) → PlacedBy f low high r here → Placed o w low high body g r here
+placed-alike o w low high body g f r here e p = record {
+  least = p .least;
+  within = p .within;
+  yes = λ t. (p .yes t .0, sym (e r (p .yes t .0)) ∙ p .yes t .1);
+  no = λ t. (λ l. sym (e (r - 1) (omega (arith, p .within))) ∙ p .no t .0 l, λ l. sym (e r l) ∙ p .no t .1 l);
+}
 
 module _ (o : Options) (w low high : ℕ) (body : Words) (g : List Cell) where
   pub found : (r : ℕ) → low ≤ r → r < high → cmpAt o w body g r ≡ Equal → Placed o w low high body g r true

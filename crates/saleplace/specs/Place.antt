@@ -1,13 +1,16 @@
 -- Rows of subtotals without marks, and where a group stands among them. Assumes nothing.
 use mathlib.Core.Path.{_≡_}
 use mathlib.Core.Bool.{Bool, true, false}
-use mathlib.Core.List.{List, map}
+use mathlib.Core.List.{List, [], map}
 use Prim.Native.Nat.{ℕ, suc, _+_, _-_, _*_, _≤_, _<_}
-use lib.ListN.{length, take, drop}
+use lib.IntN.{pos}
+use lib.ListN.{length, take, drop, getD}
 use Rattle.frames.specs.Cells.{Cell, value, Words}
 use Rattle.options.specs.Options.{Few}
 use Rattle.options.specs.declared.Options.{Options}
-use Rattle.order.specs.Order.{cmpGroup}
+use Rattle.options.specs.declared.Terms.{Terms}
+use Rattle.order.specs.Order.{cmpCell, cmpGroup}
+use Rattle.order.specs.Requires.{cellAt}
 use Rattle.order.specs.declared.Order.{Order}
 use Rattle.order.specs.declared.Order.the-variants.{Less, Equal, Greater}
 
@@ -47,3 +50,22 @@ pub record Placed (o : Options) (w low high : ℕ) (body : Words) (g : List Cell
   pub within : r ≤ high
   pub yes : here ≡ true → (r < high) × (cmpAt o w body g r ≡ Equal)
   pub no : here ≡ false → (low < r → cmpAt o w body g (r - 1) ≡ Less) × (r < high → cmpAt o w body g r ≡ Greater)
+
+-- The by-value of row i against that of the left row at q, where groups have one and it has no list.
+abbrev pub cmpOne : Terms → ℕ → Words → ℕ → Words → Words → ℕ → Order
+cmpOne o w body q vs ms i = cmpCell (record { descending = getD (o .descending) 0 false; nullsLast = getD (o .«nulls_last») 0 false; codes = [] }) (value (getD body (i * w) (pos 0))) (cellAt q vs ms)
+
+-- The rows up to `high` are there, each w wide, and the first word of a left row at q.
+pub record SingleIn (w low high : ℕ) (body : Words) (q : ℕ) (vs ms : Words) : Type 0 where
+  pub wide : 0 < w
+  pub range : low ≤ high
+  pub rows : high * w ≤ length body
+  pub values : q < length vs
+  pub marks : q < length ms
+
+-- The same as Placed, by any comparison of the rows.
+pub record PlacedBy (f : ℕ → Order) (low high r : ℕ) (here : Bool) : Type 0 where
+  pub least : low ≤ r
+  pub within : r ≤ high
+  pub yes : here ≡ true → (r < high) × (f r ≡ Equal)
+  pub no : here ≡ false → (low < r → f (r - 1) ≡ Less) × (r < high → f r ≡ Greater)

@@ -15,7 +15,7 @@ ghost use Rattle.frames.specs.Cells.{value, rowFrom};
 ghost use Rattle.options.specs.Options.{withList, hasList};
 ghost use Rattle.order.specs.Order.{cmpCell, cmpGroup};
 ghost use Rattle.order.specs.Requires.{cellAt};
-ghost use Rattle.saleplace.specs.Place.{plain, FirstAt, SaleAt, PlaceIn, Placed};
+ghost use Rattle.saleplace.specs.Place.{plain, cmpOne, FirstAt, SaleAt, SingleIn, PlaceIn, PlacedBy, Placed};
 
 // The first by-value of the row at p against that of the left row at q, in a column without a list.
 fn cmp_first(body: &[i64], p: usize, values: &[i64], marks: &[i64], q: usize, o: Terms) -> Order
@@ -82,7 +82,7 @@ pub struct Place {
 }
 
 // The place among the rows from `low` to `high`, which are in group order, by halving.
-pub fn find_place(
+fn find_all(
     body: &[i64],
     low: usize,
     high: usize,
@@ -101,7 +101,7 @@ pub fn find_place(
     let mut to = high;
     while from < to {
         let mid = (from + to) / 2;
-        match cmp_sale(body, mid * w, values, marks, q, o, codes, rising) {
+        match cmp_all(body, mid * w, values, marks, q, o, codes, rising) {
             Order::Less => {
                 from = mid + 1;
             }
@@ -120,6 +120,67 @@ pub fn find_place(
         row: from,
         here: false,
     }
+}
+
+// The same, where groups are of one by-value without a list.
+fn find_single(
+    body: &[i64],
+    low: usize,
+    high: usize,
+    w: usize,
+    values: &[i64],
+    marks: &[i64],
+    q: usize,
+    o: Terms,
+) -> Place
+    requires { ⌜ SingleIn w low high (now body) q (now values) (now marks) ⌝ }
+    ensures { λ r. ⌜ PlacedBy (cmpOne o w (now (body .entry)) q (now (values .entry)) (now (marks .entry))) low high (r .row) (r .here) ⌝ }
+{
+    let mut from = low;
+    let mut to = high;
+    while from < to {
+        let mid = (from + to) / 2;
+        match cmp_first(body, mid * w, values, marks, q, o) {
+            Order::Less => {
+                from = mid + 1;
+            }
+            Order::Equal => {
+                return Place {
+                    row: mid,
+                    here: true,
+                };
+            }
+            Order::Greater => {
+                to = mid;
+            }
+        }
+    }
+    Place {
+        row: from,
+        here: false,
+    }
+}
+
+// The place among the rows from `low` to `high`, which are in group order, by halving; groups of one by-value without a list have a loop of their own.
+pub fn find_place(
+    body: &[i64],
+    low: usize,
+    high: usize,
+    w: usize,
+    values: &[i64],
+    marks: &[i64],
+    q: usize,
+    o: Terms,
+    codes: &[i64],
+    rising: &[u8],
+) -> Place
+    requires { ⌜ PlaceIn (withList o (now codes) (now rising)) w low high (now body) q (now values) (now marks) ⌝ }
+    ensures { λ r. ⌜ Placed (withList o (now (codes .entry)) (now (rising .entry))) w low high (now (body .entry)) (rowFrom (suc (o .by)) q (now (values .entry)) (now (marks .entry))) (r .row) (r .here) ⌝ }
+{
+    if is_single(o) {
+        return find_single(body, low, high, w, values, marks, q, o);
+    }
+    find_all(body, low, high, w, values, marks, q, o, codes, rising)
 }
 
 // The place among n rows, with a row that is looked at first: a sale is often of the group of the sale before it, or of the next one.
