@@ -23,7 +23,8 @@ use Rattle.tables.specs.Table.{wordsOf}
 use Rattle.tables.proofs.CellLaws.{fine-at}
 use Rattle.takings.specs.Subtotals.{Subtotal, cmpSub, plus, insert, ascending, rowOf, mostAmount, mostSales}
 use Rattle.takings.proofs.SubtotalLaws.{Every, Above, Rising, abs-plus, rising, rising-ascending, rising-insert}
-use Rattle.saleplace.specs.Place.{plain, cmpAt}
+use Rattle.salegroup.specs.Group.{plain}
+use Rattle.saleplace.specs.Place.{cmpAt}
 use Rattle.saleinsert.specs.Held.{Plain, EachPlain, Held, subAt, unitOf}
 
 -- ---- a table cut at a place

@@ -2,10 +2,10 @@
 use compare::cmp_group;
 use options::Terms;
 use order::Order;
+use salegroup::cmp_sale;
 use salekind::Kind;
 use salekind::kind_of;
 use saleplace::Place;
-use saleplace::cmp_sale;
 use saleplace::find_place;
 use saleplace::reach;
 ghost use mathlib.Core.Path.{_≡_};

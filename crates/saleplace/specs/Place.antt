@@ -1,10 +1,10 @@
--- Rows of subtotals without marks, and where a group stands among them. Assumes nothing.
+-- Where a group stands among rows of subtotals without marks. Assumes nothing.
 use mathlib.Core.Path.{_≡_}
 use mathlib.Core.Bool.{Bool, true, false}
-use mathlib.Core.List.{List, [], map}
+use mathlib.Core.List.{List, []}
 use Prim.Native.Nat.{ℕ, suc, _+_, _-_, _*_, _≤_, _<_}
 use lib.IntN.{pos}
-use lib.ListN.{length, take, drop, getD}
+use lib.ListN.{length, getD}
 use Rattle.frames.specs.Cells.{Cell, value, Words}
 use Rattle.options.specs.Options.{Few}
 use Rattle.options.specs.declared.Options.{Options}
@@ -13,27 +13,11 @@ use Rattle.order.specs.Order.{cmpCell, cmpGroup}
 use Rattle.order.specs.Requires.{cellAt}
 use Rattle.order.specs.declared.Order.{Order}
 use Rattle.order.specs.declared.Order.the-variants.{Less, Equal, Greater}
-
--- The b values from place p on, none of them null.
-abbrev pub plain : ℕ → ℕ → Words → List Cell
-plain b p body = map value (take b (drop p body))
+use Rattle.salegroup.specs.Group.{plain}
 
 -- The group of row i against a group.
 abbrev pub cmpAt : Options → ℕ → Words → List Cell → ℕ → Order
 cmpAt o w body g i = cmpGroup o (plain (o .by) (i * w) body) g
-
--- The first words of a row at p and of a left row at q are there.
-pub record FirstAt (p : ℕ) (body : Words) (q : ℕ) (vs ms : Words) : Type 0 where
-  pub row : p < length body
-  pub values : q < length vs
-  pub marks : q < length ms
-
--- A row is at p, a left row at q, and their groups compare.
-pub record SaleAt (o : Options) (p : ℕ) (body : Words) (q : ℕ) (vs ms : Words) : Type 0 where
-  pub compare : Few o
-  pub row : p + o .by < length body
-  pub values : q + o .by < length vs
-  pub marks : q + o .by < length ms
 
 -- The rows up to `high` are there, each w wide, and a left row at q; the search is among those from `low` on.
 pub record PlaceIn (o : Options) (w low high : ℕ) (body : Words) (q : ℕ) (vs ms : Words) : Type 0 where

@@ -7,7 +7,8 @@ use Rattle.frames.specs.Cells.{rowFrom}
 use Rattle.options.specs.Options.{withList}
 use Rattle.order.proofs.RowLaws.{row-room}
 use Rattle.saleplace.specs.Place.{cmpOne}
-use Rattle.saleplace.proofs.PlaceLaws.{single-told, placed-alike}
+use Rattle.salegroup.proofs.GroupLaws.{single-told}
+use Rattle.saleplace.proofs.PlaceLaws.{placed-alike}
 use borrow.Author.Needs.{needs}
 use Rattle.saleplace.proofs.find_place.Statement.{statement}
 use Rattle.saleplace.proofs.find_place.Tie as tie

@@ -39,8 +39,8 @@ place c =
     let t = c .loop-test .taken in
     row-room ((l .from + l .to) / 2) (a .high) (a .w) (omega (arith, l .inv .2))
 
-add-mid : tie.Need-add-mid Inv-loop μ-loop
-add-mid c = let l = c .before .loop in omega (arith, few (c .before .before), l .inv .1, l .inv .2, c .loop-test .taken)
+add-half : tie.Need-add-half Inv-loop μ-loop
+add-half c = let l = c .before .loop in omega (arith, few (c .before .before), l .inv .1, l .inv .2, c .loop-test .taken)
 
 mul-cmp-first : tie.Need-mul-cmp-first Inv-loop μ-loop
 mul-cmp-first c = let s = c .before .before in omega (arith, place c, s .pre .rows)
@@ -105,7 +105,7 @@ find-single-spec =
     Inv-loop
     μ-loop
     loop-holds
-    add-mid
+    add-half
     mul-cmp-first
     cmp-first-requires
     enum-told

@@ -1,9 +1,9 @@
--- `saleplace::is_single` meets its contract. Assumes nothing.
+-- `salegroup::is_single` meets its contract. Assumes nothing.
 use mathlib.Core.Path.{_≡_, refl, sym, ap, _∙_}
 use borrow.Author.Needs.{needs}
 use borrow.Author.Tests.{eq-eqb, ne-eqb}
-use Rattle.saleplace.proofs.is_single.Statement.{statement}
-use Rattle.saleplace.proofs.is_single.Tie as tie
+use Rattle.salegroup.proofs.is_single.Statement.{statement}
+use Rattle.salegroup.proofs.is_single.Tie as tie
 
 is-ranked-requires : tie.Need-is-ranked-requires
 is-ranked-requires c κs = search needs

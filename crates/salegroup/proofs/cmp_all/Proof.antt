@@ -1,4 +1,4 @@
--- `saleplace::cmp_all` meets its contract. Assumes nothing.
+-- `salegroup::cmp_all` meets its contract. Assumes nothing.
 use mathlib.Core.Path.{_≡_, refl, sym, ap, _∙_}
 use Prim.Native.Nat.{ℕ, suc, _+_, _-_, _*_, _≤_, _<_}
 use native.Mathlib.Omega.{arith}
@@ -6,10 +6,10 @@ use denote.Ref.{now}
 use lib.ListN.{length, take, drop, length-drop}
 use lib.Seq.{take-all}
 use Rattle.options.specs.Options.{withList}
-use Rattle.saleplace.proofs.PlaceLaws.{as-marked}
+use Rattle.salegroup.proofs.GroupLaws.{as-marked}
 use borrow.Author.Needs.{needs}
-use Rattle.saleplace.proofs.cmp_all.Statement.{statement}
-use Rattle.saleplace.proofs.cmp_all.Tie as tie
+use Rattle.salegroup.proofs.cmp_all.Statement.{statement}
+use Rattle.salegroup.proofs.cmp_all.Tie as tie
 
 mul-cmp-group : tie.Need-mul-cmp-group
 mul-cmp-group c = search needs

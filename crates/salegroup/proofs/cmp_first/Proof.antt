@@ -1,4 +1,4 @@
--- `saleplace::cmp_first` meets its contract. Assumes nothing.
+-- `salegroup::cmp_first` meets its contract. Assumes nothing.
 use mathlib.Core.Path.{_≡_, refl, sym, ap, _∙_}
 use Prim.Native.Nat.{ℕ}
 use denote.Ref.{now}
@@ -6,8 +6,8 @@ use lib.IntN.{pos}
 use lib.ListN.{getD}
 use Rattle.frames.proofs.Signed.{back}
 use borrow.Author.Needs.{needs}
-use Rattle.saleplace.proofs.cmp_first.Statement.{statement}
-use Rattle.saleplace.proofs.cmp_first.Tie as tie
+use Rattle.salegroup.proofs.cmp_first.Statement.{statement}
+use Rattle.salegroup.proofs.cmp_first.Tie as tie
 
 mul-cmp-cell : tie.Need-mul-cmp-cell
 mul-cmp-cell c = search needs

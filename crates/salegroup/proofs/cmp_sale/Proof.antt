@@ -1,11 +1,11 @@
--- `saleplace::cmp_sale` meets its contract. Assumes nothing.
+-- `salegroup::cmp_sale` meets its contract. Assumes nothing.
 use mathlib.Core.Path.{_≡_, sym, _∙_}
 use denote.Ref.{now}
 use Rattle.options.specs.Options.{withList}
-use Rattle.saleplace.proofs.PlaceLaws.{single-told}
+use Rattle.salegroup.proofs.GroupLaws.{single-told}
 use borrow.Author.Needs.{needs}
-use Rattle.saleplace.proofs.cmp_sale.Statement.{statement}
-use Rattle.saleplace.proofs.cmp_sale.Tie as tie
+use Rattle.salegroup.proofs.cmp_sale.Statement.{statement}
+use Rattle.salegroup.proofs.cmp_sale.Tie as tie
 
 is-single-requires : tie.Need-is-single-requires
 is-single-requires c κs = search needs
