@@ -10,14 +10,15 @@ use denote.Enum.Declared.{tagOf}
 use lib.Dec.{ltb}
 use lib.IntN.{ℤ, pos, negsuc, natAbs, _+ℤ_}
 use lib.Signed.{leZ}
-use lib.ListN.{length, take, drop, getD}
+use lib.ListN.{length, take, drop, getD, length-append, length-drop}
+use lib.Seq.{paste}
 use Rattle.frames.specs.Cells.{Cell, cell, valueWord, Words, rowFrom}
 use Rattle.frames.specs.Frame.{pairsFine}
 use Rattle.options.specs.declared.Options.{Options}
 use Rattle.order.specs.Order.{nullGroup}
 use Rattle.order.specs.declared.Order.{Order}
 use Rattle.order.specs.declared.Order.the-variants.{Less, Equal, Greater}
-use Rattle.takings.specs.Subtotals.{Subtotal, cmpSub, plus, insert, addAll, salesIn, mostSales, mostAmount}
+use Rattle.takings.specs.Subtotals.{Subtotal, cmpSub, plus, insert, addAll, ascending, salesIn, mostSales, mostAmount}
 use Rattle.takings.specs.Sales.{Sale, amountsOf, beyondAmounts}
 use Rattle.takings.proofs.SubtotalLaws.{Every, Bounded, bounded-insert, all-sales}
 use Rattle.salekind.specs.Kinds.{kindOf}
@@ -25,8 +26,11 @@ use Rattle.salekind.specs.declared.Kind.{Kind}
 use Rattle.salekind.specs.declared.Kind.the-variants.{Unmatched, Nothing, Amount}
 use Rattle.salekind.proofs.Kind.{the-type}
 use Rattle.salekind.proofs.KindLaws.{salesFrom, leftAt, answerAt, unit, from-all, from-none, row-unmatched, row-nothing, row-amount, amount-at, group-told, beyond-cons, none-sold}
-use Rattle.saleinsert.specs.Held.{Held, Addable, unitOf}
-use Rattle.saleinsert.proofs.InsertLaws.{subAt, sums-at, times-least, tableValues}
+use Rattle.saleinsert.specs.Held.{Held, Addable, subAt, unitOf}
+use Rattle.saleinsert.proofs.InsertLaws.{sums-at, times-least, body-long}
+use Rattle.salepass.specs.Pass.{Written, EachAddable}
+use Rattle.salepass.proofs.PassLaws.{all-written}
+use Rattle.tables.specs.Table.{wordsOf}
 use Rattle.saleadd.specs.Adds.{EachBounded, Starts}
 
 -- ---- tables grow
@@ -70,6 +74,24 @@ bound-at [] i b l = absurd (omega arith)
 bound-at (t ∷ ts) zero b l = b .0
 bound-at (t ∷ ts) (suc i) b l = bound-at ts i (b .1) (omega arith)
 
+-- Sales can be added to each row of a table whose sums are within the bounds.
+pub held-addable : (o : Options) (n : ℕ) (ts : List Subtotal) (b₀ body : Words) → Held o n ts b₀ body → EachBounded ts → salesIn ts ≤ mostSales → EachAddable (o .by) n body
+held-addable o n ts b₀ body k h u j l =
+    let s = sums-at (o .by) n ts (drop (n * suc (suc (o .by))) b₀) (k .each) (k .rows) j l in
+    let c = sum-at ts j (omega (arith, k .rows)) in
+    let b = bound-at ts j h (omega (arith, k .rows)) in
+    rw (k .words, s .0, s .1) (record { total-is = omega (arith, b, c, u); count-is = omega (arith, c, u); sold = le-leb 0 (subAt ts j .count) (omega arith) })
+
+-- The first of two parts is within the bounds of both.
+bounded-front : (xs ys : List Subtotal) → EachBounded (xs ++ ys) → EachBounded xs
+bounded-front [] ys b = tt
+bounded-front (x ∷ xs) ys b = (b .0, bounded-front xs ys (b .1))
+
+sales-front : (xs ys : List Subtotal) → salesIn xs ≤ salesIn (xs ++ ys)
+unfolding salesIn
+sales-front [] ys = omega arith
+sales-front (x ∷ xs) ys = omega (arith, sales-front xs ys)
+
 each-every : (ts : List Subtotal) → EachBounded ts → Every Bounded ts
 each-every [] b = tt
 each-every (t ∷ ts) b = (b .0, each-every ts (b .1))
@@ -82,37 +104,68 @@ or-false : (a b : Bool) → (a || b) ≡ false → (a ≡ false) × (b ≡ false
 or-false true b e = (cc, cc)
 or-false false b e = (refl, e)
 
-module _ (o : Options) (rows d : ℕ) (lv lm av am b₀ : Words) where
+-- The words of a table are there.
+pub source-words : (o : Options) (n : ℕ) (ts : List Subtotal) (table : Words) → Held o n ts table table → n * suc (suc (o .by)) ≤ length table
+source-words o n ts table k = omega (arith, body-long (o .by) n ts (drop (n * suc (suc (o .by))) table) table (k .rows) (k .each) (k .words))
+
+-- No row is written yet.
+none-held : (o : Options) (b₀ : Words) → Held o 0 [] b₀ b₀
+unfolding wordsOf ascending
+none-held o b₀ = let z : 0 * suc (suc (o .by)) ≡ 0 = omega arith in record { rows = refl; words = rw z; long = refl; order = refl; each = tt }
+
+module _ (o : Options) (n rows d : ℕ) (table lv lm av am b₀ : Words) where
   abbrev U : ℕ → List Subtotal
   U i = amountsOf (salesFrom o rows d lv lm av am i)
 
-  -- From the table t₀, rows up to i added.
-  pub record Running (t₀ : List Subtotal) (m i : ℕ) (body : Words) : Type 0 where
-    pub ts : List Subtotal
-    pub held : Held o m ts b₀ body
-    pub left : addAll o ts (U i) ≡ addAll o t₀ (U 0)
-    pub bounded : EachBounded ts
-    pub few : salesIn ts + length (U i) ≤ mostSales
+  -- From the table t₀, the sales of rows up to i added: W is the table that they make.
+  pub record Running (t₀ : List Subtotal) (m taken i : ℕ) (body : Words) : Type 0 where
+    pub whole : List Subtotal
+    pub written : Written o n m taken t₀ whole table b₀ body
+    pub left : addAll o whole (U i) ≡ addAll o t₀ (U 0)
+    pub bounded : EachBounded whole
+    pub few : salesIn whole + length (U i) ≤ mostSales
     pub amounts : beyondAmounts (U i) ≡ false
 
-  pub running-starts : (t₀ : List Subtotal) (n : ℕ) → Starts o n rows d t₀ lv lm av am b₀ → Running t₀ n 0 b₀
-  running-starts t₀ n s =
+  pub running-starts : (t₀ : List Subtotal) → Starts o n rows d t₀ table lv lm av am b₀ → Running t₀ 0 0 0 b₀
+  running-starts t₀ s =
       let e = from-all o rows d lv lm av am in
-      record { ts = t₀; held = s .held; left = refl; bounded = s .bounded; few = rw e (s .few); amounts = rw e (s .amounts) }
+      record {
+        whole = t₀;
+        written = record { ts = []; held = none-held o b₀; source = s .held; within = omega arith; order = s .held .order; whole = refl };
+        left = refl;
+        bounded = s .bounded;
+        few = rw e (s .few);
+        amounts = rw e (s .amounts);
+      }
 
   abbrev K : ℕ → Kind
   K i = kindOf o (leftAt o rows d lv lm av am i) (answerAt o rows d lv lm av am i)
 
-  skipped : (t₀ : List Subtotal) (m i : ℕ) (body : Words) → U i ≡ U (i + 1) → Running t₀ m i body → Running t₀ m (i + 1) body
-  skipped t₀ m i body e r = record { ts = r .ts; held = r .held; left = rw (← e) (r .left); bounded = r .bounded; few = rw (← e) (r .few); amounts = rw (← e) (r .amounts) }
+  skipped : (t₀ : List Subtotal) (m taken i : ℕ) (body : Words) → U i ≡ U (i + 1) → Running t₀ m taken i body → Running t₀ m taken (i + 1) body
+  skipped t₀ m taken i body e r = record { whole = r .whole; written = r .written; left = rw (← e) (r .left); bounded = r .bounded; few = rw (← e) (r .few); amounts = rw (← e) (r .amounts) }
 
-  pub running-skip : (t₀ : List Subtotal) (m i : ℕ) (body : Words) → i < rows → (K i ≡ Amount → ⊥) → Running t₀ m i body → Running t₀ m (i + 1) body
-  running-skip t₀ m i body l n r = by (K i) refl
+  pub running-skip : (t₀ : List Subtotal) (m taken i : ℕ) (body : Words) → i < rows → (K i ≡ Amount → ⊥) → Running t₀ m taken i body → Running t₀ m taken (i + 1) body
+  running-skip t₀ m taken i body l n r = by (K i) refl
     where
-      by : (z : Kind) → K i ≡ z → Running t₀ m (i + 1) body
-      by Unmatched e = skipped t₀ m i body (ap amountsOf (row-unmatched o rows d lv lm av am i l e)) r
-      by Nothing e = skipped t₀ m i body (row-nothing o rows d lv lm av am i l e .0) r
+      by : (z : Kind) → K i ≡ z → Running t₀ m taken (i + 1) body
+      by Unmatched e = skipped t₀ m taken i body (ap amountsOf (row-unmatched o rows d lv lm av am i l e)) r
+      by Nothing e = skipped t₀ m taken i body (row-nothing o rows d lv lm av am i l e .0) r
       by Amount e = absurd (n e)
+
+  -- The rows that are written, with those that are left, have room, and are as many as all together.
+  module _ (t₀ : List Subtotal) (m taken i : ℕ) (body : Words) (r : Running t₀ m taken i body) where
+    pub whole-count : length (r .whole) ≡ m + (n - taken)
+    whole-count = let s = r .written in ap length (sym (s .whole)) ∙ length-append (s .ts) (drop taken t₀) ∙ omega (arith, s .held .rows, s .source .rows, length-drop taken t₀)
+
+    pub rest-room : length (addAll o t₀ (U 0)) * suc (suc (o .by)) + length (addAll o t₀ (U 0)) * suc (suc (o .by)) ≤ length body → (m + (n - taken)) * suc (suc (o .by)) ≤ length body
+    rest-room k =
+        let a : length (r .whole) ≤ length (addAll o t₀ (U 0)) = rw (← r .left) (all-grows o (r .whole) (U i)) in
+        omega (arith, times-least (m + (n - taken)) (length (addAll o t₀ (U 0))) (suc (suc (o .by))) (omega (arith, whole-count)))
+
+    pub rows-addable : EachAddable (o .by) m body
+    rows-addable =
+        let s = r .written in
+        held-addable o m (s .ts) b₀ body (s .held) (bounded-front (s .ts) (drop taken t₀) (rw (s .whole) (r .bounded))) (omega (arith, rw (s .whole) at (sales-front (s .ts) (drop taken t₀)), r .few))
 
   module _ (w : 2 ≤ d) (h : rows * d ≤ length av) (p : length av ≤ length am) (f : pairsFine av am ≡ true) (i : ℕ) (l : i < rows) (e : K i ≡ Amount) where
     abbrev x : List Cell
@@ -126,46 +179,40 @@ module _ (o : Options) (rows d : ℕ) (lv lm av am b₀ : Words) where
         row-amount o rows d lv lm av am i l e .0
         ∙ ap (λ (y : ℤ). record { group = take (o .by) x; total = y; count = 1 } ∷ U (i + 1)) (amount-at o rows d lv lm av am i l w h p f)
 
-    module _ (t₀ : List Subtotal) (m : ℕ) (body : Words) (r : Running t₀ m i body) where
+    module _ (t₀ : List Subtotal) (m taken : ℕ) (body : Words) (r : Running t₀ m taken i body) where
       pub small : natAbs v ≤ mostAmount
       small = ltb-false mostAmount (natAbs v) (or-false (ltb mostAmount (natAbs v)) (beyondAmounts (U (i + 1))) (sym (beyond-cons (unitOf o x v) (U (i + 1))) ∙ ap beyondAmounts (sym next) ∙ r .amounts) .0)
 
       -- One more row has room.
-      pub has-place : length (addAll o t₀ (U 0)) * suc (suc (o .by)) + length (addAll o t₀ (U 0)) * suc (suc (o .by)) ≤ length body → m * suc (suc (o .by)) + suc (suc (o .by)) ≤ length body
+      pub has-place : length (addAll o t₀ (U 0)) * suc (suc (o .by)) + length (addAll o t₀ (U 0)) * suc (suc (o .by)) ≤ length body → (m + (n - taken)) * suc (suc (o .by)) + suc (suc (o .by)) ≤ length body
       has-place k =
           let T = addAll o t₀ (U 0) in
-          let g = insert-grows o (unitOf o x v) (r .ts) in
-          let a : length (insert o (unitOf o x v) (r .ts)) ≤ length T = rw (← r .left, next, all-cons o (r .ts) (U (i + 1)) (unitOf o x v)) (all-grows o (insert o (unitOf o x v) (r .ts)) (U (i + 1))) in
-          let y = times-least m (length T) (suc (suc (o .by))) (omega (arith, r .held .rows, a, g .0)) in
+          let g = insert-grows o (unitOf o x v) (r .whole) in
+          let a : length (insert o (unitOf o x v) (r .whole)) ≤ length T = rw (← r .left, next, all-cons o (r .whole) (U (i + 1)) (unitOf o x v)) (all-grows o (insert o (unitOf o x v) (r .whole)) (U (i + 1))) in
+          let y = times-least (m + (n - taken)) (length T) (suc (suc (o .by))) (omega (arith, whole-count t₀ m taken i body r, a, g .0)) in
           let z = times-least 1 (length T) (suc (suc (o .by))) (omega (arith, a, g .1)) in
           omega arith
 
-      pub addable-at : (j : ℕ) → j < m → Addable (getD body (j * suc (suc (o .by)) + o .by) (pos 0)) (getD body (j * suc (suc (o .by)) + o .by + 1) (pos 0))
-      addable-at j k =
-          let q = r .held in
-          let s = sums-at (o .by) m (r .ts) (drop (m * suc (suc (o .by))) b₀) (q .each) (q .rows) j k in
-          let c = sum-at (r .ts) j (omega (arith, q .rows)) in
-          let b = bound-at (r .ts) j (r .bounded) (omega (arith, q .rows)) in
-          let u = r .few in
-          rw (q .words, s .0, s .1) (record { total-is = omega (arith, b, c, u); count-is = omega (arith, c, u); sold = le-leb 0 (subAt (r .ts) j .count) (omega arith) })
-
-      pub running-amount : (m′ : ℕ) (body′ : Words) → Held o m′ (insert o (unitOf o x v) (r .ts)) b₀ body′ → Running t₀ m′ (i + 1) body′
-      running-amount m′ body′ k =
-          let n = insert-sales o (unitOf o x v) (r .ts) in
+      pub running-amount : (m′ taken′ : ℕ) (body′ : Words) → Written o n m′ taken′ t₀ (insert o (unitOf o x v) (r .whole)) table b₀ body′ → Running t₀ m′ taken′ (i + 1) body′
+      running-amount m′ taken′ body′ k =
+          let c = insert-sales o (unitOf o x v) (r .whole) in
           let z = or-false (ltb mostAmount (natAbs v)) (beyondAmounts (U (i + 1))) (sym (beyond-cons (unitOf o x v) (U (i + 1))) ∙ ap beyondAmounts (sym next) ∙ r .amounts) in
           record {
-            ts = insert o (unitOf o x v) (r .ts);
-            held = k;
-            left = sym (all-cons o (r .ts) (U (i + 1)) (unitOf o x v)) ∙ ap (addAll o (r .ts)) (sym next) ∙ r .left;
-            bounded = every-each (insert o (unitOf o x v) (r .ts)) (bounded-insert o (unitOf o x v) (r .ts) (omega (arith, small)) (each-every (r .ts) (r .bounded)));
-            few = omega (arith, n, r .few, ap length next);
+            whole = insert o (unitOf o x v) (r .whole);
+            written = k;
+            left = sym (all-cons o (r .whole) (U (i + 1)) (unitOf o x v)) ∙ ap (addAll o (r .whole)) (sym next) ∙ r .left;
+            bounded = every-each (insert o (unitOf o x v) (r .whole)) (bounded-insert o (unitOf o x v) (r .whole) (omega (arith, small)) (each-every (r .whole) (r .bounded)));
+            few = omega (arith, c, r .few, ap length next);
             amounts = z .1;
           }
 
-  pub running-ends : (t₀ : List Subtotal) (m i : ℕ) (body : Words) → rows ≤ i → Running t₀ m i body → Held o m (addAll o t₀ (amountsOf (salesFrom o rows d lv lm av am 0))) b₀ body
-  running-ends t₀ m i body l r =
-      let e : addAll o (r .ts) (U i) ≡ r .ts = ap (λ (z : List Sale). addAll o (r .ts) (amountsOf z)) (from-none o rows d lv lm av am i l) ∙ ap (addAll o (r .ts)) (none-sold .0) ∙ all-none o (r .ts) in
-      rw (← r .left, e) (r .held)
+  pub running-ends : (t₀ : List Subtotal) (m taken i : ℕ) (body body′ : Words) → rows ≤ i → (r : Running t₀ m taken i body)
+      → length (addAll o t₀ (U 0)) * suc (suc (o .by)) + length (addAll o t₀ (U 0)) * suc (suc (o .by)) ≤ length body
+      → body′ ≡ paste body (m * suc (suc (o .by))) (drop (taken * suc (suc (o .by))) table) ((n - taken) * suc (suc (o .by)))
+      → Held o (m + (n - taken)) (addAll o t₀ (amountsOf (salesFrom o rows d lv lm av am 0))) b₀ body′
+  running-ends t₀ m taken i body body′ l r k e =
+      let z : addAll o (r .whole) (U i) ≡ r .whole = ap (λ (z : List Sale). addAll o (r .whole) (amountsOf z)) (from-none o rows d lv lm av am i l) ∙ ap (addAll o (r .whole)) (none-sold .0) ∙ all-none o (r .whole) in
+      rw (← r .left, z) (all-written o n m taken t₀ (r .whole) table b₀ body (r .written) (rest-room t₀ m taken i body r k) body′ e)
 
 -- ---- an arm that is not the amounts'
 pub not-amount : (x : Kind) → (tagOf the-type x ≡ 0) ⊎ (tagOf the-type x ≡ 1) → x ≡ Amount → ⊥

@@ -23,18 +23,18 @@ EachBounded (t ∷ ts) = (natAbs (t .total) ≤ t .count * mostAmount) × EachBo
 abbrev pub amountsIn : Options → ℕ → ℕ → Words → Words → Words → Words → List Subtotal
 amountsIn o rows d lv lm av am = amountsOf (salesOf o (rowsOf (suc (o .by)) rows lv lm) (rowsOf d rows av am))
 
--- The words hold the table ts, all sums stay within the bounds, and twice the rows of the result have room.
-pub record Starts (o : Options) (n rows d : ℕ) (ts : List Subtotal) (lv lm av am body : Words) : Type 0 where
-  pub held : Held o n ts body body
+-- The words `table` are the table ts, all sums stay within the bounds, and twice the rows of the result have room.
+pub record Starts (o : Options) (n rows d : ℕ) (ts : List Subtotal) (table lv lm av am body : Words) : Type 0 where
+  pub held : Held o n ts table table
   pub bounded : EachBounded ts
   pub few : salesIn ts + length (amountsIn o rows d lv lm av am) ≤ mostSales
   pub amounts : beyondAmounts (amountsIn o rows d lv lm av am) ≡ false
   pub room : length (addAll o ts (amountsIn o rows d lv lm av am)) * suc (suc (o .by)) + length (addAll o ts (amountsIn o rows d lv lm av am)) * suc (suc (o .by)) ≤ length body
 
 -- There is such a table, and the frames are there.
-pub record AddsIn (o : Options) (n rows d : ℕ) (lv lm av am body : Words) : Type 0 where
-  pub table : List Subtotal
-  pub starts : Starts o n rows d table lv lm av am body
+pub record AddsIn (o : Options) (n rows d : ℕ) (table lv lm av am body : Words) : Type 0 where
+  pub ts : List Subtotal
+  pub starts : Starts o n rows d ts table lv lm av am body
   pub compare : Few o
   pub frames : FrameIn (o .by) rows d lm av am
   pub left-values : rows * suc (o .by) ≤ length lv

@@ -4,7 +4,6 @@ use options::Terms;
 use order::Order;
 use salekind::Kind;
 use salekind::kind_of;
-use saleplace::cmp_sale;
 use saleplace::find_place;
 ghost use mathlib.Core.Path.{_≡_};
 ghost use mathlib.Core.Bool.{_&&_};
@@ -91,14 +90,8 @@ fn in_table(
     ensures { λ r. ⌜ ((ts : List Subtotal) → TableIs (withList o (now (codes .entry)) (now (rising .entry))) n ts (now (table .entry)) → r ≡ isThere (withList o (now (codes .entry)) (now (rising .entry))) (rowFrom (suc (o .by)) q (now (lv .entry)) (now (lm .entry))) ts) ⌝ }
 {
     let w = o.by + 2;
-    let p = find_place(table, n, w, lv, lm, q, o, codes, rising);
-    if n <= p {
-        return false;
-    }
-    match cmp_sale(table, p * w, lv, lm, q, o, codes, rising) {
-        Order::Equal => true,
-        _ => false,
-    }
+    let p = find_place(table, 0, n, w, lv, lm, q, o, codes, rising);
+    p.here
 }
 
 // Whether left row i, at q, with its answer row at z, is a sale with an amount, of a group that neither the table nor a later sale has.

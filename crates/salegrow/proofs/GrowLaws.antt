@@ -1,4 +1,4 @@
--- A table copied, grown and finished: its words. Assumes nothing.
+-- A table grown and finished: its words. Assumes nothing.
 use mathlib.Core.Path.{_≡_, refl, sym, ap, _∙_}
 use mathlib.Core.List.{List, [], _∷_, _++_, map, append-assoc, append-nil}
 use Prim.Native.Nat.{ℕ, zero, suc, _+_, _-_, _*_, _≤_, _<_}
@@ -15,84 +15,23 @@ use Rattle.tables.specs.Table.{wordsOf, tableOf, laid}
 use Rattle.takings.specs.Subtotals.{Subtotal, cmpSub, plus, insert, addAll, rowOf}
 use Rattle.saleinsert.specs.Held.{Plain, EachPlain, Held}
 use Rattle.saleinsert.proofs.InsertLaws.{tableValues, values-long, times-least}
-use Rattle.saleadd.specs.Adds.{Starts, amountsIn}
-use Rattle.salegrow.specs.Grows.{Grows}
+use Rattle.saleadd.specs.Adds.{Starts, AddsIn}
+use Rattle.salegrow.specs.Grows.{Grows, GrowIn}
 
--- ---- tables grow
-insert-grows : (o : Options) (u : Subtotal) (ts : List Subtotal) → length ts ≤ length (insert o u ts)
-unfolding insert
-insert-grows o u [] = omega arith
-insert-grows o u (t ∷ ts) = by (cmpSub o u t) (insert-grows o u ts)
-  where
-    by : (z : Order) → length ts ≤ length (insert o u ts) → length (t ∷ ts) ≤ length {A = Subtotal} (elim z [ Less ↦ u ∷ t ∷ ts | Equal ↦ plus t u ∷ ts | Greater ↦ t ∷ insert o u ts ])
-    by Less h = omega arith
-    by Equal h = omega arith
-    by Greater h = omega arith
+-- ---- what adding asks
+pub starts : (o : Options) (n rows d : ℕ) (ts : List Subtotal) (table lv lm av am body : Words) → Grows o n rows d ts table lv lm av am body → Starts o n rows d ts table lv lm av am body
+starts o n rows d ts table lv lm av am body g = record { held = g .table-is .held; bounded = g .bounded; few = g .few; amounts = g .amounts; room = g .room }
 
-all-grows : (o : Options) (ts us : List Subtotal) → length ts ≤ length (addAll o ts us)
-unfolding addAll
-all-grows o ts [] = omega arith
-all-grows o ts (u ∷ us) = omega (arith, all-grows o (insert o u ts) us, insert-grows o u ts)
-
-module _ (o : Options) (n rows d : ℕ) (ts : List Subtotal) (table lv lm av am body : Words) (g : Grows o n rows d ts table lv lm av am body) where
-  abbrev w : ℕ
-  w = suc (suc (o .by))
-
-  abbrev U : List Subtotal
-  U = amountsIn o rows d lv lm av am
-
-  -- The copy's room.
-  pub copy-room : 0 + length table ≤ length body
-  copy-room =
-      let a = all-grows o ts U in
-      let m = g .table-is .held .rows in
-      let b = times-least n (length (addAll o ts U)) w (omega arith) in
-      omega (arith, g .room, g .exact)
-
-  values : table ≡ tableValues ts
-  values =
-      let h = g .table-is .held in
-      let e : drop (n * w) table ≡ [] = drop-of-length-le table {i = n * w} (omega (arith, g .exact)) in
-      h .words ∙ ap (λ (z : Words). tableValues ts ++ z) e ∙ append-nil (tableValues ts)
-
-  abbrev B : Words
-  B = drop (n * w) body
-
-  copied : (body₁ : Words) → body₁ ≡ paste body 0 table (length table) → body₁ ≡ tableValues ts ++ B
-  copied body₁ e =
-      let z : 0 + length table ≡ n * w = omega (arith, g .exact) in
-      e ∙ ap (λ (k : ℕ). take 0 body ++ take (length table) table ++ drop k body) z ∙ ap (λ (x : Words). x ++ B) (take-length table) ∙ ap (λ (x : Words). x ++ B) values
-
-  values-are : length (tableValues ts) ≡ n * w
-  values-are = ap length (sym values) ∙ g .exact
-
-  copied-long : (body₁ : Words) → body₁ ≡ paste body 0 table (length table) → length body₁ ≡ length body
-  copied-long body₁ e = ap length e ∙ length-paste body 0 table (length table) copy-room (omega arith)
-
-  behind : (body₁ : Words) → body₁ ≡ paste body 0 table (length table) → drop (n * w) body₁ ≡ B
-  behind body₁ e = ap (drop (n * w)) (copied body₁ e) ∙ drop-at (tableValues ts) B (n * w) values-are
-
-  pub starts : (body₁ : Words) → body₁ ≡ paste body 0 table (length table) → Starts o n rows d ts lv lm av am body₁
-  starts body₁ e =
-      let h = g .table-is .held in
-      record {
-        held = record { rows = h .rows; words = copied body₁ e ∙ ap (λ (z : Words). tableValues ts ++ z) (sym (behind body₁ e)); long = refl; order = h .order; each = h .each };
-        bounded = g .bounded;
-        few = g .few;
-        amounts = g .amounts;
-        room = rw (copied-long body₁ e) (g .room);
-      }
-
-  pub grown : (body₁ body₂ : Words) (m : ℕ) → body₁ ≡ paste body 0 table (length table) → Held o m (addAll o ts U) body₁ body₂ → Held o m (addAll o ts U) body body₂
-  grown body₁ body₂ m e h =
-      let a = all-grows o ts U in
-      let r = g .table-is .held .rows in
-      let q = h .rows in
-      let k = times-least n m w (omega arith) in
-      let s : m * w ≡ n * w + (m * w - n * w) = omega arith in
-      let d₁ : drop (m * w) body₁ ≡ drop (m * w) body =
-      ap (λ (z : ℕ). drop z body₁) s ∙ sym (drop-drop (m * w - n * w) (n * w) body₁) ∙ ap (drop (m * w - n * w)) (behind body₁ e) ∙ drop-drop (m * w - n * w) (n * w) body ∙ ap (λ (z : ℕ). drop z body) (sym s) in
-      record { rows = h .rows; words = h .words ∙ ap (λ (z : Words). tableValues (addAll o ts U) ++ z) d₁; long = h .long ∙ copied-long body₁ e; order = h .order; each = h .each }
+pub adds : (o : Options) (n rows d : ℕ) (table lv lm av am body : Words) → GrowIn o n rows d table lv lm av am body → AddsIn o n rows d table lv lm av am body
+adds o n rows d table lv lm av am body g = record {
+  ts = g .ts;
+  starts = starts o n rows d (g .ts) table lv lm av am body (g .grows);
+  compare = g .compare;
+  frames = g .frames;
+  left-values = g .left-values;
+  left-paired = g .left-paired;
+  left-fine = g .left-fine;
+}
 
 -- ---- all marks are 1
 ones-of : (vs : Words) → map markWord (map value vs) ≡ replicate (length vs) (pos 1)

@@ -1,7 +1,6 @@
 // A table of subtotals with a frame's sales added, written at the front of an output that has room for it.
 use options::Terms;
 use saleadd::add_frame;
-use salewrite::copy_words;
 use salewrite::fill_ones;
 use tables::put_head;
 ghost use mathlib.Core.Path.{_≡_};
@@ -11,31 +10,8 @@ ghost use lib.ListN.{length, drop};
 ghost use Rattle.options.specs.Options.{withList};
 ghost use Rattle.tables.specs.Table.{tableOf, laid};
 ghost use Rattle.takings.specs.Subtotals.{Subtotal, addAll, rowOf};
-ghost use Rattle.saleinsert.specs.Held.{Held};
 ghost use Rattle.saleadd.specs.Adds.{amountsIn};
-ghost use Rattle.salegrow.specs.Grows.{Grows, GrowIn, WriteIn};
-
-// The table's n rows are copied, and the sales are added to them; answers how many rows there are then.
-fn grow(
-    body: &mut [i64],
-    table: &[i64],
-    n: usize,
-    lv: &[i64],
-    lm: &[i64],
-    av: &[i64],
-    am: &[i64],
-    rows: usize,
-    d: usize,
-    o: Terms,
-    codes: &[i64],
-    rising: &[u8],
-) -> usize
-    requires { ⌜ GrowIn (withList o (now codes) (now rising)) n rows d (now table) (now lv) (now lm) (now av) (now am) (now body) ⌝ }
-    ensures { λ r. ⌜ ((ts : List Subtotal) → Grows (withList o (now (codes .entry)) (now (rising .entry))) n rows d ts (now (table .entry)) (now (lv .entry)) (now (lm .entry)) (now (av .entry)) (now (am .entry)) (now (body .entry)) → Held (withList o (now (codes .entry)) (now (rising .entry))) r (addAll (withList o (now (codes .entry)) (now (rising .entry))) ts (amountsIn (withList o (now (codes .entry)) (now (rising .entry))) rows d (now (lv .entry)) (now (lm .entry)) (now (av .entry)) (now (am .entry)))) (now (body .entry)) (now (body .exit))) ⌝ }
-{
-    copy_words(body, 0, table);
-    add_frame(body, n, lv, lm, av, am, rows, d, o, codes, rising)
-}
+ghost use Rattle.salegrow.specs.Grows.{Grows, WriteIn};
 
 // The whole result, as a table; answers its rows.
 pub fn write_sales(
@@ -56,7 +32,7 @@ pub fn write_sales(
     ensures { λ r. ⌜ ((ts : List Subtotal) → Grows (withList o (now (codes .entry)) (now (rising .entry))) n rows d ts (now (table .entry)) (now (lv .entry)) (now (lm .entry)) (now (av .entry)) (now (am .entry)) (drop 2 (now (out .entry))) → (r ≡ length (addAll (withList o (now (codes .entry)) (now (rising .entry))) ts (amountsIn (withList o (now (codes .entry)) (now (rising .entry))) rows d (now (lv .entry)) (now (lm .entry)) (now (av .entry)) (now (am .entry))))) × (now (out .exit) ≡ laid (tableOf (suc (suc (o .by))) (map rowOf (addAll (withList o (now (codes .entry)) (now (rising .entry))) ts (amountsIn (withList o (now (codes .entry)) (now (rising .entry))) rows d (now (lv .entry)) (now (lm .entry)) (now (av .entry)) (now (am .entry)))))) (now (out .entry)))) ⌝ }
 {
     let w = o.by + 2;
-    let m = grow(
+    let m = add_frame(
         &mut out[2..],
         table,
         n,

@@ -2,12 +2,10 @@
 use mathlib.Core.Path.{_≡_, refl, sym, ap, _∙_}
 use mathlib.Core.Bool.{Bool, true, false, _||_}
 use mathlib.Core.List.{List, [], _∷_, _++_, map, append-assoc, append-nil}
-use mathlib.Core.Logic.{_⊎_, inl, inr, ⊎-elim}
 use Prim.Native.Nat.{ℕ, zero, suc, _+_, _-_, _*_, _^_, _≤_, _<_}
 use native.Mathlib.Omega.{arith}
 use native.Mathlib.Decide.{decLt}
 use lib.IntN.{ℤ, pos, negsuc, natAbs, _+ℤ_}
-use denote.Enum.Declared.{tagOf}
 use lib.Signed.{leZ, mag}
 use lib.ListN.{length, take, drop, getD, length-append, length-map, length-drop, List·getD-map, take-append-drop}
 use lib.Seq.{paste, take-at, drop-at, getD-at, getD-append-add, take-append-le, take-append-add, drop-append-add, drop-drop, length-take-le, take-all, split-at, ext-getD, getD-take, getD-drop, take-take}
@@ -15,28 +13,30 @@ use Rattle.frames.specs.Cells.{Cell, null, value, cell, isNull, cellOf, cellsOf
 use Rattle.frames.specs.Frame.{pairsFine}
 use Rattle.frames.proofs.WordLaws.{map-append}
 use Rattle.options.specs.declared.Options.{Options}
-use Rattle.order.specs.Order.{cmpFirst, cmpGroup, isEqual, nullGroup, nullIn}
+use Rattle.order.specs.Order.{cmpFirst, cmpGroup, nullGroup, nullIn}
 use Rattle.order.specs.Requires.{cellAt}
 use Rattle.order.specs.declared.Order.{Order}
 use Rattle.order.specs.declared.Order.the-variants.{Less, Equal, Greater}
-use Rattle.order.proofs.Order.{the-type}
 use Rattle.order.proofs.OrderLaws.{cmpGroup-is, greater-less, less-greater, equal-flip, group-equal}
 use Rattle.order.proofs.RowLaws.{row-cell, row-length}
 use Rattle.tables.specs.Table.{wordsOf}
 use Rattle.tables.proofs.CellLaws.{fine-at}
 use Rattle.takings.specs.Subtotals.{Subtotal, cmpSub, plus, insert, ascending, rowOf, mostAmount, mostSales}
 use Rattle.takings.proofs.SubtotalLaws.{Every, Above, Rising, abs-plus, rising, rising-ascending, rising-insert}
-use Rattle.saleplace.specs.Place.{plain, cmpAt, Placed}
-use Rattle.saleinsert.specs.Held.{Plain, EachPlain, Held, unitOf}
+use Rattle.salegroup.specs.Group.{plain}
+use Rattle.saleplace.specs.Place.{cmpAt}
+use Rattle.saleinsert.specs.Held.{Plain, EachPlain, Held, subAt, unitOf}
 
 -- ---- a table cut at a place
 abbrev nothing : Subtotal
 nothing = record { group = []; total = pos 0; count = 0 }
 
-abbrev pub subAt : List Subtotal → ℕ → Subtotal
-subAt ts i = getD ts i nothing
-
 module _ (o : Options) where
+  -- A group before another is before what that one is before.
+  pub above-then : (g h : List Cell) (ts : List Subtotal) → cmpGroup o g h ≡ Less → Above o h ts → Above o g ts
+  above-then g h [] l a = tt
+  above-then g h (t ∷ ts) l a = (cmpGroup-is o .less g h (t .group) l (a .0), above-then g h ts l (a .1))
+
   above-at : (h : List Cell) (ts : List Subtotal) (i : ℕ) → Above o h ts → i < length ts → cmpGroup o h (subAt ts i .group) ≡ Less
   above-at h [] i a l = absurd (omega arith)
   above-at h (t ∷ ts) zero a l = a .0
@@ -82,7 +82,7 @@ module _ (o : Options) where
       arm-greater (u ∷ x ∷ (xs ++ zs)) (plus x u ∷ (xs ++ zs)) (x ∷ insert o u (xs ++ zs)) (cmpSub o u x) (less-greater (cmpGroup-is o) (x .group) (u .group) (h .0))
       ∙ ap (λ (z : List Subtotal). x ∷ z) (past u xs zs (h .1))
 
-  first-greater : (u : Subtotal) (zs : List Subtotal) → (0 < length zs → cmpGroup o (subAt zs 0 .group) (u .group) ≡ Greater) → insert o u zs ≡ u ∷ zs
+  pub first-greater : (u : Subtotal) (zs : List Subtotal) → (0 < length zs → cmpGroup o (subAt zs 0 .group) (u .group) ≡ Greater) → insert o u zs ≡ u ∷ zs
   unfolding insert
   first-greater u [] h = refl
   first-greater u (t ∷ ts) h = arm-less (u ∷ t ∷ ts) (plus t u ∷ ts) (t ∷ insert o u ts) (cmpSub o u t) (greater-less (cmpGroup-is o) (t .group) (u .group) (h (omega arith)))
@@ -114,7 +114,7 @@ values-cons : (t : Subtotal) (ts : List Subtotal) → tableValues (t ∷ ts) ≡
 unfolding wordsOf
 values-cons t ts = refl
 
-values-append : (xs ys : List Subtotal) → tableValues (xs ++ ys) ≡ tableValues xs ++ tableValues ys
+pub values-append : (xs ys : List Subtotal) → tableValues (xs ++ ys) ≡ tableValues xs ++ tableValues ys
 unfolding wordsOf
 values-append [] ys = refl
 values-append (x ∷ xs) ys = ap (λ (z : Words). map valueWord (rowOf x) ++ z) (values-append xs ys) ∙ sym (append-assoc (map valueWord (rowOf x)) (tableValues xs) (tableValues ys))
@@ -135,7 +135,7 @@ values-long b (t ∷ ts) h =
     let r = row-long b t (h .0 .long) in
     ap length (values-cons t ts) ∙ length-append (map valueWord (rowOf t)) (tableValues ts) ∙ (let i = values-long b ts (h .1) in let e : suc (length ts) * suc (suc b) ≡ suc (suc b) + length ts * suc (suc b) = omega arith in omega arith)
 
-body-long : (b n : ℕ) (ts : List Subtotal) (R body : Words) → length ts ≡ n → EachPlain b ts → body ≡ tableValues ts ++ R → length body ≡ n * suc (suc b) + length R
+pub body-long : (b n : ℕ) (ts : List Subtotal) (R body : Words) → length ts ≡ n → EachPlain b ts → body ≡ tableValues ts ++ R → length body ≡ n * suc (suc b) + length R
 body-long b n ts R body e f h =
     ap length h ∙ length-append (tableValues ts) R ∙ ap (λ (z : ℕ). z + length R) (values-long b ts f ∙ ap (λ (z : ℕ). z * suc (suc b)) e)
 
@@ -144,28 +144,28 @@ plain-at b [] i h l = absurd (omega arith)
 plain-at b (t ∷ ts) zero h l = h .0
 plain-at b (t ∷ ts) (suc i) h l = plain-at b ts i (h .1) (omega arith)
 
-plain-take : (b : ℕ) (ts : List Subtotal) (p : ℕ) → EachPlain b ts → EachPlain b (take p ts)
+pub plain-take : (b : ℕ) (ts : List Subtotal) (p : ℕ) → EachPlain b ts → EachPlain b (take p ts)
 plain-take b [] zero h = tt
 plain-take b [] (suc p) h = tt
 plain-take b (t ∷ ts) zero h = tt
 plain-take b (t ∷ ts) (suc p) h = (h .0, plain-take b ts p (h .1))
 
-plain-drop : (b : ℕ) (ts : List Subtotal) (p : ℕ) → EachPlain b ts → EachPlain b (drop p ts)
+pub plain-drop : (b : ℕ) (ts : List Subtotal) (p : ℕ) → EachPlain b ts → EachPlain b (drop p ts)
 plain-drop b [] zero h = tt
 plain-drop b [] (suc p) h = tt
 plain-drop b (t ∷ ts) zero h = h
 plain-drop b (t ∷ ts) (suc p) h = plain-drop b ts p (h .1)
 
-plain-append : (b : ℕ) (xs ys : List Subtotal) → EachPlain b xs → EachPlain b ys → EachPlain b (xs ++ ys)
+pub plain-append : (b : ℕ) (xs ys : List Subtotal) → EachPlain b xs → EachPlain b ys → EachPlain b (xs ++ ys)
 plain-append b [] ys h k = k
 plain-append b (x ∷ xs) ys h k = (h .0, plain-append b xs ys (h .1) k)
 
 -- The words, cut at the row in place p.
 module _ (b n : ℕ) (ts : List Subtotal) (R : Words) (f : EachPlain b ts) (e : length ts ≡ n) (p : ℕ) where
-  before-long : p ≤ n → length (tableValues (take p ts)) ≡ p * suc (suc b)
+  pub before-long : p ≤ n → length (tableValues (take p ts)) ≡ p * suc (suc b)
   before-long l = values-long b (take p ts) (plain-take b ts p f) ∙ ap (λ (z : ℕ). z * suc (suc b)) (length-take-le p ts (omega arith))
 
-  cut-gap : p ≤ n → tableValues ts ++ R ≡ tableValues (take p ts) ++ (tableValues (drop p ts) ++ R)
+  pub cut-gap : p ≤ n → tableValues ts ++ R ≡ tableValues (take p ts) ++ (tableValues (drop p ts) ++ R)
   cut-gap l = ap (λ (z : List Subtotal). tableValues z ++ R) (sym (take-append-drop p ts)) ∙ ap (λ (z : Words). z ++ R) (values-append (take p ts) (drop p ts)) ∙ append-assoc (tableValues (take p ts)) (tableValues (drop p ts)) R
 
   cut-row : p < n → tableValues ts ++ R ≡ tableValues (take p ts) ++ (map valueWord (rowOf (subAt ts p)) ++ (tableValues (drop (suc p) ts) ++ R))
@@ -275,6 +275,14 @@ unfolding cmpFirst
 second-taken o b zero r s h = refl
 second-taken o b (suc j) r s h = rw (second-taken o b j r s (omega arith), getD-take b s j null (omega arith))
 
+-- How a row of the words compares is how the table's row does.
+pub row-told : (o : Options) (n : ℕ) (ts : List Subtotal) (b₀ body : Words) → Held o n ts b₀ body → (x : List Cell) (p : ℕ) → p < n → (z : Order) → cmpAt o (suc (suc (o .by))) body x p ≡ z
+    → cmpGroup o (subAt ts p .group) (take (o .by) x) ≡ z
+row-told o n ts b₀ body k x p l z c =
+    let w : ℕ = suc (suc (o .by)) in
+    let g : plain (o .by) (p * w) body ≡ subAt ts p .group = ap (plain (o .by) (p * w)) (k .words) ∙ group-at (o .by) n ts (drop (n * w) b₀) (k .each) (k .rows) p l in
+    sym (second-taken o (o .by) (o .by) (subAt ts p .group) x (omega arith)) ∙ ap (λ (y : List Cell). cmpGroup o y x) (sym g) ∙ c
+
 same-group : (o : Options) (t u : Subtotal) → cmpSub o t u ≡ Equal → length (t .group) ≡ o .by → length (u .group) ≡ o .by → t .group ≡ u .group
 same-group o t u e a b = ext-getD null (t .group) (u .group) (a ∙ sym b) (λ i l. group-equal o (t .group) (u .group) e i (omega (arith, a)))
 
@@ -282,7 +290,7 @@ pub times-least : (p n w : ℕ) → p ≤ n → p * w ≤ n * w
 times-least p n zero h = omega arith
 times-least p n (suc w) h = let i = times-least p n w h in let a : p * suc w ≡ p + p * w = omega arith in let b : n * suc w ≡ n + n * w = omega arith in omega arith
 
-times-less : (n p w : ℕ) → p ≤ n → (n - p) * w ≡ n * w - p * w
+pub times-less : (n p w : ℕ) → p ≤ n → (n - p) * w ≡ n * w - p * w
 times-less n p w h = let e : n ≡ (n - p) + p = omega arith in let d : n * w ≡ (n - p) * w + p * w = ap (λ (z : ℕ). z * w) e ∙ omega arith in omega arith
 
 -- The row of a sale of a left row, by its words.
@@ -321,25 +329,16 @@ module _ (o : Options) (q : ℕ) (vs ms : Words) (h : q + o .by < length vs) (l 
     risen : Rising o ts
     risen = rising o ts (k .order)
 
-    cmp-taken : (t : Subtotal) → cmpGroup o (t .group) x ≡ cmpGroup o (t .group) (u .group)
-    cmp-taken t = second-taken o (o .by) (o .by) (t .group) x (omega arith)
-
-    at-place : p < n → (z : Order) → cmpGroup o (plain (o .by) (p * w) body) x ≡ z → cmpGroup o (subAt ts p .group) (u .group) ≡ z
-    at-place l z c =
-        let g : plain (o .by) (p * w) body ≡ subAt ts p .group = ap (plain (o .by) (p * w)) (k .words) ∙ group-at (o .by) n ts R (k .each) (k .rows) p l in
-        sym (cmp-taken (subAt ts p)) ∙ ap (λ (y : List Cell). cmpGroup o y x) (sym g) ∙ c
-
     room-left : length b₀ ≡ length body
     room-left = sym (k .long)
 
     -- The group is there.
-    pub inserted-here : p < n → cmpGroup o (plain (o .by) (p * w) body) x ≡ Equal → (body′ : Words)
+    pub inserted-here : p < n → cmpGroup o (subAt ts p .group) (u .group) ≡ Equal → (body′ : Words)
         → body′ ≡ paste body (p * w) (take (o .by) (drop q vs) ++ (getD body (p * w + o .by) (pos 0) +ℤ amount) ∷ (getD body (p * w + o .by + 1) (pos 0) +ℤ pos 1) ∷ []) w
         → Held o n (insert o u ts) b₀ body′
-    inserted-here l c body′ d =
+    inserted-here l eq body′ d =
         let t = subAt ts p in
         let m = k .rows in
-        let eq = at-place l Equal c in
         let pt = plain-at (o .by) ts p (k .each) (omega arith) in
         let same : t .group ≡ u .group = same-group o t u eq (pt .long) sale-long in
         let ins : insert o u ts ≡ take p ts ++ plus t u ∷ drop (suc p) ts = insert-here o u ts p risen (omega arith) eq in
@@ -367,13 +366,13 @@ module _ (o : Options) (q : ℕ) (vs ms : Words) (h : q + o .by < length vs) (l 
         }
 
     -- It is not.
-    pub inserted-new : p ≤ n → (0 < p → cmpGroup o (plain (o .by) ((p - 1) * w) body) x ≡ Less) → (p < n → cmpGroup o (plain (o .by) (p * w) body) x ≡ Greater) → n * w + w ≤ length body → (body′ : Words)
+    pub inserted-new : p ≤ n → (0 < p → cmpGroup o (subAt ts (p - 1) .group) (u .group) ≡ Less) → (p < n → cmpGroup o (subAt ts p .group) (u .group) ≡ Greater) → n * w + w ≤ length body → (body′ : Words)
         → body′ ≡ paste (paste body (p * w + w) (drop (p * w) body) (n * w - p * w)) (p * w) (take (o .by) (drop q vs) ++ amount ∷ pos 1 ∷ []) w
         → Held o (n + 1) (insert o u ts) b₀ body′
     inserted-new l before after room body′ d =
         let m = k .rows in
         let lb = k .long in
-        let ins : insert o u ts ≡ take p ts ++ u ∷ drop p ts = insert-new o u ts p risen (omega arith) (λ z. place-before z (before z)) (λ z. at-place (omega arith) Greater (after (omega arith))) in
+        let ins : insert o u ts ≡ take p ts ++ u ∷ drop p ts = insert-new o u ts p risen (omega arith) before (λ z. after (omega arith)) in
         let row : Words = take (o .by) (drop q vs) ++ amount ∷ pos 1 ∷ [] in
         let rowis : map valueWord (rowOf u) ≡ row = row-of amount 1 in
         let lrow : length row ≡ w = ap length (sym rowis) ∙ row-long (o .by) u sale-long in
@@ -400,11 +399,6 @@ module _ (o : Options) (q : ℕ) (vs ms : Words) (h : q + o .by < length vs) (l 
           order = rising-ascending o (insert o u ts) (rising-insert o u ts risen);
           each = pls;
         }
-      where
-        place-before : 0 < p → cmpGroup o (plain (o .by) ((p - 1) * w) body) x ≡ Less → cmpGroup o (subAt ts (p - 1) .group) (u .group) ≡ Less
-        place-before z c =
-            let g : plain (o .by) ((p - 1) * w) body ≡ subAt ts (p - 1) .group = ap (plain (o .by) ((p - 1) * w)) (k .words) ∙ group-at (o .by) n ts R (k .each) (k .rows) (p - 1) (omega arith) in
-            sym (cmp-taken (subAt ts (p - 1))) ∙ ap (λ (y : List Cell). cmpGroup o y x) (sym g) ∙ c
 
 -- ---- sums stay within a word
 mag-abs : (z : ℤ) → mag z ≤ natAbs z
@@ -416,17 +410,3 @@ total-fits a b h l = omega (arith, mag-abs (a +ℤ b), abs-plus a b)
 
 pub count-fits : (a : ℤ) → natAbs a ≤ mostSales → mag (a +ℤ pos 1) < 2 ^ 63
 count-fits a h = omega (arith, mag-abs (a +ℤ pos 1), abs-plus a (pos 1))
-
-pub not-equal-arm : (x : Order) → (tagOf the-type x ≡ 0) ⊎ (tagOf the-type x ≡ 2) → isEqual x ≡ false
-not-equal-arm Less t = refl
-not-equal-arm Equal t = absurd (⊎-elim (λ l. omega arith) (λ l. omega arith) t)
-not-equal-arm Greater t = refl
-
--- ---- a place where no row of the group is
-pub gap : (o : Options) (w n : ℕ) (body : Words) (g : List Cell) (r : ℕ) → Placed o w n body g r → (r < n → isEqual (cmpAt o w body g r) ≡ false)
-    → (0 < r → cmpAt o w body g (r - 1) ≡ Less) × (r < n → cmpAt o w body g r ≡ Greater)
-gap o w n body g r p h = by (p .here)
-  where
-    by : ((r < n) × (cmpAt o w body g r ≡ Equal)) ⊎ ((0 < r → cmpAt o w body g (r - 1) ≡ Less) × (r < n → cmpAt o w body g r ≡ Greater)) → (0 < r → cmpAt o w body g (r - 1) ≡ Less) × (r < n → cmpAt o w body g r ≡ Greater)
-    by (inl q) = let e : true ≡ false = ap isEqual (sym (q .1)) ∙ h (q .0) in let z : _≡_ {A = ℕ} 0 1 = cc in absurd (omega arith)
-    by (inr q) = q

@@ -6,14 +6,12 @@ use Prim.Native.Nat.{ℕ, suc, _+_, _-_, _*_, _≤_, _<_}
 use lib.IntN.{ℤ, pos, natAbs}
 use lib.Signed.{leZ}
 use lib.ListN.{length, take, drop, getD}
-use Rattle.frames.specs.Cells.{Cell, value, valueWord, Words}
+use Rattle.frames.specs.Cells.{Cell, value, valueWord, Words, rowFrom}
 use Rattle.frames.specs.Frame.{pairsFine}
-use Rattle.options.specs.Options.{Few}
 use Rattle.options.specs.declared.Options.{Options}
-use Rattle.order.specs.Order.{cmpGroup, isEqual, nullGroup}
-use Rattle.order.specs.declared.Order.the-variants.{Equal}
+use Rattle.order.specs.Order.{cmpGroup, nullGroup}
+use Rattle.order.specs.declared.Order.the-variants.{Less, Equal, Greater}
 use Rattle.tables.specs.Table.{wordsOf}
-use Rattle.saleplace.specs.Place.{plain}
 use Rattle.takings.specs.Subtotals.{Subtotal, insert, ascending, rowOf, mostAmount, mostSales}
 
 -- The by-values of a group: so many, none of them null.
@@ -32,6 +30,19 @@ pub record Held (o : Options) (n : ℕ) (ts : List Subtotal) (b₀ body : Words)
   pub long : length body ≡ length b₀
   pub order : ascending o ts ≡ true
   pub each : EachPlain (o .by) ts
+
+-- The row in place i of a table.
+abbrev nothing : Subtotal
+nothing = record { group = []; total = pos 0; count = 0 }
+
+abbrev pub subAt : List Subtotal → ℕ → Subtotal
+subAt ts i = getD ts i nothing
+
+-- In the table ts: row r is of the group g; or, where none is, g belongs before row r and behind the row before it.
+pub record Stands (o : Options) (ts : List Subtotal) (g : List Cell) (r : ℕ) (here : Bool) : Type 0 where
+  pub within : r ≤ length ts
+  pub yes : here ≡ true → (r < length ts) × (cmpGroup o (subAt ts r .group) g ≡ Equal)
+  pub no : here ≡ false → (0 < r → cmpGroup o (subAt ts (r - 1) .group) g ≡ Less) × (r < length ts → cmpGroup o (subAt ts r .group) g ≡ Greater)
 
 -- The sale of a left row.
 abbrev pub unitOf : Options → List Cell → ℤ → Subtotal
@@ -54,29 +65,17 @@ pub record OpenIn (a end q by : ℕ) (vs body : Words) : Type 0 where
   pub range : a ≤ end
   pub room : end + (by + 2) ≤ length body
 
--- A row is at a where there is one in place p, and a left row at q.
-pub record HereIn (o : Options) (n p a : ℕ) (body : Words) (q : ℕ) (vs ms : Words) : Type 0 where
-  pub compare : Few o
-  pub row : p < n → a + o .by < length body
-  pub values : q + o .by < length vs
-  pub marks : q + o .by < length ms
-
--- Whether a row is in place p and of the group g.
-pub record Here (o : Options) (n p a : ℕ) (body : Words) (g : List Cell) (r : Bool) : Type 0 where
-  pub yes : r ≡ true → (p < n) × (cmpGroup o (plain (o .by) a body) g ≡ Equal)
-  pub no : r ≡ false → p < n → isEqual (cmpGroup o (plain (o .by) a body) g) ≡ false
-
--- n rows are there and one more has room; a left row with its marks is at q; sums stay within a word.
-pub record InsertIn (o : Options) (n : ℕ) (body : Words) (q : ℕ) (vs ms : Words) (amount : ℤ) : Type 0 where
-  pub compare : Few o
-  pub room : n * suc (suc (o .by)) + suc (suc (o .by)) ≤ length body
-  pub values : q + o .by < length vs
-  pub marks : q + o .by < length ms
-  pub paired : length vs ≤ length ms
-  pub fine : pairsFine vs ms ≡ true
+-- n rows are there and one more has room; `row` is one of them, if it is of the sale's group, or their end; sums stay within a word.
+pub record PutIn (by n row : ℕ) (here : Bool) (q : ℕ) (vs : Words) (amount : ℤ) (body : Words) : Type 0 where
+  pub few : by ≤ 4
+  pub room : n * suc (suc by) + suc (suc by) ≤ length body
+  pub there : q + by < length vs
+  pub range : row ≤ n
+  pub is : here ≡ true → row < n
   pub small : natAbs amount ≤ mostAmount
-  pub addable : (i : ℕ) → i < n → Addable (getD body (i * suc (suc (o .by)) + o .by) (pos 0)) (getD body (i * suc (suc (o .by)) + o .by + 1) (pos 0))
+  pub addable : here ≡ true → Addable (getD body (row * suc (suc by) + by) (pos 0)) (getD body (row * suc (suc by) + by + 1) (pos 0))
 
--- Whatever table the words held, they hold it with the sale added; r says how many rows it has.
-pub record Inserted (o : Options) (n : ℕ) (body : Words) (x : List Cell) (amount : ℤ) (r : ℕ) (body′ : Words) : Type 0 where
-  pub holds : (ts : List Subtotal) (b₀ : Words) → nullGroup o x ≡ false → Held o n ts b₀ body → Held o r (insert o (unitOf o x amount) ts) b₀ body′
+-- Whatever table the words held, they hold it with the sale added, if its place was told; r says how many rows it has.
+pub record Inserted (o : Options) (n row : ℕ) (here : Bool) (q : ℕ) (vs ms : Words) (amount : ℤ) (body : Words) (r : ℕ) (body′ : Words) : Type 0 where
+  pub holds : (ts : List Subtotal) (b₀ : Words) → length vs ≤ length ms → pairsFine vs ms ≡ true → nullGroup o (rowFrom (suc (o .by)) q vs ms) ≡ false
+      → Stands o ts (take (o .by) (rowFrom (suc (o .by)) q vs ms)) row here → Held o n ts b₀ body → Held o r (insert o (unitOf o (rowFrom (suc (o .by)) q vs ms) amount) ts) b₀ body′

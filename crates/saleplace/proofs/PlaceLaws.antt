@@ -1,42 +1,61 @@
--- A row without marks compares as one whose marks are all 1. Assumes nothing.
-use mathlib.Core.Path.{_≡_, refl, sym, ap, _∙_}
-use mathlib.Core.List.{List, [], _∷_, map}
+-- Places among rows. Assumes nothing.
+use mathlib.Core.Path.{_≡_, sym, _∙_}
+use mathlib.Core.Bool.{Bool, true, false}
+use mathlib.Core.List.{List}
 use Prim.Native.Nat.{ℕ, zero, suc, _+_, _-_, _*_, _≤_, _<_}
 use native.Mathlib.Omega.{arith}
-use lib.IntN.{ℤ, pos}
-use lib.ListN.{length, take, drop, getD, length-drop, getD-replicate, replicate}
-use lib.Seq.{length-take-le, getD-take, getD-drop}
-use Rattle.frames.specs.Cells.{Cell, null, value, cell, cellOf, isZero, Words, rowFrom}
-use Rattle.options.specs.Options.{byRule}
+use native.Mathlib.Decide.{decLt}
+use Rattle.frames.specs.Cells.{Cell, Words}
 use Rattle.options.specs.declared.Options.{Options}
-use Rattle.order.specs.Order.{next, cmpCell, cmpFirst, cmpGroup}
-use Rattle.order.specs.Requires.{cellAt}
-use Rattle.order.proofs.RowLaws.{row-cell}
-use Rattle.saleplace.specs.Place.{plain}
-
--- An order of groups reads its by-values alone.
-first-same : (o : Options) (j : ℕ) (r r′ s : List Cell) → ((i : ℕ) → i < j → cell i r ≡ cell i r′) → cmpFirst o j r s ≡ cmpFirst o j r′ s
-unfolding cmpFirst
-first-same o zero r r′ s h = refl
-first-same o (suc j) r r′ s h = rw (first-same o j r r′ s (λ i l. h i (omega arith)), h j (omega arith))
-
-value-at : (xs : Words) (i : ℕ) → i < length xs → cell i (map value xs) ≡ value (getD xs i (pos 0))
-value-at [] i h = absurd (omega arith)
-value-at (x ∷ xs) zero h = refl
-value-at (x ∷ xs) (suc i) h = value-at xs i (omega arith)
-
-ones-cell : (i : ℕ) (v : ℤ) (ms : Words) → ms ≡ replicate 5 (pos 1) → i < 5 → cellOf v (getD ms i (pos 0)) ≡ value v
-ones-cell i v ms e l = rw (e, getD-replicate 5 i (pos 1) (pos 0) l)
-
-pub as-marked : (o : Options) (p : ℕ) (body ms : Words) (s : List Cell) → o .by ≤ 4 → ms ≡ replicate 5 (pos 1) → p + o .by < length body
-    → cmpGroup o (rowFrom (suc (o .by)) 0 (drop p body) ms) s ≡ cmpGroup o (plain (o .by) p body) s
-as-marked o p body ms s few e h =
-    let d = length-drop p body in
-    first-same o (o .by) (rowFrom (suc (o .by)) 0 (drop p body) ms) (plain (o .by) p body) s
-    (λ i l. let z : 0 + i ≡ i = omega arith in rw z at (row-cell (suc (o .by)) 0 i (drop p body) ms (omega arith) (omega arith)) ∙ ones-cell i (getD (drop p body) i (pos 0)) ms e (omega arith)
-    ∙ sym (value-at (take (o .by) (drop p body)) i (omega (arith, length-take-le (o .by) (drop p body) (omega arith))) ∙ ap value (getD-take (o .by) (drop p body) i (pos 0) l)))
+use Rattle.order.specs.declared.Order.{Order}
+use Rattle.order.specs.declared.Order.the-variants.{Less, Equal, Greater}
+use Rattle.saleplace.specs.Place.{cmpAt, PlacedBy, Placed}
 
 -- The words of rows bound the rows.
 pub at-least : (n w : ℕ) → 0 < w → n ≤ n * w
 at-least zero w h = omega arith
 at-least (suc n) w h = let i = at-least n w h in let e : suc n * w ≡ w + n * w = omega arith in omega arith
+
+-- ---- a place among the rows from low to high
+true-false : {A : Type 0} → true ≡ false → A
+true-false e = let z : _≡_ {A = ℕ} 0 1 = cc in absurd (omega arith)
+
+pub found-by : (f : ℕ → Order) (low high r : ℕ) → low ≤ r → r < high → f r ≡ Equal → PlacedBy f low high r true
+found-by f low high r l h e = record { least = l; within = omega arith; yes = λ t. (h, e); no = λ t. true-false t }
+
+pub missing-by : (f : ℕ → Order) (low high r : ℕ) → low ≤ r → r ≤ high → (low < r → f (r - 1) ≡ Less) → (r < high → f r ≡ Greater) → PlacedBy f low high r false
+missing-by f low high r l h a b = record { least = l; within = h; yes = λ t. true-false (sym t); no = λ t. (a, b) }
+
+-- Comparisons that say the same of each row place alike.
+pub placed-alike : (o : Options) (w low high : ℕ) (body : Words) (g : List Cell) (f : ℕ → Order) (r : ℕ) (here : Bool) → ((i : ℕ) → i < high → f i ≡ cmpAt o w body g i) → PlacedBy f low high r here → Placed o w low high body g r here
+placed-alike o w low high body g f r here e p = record {
+  least = p .least;
+  within = p .within;
+  yes = λ t. (p .yes t .0, sym (e r (p .yes t .0)) ∙ p .yes t .1);
+  no = λ t. (λ l. sym (e (r - 1) (omega (arith, p .within))) ∙ p .no t .0 l, λ l. sym (e r l) ∙ p .no t .1 l);
+}
+
+module _ (o : Options) (w low high : ℕ) (body : Words) (g : List Cell) where
+  pub found : (r : ℕ) → low ≤ r → r < high → cmpAt o w body g r ≡ Equal → Placed o w low high body g r true
+  found r l h e = record { least = l; within = omega arith; yes = λ t. (h, e); no = λ t. true-false t }
+
+  pub missing : (r : ℕ) → low ≤ r → r ≤ high → (low < r → cmpAt o w body g (r - 1) ≡ Less) → (r < high → cmpAt o w body g r ≡ Greater) → Placed o w low high body g r false
+  missing r l h a b = record { least = l; within = h; yes = λ t. true-false (sym t); no = λ t. (a, b) }
+
+  -- A place among the rows behind one that is less, or before one that is greater, is a place among all.
+  pub placed-within : (from to r : ℕ) (here : Bool) → low ≤ from → to ≤ high → (low < from → cmpAt o w body g (from - 1) ≡ Less) → (to < high → cmpAt o w body g to ≡ Greater)
+      → Placed o w from to body g r here → Placed o w low high body g r here
+  placed-within from to r here l h a b p = record {
+    least = omega (arith, p .least);
+    within = omega (arith, p .within);
+    yes = λ t. (omega (arith, p .yes t .0), p .yes t .1);
+    no = λ t. (λ k. before (decLt from r) (p .no t .0) k, λ k. behind (decLt r to) (p .no t .1) k);
+  }
+    where
+      before : Dec (from < r) → (from < r → cmpAt o w body g (r - 1) ≡ Less) → low < r → cmpAt o w body g (r - 1) ≡ Less
+      before (yes d) f k = f d
+      before (no d) f k = let e : r ≡ from = omega (arith, p .least) in rw e (a (omega arith))
+
+      behind : Dec (r < to) → (r < to → cmpAt o w body g r ≡ Greater) → r < high → cmpAt o w body g r ≡ Greater
+      behind (yes d) f k = f d
+      behind (no d) f k = let e : r ≡ to = omega (arith, p .within) in rw e (b (omega arith))

@@ -1,40 +1,55 @@
--- Rows of subtotals without marks, and where a group stands among them. Assumes nothing.
+-- Where a group stands among rows of subtotals without marks. Assumes nothing.
 use mathlib.Core.Path.{_≡_}
-use mathlib.Core.List.{List, map}
-use mathlib.Core.Logic.{_⊎_}
+use mathlib.Core.Bool.{Bool, true, false}
+use mathlib.Core.List.{List, []}
 use Prim.Native.Nat.{ℕ, suc, _+_, _-_, _*_, _≤_, _<_}
-use lib.ListN.{length, take, drop}
+use lib.IntN.{pos}
+use lib.ListN.{length, getD}
 use Rattle.frames.specs.Cells.{Cell, value, Words}
 use Rattle.options.specs.Options.{Few}
 use Rattle.options.specs.declared.Options.{Options}
-use Rattle.order.specs.Order.{cmpGroup}
+use Rattle.options.specs.declared.Terms.{Terms}
+use Rattle.order.specs.Order.{cmpCell, cmpGroup}
+use Rattle.order.specs.Requires.{cellAt}
 use Rattle.order.specs.declared.Order.{Order}
 use Rattle.order.specs.declared.Order.the-variants.{Less, Equal, Greater}
-
--- The b values from place p on, none of them null.
-abbrev pub plain : ℕ → ℕ → Words → List Cell
-plain b p body = map value (take b (drop p body))
+use Rattle.salegroup.specs.Group.{plain}
 
 -- The group of row i against a group.
 abbrev pub cmpAt : Options → ℕ → Words → List Cell → ℕ → Order
 cmpAt o w body g i = cmpGroup o (plain (o .by) (i * w) body) g
 
--- A row is at p, a left row at q, and their groups compare.
-pub record SaleAt (o : Options) (p : ℕ) (body : Words) (q : ℕ) (vs ms : Words) : Type 0 where
-  pub compare : Few o
-  pub row : p + o .by < length body
-  pub values : q + o .by < length vs
-  pub marks : q + o .by < length ms
-
--- n rows are there, each w wide, and a left row at q.
-pub record PlaceIn (o : Options) (w n : ℕ) (body : Words) (q : ℕ) (vs ms : Words) : Type 0 where
+-- The rows up to `high` are there, each w wide, and a left row at q; the search is among those from `low` on.
+pub record PlaceIn (o : Options) (w low high : ℕ) (body : Words) (q : ℕ) (vs ms : Words) : Type 0 where
   pub compare : Few o
   pub wide : o .by < w
-  pub rows : n * w ≤ length body
+  pub range : low ≤ high
+  pub rows : high * w ≤ length body
   pub values : q + o .by < length vs
   pub marks : q + o .by < length ms
 
--- Row r is of the group g, or g belongs before row r and behind the row before it.
-pub record Placed (o : Options) (w n : ℕ) (body : Words) (g : List Cell) (r : ℕ) : Type 0 where
-  pub within : r ≤ n
-  pub here : ((r < n) × (cmpAt o w body g r ≡ Equal)) ⊎ ((0 < r → cmpAt o w body g (r - 1) ≡ Less) × (r < n → cmpAt o w body g r ≡ Greater))
+-- Among the rows from `low` to `high`: row r is of the group g; or, where none is, g belongs before row r and behind the row before it.
+pub record Placed (o : Options) (w low high : ℕ) (body : Words) (g : List Cell) (r : ℕ) (here : Bool) : Type 0 where
+  pub least : low ≤ r
+  pub within : r ≤ high
+  pub yes : here ≡ true → (r < high) × (cmpAt o w body g r ≡ Equal)
+  pub no : here ≡ false → (low < r → cmpAt o w body g (r - 1) ≡ Less) × (r < high → cmpAt o w body g r ≡ Greater)
+
+-- The by-value of row i against that of the left row at q, where groups have one and it has no list.
+abbrev pub cmpOne : Terms → ℕ → Words → ℕ → Words → Words → ℕ → Order
+cmpOne o w body q vs ms i = cmpCell (record { descending = getD (o .descending) 0 false; nullsLast = getD (o .«nulls_last») 0 false; codes = [] }) (value (getD body (i * w) (pos 0))) (cellAt q vs ms)
+
+-- The rows up to `high` are there, each w wide, and the first word of a left row at q.
+pub record SingleIn (w low high : ℕ) (body : Words) (q : ℕ) (vs ms : Words) : Type 0 where
+  pub wide : 0 < w
+  pub range : low ≤ high
+  pub rows : high * w ≤ length body
+  pub values : q < length vs
+  pub marks : q < length ms
+
+-- The same as Placed, by any comparison of the rows.
+pub record PlacedBy (f : ℕ → Order) (low high r : ℕ) (here : Bool) : Type 0 where
+  pub least : low ≤ r
+  pub within : r ≤ high
+  pub yes : here ≡ true → (r < high) × (f r ≡ Equal)
+  pub no : here ≡ false → (low < r → f (r - 1) ≡ Less) × (r < high → f r ≡ Greater)

@@ -1,36 +1,26 @@
-// Where a sale's group stands among the rows of subtotals, each w wide, that words hold without marks, since none of their cells is null.
-use compare::cmp_group;
+// Where a sale's group stands among rows of subtotals, each w wide, that words hold without marks.
 use options::Terms;
 use order::Order;
-ghost use mathlib.Core.Path.{_≡_};
+use salegroup::cmp_all;
+use salegroup::cmp_first;
+use salegroup::cmp_sale;
+use salegroup::is_single;
 ghost use Prim.Native.Nat.{suc};
 ghost use Rattle.frames.specs.Cells.{rowFrom};
 ghost use Rattle.options.specs.Options.{withList};
-ghost use Rattle.order.specs.Order.{cmpGroup};
-ghost use Rattle.saleplace.specs.Place.{plain, SaleAt, PlaceIn, Placed};
+ghost use Rattle.saleplace.specs.Place.{cmpOne, SingleIn, PlaceIn, PlacedBy, Placed};
 
-// The group of the row at p against the group of the left row at q.
-pub fn cmp_sale(
-    body: &[i64],
-    p: usize,
-    values: &[i64],
-    marks: &[i64],
-    q: usize,
-    o: Terms,
-    codes: &[i64],
-    rising: &[u8],
-) -> Order
-    requires { ⌜ SaleAt (withList o (now codes) (now rising)) p (now body) q (now values) (now marks) ⌝ }
-    ensures { λ r. ⌜ r ≡ cmpGroup (withList o (now (codes .entry)) (now (rising .entry))) (plain (o .by) p (now (body .entry))) (rowFrom (suc (o .by)) q (now (values .entry)) (now (marks .entry))) ⌝ }
-{
-    let ones = [1; 5];
-    cmp_group(&body[p..], &ones, 0, values, marks, q, o, codes, rising)
+// The row of a group; or, if none is here, the row before which it belongs.
+pub struct Place {
+    pub row: usize,
+    pub here: bool,
 }
 
-// The place among n rows in group order: that of the row of the same group, else where such a row belongs.
-pub fn find_place(
+// The place among the rows from `low` to `high`, which are in group order, by halving.
+fn find_all(
     body: &[i64],
-    n: usize,
+    low: usize,
+    high: usize,
     w: usize,
     values: &[i64],
     marks: &[i64],
@@ -38,28 +28,97 @@ pub fn find_place(
     o: Terms,
     codes: &[i64],
     rising: &[u8],
-) -> usize
-    requires { ⌜ PlaceIn (withList o (now codes) (now rising)) w n (now body) q (now values) (now marks) ⌝ }
-    ensures { λ r. ⌜ Placed (withList o (now (codes .entry)) (now (rising .entry))) w n (now (body .entry)) (rowFrom (suc (o .by)) q (now (values .entry)) (now (marks .entry))) r ⌝ }
+) -> Place
+    requires { ⌜ PlaceIn (withList o (now codes) (now rising)) w low high (now body) q (now values) (now marks) ⌝ }
+    ensures { λ r. ⌜ Placed (withList o (now (codes .entry)) (now (rising .entry))) w low high (now (body .entry)) (rowFrom (suc (o .by)) q (now (values .entry)) (now (marks .entry))) (r .row) (r .here) ⌝ }
 {
-    let mut low = 0;
-    let mut high = n;
-    while low < high {
-        let mid = (low + high) / 2;
-        match cmp_sale(body, mid * w, values, marks, q, o, codes, rising) {
+    let mut from = low;
+    let mut to = high;
+    while from < to {
+        let mid = (from + to) / 2;
+        match cmp_all(body, mid * w, values, marks, q, o, codes, rising) {
             Order::Less => {
-                low = mid + 1;
+                from = mid + 1;
             }
-            Order::Equal => return mid,
+            Order::Equal => {
+                return Place {
+                    row: mid,
+                    here: true,
+                };
+            }
             Order::Greater => {
-                high = mid;
+                to = mid;
             }
         }
     }
-    low
+    Place {
+        row: from,
+        here: false,
+    }
 }
 
-// The same, with a place that is looked at first: a sale is often of the group of the sale before it.
+// The same, where groups are of one by-value without a list.
+fn find_single(
+    body: &[i64],
+    low: usize,
+    high: usize,
+    w: usize,
+    values: &[i64],
+    marks: &[i64],
+    q: usize,
+    o: Terms,
+) -> Place
+    requires { ⌜ SingleIn w low high (now body) q (now values) (now marks) ⌝ }
+    ensures { λ r. ⌜ PlacedBy (cmpOne o w (now (body .entry)) q (now (values .entry)) (now (marks .entry))) low high (r .row) (r .here) ⌝ }
+{
+    let mut from = low;
+    let mut to = high;
+    while from < to {
+        let half = (from + to) / 2;
+        match cmp_first(body, half * w, values, marks, q, o) {
+            Order::Less => {
+                from = half + 1;
+            }
+            Order::Equal => {
+                return Place {
+                    row: half,
+                    here: true,
+                };
+            }
+            Order::Greater => {
+                to = half;
+            }
+        }
+    }
+    Place {
+        row: from,
+        here: false,
+    }
+}
+
+// The place among the rows from `low` to `high`, which are in group order, by halving; groups of one by-value without a list have a loop of their own.
+pub fn find_place(
+    body: &[i64],
+    low: usize,
+    high: usize,
+    w: usize,
+    values: &[i64],
+    marks: &[i64],
+    q: usize,
+    o: Terms,
+    codes: &[i64],
+    rising: &[u8],
+) -> Place
+    requires { ⌜ PlaceIn (withList o (now codes) (now rising)) w low high (now body) q (now values) (now marks) ⌝ }
+    ensures { λ r. ⌜ Placed (withList o (now (codes .entry)) (now (rising .entry))) w low high (now (body .entry)) (rowFrom (suc (o .by)) q (now (values .entry)) (now (marks .entry))) (r .row) (r .here) ⌝ }
+{
+    if is_single(o) {
+        return find_single(body, low, high, w, values, marks, q, o);
+    }
+    find_all(body, low, high, w, values, marks, q, o, codes, rising)
+}
+
+// The place among n rows, with a row that is looked at first: a sale is often of the group of the sale before it, or of the next one.
 pub fn place_near(
     body: &[i64],
     n: usize,
@@ -71,14 +130,56 @@ pub fn place_near(
     o: Terms,
     codes: &[i64],
     rising: &[u8],
-) -> usize
-    requires { ⌜ PlaceIn (withList o (now codes) (now rising)) w n (now body) q (now values) (now marks) ⌝ }
-    ensures { λ r. ⌜ Placed (withList o (now (codes .entry)) (now (rising .entry))) w n (now (body .entry)) (rowFrom (suc (o .by)) q (now (values .entry)) (now (marks .entry))) r ⌝ }
+) -> Place
+    requires { ⌜ PlaceIn (withList o (now codes) (now rising)) w 0 n (now body) q (now values) (now marks) ⌝ }
+    ensures { λ r. ⌜ Placed (withList o (now (codes .entry)) (now (rising .entry))) w 0 n (now (body .entry)) (rowFrom (suc (o .by)) q (now (values .entry)) (now (marks .entry))) (r .row) (r .here) ⌝ }
 {
-    if near < n {
-        if let Order::Equal = cmp_sale(body, near * w, values, marks, q, o, codes, rising) {
-            return near;
+    if n <= near {
+        return find_place(body, 0, n, w, values, marks, q, o, codes, rising);
+    }
+    match cmp_sale(body, near * w, values, marks, q, o, codes, rising) {
+        Order::Less => find_place(body, near + 1, n, w, values, marks, q, o, codes, rising),
+        Order::Equal => Place {
+            row: near,
+            here: true,
+        },
+        Order::Greater => find_place(body, 0, near, w, values, marks, q, o, codes, rising),
+    }
+}
+
+// The place among the rows from `start` to n, in steps that double from the first one on: near rows are found by few comparisons.
+pub fn reach(
+    body: &[i64],
+    start: usize,
+    n: usize,
+    w: usize,
+    values: &[i64],
+    marks: &[i64],
+    q: usize,
+    o: Terms,
+    codes: &[i64],
+    rising: &[u8],
+) -> Place
+    requires { ⌜ PlaceIn (withList o (now codes) (now rising)) w start n (now body) q (now values) (now marks) ⌝ }
+    ensures { λ r. ⌜ Placed (withList o (now (codes .entry)) (now (rising .entry))) w start n (now (body .entry)) (rowFrom (suc (o .by)) q (now (values .entry)) (now (marks .entry))) (r .row) (r .here) ⌝ }
+{
+    let mut low = start;
+    while low - start < n - low {
+        let at = low + (low - start);
+        match cmp_sale(body, at * w, values, marks, q, o, codes, rising) {
+            Order::Less => {
+                low = at + 1;
+            }
+            Order::Equal => {
+                return Place {
+                    row: at,
+                    here: true,
+                };
+            }
+            Order::Greater => {
+                return find_place(body, low, at, w, values, marks, q, o, codes, rising);
+            }
         }
     }
-    find_place(body, n, w, values, marks, q, o, codes, rising)
+    find_place(body, low, n, w, values, marks, q, o, codes, rising)
 }

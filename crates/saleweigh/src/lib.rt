@@ -4,6 +4,7 @@ use options::Terms;
 use salecount::count_rows;
 use salekind::Tally;
 use salekind::count_kinds;
+use saleorder::count_ordered;
 use subtables::MOST_SALES;
 use subtables::count_sales;
 use takejudge::bad_number;
@@ -64,7 +65,7 @@ pub fn weigh(
     t
 }
 
-// Whether the result has room in so many words. Most outputs have room for a row for each sale: then no row is counted.
+// Whether the result has room in so many words. Most outputs have room for a row for each sale: then no row is counted. Sales in group order are counted in one walk.
 pub fn rows_fit(
     tv: &[i64],
     n: usize,
@@ -85,6 +86,10 @@ pub fn rows_fit(
     let w = o.by + 2;
     if has_room(n + sales, w, room) {
         return true;
+    }
+    let t = count_ordered(tv, n, lv, lm, am, rows, d, o, codes, rising);
+    if t.told {
+        return has_room(t.rows, w, room);
     }
     let m = count_rows(tv, n, lv, lm, am, rows, d, o, codes, rising);
     has_room(m, w, room)

@@ -11,7 +11,7 @@ use Rattle.takings.specs.Subtotals.{Subtotal, addAll}
 use Rattle.saleinsert.specs.Held.{Held}
 use Rattle.saleadd.specs.Adds.{amountsIn}
 use Rattle.salegrow.specs.Grows.{Grows}
-use Rattle.salegrow.proofs.GrowLaws.{finished, back-whole, lent-whole, at-least}
+use Rattle.salegrow.proofs.GrowLaws.{starts, adds, finished, back-whole, lent-whole, at-least}
 use borrow.Author.Needs.{needs}
 use Rattle.salegrow.proofs.write_sales.Statement.{statement}
 use Rattle.salegrow.proofs.write_sales.Tie as tie
@@ -19,29 +19,29 @@ use Rattle.salegrow.proofs.write_sales.Tie as tie
 add-w : tie.Need-add-w
 add-w c = let s = c .before .before in omega (arith, s .pre .grow .compare .by)
 
-sub-grow : tie.Need-sub-grow
-sub-grow c = search needs
+sub-add-frame : tie.Need-sub-add-frame
+sub-add-frame c = search needs
 
-part-grow-start : tie.Need-part-grow-start
-part-grow-start c = search needs
+part-add-frame-start : tie.Need-part-add-frame-start
+part-add-frame-start c = search needs
 
-part-grow-end : tie.Need-part-grow-end
-part-grow-end c = search needs
+part-add-frame-end : tie.Need-part-add-frame-end
+part-add-frame-end c = search needs
 
-grow-requires : tie.Need-grow-requires
-grow-requires c κs = let s = c .before .before .before in rw (lent-whole (now (s .args .out))) (s .pre .grow)
+add-frame-requires : tie.Need-add-frame-requires
+add-frame-requires c κs = let s = c .before .before .before in let a = s .args in rw (lent-whole (now (a .out))) (adds (withList (a .o) (now (a .codes)) (now (a .rising))) (a .n) (a .rows) (a .d) (now (a .table)) (now (a .lv)) (now (a .lm)) (now (a .av)) (now (a .am)) (drop 2 (now (a .out))) (s .pre .grow))
 
 -- The width, as the definitions have it.
 width : (b : ℕ) → b + 2 ≡ suc (suc b)
 width b = omega arith
 
 -- The grown table.
-held : (c : tie.After-grow) (ts : List Subtotal) → let a = c .before .before .before .before .args in Grows (withList (a .o) (now (a .codes)) (now (a .rising))) (a .n) (a .rows) (a .d) ts (now (a .table)) (now (a .lv)) (now (a .lm)) (now (a .av)) (now (a .am)) (drop 2 (now (a .out)))
-    → Held (withList (a .o) (now (a .codes)) (now (a .rising))) (c .grow .result) (addAll (withList (a .o) (now (a .codes)) (now (a .rising))) ts (amountsIn (withList (a .o) (now (a .codes)) (now (a .rising))) (a .rows) (a .d) (now (a .lv)) (now (a .lm)) (now (a .av)) (now (a .am)))) (drop 2 (now (a .out))) (c .grow .last .0)
-held c ts t = let a = c .before .before .before .before .args in rw (lent-whole (now (a .out))) at (c .grow .ensures ts (rw (lent-whole (now (a .out))) t))
+held : (c : tie.After-add-frame) (ts : List Subtotal) → let a = c .before .before .before .before .args in Grows (withList (a .o) (now (a .codes)) (now (a .rising))) (a .n) (a .rows) (a .d) ts (now (a .table)) (now (a .lv)) (now (a .lm)) (now (a .av)) (now (a .am)) (drop 2 (now (a .out)))
+    → Held (withList (a .o) (now (a .codes)) (now (a .rising))) (c .add-frame .result) (addAll (withList (a .o) (now (a .codes)) (now (a .rising))) ts (amountsIn (withList (a .o) (now (a .codes)) (now (a .rising))) (a .rows) (a .d) (now (a .lv)) (now (a .lm)) (now (a .av)) (now (a .am)))) (drop 2 (now (a .out))) (c .add-frame .last .0)
+held c ts t = let a = c .before .before .before .before .args in rw (lent-whole (now (a .out))) at (c .add-frame .ensures ts (rw (lent-whole (now (a .out))) (starts (withList (a .o) (now (a .codes)) (now (a .rising))) (a .n) (a .rows) (a .d) ts (now (a .table)) (now (a .lv)) (now (a .lm)) (now (a .av)) (now (a .am)) (drop 2 (now (a .out))) t)))
 
 -- Twice its rows have room.
-room : (c : tie.After-grow) → let a = c .before .before .before .before .args in c .grow .result * suc (suc (a .o .by)) + c .grow .result * suc (suc (a .o .by)) ≤ length (drop 2 (now (a .out)))
+room : (c : tie.After-add-frame) → let a = c .before .before .before .before .args in c .add-frame .result * suc (suc (a .o .by)) + c .add-frame .result * suc (suc (a .o .by)) ≤ length (drop 2 (now (a .out)))
 room c =
     let s = c .before .before .before .before in
     let p = s .pre .grow in
@@ -51,8 +51,8 @@ mul-k : tie.Need-mul-k
 mul-k c = let g = c .before in let s = g .before .before .before .before in let y = s .good .1 .1 .1 .1 .1 .1 .1 .1 .1 .1 .1 .0 in omega (arith, room g, width (s .args .o .by), length-drop 2 (now (s .args .out)), y .0, y .1)
 
 -- What was lent is back.
-lent : (c : tie.After-grow) → let a = c .before .before .before .before .args in length (take 2 (now (a .out)) ++ (c .grow .last .0 ++ drop (length (now (a .out)) - 2) (drop 2 (now (a .out))))) ≡ length (now (a .out))
-lent c = let s = c .before .before .before .before in let p = s .pre .grow in let h = held c (p .ts) (p .grows) in ap length (back-whole (now (s .args .out)) (c .grow .last .0)) ∙ length-append (take 2 (now (s .args .out))) (c .grow .last .0) ∙ omega (arith, h .long, length-drop 2 (now (s .args .out)), length-take-le 2 (now (s .args .out)) (s .pre .two), s .pre .two)
+lent : (c : tie.After-add-frame) → let a = c .before .before .before .before .args in length (take 2 (now (a .out)) ++ (c .add-frame .last .0 ++ drop (length (now (a .out)) - 2) (drop 2 (now (a .out))))) ≡ length (now (a .out))
+lent c = let s = c .before .before .before .before in let p = s .pre .grow in let h = held c (p .ts) (p .grows) in ap length (back-whole (now (s .args .out)) (c .add-frame .last .0)) ∙ length-append (take 2 (now (s .args .out))) (c .add-frame .last .0) ∙ omega (arith, h .long, length-drop 2 (now (s .args .out)), length-take-le 2 (now (s .args .out)) (s .pre .two), s .pre .two)
 
 add-fill-ones : tie.Need-add-fill-ones
 add-fill-ones c = let g = c .before .before in let s = g .before .before .before .before in let y = s .good .1 .1 .1 .1 .1 .1 .1 .1 .1 .1 .1 .0 in omega (arith, room g, width (s .args .o .by), length-drop 2 (now (s .args .out)), y .0, y .1)
@@ -61,7 +61,7 @@ fill-ones-requires : tie.Need-fill-ones-requires
 fill-ones-requires c κs = let g = c .before .before in let s = g .before .before .before .before in record { within = omega (arith, room g, width (s .args .o .by), length-drop 2 (now (s .args .out)), s .pre .two, lent g) }
 
 put-head-requires : tie.Need-put-head-requires
-put-head-requires c κs = let g = c .before .before .before .before .before in let s = g .before .before .before .before in let y = s .good .1 .1 .1 .1 .1 .1 .1 .1 .1 .1 .1 .0 in record { rows = omega (arith, room g, at-least (g .grow .result) (suc (suc (s .args .o .by))) (omega arith), length-drop 2 (now (s .args .out)), y .0, y .1); columns = omega (arith, s .pre .grow .compare .by); room = omega (arith, s .pre .two, lent g, c .before .before .fill-ones .kept .0) }
+put-head-requires c κs = let g = c .before .before .before .before .before in let s = g .before .before .before .before in let y = s .good .1 .1 .1 .1 .1 .1 .1 .1 .1 .1 .1 .0 in record { rows = omega (arith, room g, at-least (g .add-frame .result) (suc (suc (s .args .o .by))) (omega arith), length-drop 2 (now (s .args .out)), y .0, y .1); columns = omega (arith, s .pre .grow .compare .by); room = omega (arith, s .pre .two, lent g, c .before .before .fill-ones .kept .0) }
 
 same-length : tie.Need-same-length
 same-length c = search needs
@@ -70,17 +70,17 @@ returns : tie.Need-returns
 returns c =
     λ ts t. let g = c .before .before .before .before .before .before .before in let s = g .before .before .before .before in let a = s .args in
     let h = held g ts t in
-    (sym (h .rows), rw (width (a .o .by)) at (c .before .put-head .ensures) ∙ finished (withList (a .o) (now (a .codes)) (now (a .rising))) (g .grow .result) (addAll (withList (a .o) (now (a .codes)) (now (a .rising))) ts (amountsIn (withList (a .o) (now (a .codes)) (now (a .rising))) (a .rows) (a .d) (now (a .lv)) (now (a .lm)) (now (a .av)) (now (a .am)))) (now (a .out)) _ _ _ (s .pre .two) h (room g) (back-whole (now (a .out)) _) (rw (width (a .o .by)) at (c .before .before .before .before .fill-ones .ensures)))
+    (sym (h .rows), rw (width (a .o .by)) at (c .before .put-head .ensures) ∙ finished (withList (a .o) (now (a .codes)) (now (a .rising))) (g .add-frame .result) (addAll (withList (a .o) (now (a .codes)) (now (a .rising))) ts (amountsIn (withList (a .o) (now (a .codes)) (now (a .rising))) (a .rows) (a .d) (now (a .lv)) (now (a .lm)) (now (a .av)) (now (a .am)))) (now (a .out)) _ _ _ (s .pre .two) h (room g) (back-whole (now (a .out)) _) (rw (width (a .o .by)) at (c .before .before .before .before .fill-ones .ensures)))
 
 pub write-sales-spec : {M : Type 1} → statement M
 write-sales-spec =
     tie.close
     (tie.spec
     add-w
-    sub-grow
-    part-grow-start
-    part-grow-end
-    grow-requires
+    sub-add-frame
+    part-add-frame-start
+    part-add-frame-end
+    add-frame-requires
     mul-k
     add-fill-ones
     fill-ones-requires

@@ -33,16 +33,27 @@ returns c =
     λ ts av h t e. let s = c .before .before .before .before in let a = s .args in
     room-all (withList (a .o) (now (a .codes)) (now (a .rising))) ts (amountsOf (salesOf (withList (a .o) (now (a .codes)) (now (a .rising))) (rowsOf (suc (a .o .by)) (a .rows) (now (a .lv)) (now (a .lm))) (rowsOf (a .d) (a .rows) av (now (a .am))))) (a .n) (a .sales) (suc (suc (a .o .by))) (a .room) (t .held .rows) e (rw (width (a .o .by)) at (sym (c .before .has-room .ensures) ∙ c .if1 .taken))
 
-count-rows-requires : tie.Need-count-rows-requires
-count-rows-requires c κs = let s = c .before .before .before .before in s .pre .0
+count-ordered-requires : tie.Need-count-ordered-requires
+count-ordered-requires c κs = let s = c .before .before .before .before in s .pre .0
 
 has-room-requires-2 : tie.Need-has-room-requires-2
 has-room-requires-2 c κs = search needs
 
 returns-2 : tie.Need-returns-2
 returns-2 c =
-    λ ts av h t e. let s = c .before .before .before .before .before .before in let a = s .args in
-    rw (width (a .o .by), c .before .count-rows .ensures ts av h t) at (c .has-room2 .ensures)
+    λ ts av h t e. let s = c .before .before .before .before .before .before .before in let a = s .args in
+    rw (width (a .o .by), c .before .before .count-ordered .ensures ts av (c .before .if2 .taken) h t) at (c .has-room2 .ensures)
+
+count-rows-requires : tie.Need-count-rows-requires
+count-rows-requires c κs = let s = c .before .before .before .before .before .before in s .pre .0
+
+has-room-requires-3 : tie.Need-has-room-requires-3
+has-room-requires-3 c κs = search needs
+
+returns-3 : tie.Need-returns-3
+returns-3 c =
+    λ ts av h t e. let s = c .before .before .before .before .before .before .before .before in let a = s .args in
+    rw (width (a .o .by), c .before .count-rows .ensures ts av h t) at (c .has-room3 .ensures)
 
 pub rows-fit-spec : {M : Type 1} → statement M
 rows-fit-spec =
@@ -52,6 +63,9 @@ rows-fit-spec =
     add-has-room
     has-room-requires
     returns
-    count-rows-requires
+    count-ordered-requires
     has-room-requires-2
-    returns-2)
+    returns-2
+    count-rows-requires
+    has-room-requires-3
+    returns-3)

@@ -1,4 +1,4 @@
--- `saleplace::cmp_sale` meets its contract. Assumes nothing.
+-- `salegroup::cmp_all` meets its contract. Assumes nothing.
 use mathlib.Core.Path.{_≡_, refl, sym, ap, _∙_}
 use Prim.Native.Nat.{ℕ, suc, _+_, _-_, _*_, _≤_, _<_}
 use native.Mathlib.Omega.{arith}
@@ -6,10 +6,10 @@ use denote.Ref.{now}
 use lib.ListN.{length, take, drop, length-drop}
 use lib.Seq.{take-all}
 use Rattle.options.specs.Options.{withList}
-use Rattle.saleplace.proofs.PlaceLaws.{as-marked}
+use Rattle.salegroup.proofs.GroupLaws.{as-marked}
 use borrow.Author.Needs.{needs}
-use Rattle.saleplace.proofs.cmp_sale.Statement.{statement}
-use Rattle.saleplace.proofs.cmp_sale.Tie as tie
+use Rattle.salegroup.proofs.cmp_all.Statement.{statement}
+use Rattle.salegroup.proofs.cmp_all.Tie as tie
 
 mul-cmp-group : tie.Need-mul-cmp-group
 mul-cmp-group c = search needs
@@ -45,8 +45,8 @@ returns c =
     rw (whole s) at (c .cmp-group .ensures (suc (a .o .by)) (suc (a .o .by)) (omega arith) (omega arith))
     ∙ as-marked (withList (a .o) (now (a .codes)) (now (a .rising))) (a .p) (now (a .body)) _ _ (s .pre .compare .by) refl (s .pre .row)
 
-pub cmp-sale-spec : {M : Type 1} → statement M
-cmp-sale-spec =
+pub cmp-all-spec : {M : Type 1} → statement M
+cmp-all-spec =
     tie.close
     (tie.spec
     mul-cmp-group

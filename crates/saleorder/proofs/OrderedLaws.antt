@@ -1,0 +1,127 @@
+-- Sales in group order, counted one after the other. Assumes nothing.
+use mathlib.Core.Path.{_≡_, refl, sym, ap, _∙_}
+use mathlib.Core.Bool.{Bool, true, false, cond, _||_}
+use mathlib.Core.List.{List, [], _∷_}
+use Prim.Native.Nat.{ℕ, suc, _+_, _-_, _*_, _≤_, _<_}
+use native.Mathlib.Omega.{arith}
+use lib.ListN.{length, take}
+use Rattle.frames.specs.Cells.{Cell, Words}
+use Rattle.options.specs.declared.Options.{Options}
+use Rattle.order.specs.Order.{cmpGroup, isEqual}
+use Rattle.order.specs.declared.Order.the-variants.{Less, Equal, Greater}
+use Rattle.order.proofs.OrderLaws.{cmpGroup-is, same-right, less-greater}
+use Rattle.takings.specs.Subtotals.{Subtotal, insert, addAll}
+use Rattle.takings.specs.Sales.{Sale, amountsOf}
+use Rattle.takings.proofs.SubtotalLaws.{Rising, rising-insert}
+use Rattle.salekind.specs.Kinds.{kindOf}
+use Rattle.salekind.specs.declared.Kind.{Kind}
+use Rattle.salekind.specs.declared.Kind.the-variants.{Unmatched, Nothing, Amount}
+use Rattle.salekind.proofs.KindLaws.{salesFrom, leftAt, answerAt, unit, from-all, from-none, row-unmatched, row-nothing, row-amount, none-sold}
+use Rattle.saleplace.specs.Place.{Placed}
+use Rattle.salecount.specs.Counts.{isThere, TableIs, isAmount}
+use Rattle.salecount.proofs.CountLaws.{left-taken, there-taken, there-cons, there-none, there-insert, length-insert, table-tells, table-fine, none-added, more-added}
+use Rattle.saleorder.specs.Ordered.{sideOf}
+
+module _ (o : Options) where
+  -- Groups that compare Equal are both there, or neither is.
+  there-equal : (g h : List Cell) (ts : List Subtotal) → cmpGroup o g h ≡ Equal → isThere o g ts ≡ isThere o h ts
+  there-equal g h [] e = there-none o g ∙ sym (there-none o h)
+  there-equal g h (t ∷ ts) e =
+      there-cons o g t ts ∙ rw (← same-right (cmpGroup-is o) (t .group) g h e, there-equal g h ts e) (sym (there-cons o h t ts))
+
+  -- How far the count has come: W is the table that the sales so far make, l the last sale's left row.
+  pub record Counted (ts U₀ U W : List Subtotal) (any : Bool) (l : List Cell) (m : ℕ) : Type 0 where
+    pub rows : m ≡ length W
+    pub order : Rising o W
+    pub left : addAll o W U ≡ addAll o ts U₀
+    pub there : any ≡ true → isThere o l W ≡ true
+    pub behind : (g : List Cell) → sideOf o any l g ≡ Less → isThere o g W ≡ isThere o g ts
+
+  -- A sale of a group behind the last.
+  pub counted-less : (ts U₀ U W : List Subtotal) (any : Bool) (l : List Cell) (m : ℕ) (u : Subtotal) (x : List Cell) → u .group ≡ take (o .by) x → Counted ts U₀ (u ∷ U) W any l m → sideOf o any l x ≡ Less → (here : Bool) → here ≡ isThere o x ts
+      → Counted ts U₀ U (insert o u W) true x (cond here m (m + 1))
+  counted-less ts U₀ U W any l m u x e c s here h =
+      let b : isThere o (u .group) W ≡ here = ap (λ (z : List Cell). isThere o z W) e ∙ there-taken o x W ∙ c .behind x s ∙ sym h in
+      let i : (g : List Cell) → cmpGroup o (u .group) g ≡ cmpGroup o x g = λ g. ap (λ (z : List Cell). cmpGroup o z g) e ∙ left-taken o (o .by) (o .by) x g (omega arith) in
+      record {
+        rows = count here m (length W) (c .rows) ∙ sym (length-insert o u W (c .order) ∙ rw b);
+        order = rising-insert o u W (c .order);
+        left = sym (more-added o W U u) ∙ c .left;
+        there = λ t. there-insert o x u W ∙ rw (i x, cmpGroup-is o .equal x);
+        behind = λ g k. there-insert o g u W ∙ rw (i g, k) (c .behind g (then any s g k));
+      }
+    where
+      count : (b : Bool) (m n : ℕ) → m ≡ n → cond b m (m + 1) ≡ cond b n (suc n)
+      count true m n e = e
+      count false m n e = omega arith
+
+      then : (b : Bool) → sideOf o b l x ≡ Less → (g : List Cell) → cmpGroup o x g ≡ Less → sideOf o b l g ≡ Less
+      then true s g k = cmpGroup-is o .less l x g s k
+      then false s g k = refl
+
+  -- A sale of the last one's group.
+  pub counted-equal : (ts U₀ U W : List Subtotal) (any : Bool) (l : List Cell) (m : ℕ) (u : Subtotal) (x : List Cell) → u .group ≡ take (o .by) x → Counted ts U₀ (u ∷ U) W any l m → sideOf o any l x ≡ Equal
+      → Counted ts U₀ U (insert o u W) any l m
+  counted-equal ts U₀ U W false l m u x e c s = let z : _≡_ {A = ℕ} 0 1 = cc in absurd (omega arith)
+  counted-equal ts U₀ U W true l m u x e c s =
+      let b : isThere o (u .group) W ≡ true = ap (λ (z : List Cell). isThere o z W) e ∙ there-taken o x W ∙ sym (there-equal l x W s) ∙ c .there refl in
+      let i : (g : List Cell) → cmpGroup o (u .group) g ≡ cmpGroup o l g = λ g. ap (λ (z : List Cell). cmpGroup o z g) e ∙ left-taken o (o .by) (o .by) x g (omega arith) ∙ sym (cmpGroup-is o .same l x g s) in
+      record {
+        rows = c .rows ∙ sym (length-insert o u W (c .order) ∙ rw b);
+        order = rising-insert o u W (c .order);
+        left = sym (more-added o W U u) ∙ c .left;
+        there = λ t. there-insert o l u W ∙ rw (i l, cmpGroup-is o .equal l);
+        behind = λ g k. there-insert o g u W ∙ rw (i g, k) (c .behind g k);
+      }
+
+-- ---- row by row
+module _ (o : Options) (n rows d : ℕ) (table lv lm av am : Words) (ts : List Subtotal) (t : TableIs o n ts table) where
+  abbrev U : ℕ → List Subtotal
+  U i = amountsOf (salesFrom o rows d lv lm av am i)
+
+  abbrev L : ℕ → List Cell
+  L i = leftAt o rows d lv lm av am i
+
+  abbrev K : ℕ → Kind
+  K i = kindOf o (L i) (answerAt o rows d lv lm av am i)
+
+  pub record CountedTo (any : Bool) (l : List Cell) (m i : ℕ) : Type 0 where
+    pub whole : List Subtotal
+    pub counted : Counted o ts (U 0) (U i) whole any l m
+
+  pub to-starts : (l : List Cell) → CountedTo false l n 0
+  to-starts l = record { whole = ts; counted = record { rows = sym (t .held .rows); order = table-fine o n ts table t .order; left = refl; there = λ e. let z : _≡_ {A = ℕ} 0 1 = cc in absurd (omega arith); behind = λ g e. refl } }
+
+  skipped : (any : Bool) (l : List Cell) (m i : ℕ) → U i ≡ U (i + 1) → CountedTo any l m i → CountedTo any l m (i + 1)
+  skipped any l m i e r = record { whole = r .whole; counted = rw (← e) (r .counted) }
+
+  pub to-skip : (any : Bool) (l : List Cell) (m i : ℕ) → i < rows → isAmount (K i) ≡ false → CountedTo any l m i → CountedTo any l m (i + 1)
+  to-skip any l m i h n r = by (K i) refl n
+    where
+      by : (z : Kind) → K i ≡ z → isAmount z ≡ false → CountedTo any l m (i + 1)
+      by Unmatched e f = skipped any l m i (ap amountsOf (row-unmatched o rows d lv lm av am i h e)) r
+      by Nothing e f = skipped any l m i (row-nothing o rows d lv lm av am i h e .0) r
+      by Amount e f = let z : _≡_ {A = ℕ} 0 1 = cc in absurd (omega arith)
+
+  module _ (any : Bool) (l : List Cell) (m i : ℕ) (h : i < rows) (e : K i ≡ Amount) (r : CountedTo any l m i) where
+    abbrev u : Subtotal
+    u = unit o (L i) (answerAt o rows d lv lm av am i)
+
+    now : Counted o ts (U 0) (u ∷ U (i + 1)) (r .whole) any l m
+    now = rw (← row-amount o rows d lv lm av am i h e .0) (r .counted)
+
+    pub to-less : sideOf o any l (L i) ≡ Less → (p : ℕ) (here : Bool) → Placed o (suc (suc (o .by))) 0 n table (L i) p here → CountedTo true (L i) (cond here m (m + 1)) (i + 1)
+    to-less s p here k = record { whole = insert o u (r .whole); counted = counted-less o ts (U 0) (U (i + 1)) (r .whole) any l m u (L i) refl now s here (table-tells o n ts table t (L i) p here k) }
+
+    pub to-equal : sideOf o any l (L i) ≡ Equal → CountedTo any l m (i + 1)
+    to-equal s = record { whole = insert o u (r .whole); counted = counted-equal o ts (U 0) (U (i + 1)) (r .whole) any l m u (L i) refl now s }
+
+  pub to-ends : (any : Bool) (l : List Cell) (m i : ℕ) → rows ≤ i → CountedTo any l m i → m ≡ length (addAll o ts (U 0))
+  to-ends any l m i h r =
+      let z : addAll o (r .whole) (U i) ≡ r .whole = ap (λ (z : List Sale). addAll o (r .whole) (amountsOf z)) (from-none o rows d lv lm av am i h) ∙ ap (addAll o (r .whole)) (none-sold .0) ∙ none-added o (r .whole) in
+      r .counted .rows ∙ ap length (sym z ∙ r .counted .left)
+
+-- The count grows by one at most.
+pub more-most : (here : Bool) (m : ℕ) → cond here m (m + 1) ≤ m + 1
+more-most true m = omega arith
+more-most false m = omega arith

@@ -1,0 +1,151 @@
+// How many rows a table has once a frame's sales are added, counted in one walk over both, if the sales come in group order.
+use compare::cmp_group;
+use options::Terms;
+use order::Order;
+use salegroup::cmp_sale;
+use salekind::Kind;
+use salekind::kind_of;
+use saleplace::Place;
+use saleplace::find_place;
+use saleplace::reach;
+ghost use mathlib.Core.Path.{_≡_};
+ghost use mathlib.Core.Bool.{true, cond};
+ghost use mathlib.Core.List.{List};
+ghost use Prim.Native.Nat.{suc, _+_, _^_, _≤_, _<_};
+ghost use lib.ListN.{length};
+ghost use Rattle.frames.specs.Cells.{rowFrom, rowsOf, Words};
+ghost use Rattle.options.specs.Options.{withList};
+ghost use Rattle.takings.specs.Subtotals.{Subtotal, addAll};
+ghost use Rattle.takings.specs.Sales.{salesOf, amountsOf};
+ghost use Rattle.saleplace.specs.Place.{PlaceIn, Placed};
+ghost use Rattle.salecount.specs.Counts.{TableIs, CountIn};
+ghost use Rattle.saleorder.specs.Ordered.{sideOf, SideIn};
+
+// How many rows there are, if the sales come in group order; else nothing is said of them.
+pub struct Ordered {
+    pub rows: usize,
+    pub told: bool,
+}
+
+// How the group of the last sale, at p, stands to that of the sale at q; the first sale is behind.
+fn side_of(
+    any: bool,
+    p: usize,
+    lv: &[i64],
+    lm: &[i64],
+    q: usize,
+    o: Terms,
+    codes: &[i64],
+    rising: &[u8],
+) -> Order
+    requires { ⌜ SideIn (withList o (now codes) (now rising)) any p q (now lv) (now lm) ⌝ }
+    ensures { λ r. ⌜ r ≡ sideOf (withList o (now (codes .entry)) (now (rising .entry))) any (rowFrom (suc (o .by)) p (now (lv .entry)) (now (lm .entry))) (rowFrom (suc (o .by)) q (now (lv .entry)) (now (lm .entry))) ⌝ }
+{
+    if any {
+        return cmp_group(lv, lm, p, lv, lm, q, o, codes, rising);
+    }
+    Order::Less
+}
+
+// The place among n rows, from a row that is looked at first: behind it in steps that double.
+fn place_next(
+    table: &[i64],
+    n: usize,
+    w: usize,
+    near: usize,
+    lv: &[i64],
+    lm: &[i64],
+    q: usize,
+    o: Terms,
+    codes: &[i64],
+    rising: &[u8],
+) -> Place
+    requires { ⌜ PlaceIn (withList o (now codes) (now rising)) w 0 n (now table) q (now lv) (now lm) ⌝ }
+    ensures { λ r. ⌜ Placed (withList o (now (codes .entry)) (now (rising .entry))) w 0 n (now (table .entry)) (rowFrom (suc (o .by)) q (now (lv .entry)) (now (lm .entry))) (r .row) (r .here) ⌝ }
+{
+    if n <= near {
+        return find_place(table, 0, n, w, lv, lm, q, o, codes, rising);
+    }
+    match cmp_sale(table, near * w, lv, lm, q, o, codes, rising) {
+        Order::Less => reach(table, near + 1, n, w, lv, lm, q, o, codes, rising),
+        Order::Equal => Place {
+            row: near,
+            here: true,
+        },
+        Order::Greater => find_place(table, 0, near, w, lv, lm, q, o, codes, rising),
+    }
+}
+
+// One row more, unless the group has a row.
+fn more(m: usize, here: bool) -> usize
+    requires { ⌜ m < 2 ^ 63 ⌝ }
+    ensures { λ r. ⌜ r ≡ cond here m (m + 1) ⌝ }
+{
+    if here {
+        return m;
+    }
+    m + 1
+}
+
+// How many rows n rows of subtotals and the sales of a frame make: each group that the table has not is one more.
+pub fn count_ordered(
+    table: &[i64],
+    n: usize,
+    lv: &[i64],
+    lm: &[i64],
+    am: &[i64],
+    rows: usize,
+    d: usize,
+    o: Terms,
+    codes: &[i64],
+    rising: &[u8],
+) -> Ordered
+    requires { ⌜ CountIn (withList o (now codes) (now rising)) n rows d (now table) (now lv) (now lm) (now am) ⌝ }
+    ensures { λ r. ⌜ ((ts : List Subtotal) (av : Words) → r .told ≡ true → length (now (am .entry)) ≤ length av → TableIs (withList o (now (codes .entry)) (now (rising .entry))) n ts (now (table .entry)) → r .rows ≡ length (addAll (withList o (now (codes .entry)) (now (rising .entry))) ts (amountsOf (salesOf (withList o (now (codes .entry)) (now (rising .entry))) (rowsOf (suc (o .by)) rows (now (lv .entry)) (now (lm .entry))) (rowsOf d rows av (now (am .entry))))))) ⌝ }
+{
+    let c = o.by + 1;
+    let w = o.by + 2;
+    let mut m = n;
+    let mut near = 0;
+    let mut any = false;
+    let mut last = 0;
+    let mut i = 0;
+    let mut q = 0;
+    let mut z = 0;
+    while i < rows {
+        match kind_of(lm, q, am, z, o) {
+            Kind::Amount => match side_of(any, last, lv, lm, q, o, codes, rising) {
+                Order::Less => {
+                    let p = place_next(table, n, w, near, lv, lm, q, o, codes, rising);
+                    m = more(m, p.here);
+                    near = p.row;
+                    any = true;
+                    last = q;
+                    i += 1;
+                    q += c;
+                    z += d;
+                }
+                Order::Equal => {
+                    i += 1;
+                    q += c;
+                    z += d;
+                }
+                Order::Greater => {
+                    return Ordered {
+                        rows: 0,
+                        told: false,
+                    };
+                }
+            },
+            _ => {
+                i += 1;
+                q += c;
+                z += d;
+            }
+        }
+    }
+    Ordered {
+        rows: m,
+        told: true,
+    }
+}
