@@ -2,7 +2,7 @@
 //!
 //!     join GROUPS STRATEGY CHECK FEED KEYS ROWS RUNS [FOLDER]
 //!
-//! GROUPS 0: no by-column, else one with so many groups. STRATEGY: backward, forward or nearest. CHECK: on or off. FEED:
+//! GROUPS 0: no by-column, else one with so many groups. STRATEGY: backward, forward or nearest. CHECK: off, on or strict. FEED:
 //! `wanted` hands in a right frame where a turn wants one, `first` hands in all right rows before the first turn. KEYS:
 //! `rising` from row to row by 0 to 6, or `one` key in all rows. Both tables have ROWS rows. Prints the medians of RUNS
 //! runs: nanoseconds of processor time of the walk, of the port and of one pass over the words of all frames; then the
@@ -30,7 +30,7 @@ use walk::{Strategy, walk};
 struct Case {
     groups: usize,
     strategy: Strategy,
-    check: bool,
+    check: usize,
     right_first: bool,
     one_key: bool,
     rows: usize,
@@ -50,7 +50,7 @@ fn case_of(words: &[String]) -> Option<Case> {
     let case = Case {
         groups: groups.parse().ok()?,
         strategy: Strategy::of_name(strategy)?,
-        check: one_of(check, "off", "on")?,
+        check: ["off", "on", "strict"].iter().position(|w| w == check)?,
         right_first: one_of(feed, "wanted", "first")?,
         one_key: one_of(keys, "rising", "one")?,
         rows: rows.parse().ok()?,
