@@ -1,75 +1,19 @@
 // A frame's sales, added to a table of subtotals and the number beside it in one call.
+use addrows::add_rows;
 use framerule::row_count;
 use options::Options;
 use options::Terms;
 use options::terms_of;
 use outcomes::Took;
-use refusals::Refusal;
-use salegrow::write_sales;
-use saleweigh::rows_fit;
-use saleweigh::weigh;
-use takejudge::is_fine;
 use takewords::judge_sales;
 use takings::Taken;
 ghost use mathlib.Core.Path.{_≡_};
 ghost use mathlib.Core.Bool.{true};
-ghost use Prim.Native.Nat.{suc, _≤_};
+ghost use Prim.Native.Nat.{_≤_};
 ghost use lib.ListN.{length};
-ghost use Rattle.frames.specs.Cells.{rowsOf};
 ghost use Rattle.options.specs.Options.{withList};
-ghost use Rattle.takings.specs.Sales.{salesOf};
 ghost use Rattle.takings.specs.Calls.{anyFrame, columnsIn};
-ghost use Rattle.addcall.specs.AddRows.{AddIn, RowsContract, AddContract};
-
-// A table of n rows, each w wide, with the sales of left rows and their answer rows, each d wide; refused by 14, 15 or 6, or written.
-fn add_rows(
-    tv: &[i64],
-    tm: &[i64],
-    n: usize,
-    number: i64,
-    lv: &[i64],
-    lm: &[i64],
-    av: &[i64],
-    am: &[i64],
-    rows: usize,
-    d: usize,
-    w: usize,
-    o: Terms,
-    codes: &[i64],
-    rising: &[u8],
-    out: &mut [i64],
-) -> Taken
-    requires { ⌜ AddIn (withList o (now codes) (now rising)) w n (now tv) (now tm) rows d (now lv) (now lm) (now av) (now am) ⌝ }
-    ensures { λ r. ⌜ RowsContract (withList o (now (codes .entry)) (now (rising .entry))) w (rowsOf w n (now (tv .entry)) (now (tm .entry))) number (salesOf (withList o (now (codes .entry)) (now (rising .entry))) (rowsOf (suc (o .by)) rows (now (lv .entry)) (now (lm .entry))) (rowsOf d rows (now (av .entry)) (now (am .entry)))) (now (out .entry)) r (now (out .exit)) ⌝ }
-{
-    if !is_fine(tv, tm, n, w, o, codes, rising) {
-        return Taken::Refused(Refusal::Unsorted);
-    }
-    let t = weigh(tv, tm, n, number, lm, av, am, rows, d, w, o);
-    if t.beyond {
-        return Taken::Refused(Refusal::Beyond);
-    }
-    let sales = t.sales;
-    let nulls = t.nulls;
-    if !rows_fit(
-        tv,
-        n,
-        lv,
-        lm,
-        am,
-        rows,
-        d,
-        sales,
-        out.len(),
-        o,
-        codes,
-        rising,
-    ) {
-        return Taken::Refused(Refusal::NoRoom);
-    }
-    let m = write_sales(tv, n, lv, lm, av, am, rows, d, o, codes, rising, out);
-    Taken::Table(m, number + nulls as i64)
-}
+ghost use Rattle.addcall.specs.AddRows.{AddContract};
 
 // The columns that a frame says it has.
 fn column_count(words: &[i64]) -> usize

@@ -8,14 +8,12 @@ use native.Mathlib.Omega.{arith}
 use borrow.Author.Tests.{le-leb, ltb-false}
 use denote.Enum.Declared.{tagOf}
 use lib.Dec.{ltb}
-use lib.IntN.{ℤ, pos, negsuc, natAbs, _+ℤ_}
-use lib.Signed.{leZ}
+use lib.IntN.{ℤ, pos, natAbs, _+ℤ_}
 use lib.ListN.{length, take, drop, getD, length-append, length-drop}
 use lib.Seq.{paste}
-use Rattle.frames.specs.Cells.{Cell, cell, valueWord, Words, rowFrom}
+use Rattle.frames.specs.Cells.{Cell, Words}
 use Rattle.frames.specs.Frame.{pairsFine}
 use Rattle.options.specs.declared.Options.{Options}
-use Rattle.order.specs.Order.{nullGroup}
 use Rattle.order.specs.declared.Order.{Order}
 use Rattle.order.specs.declared.Order.the-variants.{Less, Equal, Greater}
 use Rattle.takings.specs.Subtotals.{Subtotal, cmpSub, plus, insert, addAll, ascending, salesIn, mostSales, mostAmount}
@@ -25,8 +23,8 @@ use Rattle.salekind.specs.Kinds.{kindOf}
 use Rattle.salekind.specs.declared.Kind.{Kind}
 use Rattle.salekind.specs.declared.Kind.the-variants.{Unmatched, Nothing, Amount}
 use Rattle.salekind.proofs.Kind.{the-type}
-use Rattle.salekind.proofs.KindLaws.{salesFrom, leftAt, answerAt, unit, from-all, from-none, row-unmatched, row-nothing, row-amount, amount-at, group-told, beyond-cons, none-sold}
-use Rattle.saleinsert.specs.Held.{Held, Addable, subAt, unitOf}
+use Rattle.salekind.proofs.KindLaws.{salesFrom, leftAt, answerAt, from-all, from-none, row-unmatched, row-nothing, row-amount, amount-at, beyond-cons, none-sold}
+use Rattle.saleinsert.specs.Held.{Held, subAt, unitOf}
 use Rattle.saleinsert.proofs.InsertLaws.{sums-at, times-least, body-long}
 use Rattle.salepass.specs.Pass.{Written, EachAddable}
 use Rattle.salepass.proofs.PassLaws.{all-written}

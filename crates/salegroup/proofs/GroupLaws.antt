@@ -1,6 +1,6 @@
 -- A row without marks compares as one whose marks are all 1; groups of one by-value. Assumes nothing.
 use mathlib.Core.Path.{_≡_, refl, sym, ap, _∙_}
-use mathlib.Core.Bool.{Bool, true, false, not, _&&_}
+use mathlib.Core.Bool.{true, false, not, _&&_}
 use mathlib.Core.List.{List, [], _∷_, map}
 use Prim.Native.Nat.{ℕ, zero, suc, _+_, _-_, _*_, _≤_, _<_}
 use native.Mathlib.Omega.{arith}
@@ -10,11 +10,11 @@ use lib.IntN.{ℤ, pos}
 use lib.ListN.{length, take, drop, getD, length-drop, getD-replicate, replicate}
 use lib.Seq.{length-take-le, getD-take, getD-drop}
 use Rattle.frames.proofs.BoolLaws.{and-true}
-use Rattle.frames.specs.Cells.{Cell, null, value, cell, cellOf, isZero, Words, rowFrom}
+use Rattle.frames.specs.Cells.{Cell, value, cell, cellOf, Words, rowFrom}
 use Rattle.options.specs.Options.{byRule, isRanked}
 use Rattle.options.proofs.OptionLaws.{plain-rule}
 use Rattle.options.specs.declared.Options.{Options}
-use Rattle.order.specs.Order.{next, cmpCell, cmpFirst, cmpGroup}
+use Rattle.order.specs.Order.{cmpCell, cmpFirst, cmpGroup}
 use Rattle.order.specs.Requires.{cellAt}
 use Rattle.order.proofs.RowLaws.{row-cell}
 use Rattle.order.specs.declared.Order.{Order}

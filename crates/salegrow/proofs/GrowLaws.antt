@@ -5,16 +5,14 @@ use Prim.Native.Nat.{ℕ, zero, suc, _+_, _-_, _*_, _≤_, _<_}
 use native.Mathlib.Omega.{arith}
 use lib.IntN.{ℤ, pos}
 use lib.ListN.{length, take, drop, set, replicate, length-append, length-map, length-drop, length-replicate, take-append-drop, drop-of-length-le, replicate-append-replicate}
-use lib.Seq.{paste, take-at, drop-at, take-all, length-take-le, drop-drop, drop-append-add, take-length, length-paste}
-use Rattle.frames.specs.Cells.{Cell, value, valueWord, markWord, Words}
+use lib.Seq.{paste, take-at, drop-at, take-all, length-take-le, drop-drop, take-length}
+use Rattle.frames.specs.Cells.{value, valueWord, markWord, Words}
 use Rattle.frames.proofs.WordLaws.{map-append}
 use Rattle.options.specs.declared.Options.{Options}
-use Rattle.order.specs.declared.Order.{Order}
-use Rattle.order.specs.declared.Order.the-variants.{Less, Equal, Greater}
 use Rattle.tables.specs.Table.{wordsOf, tableOf, laid}
-use Rattle.takings.specs.Subtotals.{Subtotal, cmpSub, plus, insert, addAll, rowOf}
+use Rattle.takings.specs.Subtotals.{Subtotal, rowOf}
 use Rattle.saleinsert.specs.Held.{Plain, EachPlain, Held}
-use Rattle.saleinsert.proofs.InsertLaws.{tableValues, values-long, times-least}
+use Rattle.saleinsert.proofs.InsertLaws.{tableValues, values-long}
 use Rattle.saleadd.specs.Adds.{Starts, AddsIn}
 use Rattle.salegrow.specs.Grows.{Grows, GrowIn}
 

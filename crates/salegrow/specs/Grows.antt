@@ -5,7 +5,7 @@ use mathlib.Core.List.{List}
 use Prim.Native.Nat.{ℕ, suc, _+_, _*_, _≤_}
 use lib.ListN.{length, drop}
 use Rattle.frames.specs.Cells.{Words}
-use Rattle.frames.specs.Frame.{pairsFine, frameWords}
+use Rattle.frames.specs.Frame.{pairsFine}
 use Rattle.options.specs.Options.{Few}
 use Rattle.options.specs.declared.Options.{Options}
 use Rattle.takings.specs.Subtotals.{Subtotal, addAll, salesIn, mostSales}

@@ -1,27 +1,26 @@
 -- A sale inserted at its place: what becomes of the table, and of the words that hold it. Assumes nothing.
 use mathlib.Core.Path.{_≡_, refl, sym, ap, _∙_}
 use mathlib.Core.Bool.{Bool, true, false, _||_}
-use mathlib.Core.List.{List, [], _∷_, _++_, map, append-assoc, append-nil}
+use mathlib.Core.List.{List, [], _∷_, _++_, map, append-assoc}
 use Prim.Native.Nat.{ℕ, zero, suc, _+_, _-_, _*_, _^_, _≤_, _<_}
 use native.Mathlib.Omega.{arith}
 use native.Mathlib.Decide.{decLt}
 use lib.IntN.{ℤ, pos, negsuc, natAbs, _+ℤ_}
-use lib.Signed.{leZ, mag}
+use lib.Signed.{mag}
 use lib.ListN.{length, take, drop, getD, length-append, length-map, length-drop, List·getD-map, take-append-drop}
-use lib.Seq.{paste, take-at, drop-at, getD-at, getD-append-add, take-append-le, take-append-add, drop-append-add, drop-drop, length-take-le, take-all, split-at, ext-getD, getD-take, getD-drop, take-take}
-use Rattle.frames.specs.Cells.{Cell, null, value, cell, isNull, cellOf, cellsOf, valueWord, rowFrom, Rows, Words}
+use lib.Seq.{paste, take-at, drop-at, getD-at, take-append-add, drop-append-add, drop-drop, length-take-le, take-all, split-at, ext-getD, getD-take, getD-drop, take-take}
+use Rattle.frames.specs.Cells.{Cell, null, value, cell, isNull, cellOf, cellsOf, valueWord, rowFrom, Words}
 use Rattle.frames.specs.Frame.{pairsFine}
 use Rattle.frames.proofs.WordLaws.{map-append}
 use Rattle.options.specs.declared.Options.{Options}
 use Rattle.order.specs.Order.{cmpFirst, cmpGroup, nullGroup, nullIn}
-use Rattle.order.specs.Requires.{cellAt}
 use Rattle.order.specs.declared.Order.{Order}
 use Rattle.order.specs.declared.Order.the-variants.{Less, Equal, Greater}
 use Rattle.order.proofs.OrderLaws.{cmpGroup-is, greater-less, less-greater, equal-flip, group-equal}
 use Rattle.order.proofs.RowLaws.{row-cell, row-length}
 use Rattle.tables.specs.Table.{wordsOf}
 use Rattle.tables.proofs.CellLaws.{fine-at}
-use Rattle.takings.specs.Subtotals.{Subtotal, cmpSub, plus, insert, ascending, rowOf, mostAmount, mostSales}
+use Rattle.takings.specs.Subtotals.{Subtotal, cmpSub, plus, insert, rowOf, mostAmount, mostSales}
 use Rattle.takings.proofs.SubtotalLaws.{Every, Above, Rising, abs-plus, rising, rising-ascending, rising-insert}
 use Rattle.salegroup.specs.Group.{plain}
 use Rattle.saleplace.specs.Place.{cmpAt}

@@ -7,16 +7,16 @@ use native.Mathlib.Omega.{arith}
 use lib.ListN.{length, take}
 use Rattle.frames.specs.Cells.{Cell, Words}
 use Rattle.options.specs.declared.Options.{Options}
-use Rattle.order.specs.Order.{cmpGroup, isEqual}
-use Rattle.order.specs.declared.Order.the-variants.{Less, Equal, Greater}
-use Rattle.order.proofs.OrderLaws.{cmpGroup-is, same-right, less-greater}
+use Rattle.order.specs.Order.{cmpGroup}
+use Rattle.order.specs.declared.Order.the-variants.{Less, Equal}
+use Rattle.order.proofs.OrderLaws.{cmpGroup-is, same-right}
 use Rattle.takings.specs.Subtotals.{Subtotal, insert, addAll}
 use Rattle.takings.specs.Sales.{Sale, amountsOf}
 use Rattle.takings.proofs.SubtotalLaws.{Rising, rising-insert}
 use Rattle.salekind.specs.Kinds.{kindOf}
 use Rattle.salekind.specs.declared.Kind.{Kind}
 use Rattle.salekind.specs.declared.Kind.the-variants.{Unmatched, Nothing, Amount}
-use Rattle.salekind.proofs.KindLaws.{salesFrom, leftAt, answerAt, unit, from-all, from-none, row-unmatched, row-nothing, row-amount, none-sold}
+use Rattle.salekind.proofs.KindLaws.{salesFrom, leftAt, answerAt, unit, from-none, row-unmatched, row-nothing, row-amount, none-sold}
 use Rattle.saleplace.specs.Place.{Placed}
 use Rattle.salecount.specs.Counts.{isThere, TableIs, isAmount}
 use Rattle.salecount.proofs.CountLaws.{left-taken, there-taken, there-cons, there-none, there-insert, length-insert, table-tells, table-fine, none-added, more-added}

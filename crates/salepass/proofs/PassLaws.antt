@@ -1,13 +1,13 @@
 -- A table's rows passed on, and a sale added behind or among them. Assumes nothing.
 use mathlib.Core.Path.{_≡_, refl, sym, ap, _∙_}
 use mathlib.Core.Bool.{Bool, true, false, cond}
-use mathlib.Core.List.{List, [], _∷_, _++_, append-assoc, append-nil}
+use mathlib.Core.List.{List, [], _∷_, _++_, append-assoc}
 use Prim.Native.Nat.{ℕ, zero, suc, _+_, _-_, _*_, _≤_, _<_}
 use native.Mathlib.Omega.{arith}
 use native.Mathlib.Decide.{decLt}
 use lib.IntN.{ℤ, pos}
-use lib.ListN.{length, take, drop, getD, length-append, length-drop, take-append-drop, drop-of-length-le, List·getD-append}
-use lib.Seq.{paste, take-at, drop-at, getD-append-add, getD-take, getD-drop, drop-drop, drop-append-add, drop-append-le, drop-cons, length-take-le, take-take, take-all}
+use lib.ListN.{length, take, drop, getD, length-append, length-drop, take-append-drop, List·getD-append}
+use lib.Seq.{paste, take-at, drop-at, getD-append-add, getD-take, getD-drop, drop-drop, drop-append-add, length-take-le, take-take, take-all}
 use Rattle.frames.specs.Cells.{Cell, Words, rowFrom}
 use Rattle.options.specs.declared.Options.{Options}
 use Rattle.order.specs.Order.{cmpGroup}
@@ -19,7 +19,7 @@ use Rattle.takings.specs.Subtotals.{Subtotal, cmpSub, plus, insert, ascending}
 use Rattle.takings.proofs.SubtotalLaws.{Above, Rising, rising, rising-ascending, rising-insert}
 use Rattle.saleplace.specs.Place.{cmpAt, Placed}
 use Rattle.saleinsert.specs.Held.{EachPlain, Held, Addable, subAt, Stands, unitOf, Inserted}
-use Rattle.saleinsert.proofs.InsertLaws.{tableValues, values-append, values-long, body-long, before-long, cut-gap, plain-take, plain-drop, plain-append, above-then, first-greater, row-told, times-least}
+use Rattle.saleinsert.proofs.InsertLaws.{tableValues, values-append, values-long, body-long, before-long, cut-gap, plain-take, plain-drop, plain-append, above-then, first-greater, row-told}
 use Rattle.salepass.specs.Pass.{Written, Added, Behind, EachAddable}
 
 abbrev nothing : Subtotal

@@ -1,15 +1,15 @@
 -- `saleadd::add_frame` meets its contract. Assumes nothing.
-use mathlib.Core.Path.{_≡_, refl, sym, ap, _∙_}
+use mathlib.Core.Path.{_≡_, refl, sym, _∙_}
 use mathlib.Core.List.{List}
 use Prim.Native.Nat.{ℕ, suc, _+_, _-_, _*_, _^_, _≤_, _<_}
 use native.Mathlib.Omega.{arith}
 use borrow.Author.Needs.{needs}
 use denote.Ref.{now}
-use lib.IntN.{pos, ℤ}
+use lib.IntN.{pos}
 use lib.ListN.{length, getD}
 use mir.Syntax.{w64}
 use mir.Val.{toZ, ofZ}
-use Rattle.frames.specs.Cells.{Words, rowFrom}
+use Rattle.frames.specs.Cells.{rowFrom}
 use Rattle.frames.proofs.Signed.{back}
 use Rattle.options.specs.Options.{withList}
 use Rattle.options.specs.declared.Options.{Options}

@@ -1,7 +1,6 @@
 -- `salecount::is_same` meets its contract. Assumes nothing.
-use mathlib.Core.Path.{_≡_, refl, sym, ap, _∙_}
-use mathlib.Core.Bool.{Bool, true, false, not, _&&_, _||_}
-use mathlib.Core.List.{List}
+use mathlib.Core.Path.{_≡_, sym, ap, _∙_}
+use mathlib.Core.Bool.{false, _&&_, _||_}
 use Prim.Native.Nat.{ℕ, suc, _+_, _-_, _*_, _^_, _≤_, _<_}
 use native.Mathlib.Omega.{arith}
 use denote.Ref.{now}
@@ -11,7 +10,6 @@ use Rattle.options.specs.Options.{withList}
 use Rattle.order.specs.Order.{cmpGroup, isEqual}
 use Rattle.salekind.specs.Kinds.{kindOf}
 use Rattle.salekind.specs.declared.Kind.the-variants.{Amount}
-use Rattle.takings.specs.Subtotals.{Subtotal}
 use Rattle.salecount.specs.Counts.{isAmount}
 use Rattle.salecount.proofs.CountLaws.{not-amount, not-equal}
 use borrow.Author.Needs.{needs}

@@ -1,6 +1,5 @@
 -- `salegroup::cmp_first` meets its contract. Assumes nothing.
-use mathlib.Core.Path.{_≡_, refl, sym, ap, _∙_}
-use Prim.Native.Nat.{ℕ}
+use mathlib.Core.Path.{_≡_, _∙_}
 use denote.Ref.{now}
 use lib.IntN.{pos}
 use lib.ListN.{getD}

@@ -1,7 +1,6 @@
 -- `saleinsert::add_to` meets its contract. Assumes nothing.
-use mathlib.Core.Path.{_≡_, refl, sym, ap, _∙_}
-use Prim.Native.Nat.{ℕ, _+_, _≤_, _<_}
-use native.Mathlib.Omega.{arith}
+use mathlib.Core.Path.{_≡_, _∙_}
+use Prim.Native.Nat.{_+_, _≤_, _<_}
 use denote.Ref.{now}
 use lib.IntN.{pos, _+ℤ_}
 use lib.ListN.{getD}

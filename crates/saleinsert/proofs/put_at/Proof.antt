@@ -1,10 +1,8 @@
 -- `saleinsert::put_at` meets its contract. Assumes nothing.
-use mathlib.Core.Path.{_≡_, refl, sym, ap, _∙_}
-use mathlib.Core.Bool.{true, false}
+use mathlib.Core.Path.{_≡_, _∙_}
 use Prim.Native.Nat.{ℕ, suc, _+_, _-_, _*_, _^_, _≤_, _<_}
 use native.Mathlib.Omega.{arith}
 use denote.Ref.{now}
-use lib.ListN.{length}
 use mir.Facts.{toZ-ofZ}
 use Rattle.options.specs.Options.{withList}
 use Rattle.order.proofs.RowLaws.{row-room}

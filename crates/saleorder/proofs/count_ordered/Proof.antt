@@ -1,6 +1,6 @@
 -- `saleorder::count_ordered` meets its contract. Assumes nothing.
-use mathlib.Core.Path.{_≡_, refl, sym, ap, _∙_}
-use mathlib.Core.Bool.{Bool, true, false, cond}
+use mathlib.Core.Path.{_≡_, sym, ap, _∙_}
+use mathlib.Core.Bool.{true}
 use mathlib.Core.List.{List}
 use Prim.Native.Nat.{ℕ, suc, _+_, _-_, _*_, _^_, _≤_, _<_}
 use native.Mathlib.Omega.{arith}
@@ -10,11 +10,9 @@ use lib.ListN.{length}
 use Rattle.frames.specs.Cells.{Cell, Words, rowFrom}
 use Rattle.options.specs.Options.{withList}
 use Rattle.options.specs.declared.Options.{Options}
-use Rattle.order.specs.declared.Order.the-variants.{Less, Equal, Greater}
 use Rattle.order.proofs.RowLaws.{row-room}
 use Rattle.takings.specs.Subtotals.{Subtotal}
 use Rattle.salekind.specs.Kinds.{kindOf}
-use Rattle.salekind.specs.declared.Kind.the-variants.{Amount}
 use Rattle.salekind.proofs.KindLaws.{from-all}
 use Rattle.saleplace.proofs.PlaceLaws.{at-least}
 use Rattle.salecount.specs.Counts.{TableIs, isAmount}

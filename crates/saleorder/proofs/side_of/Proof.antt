@@ -1,6 +1,6 @@
 -- `saleorder::side_of` meets its contract. Assumes nothing.
-use mathlib.Core.Path.{_≡_, sym, ap, _∙_}
-use Prim.Native.Nat.{ℕ, suc, _+_, _<_}
+use mathlib.Core.Path.{_≡_, _∙_}
+use Prim.Native.Nat.{suc, _+_, _<_}
 use native.Mathlib.Omega.{arith}
 use Rattle.saleorder.proofs.side_of.Statement.{statement}
 use Rattle.saleorder.proofs.side_of.Tie as tie

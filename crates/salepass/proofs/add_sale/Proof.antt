@@ -1,16 +1,13 @@
 -- `salepass::add_sale` meets its contract. Assumes nothing.
-use mathlib.Core.Path.{_≡_, refl, sym, ap, _∙_}
-use mathlib.Core.Bool.{true, false}
+use mathlib.Core.Path.{_≡_, _∙_}
 use Prim.Native.Nat.{ℕ, suc, _+_, _-_, _*_, _^_, _≤_, _<_}
 use native.Mathlib.Omega.{arith}
 use denote.Ref.{now}
-use lib.ListN.{length}
 use mir.Facts.{toZ-ofZ}
 use Rattle.frames.specs.Cells.{rowFrom}
 use Rattle.options.specs.Options.{withList}
 use Rattle.options.specs.declared.Options.{Options}
 use Rattle.saleinsert.proofs.InsertLaws.{times-least}
-use Rattle.salepass.specs.Pass.{Behind}
 use Rattle.salepass.proofs.PassLaws.{among-added, placed-behind}
 use borrow.Author.Needs.{needs}
 use Rattle.salepass.proofs.add_sale.Statement.{statement}

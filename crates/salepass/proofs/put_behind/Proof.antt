@@ -1,18 +1,16 @@
 -- `salepass::put_behind` meets its contract. Assumes nothing.
-use mathlib.Core.Path.{_≡_, refl, sym, ap, _∙_}
+use mathlib.Core.Path.{_≡_, ap, _∙_}
 use mathlib.Core.Bool.{Bool, true, cond}
-use mathlib.Core.List.{List}
 use Prim.Native.Nat.{ℕ, suc, _+_, _-_, _*_, _^_, _≤_, _<_}
 use native.Mathlib.Omega.{arith}
 use denote.Ref.{now}
 use lib.ListN.{length}
 use mir.Facts.{toZ-ofZ}
-use Rattle.frames.specs.Cells.{Cell, rowFrom}
 use Rattle.options.specs.Options.{withList}
 use Rattle.options.specs.declared.Options.{Options}
 use Rattle.saleplace.proofs.PlaceLaws.{at-least}
 use Rattle.saleinsert.proofs.InsertLaws.{times-least}
-use Rattle.salepass.proofs.PassLaws.{endOf, end-range, behind-added, passed-addable}
+use Rattle.salepass.proofs.PassLaws.{end-range, behind-added, passed-addable}
 use borrow.Author.Needs.{needs}
 use Rattle.salepass.proofs.put_behind.Statement.{statement}
 use Rattle.salepass.proofs.put_behind.Tie as tie

@@ -1,5 +1,5 @@
 -- `saleplace::reach` meets its contract. Assumes nothing.
-use mathlib.Core.Path.{_≡_, refl, sym, ap, _∙_}
+use mathlib.Core.Path.{_≡_, sym, _∙_}
 use mathlib.Core.List.{List}
 use Prim.Native.Nat.{ℕ, suc, _+_, _-_, _*_, _^_, _≤_, _<_}
 use native.Mathlib.Omega.{arith}
@@ -8,7 +8,7 @@ use denote.Ref.{now}
 use Rattle.frames.specs.Cells.{Cell, rowFrom}
 use Rattle.options.specs.Options.{withList}
 use Rattle.options.specs.declared.Options.{Options}
-use Rattle.order.specs.declared.Order.the-variants.{Less, Equal, Greater}
+use Rattle.order.specs.declared.Order.the-variants.{Less}
 use Rattle.order.proofs.RowLaws.{row-room}
 use Rattle.saleplace.specs.Place.{cmpAt}
 use Rattle.saleplace.proofs.PlaceLaws.{at-least, found, placed-within}

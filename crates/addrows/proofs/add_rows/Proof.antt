@@ -1,13 +1,12 @@
--- `addcall::add_rows` meets its contract. Assumes nothing.
-use mathlib.Core.Path.{_≡_, refl, sym, ap, _∙_}
+-- `addrows::add_rows` meets its contract. Assumes nothing.
+use mathlib.Core.Path.{_≡_, sym, _∙_}
 use mathlib.Core.Bool.{true, false}
-use mathlib.Core.List.{List}
-use Prim.Native.Nat.{ℕ, suc, _+_, _*_, _^_, _≤_, _<_}
+use Prim.Native.Nat.{suc, _+_, _*_, _^_, _≤_, _<_}
 use native.Mathlib.Omega.{arith}
 use borrow.Author.Tests.{not-true, not-false}
 use denote.Ref.{now}
 use lib.Dec.{leb}
-use lib.IntN.{pos, natAbs, _+ℤ_}
+use lib.IntN.{pos, _+ℤ_}
 use lib.Signed.{mag}
 use lib.ListN.{length}
 use mir.Facts.{toZ-ofZ}
@@ -18,13 +17,13 @@ use Rattle.frames.specs.Frame.{frameWords}
 use Rattle.frames.proofs.Signed.{back}
 use Rattle.options.specs.Options.{withList}
 use Rattle.takings.specs.Subtotals.{addAll, subtotalsOf}
-use Rattle.takings.specs.Sales.{salesOf, amountsOf, nullsOf}
+use Rattle.takings.specs.Sales.{salesOf, amountsOf}
 use Rattle.takejudge.specs.Judge.{fineRows}
 use Rattle.saleweigh.specs.Weighed.{Weighed, beyondSales}
-use Rattle.addcall.proofs.CallLaws.{unsorted, beyond, no-room, wrote, numbers, table-is, grows, sum-number, number-fits}
+use Rattle.addrows.proofs.RowsLaws.{unsorted, beyond, no-room, wrote, numbers, table-is, grows, sum-number, number-fits}
 use borrow.Author.Needs.{needs}
-use Rattle.addcall.proofs.add_rows.Statement.{statement}
-use Rattle.addcall.proofs.add_rows.Tie as tie
+use Rattle.addrows.proofs.add_rows.Statement.{statement}
+use Rattle.addrows.proofs.add_rows.Tie as tie
 
 is-fine-requires : tie.Need-is-fine-requires
 is-fine-requires c κs = let p = c .before .pre in (p .compare, p .table)

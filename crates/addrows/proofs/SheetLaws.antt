@@ -1,6 +1,6 @@
 -- A table of subtotals that was judged, as the table that its words hold. Assumes nothing.
 use mathlib.Core.Path.{_≡_, refl, sym, ap, _∙_}
-use mathlib.Core.Bool.{Bool, true, false, not, _&&_, _||_}
+use mathlib.Core.Bool.{Bool, true, false, _&&_, _||_}
 use mathlib.Core.List.{List, [], _∷_, _++_, map, append-assoc, append-nil}
 use Prim.Native.Nat.{ℕ, zero, suc, _+_, _-_, _*_, _≤_, _<_}
 use native.Mathlib.Omega.{arith}
@@ -8,21 +8,19 @@ use borrow.Author.Tests.{lt-ltb, ltb-false}
 use lib.Dec.{ltb}
 use lib.IntN.{ℤ, pos, negsuc, natAbs}
 use lib.Signed.{ltZ}
-use lib.ListN.{length, take, drop, getD, length-append, length-map, length-drop, drop-of-length-le, take-append-drop}
+use lib.ListN.{length, take, drop, getD, length-map, length-drop, drop-of-length-le, take-append-drop}
 use lib.Seq.{length-take-le, drop-drop, drop-cons, getD-drop}
-use Rattle.frames.specs.Cells.{Cell, value, valueWord, isZero, cellOf, cellsOf, rowFrom, Words, rowsOf}
-use Rattle.frames.proofs.BoolLaws.{and-true}
+use Rattle.frames.specs.Cells.{value, valueWord, isZero, cellsOf, rowFrom, Words, rowsOf}
 use Rattle.frames.proofs.WordLaws.{map-append}
 use Rattle.options.specs.declared.Options.{Options}
 use Rattle.order.proofs.RowLaws.{row-room}
 use Rattle.tables.specs.Table.{wordsOf}
-use Rattle.takings.specs.Subtotals.{Subtotal, rowOf, ascending, subtotalsOf, anyNull, eachSold, mostAmount}
+use Rattle.takings.specs.Subtotals.{Subtotal, rowOf, ascending, subtotalsOf, eachSold, mostAmount}
 use Rattle.subtables.specs.Sheet.{anyZero, beyondPair, beyondWords}
-use Rattle.takejudge.specs.Judge.{Sheet, fineRows}
-use Rattle.takejudge.proofs.JudgeLaws.{rows-zero}
+use Rattle.takejudge.specs.Judge.{Sheet}
 use Rattle.takejoin.specs.Join.{subsFrom, told}
-use Rattle.takejoin.proofs.WalkLaws.{sub, sub-told, subs-more, subs-none}
-use Rattle.saleinsert.specs.Held.{Plain, EachPlain, Held}
+use Rattle.takejoin.proofs.WalkLaws.{sub-told, subs-more, subs-none}
+use Rattle.saleinsert.specs.Held.{Plain, EachPlain}
 use Rattle.saleinsert.proofs.InsertLaws.{tableValues}
 use Rattle.saleadd.specs.Adds.{EachBounded}
 use Rattle.salecount.specs.Counts.{TableIs}
