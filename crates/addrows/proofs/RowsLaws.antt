@@ -16,14 +16,16 @@ use Rattle.options.specs.declared.Options.{Options}
 use Rattle.refusals.specs.declared.Refusal.{Refusal}
 use Rattle.refusals.specs.declared.Refusal.the-variants.{Unsorted, Beyond, NoRoom}
 use Rattle.tables.specs.Table.{laid, tableOf}
-use Rattle.takings.specs.Subtotals.{Subtotal, addAll, ascending, rowOf, subtotalsOf, anyNull, beyondRows, beyondNumber, salesIn, mostSales}
+use Rattle.nulls.specs.Nulls.{anyNull}
+use Rattle.nulls.proofs.NullLaws.{rows-zero}
+use Rattle.takings.specs.Subtotals.{Subtotal, addAll, ascending, rowOf, subtotalsOf, beyondRows, beyondNumber, salesIn, mostSales}
 use Rattle.takings.specs.Sales.{Sale, withAmount, salesOf, amountsOf, nullsOf, beyondAmounts}
 use Rattle.takings.specs.Calls.{tableWidth, result, leave}
 use Rattle.takings.specs.declared.Taken.{Taken}
 use Rattle.takings.specs.declared.Taken.the-variants.{Table, Refused}
 use Rattle.takings.proofs.SubtotalLaws.{all-sales}
 use Rattle.takejudge.specs.Judge.{Sheet, fineRows}
-use Rattle.takejudge.proofs.JudgeLaws.{rows-zero, beyond-words}
+use Rattle.takejudge.proofs.JudgeLaws.{beyond-words}
 use Rattle.salecount.specs.Counts.{TableIs}
 use Rattle.saleadd.specs.Adds.{EachBounded}
 use Rattle.salegrow.specs.Grows.{Grows}

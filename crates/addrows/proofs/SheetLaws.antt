@@ -16,7 +16,8 @@ use Rattle.options.specs.declared.Options.{Options}
 use Rattle.order.proofs.RowLaws.{row-room}
 use Rattle.tables.specs.Table.{wordsOf}
 use Rattle.takings.specs.Subtotals.{Subtotal, rowOf, ascending, subtotalsOf, eachSold, mostAmount}
-use Rattle.subtables.specs.Sheet.{anyZero, beyondPair, beyondWords}
+use Rattle.nulls.specs.Nulls.{anyZero}
+use Rattle.subtables.specs.Sheet.{beyondPair, beyondWords}
 use Rattle.takejudge.specs.Judge.{Sheet}
 use Rattle.takejoin.specs.Join.{subsFrom, told}
 use Rattle.takejoin.proofs.WalkLaws.{sub-told, subs-more, subs-none}

@@ -14,64 +14,8 @@ use Rattle.frames.specs.Cells.{Cell, null, cell, isNull, isZero, cellOf, cellsO
 use Rattle.options.specs.declared.Options.{Options}
 use Rattle.order.specs.Order.{cmpGroup, isLess, nullIn}
 use Rattle.order.proofs.RowLaws.{rest, rest-more, null-mark}
-use Rattle.boundaries.specs.Boundaries.{ascending, anyNull, badBoundaries}
-use Rattle.boundaries.specs.Requires.{anyZero}
-
--- ---- nulls by their marks
-pub zero-more : (ms : Words) (i : ℕ) → i < length ms → anyZero (drop i ms) ≡ (isZero (getD ms i (pos 0)) || anyZero (drop (i + 1) ms))
-unfolding anyZero
-zero-more ms i h = rw (add-one i, drop-cons ms i (pos 0) h)
-
-pub zero-done : (ms : Words) (i : ℕ) → length ms ≤ i → anyZero (drop i ms) ≡ false
-unfolding anyZero
-zero-done ms i h = rw (drop-of-length-le ms h)
-
--- A null among the cells of a row, its first cell taken by itself.
-null-first : (n : ℕ) (x : Cell) (r : List Cell) → nullIn (suc n) (x ∷ r) ≡ (isNull x || nullIn n r)
-unfolding nullIn
-null-first zero x r = by (isNull x)
-  where
-    by : (b : Bool) → (false || b) ≡ (b || false)
-    by true = refl
-    by false = refl
-null-first (suc n) x r = rw (null-first n x r) (by (isNull x) (nullIn n r) (isNull (cell n r)))
-  where
-    by : (a b c : Bool) → ((a || b) || c) ≡ (a || (b || c))
-    by true b c = refl
-    by false b c = refl
-
-row-zero : (w : ℕ) (vs ms : Words) → length vs ≡ w → length ms ≡ w → nullIn w (cellsOf vs ms) ≡ anyZero ms
-unfolding nullIn cellsOf anyZero
-row-zero zero [] [] h l = refl
-row-zero zero (v ∷ vs) ms h l = absurd (omega arith)
-row-zero zero [] (m ∷ ms) h l = absurd (omega arith)
-row-zero (suc w) [] ms h l = absurd (omega arith)
-row-zero (suc w) (v ∷ vs) [] h l = absurd (omega arith)
-row-zero (suc w) (v ∷ vs) (m ∷ ms) h l = null-first w (cellOf v m) (cellsOf vs ms) ∙ rw (null-mark v m, row-zero w vs ms (omega arith) (omega arith))
-
-zero-append : (a b : Words) → anyZero (a ++ b) ≡ (anyZero a || anyZero b)
-unfolding anyZero
-zero-append [] b = refl
-zero-append (m ∷ a) b = rw (zero-append a b) (by (isZero m) (anyZero a) (anyZero b))
-  where
-    by : (x y z : Bool) → (x || (y || z)) ≡ ((x || y) || z)
-    by true y z = refl
-    by false y z = refl
-
--- Boundaries have a null where one of their marks says so.
-pub rows-zero : (o : Options) (n : ℕ) (vs ms : Words) → length vs ≡ n * o .by → length ms ≡ n * o .by → anyNull o (rowsOf (o .by) n vs ms) ≡ anyZero ms
-unfolding anyNull rowsOf anyZero
-rows-zero o zero vs [] h l = refl
-rows-zero o zero vs (m ∷ ms) h l = absurd (omega arith)
-rows-zero o (suc n) vs ms h l =
-    let w = o .by in
-    let x : w ≤ length vs = omega arith in
-    let y : w ≤ length ms = omega arith in
-    rw (
-      row-zero w (take w vs) (take w ms) (length-take-le w vs x) (length-take-le w ms y),
-      rows-zero o n (drop w vs) (drop w ms) (length-drop w vs ∙ omega arith) (length-drop w ms ∙ omega arith),
-    )
-    (sym (zero-append (take w ms) (drop w ms)) ∙ ap anyZero (take-append-drop w ms))
+use Rattle.nulls.specs.Nulls.{anyNull}
+use Rattle.boundaries.specs.Boundaries.{ascending, badBoundaries}
 
 -- ---- the order, by neighbours
 module _ (o : Options) (w : ℕ) (vs ms : Words) where
@@ -91,7 +35,7 @@ module _ (o : Options) (gs : Rows) where
   unfolding badBoundaries
   too-many h = rw (lt-ltb 16 (length gs) h)
 
-  pub by-rows : length gs ≤ 16 → eqb (o .by) 0 ≡ false → badBoundaries o gs ≡ (anyNull o gs || not (ascending o gs))
+  pub by-rows : length gs ≤ 16 → eqb (o .by) 0 ≡ false → badBoundaries o gs ≡ (anyNull (o .by) gs || not (ascending o gs))
   unfolding badBoundaries
   by-rows h e = rw (le-ltb 16 (length gs) h, e)
 

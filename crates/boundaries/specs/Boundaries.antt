@@ -7,7 +7,8 @@ use lib.IntN.{pos}
 use lib.ListN.{length}
 use Rattle.frames.specs.Cells.{Cell, value, Rows}
 use Rattle.options.specs.declared.Options.{Options}
-use Rattle.order.specs.Order.{cmpGroup, isLess, nullGroup}
+use Rattle.order.specs.Order.{cmpGroup, isLess}
+use Rattle.nulls.specs.Nulls.{anyNull}
 
 -- SCOPE 19.27: where a table is cut for the boundary g: the number of rows up to the first whose group is g's or comes after it; all rows if there is none.
 unfoldable pub cutAt : Options → List Cell → Rows → ℕ
@@ -19,16 +20,12 @@ unfoldable pub places : Options → Rows → Rows → Rows
 places o rows [] = []
 places o rows (g ∷ gs) = (value (pos (cutAt o g rows)) ∷ []) ∷ places o rows gs
 
--- Boundaries strictly ascending in the declared order; and one that is null in any column.
+-- Boundaries strictly ascending in the declared order.
 unfoldable pub ascending : Options → Rows → Bool
 ascending o [] = true
 ascending o (g ∷ []) = true
 ascending o (g ∷ h ∷ gs) = isLess (cmpGroup o g h) && ascending o (h ∷ gs)
 
-unfoldable pub anyNull : Options → Rows → Bool
-anyNull o [] = false
-anyNull o (g ∷ gs) = nullGroup o g || anyNull o gs
-
 -- SCOPE 19.28, refusal 18: the list has 17 boundaries or more; or any at all without by-columns; or a null in it; or a boundary that does not come after the one before.
 unfoldable pub badBoundaries : Options → Rows → Bool
-badBoundaries o gs = ltb 16 (length gs) || (eqb (o .by) 0 && ltb 0 (length gs)) || anyNull o gs || not (ascending o gs)
+badBoundaries o gs = ltb 16 (length gs) || (eqb (o .by) 0 && ltb 0 (length gs)) || anyNull (o .by) gs || not (ascending o gs)

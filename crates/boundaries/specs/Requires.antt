@@ -11,11 +11,6 @@ use Rattle.order.specs.Order.{sorted}
 use Rattle.order.specs.Requires.{RowsIn}
 use Rattle.compare.specs.Requires.{GroupAt}
 
--- A mark that says null.
-unfoldable pub anyZero : Words → Bool
-anyZero [] = false
-anyZero (m ∷ ms) = isZero m || anyZero ms
-
 -- n boundaries, of as many cells as there are by-columns, are all of these words.
 pub record GroupsIn (o : Options) (n : ℕ) (gv gm : Words) : Type 0 where
   pub few : Few o

@@ -1,5 +1,6 @@
 // Boundaries: groups at which tables are cut. Whether a list of them is good, and where a sorted table is cut for each.
 use compare::cmp_by;
+use nulls::any_null;
 use options::Terms;
 use order::Order;
 use tables::put_cell;
@@ -9,24 +10,10 @@ ghost use Rattle.frames.specs.Cells.{rowFrom, rowsOf};
 ghost use Rattle.options.specs.Options.{withList};
 ghost use Rattle.tables.specs.Lay.{flat, layCells};
 ghost use Rattle.boundaries.specs.Boundaries.{cutAt, places, ascending, badBoundaries};
-ghost use Rattle.boundaries.specs.Requires.{anyZero, GroupsIn, CutIn, PlacesIn};
+ghost use Rattle.boundaries.specs.Requires.{GroupsIn, CutIn, PlacesIn};
 
 // The most boundaries of one call.
 const MOST: usize = 16;
-
-// Whether a mark says null.
-fn any_null(marks: &[i64]) -> bool
-    ensures { λ r. ⌜ r ≡ anyZero (now (marks .entry)) ⌝ }
-{
-    let mut i = 0;
-    while i < marks.len() {
-        if marks[i] == 0 {
-            return true;
-        }
-        i += 1;
-    }
-    false
-}
 
 // Whether each of n boundaries is less than the next one.
 fn is_ascending(

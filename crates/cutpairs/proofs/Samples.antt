@@ -24,7 +24,8 @@ use Rattle.planning.specs.Heights.{fullHeights, inFrames}
 use Rattle.matching.specs.Match.{choose, fits, takesOver, tolerate, matchTable, wholeTable}
 use Rattle.matching.specs.Answer.{cellsFrom, answerRow, answerRows}
 use Rattle.tables.specs.Table.{wordsOf, tableOf, laid}
-use Rattle.boundaries.specs.Boundaries.{cutAt, ascending, anyNull, badBoundaries}
+use Rattle.nulls.specs.Nulls.{anyNull}
+use Rattle.boundaries.specs.Boundaries.{cutAt, ascending, badBoundaries}
 use Rattle.cutpairs.specs.Cut.{cutBy, joined}
 use Rattle.cutpairs.specs.Driver.{wordsFor, tooShort, anyShort, inputJudged, pairsJudged, joinAnswer, joinCall}
 

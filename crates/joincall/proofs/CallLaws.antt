@@ -24,7 +24,8 @@ use Rattle.tables.proofs.LayLaws.{lay-table}
 use Rattle.tables.proofs.TableLaws.{Wide}
 use Rattle.tables.proofs.CellLaws.{flat-length, rows-are-wide}
 use Rattle.order.proofs.SortedLaws.{All}
-use Rattle.takings.specs.Subtotals.{Subtotal, addAll, ascending, rowOf, subtotalOf, subtotalsOf, anyNull, beyondRows, beyondNumber, salesIn, mostSales}
+use Rattle.nulls.specs.Nulls.{anyNull}
+use Rattle.takings.specs.Subtotals.{Subtotal, addAll, ascending, rowOf, subtotalOf, subtotalsOf, beyondRows, beyondNumber, salesIn, mostSales}
 use Rattle.takings.specs.Calls.{After, tableWidth, tableWords, rowsIn, fineSubtotals, result, leave, joinAnswer, joinCall}
 use Rattle.takings.specs.declared.Taken.{Taken}
 use Rattle.takings.specs.declared.Taken.the-variants.{Table, Refused}

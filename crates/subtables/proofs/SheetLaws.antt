@@ -24,17 +24,8 @@ use Rattle.order.specs.declared.Order.the-variants.{Less, Equal, Greater}
 use Rattle.order.proofs.Order.{the-type}
 use Rattle.order.proofs.RowLaws.{rest, rest-all, rest-more, row-cell, null-mark}
 use Rattle.tables.proofs.CellLaws.{fine-at}
-use Rattle.takings.specs.Subtotals.{Subtotal, subtotalOf, subtotalsOf, numberIn, ascending, hasNull, anyNull, beyondRow, beyondRows, salesIn, mostAmount, mostSales}
-use Rattle.subtables.specs.Sheet.{anyZero, beyondPair, beyondWords, countWords, Summed, Counted}
-
--- ---- nulls by their marks
-pub zero-more : (ms : Words) (i : ℕ) → i < length ms → anyZero (drop i ms) ≡ (isZero (getD ms i (pos 0)) || anyZero (drop (i + 1) ms))
-unfolding anyZero
-zero-more ms i h = rw (add-one i, drop-cons ms i (pos 0) h)
-
-pub zero-done : (ms : Words) (i : ℕ) → length ms ≤ i → anyZero (drop i ms) ≡ false
-unfolding anyZero
-zero-done ms i h = rw (drop-of-length-le ms h)
+use Rattle.takings.specs.Subtotals.{Subtotal, subtotalOf, subtotalsOf, numberIn, ascending, beyondRow, beyondRows, salesIn, mostAmount, mostSales}
+use Rattle.subtables.specs.Sheet.{beyondPair, beyondWords, countWords, Summed, Counted}
 
 -- ---- a group's order reads its by-values alone
 first-taken : (o : Options) (b j : ℕ) (r s : List Cell) → j ≤ b → cmpFirst o j (take b r) (take b s) ≡ cmpFirst o j r s

@@ -11,11 +11,6 @@ use lib.ListN.{length, getD, drop}
 use Rattle.frames.specs.Cells.{Words, isZero}
 use Rattle.takings.specs.Subtotals.{mostAmount, mostSales}
 
--- A mark that says null.
-unfoldable pub anyZero : Words → Bool
-anyZero [] = false
-anyZero (m ∷ ms) = isZero m || anyZero ms
-
 -- A count below 1, or a total larger in size than the count times 1,000,000,000.
 unfoldable pub beyondPair : ℤ → ℤ → Bool
 beyondPair total count = ltZ count (pos 1) || ltb (natAbs count * mostAmount) (natAbs total)

@@ -9,24 +9,10 @@ ghost use Rattle.frames.specs.Cells.{rowsOf};
 ghost use Rattle.options.specs.Options.{withList};
 ghost use Rattle.order.specs.Requires.{RowsIn};
 ghost use Rattle.takings.specs.Subtotals.{ascending, subtotalsOf, mostSales};
-ghost use Rattle.subtables.specs.Sheet.{anyZero, Sheet, Summed, Counted};
+ghost use Rattle.subtables.specs.Sheet.{Sheet, Summed, Counted};
 
 // The most sales that a table may tell.
 pub const MOST_SALES: usize = 2147483648;
-
-// Whether a mark says null.
-pub fn any_null(marks: &[i64]) -> bool
-    ensures { λ r. ⌜ r ≡ anyZero (now (marks .entry)) ⌝ }
-{
-    let mut i = 0;
-    while i < marks.len() {
-        if marks[i] == 0 {
-            return true;
-        }
-        i += 1;
-    }
-    false
-}
 
 // Whether the group of each row of n, each w wide, is less than the next one's.
 pub fn is_ascending(

@@ -19,54 +19,10 @@ use Rattle.options.specs.declared.Options.{Options}
 use Rattle.order.proofs.RowLaws.{row-cell, row-room, null-mark}
 use Rattle.tables.specs.Requires.{rest}
 use Rattle.tables.proofs.CellLaws.{rest-more, rest-none, fine-at}
-use Rattle.takings.specs.Subtotals.{ascending, subtotalOf, subtotalsOf, numberIn, hasNull, anyNull, beyondRow, beyondRows, beyondNumber, salesIn, mostAmount, mostSales}
-use Rattle.subtables.specs.Sheet.{anyZero, beyondPair, beyondWords, countWords, Counted}
+use Rattle.nulls.specs.Nulls.{anyNull}
+use Rattle.takings.specs.Subtotals.{ascending, subtotalOf, subtotalsOf, numberIn, beyondRow, beyondRows, beyondNumber, salesIn, mostAmount, mostSales}
+use Rattle.subtables.specs.Sheet.{beyondPair, beyondWords, countWords, Counted}
 use Rattle.takejudge.specs.Judge.{Sheet, fineRows, beyondAccounts}
-
--- ---- nulls
-null-first : (n : ℕ) (x : Cell) (r : List Cell) → hasNull (suc n) (x ∷ r) ≡ (isNull x || hasNull n r)
-unfolding hasNull
-null-first zero x r = by (isNull x)
-  where
-    by : (b : Bool) → (false || b) ≡ (b || false)
-    by true = refl
-    by false = refl
-null-first (suc n) x r = rw (null-first n x r) (by (isNull x) (hasNull n r) (isNull (cell n r)))
-  where
-    by : (a b c : Bool) → ((a || b) || c) ≡ (a || (b || c))
-    by true b c = refl
-    by false b c = refl
-
-row-zero : (w : ℕ) (vs ms : Words) → length vs ≡ w → length ms ≡ w → hasNull w (cellsOf vs ms) ≡ anyZero ms
-unfolding hasNull cellsOf anyZero
-row-zero zero [] [] h l = refl
-row-zero zero (v ∷ vs) ms h l = absurd (omega arith)
-row-zero zero [] (m ∷ ms) h l = absurd (omega arith)
-row-zero (suc w) [] ms h l = absurd (omega arith)
-row-zero (suc w) (v ∷ vs) [] h l = absurd (omega arith)
-row-zero (suc w) (v ∷ vs) (m ∷ ms) h l = null-first w (cellOf v m) (cellsOf vs ms) ∙ rw (null-mark v m, row-zero w vs ms (omega arith) (omega arith))
-
-zero-append : (a b : Words) → anyZero (a ++ b) ≡ (anyZero a || anyZero b)
-unfolding anyZero
-zero-append [] b = refl
-zero-append (m ∷ a) b = rw (zero-append a b) (by (isZero m) (anyZero a) (anyZero b))
-  where
-    by : (x y z : Bool) → (x || (y || z)) ≡ ((x || y) || z)
-    by true y z = refl
-    by false y z = refl
-
-pub rows-zero : (w n : ℕ) (vs ms : Words) → length vs ≡ n * w → length ms ≡ n * w → anyNull w (rowsOf w n vs ms) ≡ anyZero ms
-unfolding anyNull rowsOf anyZero
-rows-zero w zero vs [] h l = refl
-rows-zero w zero vs (m ∷ ms) h l = absurd (omega arith)
-rows-zero w (suc n) vs ms h l =
-    let x : w ≤ length vs = omega arith in
-    let y : w ≤ length ms = omega arith in
-    rw (
-      row-zero w (take w vs) (take w ms) (length-take-le w vs x) (length-take-le w ms y),
-      rows-zero w n (drop w vs) (drop w ms) (length-drop w vs ∙ omega arith) (length-drop w ms ∙ omega arith),
-    )
-    (sym (zero-append (take w ms) (drop w ms)) ∙ ap anyZero (take-append-drop w ms))
 
 -- ---- totals and counts
 number-word : (x : Cell) → numberIn x ≡ valueWord x

@@ -8,7 +8,8 @@ use lib.ListN.{length}
 use Rattle.frames.specs.Cells.{Rows, Words}
 use Rattle.frames.specs.Frame.{pairsFine}
 use Rattle.options.specs.declared.Options.{Options}
-use Rattle.takings.specs.Subtotals.{ascending, anyNull, subtotalsOf, beyondRows, beyondNumber, salesIn, mostSales}
+use Rattle.nulls.specs.Nulls.{anyNull}
+use Rattle.takings.specs.Subtotals.{ascending, subtotalsOf, beyondRows, beyondNumber, salesIn, mostSales}
 
 -- The words of a table of subtotals: n rows of by-values, total and sale count, each mark fitting its value.
 pub record Sheet (b w n : ℕ) (vs ms : Words) : Type 0 where

@@ -1,7 +1,7 @@
 // Accounts of takings, judged by the definitions: 14 of one table, 15 of two tables and their numbers.
+use nulls::any_null;
 use options::Terms;
 use subtables::MOST_SALES;
-use subtables::any_null;
 use subtables::count_sales;
 use subtables::is_ascending;
 ghost use mathlib.Core.Path.{_≡_};

@@ -24,7 +24,8 @@ use Rattle.tables.specs.Table.{tableOf, laid}
 use Rattle.tables.proofs.TableLaws.{Wide, table-rows, table-is, laid-take}
 use Rattle.refusals.specs.declared.Refusal.{Refusal}
 use Rattle.refusals.specs.declared.Refusal.the-variants.{BadOptions, TooManyCarried, BadRanks, BadFrame, UnknownCode, BadColumns, Unsorted, Beyond, NoRoom}
-use Rattle.takings.specs.Subtotals.{Subtotal, addAll, totalFor, countFor, rowOf, subtotalsOf, hasNull, anyNull, mostAmount, mostSales, beyondRow, beyondRows, salesIn, beyondNumber, Tells}
+use Rattle.nulls.specs.Nulls.{anyNull}
+use Rattle.takings.specs.Subtotals.{Subtotal, addAll, totalFor, countFor, rowOf, subtotalsOf, mostAmount, mostSales, beyondRow, beyondRows, salesIn, beyondNumber, Tells}
 use Rattle.takings.specs.Sales.{Sale, salesOf, withAmount, amountsOf, nullsOf, beyondAmounts, matched}
 use Rattle.takings.specs.Calls.{After, tableWidth, tableWords, columnsIn, anyFrame, knownColumns, rowsIn, subtotalsIn, fineSubtotals, salesBy, result, leave, addAnswer, addCall, joinAnswer, joinCall}
 use Rattle.takings.specs.Orders.{Account, Calls, fresh, adding, joining, emptyAccount, tookBy, took, after, given, allSales, Permuted, empty, next, swap, then, Sums, HandedOn, AllOrders}
@@ -179,46 +180,46 @@ within o (u ∷ us) f e =
     let p = or-false (ltb mostAmount (natAbs (u .total))) (beyondAmounts us) e in
     (omega (arith, ltb-false mostAmount (natAbs (u .total)) (p .0), f .0 .0), within o us (f .1) (p .1))
 
-take-null : (n b : ℕ) (x : List Cell) → n ≤ b → hasNull n (take b x) ≡ nullIn n x
-unfolding hasNull nullIn
+take-null : (n b : ℕ) (x : List Cell) → n ≤ b → nullIn n (take b x) ≡ nullIn n x
+unfolding nullIn
 take-null zero b x h = refl
 take-null (suc n) b x h = rw (take-null n b x (omega arith), getD-take b x n null (omega arith))
 
 module _ (o : Options) where
-  one-whole : (g : List Cell) (c : Cell) (us : List Subtotal) → hasNull (o .by) g ≡ false → Every (λ t. hasNull (o .by) (t .group) ≡ false) us → Every (λ t. hasNull (o .by) (t .group) ≡ false) (withAmount g c us)
+  one-whole : (g : List Cell) (c : Cell) (us : List Subtotal) → nullIn (o .by) g ≡ false → Every (λ t. nullIn (o .by) (t .group) ≡ false) us → Every (λ t. nullIn (o .by) (t .group) ≡ false) (withAmount g c us)
   one-whole g null us e h = h
   one-whole g (value v) us e h = (e, h)
 
-  sales-whole : (xs as′ : Rows) → Every (λ t. hasNull (o .by) (t .group) ≡ false) (amountsOf (salesOf o xs as′))
+  sales-whole : (xs as′ : Rows) → Every (λ t. nullIn (o .by) (t .group) ≡ false) (amountsOf (salesOf o xs as′))
   unfolding salesOf amountsOf
   sales-whole [] as′ = tt
   sales-whole (x ∷ xs) [] = tt
   sales-whole (x ∷ xs) (a ∷ as′) = by (matched o x a) refl (sales-whole xs as′)
     where
-      by : (b : Bool) → matched o x a ≡ b → Every (λ t. hasNull (o .by) (t .group) ≡ false) (amountsOf (salesOf o xs as′))
-          → Every (λ t. hasNull (o .by) (t .group) ≡ false) (amountsOf (cond b (record { group = take (o .by) x; amount = cell 1 a } ∷ salesOf o xs as′) (salesOf o xs as′)))
+      by : (b : Bool) → matched o x a ≡ b → Every (λ t. nullIn (o .by) (t .group) ≡ false) (amountsOf (salesOf o xs as′))
+          → Every (λ t. nullIn (o .by) (t .group) ≡ false) (amountsOf (cond b (record { group = take (o .by) x; amount = cell 1 a } ∷ salesOf o xs as′) (salesOf o xs as′)))
       by true e h =
           one-whole (take (o .by) x) (cell 1 a) (amountsOf (salesOf o xs as′))
           (take-null (o .by) (o .by) x (omega arith) ∙ not-true (nullIn (o .by) x) (and-true (not (isNull (cell 0 a))) (not (nullIn (o .by) x)) e .1)) h
       by false e h = h
 
-by-whole : (o : Options) (left answer : Words) → Every (λ t. hasNull (o .by) (t .group) ≡ false) (amountsOf (salesBy o left answer))
+by-whole : (o : Options) (left answer : Words) → Every (λ t. nullIn (o .by) (t .group) ≡ false) (amountsOf (salesBy o left answer))
 unfolding salesBy
 by-whole o left answer = sales-whole o (frameRows (columns o) left) (frameRows (columnsIn answer) answer)
 
 -- ---- the rows of such a table pass the tests of 14 and 15
 module _ (o : Options) where
-  group-null : (n : ℕ) (t : Subtotal) → n ≤ length (t .group) → hasNull n (rowOf t) ≡ hasNull n (t .group)
-  unfolding hasNull
+  group-null : (n : ℕ) (t : Subtotal) → n ≤ length (t .group) → nullIn n (rowOf t) ≡ nullIn n (t .group)
+  unfolding nullIn
   group-null zero t h = refl
   group-null (suc n) t h = rw (group-null n t (omega arith), List·getD-append (t .group) (value (t .total) ∷ value (pos (t .count)) ∷ []) null n (omega arith))
 
-  row-whole : (t : Subtotal) → length (t .group) ≡ o .by → hasNull (o .by) (t .group) ≡ false → hasNull (suc (suc (o .by))) (rowOf t) ≡ false
-  unfolding hasNull
+  row-whole : (t : Subtotal) → length (t .group) ≡ o .by → nullIn (o .by) (t .group) ≡ false → nullIn (suc (suc (o .by))) (rowOf t) ≡ false
+  unfolding nullIn
   row-whole t e h =
       rw (group-null (o .by) t (omega (arith, e)), h, getD-at (t .group) (value (t .total)) (value (pos (t .count)) ∷ []) null (o .by) e, last-cell o t e)
 
-  rows-whole : (ts : List Subtotal) → Every (λ t. length (t .group) ≡ o .by) ts → Every (λ t. hasNull (o .by) (t .group) ≡ false) ts → anyNull (suc (suc (o .by))) (map rowOf ts) ≡ false
+  rows-whole : (ts : List Subtotal) → Every (λ t. length (t .group) ≡ o .by) ts → Every (λ t. nullIn (o .by) (t .group) ≡ false) ts → anyNull (suc (suc (o .by))) (map rowOf ts) ≡ false
   unfolding anyNull
   rows-whole [] w h = refl
   rows-whole (t ∷ ts) w h = rw (row-whole t (w .0) (h .0)) (rows-whole ts (w .1) (h .1))
@@ -304,7 +305,7 @@ module _ (o : Options) where
     totals : (g : List Cell) → totalFor o g rows ≡ totalFor o g (amountsOf sales)
     number : a .number ≡ pos (nullsOf sales)
     bounded : Every Bounded rows
-    whole : Every (λ t. hasNull (o .by) (t .group) ≡ false) rows
+    whole : Every (λ t. nullIn (o .by) (t .group) ≡ false) rows
     few : nullsOf sales ≤ mostSales
 
   read-back : (a : Account) (sales : List Sale) (g : Good sales a) → subtotalsIn o (a .table) ≡ g .rows
@@ -331,7 +332,7 @@ module _ (o : Options) where
   more : (a : Account) (sales : List Sale) (g : Good sales a) (us : List Subtotal) (new : List Sale) (k : ℕ) (out : Words) (n : ℕ) (m : ℤ)
       → Every (Unit-fine o) us
       → Every Bounded us
-      → Every (λ t. hasNull (o .by) (t .group) ≡ false) us
+      → Every (λ t. nullIn (o .by) (t .group) ≡ false) us
       → ((h : List Cell) → countFor o h us ≡ countFor o h (amountsOf new))
       → ((h : List Cell) → totalFor o h us ≡ totalFor o h (amountsOf new))
       → k ≡ natAbs (a .number) + nullsOf new
@@ -349,7 +350,7 @@ module _ (o : Options) where
         totals = λ h. total-all o h (g .rows) us ∙ rw (g .totals h, d h) (sym (append-total o h sales new));
         number = r .number ∙ ap pos total;
         bounded = bounded-all o (g .rows) us bd (g .bounded);
-        whole = every-all o (λ h. hasNull (o .by) h ≡ false) (g .rows) us wh (g .whole);
+        whole = every-all o (λ h. nullIn (o .by) h ≡ false) (g .rows) us wh (g .whole);
         few = omega (arith, r .few, total);
       }
 

@@ -16,7 +16,8 @@ use Rattle.order.specs.Listed.{unlistedIn}
 use Rattle.order.proofs.Samples.{options, carrying, ranking, ranksBy, row, frameOf}
 use Rattle.tables.specs.Table.{wordsOf, tableOf, laid}
 use Rattle.refusals.specs.declared.Refusal.the-variants.{BadFrame, UnknownCode, BadColumns, Unsorted, Beyond, NoRoom}
-use Rattle.takings.specs.Subtotals.{insert, addAll, ascending, subtotalsOf, hasNull, anyNull, beyondRow, beyondRows, salesIn}
+use Rattle.nulls.specs.Nulls.{anyNull}
+use Rattle.takings.specs.Subtotals.{insert, addAll, ascending, subtotalsOf, beyondRow, beyondRows, salesIn}
 use Rattle.takings.specs.Sales.{salesOf, amountsOf, nullsOf, beyondAmounts}
 use Rattle.takings.specs.Calls.{fineSubtotals, salesBy, result, addAnswer, addCall, joinAnswer, joinCall}
 use Rattle.takings.specs.Orders.{Account, Calls, fresh, adding, joining, given}
@@ -50,15 +51,15 @@ abbrev all : Account
 all = record { table = pos 2 ∷ pos 3 ∷ pos 1 ∷ pos 1200 ∷ pos 1 ∷ pos 2 ∷ pos 1700 ∷ pos 2 ∷ pos 1 ∷ pos 1 ∷ pos 1 ∷ pos 1 ∷ pos 1 ∷ pos 1 ∷ []; number = pos 1 }
 
 pub frame-by-frame : given (with 2) (adding (adding fresh left1 answer1 out) left2 answer2 out) ≡ some all
-unfolding given addCall addAnswer salesBy fineSubtotals result badOptions isTable isFrame pairsFine frameRows rowsOf cellsOf badRanks rises risesBehind placed below listed unlistedIn anyNull hasNull ascending subtotalsOf beyondRows beyondRow beyondAmounts salesIn salesOf amountsOf nullsOf addAll insert cmpFirst nullIn wordsOf tableOf laid
+unfolding given addCall addAnswer salesBy fineSubtotals result badOptions isTable isFrame pairsFine frameRows rowsOf cellsOf badRanks rises risesBehind placed below listed unlistedIn anyNull nullIn ascending subtotalsOf beyondRows beyondRow beyondAmounts salesIn salesOf amountsOf nullsOf addAll insert cmpFirst wordsOf tableOf laid
 frame-by-frame = refl
 
 pub other-way : given (with 2) (adding (adding fresh left2 answer2 out) left1 answer1 out) ≡ some all
-unfolding given addCall addAnswer salesBy fineSubtotals result badOptions isTable isFrame pairsFine frameRows rowsOf cellsOf badRanks rises risesBehind placed below listed unlistedIn anyNull hasNull ascending subtotalsOf beyondRows beyondRow beyondAmounts salesIn salesOf amountsOf nullsOf addAll insert cmpFirst nullIn wordsOf tableOf laid
+unfolding given addCall addAnswer salesBy fineSubtotals result badOptions isTable isFrame pairsFine frameRows rowsOf cellsOf badRanks rises risesBehind placed below listed unlistedIn anyNull nullIn ascending subtotalsOf beyondRows beyondRow beyondAmounts salesIn salesOf amountsOf nullsOf addAll insert cmpFirst wordsOf tableOf laid
 other-way = refl
 
 pub joined : given (with 2) (joining (adding fresh left2 answer2 out) (adding fresh left1 answer1 out) out) ≡ some all
-unfolding given addCall addAnswer joinCall joinAnswer salesBy fineSubtotals result badOptions isTable isFrame pairsFine frameRows rowsOf cellsOf badRanks rises risesBehind placed below listed unlistedIn anyNull hasNull ascending subtotalsOf beyondRows beyondRow beyondAmounts salesIn salesOf amountsOf nullsOf addAll insert cmpFirst nullIn wordsOf tableOf laid
+unfolding given addCall addAnswer joinCall joinAnswer salesBy fineSubtotals result badOptions isTable isFrame pairsFine frameRows rowsOf cellsOf badRanks rises risesBehind placed below listed unlistedIn anyNull nullIn ascending subtotalsOf beyondRows beyondRow beyondAmounts salesIn salesOf amountsOf nullsOf addAll insert cmpFirst wordsOf tableOf laid
 joined = refl
 
 -- The refusals of an addition, in checking order: unequal heights 5; a code that the list lacks 12; p = 0 13, an answer of p columns 13; a subtotal table
@@ -86,7 +87,7 @@ pub refusals :
     ∷ addAnswer (with 1) empty (negsuc 0) sale (price 5) [] ∷ add 1 (frameOf 3 (row (1 ∷ 1000000000 ∷ 1 ∷ []) ∷ [])) sale (price 1000000000) ∷ []
     ≡ Refused BadFrame ∷ Refused UnknownCode ∷ Refused BadColumns ∷ Refused BadColumns ∷ Refused Unsorted ∷ Refused Unsorted ∷ Refused Beyond ∷ Refused Beyond ∷ Refused Beyond
     ∷ Refused Beyond ∷ Refused NoRoom ∷ []
-unfolding addAnswer salesBy fineSubtotals result badOptions isTable isFrame pairsFine frameRows rowsOf cellsOf badRanks rises risesBehind placed below listed unlistedIn anyNull hasNull ascending subtotalsOf beyondRows beyondRow beyondAmounts salesIn salesOf amountsOf nullsOf addAll insert cmpFirst nullIn
+unfolding addAnswer salesBy fineSubtotals result badOptions isTable isFrame pairsFine frameRows rowsOf cellsOf badRanks rises risesBehind placed below listed unlistedIn anyNull nullIn ascending subtotalsOf beyondRows beyondRow beyondAmounts salesIn salesOf amountsOf nullsOf addAll insert cmpFirst
 refusals = refl
 
 -- The result's sum of sale counts: 2^31 sales pass, one more is 15; so is the number of sales without an amount.
@@ -97,5 +98,5 @@ pub most :
     joinAnswer (with 1) (many 2147483647) (pos 2147483647) (many 1) (pos 1) (replicate 8 (pos 0)) ∷ joinAnswer (with 1) (many 2147483647) (pos 0) (many 2) (pos 0) (replicate 8 (pos 0))
     ∷ joinAnswer (with 1) (many 1) (pos 2147483647) (many 1) (pos 2) (replicate 8 (pos 0)) ∷ joinAnswer (with 0) (many 1) (pos 0) (many 1) (pos 0) (replicate 8 (pos 0)) ∷ []
     ≡ Table 1 (pos 2147483648) ∷ Refused Beyond ∷ Refused Beyond ∷ Refused BadColumns ∷ []
-unfolding joinAnswer fineSubtotals result badOptions isTable pairsFine frameRows rowsOf cellsOf badRanks rises risesBehind placed below listed unlistedIn anyNull hasNull ascending subtotalsOf beyondRows beyondRow salesIn addAll insert cmpFirst
+unfolding joinAnswer fineSubtotals result badOptions isTable pairsFine frameRows rowsOf cellsOf badRanks rises risesBehind placed below listed unlistedIn anyNull nullIn ascending subtotalsOf beyondRows beyondRow salesIn addAll insert cmpFirst
 most = refl

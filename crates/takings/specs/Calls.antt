@@ -13,7 +13,8 @@ use Rattle.order.specs.Listed.{lacksCode}
 use Rattle.tables.specs.Options.{unless}
 use Rattle.tables.specs.Table.{tableRows, tableOf, laid}
 use Rattle.refusals.specs.declared.Refusal.the-variants.{BadFrame, UnknownCode, BadColumns, Unsorted, Beyond, NoRoom}
-use Rattle.takings.specs.Subtotals.{Subtotal, addAll, ascending, rowOf, subtotalsOf, anyNull, mostSales, beyondRows, salesIn, beyondNumber}
+use Rattle.nulls.specs.Nulls.{anyNull}
+use Rattle.takings.specs.Subtotals.{Subtotal, addAll, ascending, rowOf, subtotalsOf, mostSales, beyondRows, salesIn, beyondNumber}
 use Rattle.takings.specs.Sales.{Sale, salesOf, amountsOf, nullsOf, beyondAmounts}
 use Rattle.takings.specs.declared.Taken.{Taken}
 use Rattle.takings.specs.declared.Taken.the-variants.{Table, Refused}

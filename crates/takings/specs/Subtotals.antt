@@ -86,15 +86,6 @@ unfoldable pub subtotalsOf : Options → Rows → List Subtotal
 subtotalsOf o [] = []
 subtotalsOf o (r ∷ rs) = subtotalOf o r ∷ subtotalsOf o rs
 
--- A null anywhere in the first n cells of a row.
-unfoldable pub hasNull : ℕ → List Cell → Bool
-hasNull zero r = false
-hasNull (suc n) r = hasNull n r || isNull (cell n r)
-
-unfoldable pub anyNull : ℕ → Rows → Bool
-anyNull n [] = false
-anyNull n (r ∷ rs) = hasNull n r || anyNull n rs
-
 -- ---- the bounds
 -- The limits: an amount is at most 10^9 in size, and a table counts at most 2^31 sales.
 abbrev pub mostAmount : ℕ

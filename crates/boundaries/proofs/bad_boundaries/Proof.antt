@@ -12,8 +12,9 @@ use Rattle.options.specs.Options.{withList}
 use Rattle.options.specs.declared.Options.{Options}
 use Rattle.frames.specs.Cells.{Rows, rowsOf}
 use Rattle.frames.proofs.WordLaws.{rows-length}
-use Rattle.boundaries.specs.Boundaries.{anyNull}
-use Rattle.boundaries.proofs.ListLaws.{rows-zero, too-many, no-columns, by-rows}
+use Rattle.nulls.specs.Nulls.{anyNull}
+use Rattle.nulls.proofs.NullLaws.{rows-zero}
+use Rattle.boundaries.proofs.ListLaws.{too-many, no-columns, by-rows}
 use Rattle.boundaries.proofs.bad_boundaries.Statement.{statement}
 use Rattle.boundaries.proofs.bad_boundaries.Tie as tie
 
@@ -46,10 +47,10 @@ any-null-requires c κs = search needs
 asked : (c : tie.Else2) → eqb (c .before .before .before .before .args .o .by) 0 ≡ false
 asked c = ne-eqb (c .before .before .before .before .args .o .by) 0 (λ e. omega (arith, c .if2 .left, e))
 
-nulls : (c : tie.After-any-null) → let s = c .before .before .before .before .before in c .any-null .result ≡ anyNull (whole s) (groups s)
+nulls : (c : tie.After-any-null) → let s = c .before .before .before .before .before in c .any-null .result ≡ anyNull (whole s .by) (groups s)
 nulls c =
     let s = c .before .before .before .before .before in
-    c .any-null .ensures ∙ sym (rows-zero (whole s) (s .args .n) (now (s .args .values)) (now (s .args .marks)) (s .pre .values) (s .pre .marks))
+    c .any-null .ensures ∙ sym (rows-zero (whole s .by) (s .args .n) (now (s .args .values)) (now (s .args .marks)) (s .pre .values) (s .pre .marks))
 
 returns-3 : tie.Need-returns-3
 returns-3 c =

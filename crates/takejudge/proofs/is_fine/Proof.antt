@@ -4,7 +4,8 @@ use native.Mathlib.Omega.{arith}
 use denote.Ref.{now}
 use Rattle.frames.specs.Cells.{rowsOf}
 use Rattle.options.specs.Options.{withList}
-use Rattle.takejudge.proofs.JudgeLaws.{rows-zero, fine-null, fine-rest}
+use Rattle.nulls.proofs.NullLaws.{rows-zero}
+use Rattle.takejudge.proofs.JudgeLaws.{fine-null, fine-rest}
 use borrow.Author.Needs.{needs}
 use Rattle.takejudge.proofs.is_fine.Statement.{statement}
 use Rattle.takejudge.proofs.is_fine.Tie as tie

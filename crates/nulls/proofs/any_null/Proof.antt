@@ -1,4 +1,4 @@
--- `boundaries::any_null` meets its contract. Assumes nothing.
+-- `nulls::any_null` meets its contract. Assumes nothing.
 use mathlib.Core.Path.{_≡_, refl, sym, ap, _∙_}
 use mathlib.Core.Bool.{_||_}
 use Prim.Native.Nat.{_+_, _-_, _≤_, _<_}
@@ -8,10 +8,10 @@ use lib.IntN.{pos}
 use lib.ListN.{length, drop, getD}
 use Rattle.frames.specs.Cells.{isZero}
 use Rattle.frames.proofs.Signed.{zero-yes, zero-no}
-use Rattle.boundaries.specs.Requires.{anyZero}
-use Rattle.boundaries.proofs.ListLaws.{zero-more, zero-done}
-use Rattle.boundaries.proofs.any_null.Statement.{statement}
-use Rattle.boundaries.proofs.any_null.Tie as tie
+use Rattle.nulls.specs.Nulls.{anyZero}
+use Rattle.nulls.proofs.NullLaws.{zero-more, zero-done}
+use Rattle.nulls.proofs.any_null.Statement.{statement}
+use Rattle.nulls.proofs.any_null.Tie as tie
 
 abbrev Inv-loop : tie.InvT-loop
 Inv-loop marks i₀ i = (i ≤ length marks) × (anyZero marks ≡ anyZero (drop i marks))
