@@ -2,7 +2,8 @@
 
 `rt must-fail` checks an edited copy of a crate from nothing. Here a crate is checked once as it is, and must be proved; the modules
 which that check admits are kept in a folder (the kit's --incremental, as in `rt dev`), and the check of an edited copy takes from there
-those that the edit does not reach. So an edit costs what it alters and what stands on that."""
+those that the edit does not reach. So an edit costs what it alters and what stands on that. It counts as refused if the check finds a fact
+that does not hold; a proof that only names what the edited program no longer has is no such finding."""
 import os
 import re
 import shutil
@@ -28,6 +29,17 @@ def edits_of(crate):
     """The edits of a crate, by name."""
     folder = os.path.join(ROOT, 'crates', crate, 'must-fail')
     return sorted(name[:-len('.edit')] for name in os.listdir(folder) if name.endswith('.edit')) if os.path.isdir(folder) else []
+
+
+# What the check says where a proof's text does not fit the edited program, and no fact is looked at: a name that is not there, a case that the
+# program no longer has, a definition that stands on one which was rejected.
+TEXT = re.compile(r"(?:record |module )?`[^`]*` (?:is not in scope|has no (?:field )?`|was not admitted)|write the equation's arguments")
+
+
+def by_a_fact(said):
+    """Whether a check that refused a crate has found a fact that does not hold."""
+    errors = re.findall(r'^[^ \n]*:\d+:\d+: error: (?:`[^`]*`: )?(.*)', said, re.M)
+    return any(not TEXT.match(error) for error in errors) or bool(re.search(r'^note: [^ \n]*:\d+:\d+: it is not proved that ', said, re.M))
 
 
 class Refused(Exception):
@@ -119,6 +131,8 @@ class Trial:
         status, said = self.check(crate, goal, goal + '.log')
         took = f'{time.monotonic() - start:.0f} s'
         if status == 1 and re.search('^logic=not-proved', said, re.M):
+            if not by_a_fact(said):
+                return self.note(crate, edit, f'BAD EDIT: a proof does not fit the edited program, and no fact fails ({took})', False)
             place = re.search('^([^ \n]*): error', said, re.M) or re.search(r'^note: ([^ \n]*:\d+:\d+):', said, re.M)
             first = f'first at {os.path.relpath(place.group(1), goal)}; ' if place else ''
             return self.note(crate, edit, f'refused, as it must be ({first}{took})', True)

@@ -80,7 +80,7 @@ pub record WalkRoom (o : Options) (wl m : ℕ) (lv lm : Words) (from to : ℕ) (
   pub left : keysSorted o (between wl from to lv lm) ≡ true
   pub right : keysSorted o (between wr at end rv rm) ≡ true
 
--- How often the two cursors moved, each time one row forward: the left one over all its rows from..to, the right one from row `at` to where it has come, which is not behind row `end`. So they moved at most as often as both runs have rows.
+-- The moves of the two cursors, one for each row that a cursor goes forward, however many rows it passes in a step: the left one over all its rows from..to, the right one from row `at` to where it has come, which is not behind row `end`. So there are at most as many moves as both runs have rows.
 pub record Counted (from to at end r : ℕ) : Type 0 where
   pub come : ℕ
   pub upward : at ≤ come
