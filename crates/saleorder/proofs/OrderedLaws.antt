@@ -1,34 +1,25 @@
 -- Sales in group order, counted one after the other. Assumes nothing.
 use mathlib.Core.Path.{_≡_, refl, sym, ap, _∙_}
 use mathlib.Core.Bool.{Bool, true, false, cond, _||_}
-use mathlib.Core.List.{List, [], _∷_}
-use Prim.Native.Nat.{ℕ, suc, _+_, _-_, _*_, _≤_, _<_}
+use mathlib.Core.List.{List, _∷_}
+use Prim.Native.Nat.{ℕ, suc, _+_, _≤_, _<_}
 use native.Mathlib.Omega.{arith}
 use lib.ListN.{length, take}
 use Rattle.frames.specs.Cells.{Cell, Words}
 use Rattle.options.specs.declared.Options.{Options}
 use Rattle.order.specs.Order.{cmpGroup}
 use Rattle.order.specs.declared.Order.the-variants.{Less, Equal}
-use Rattle.order.proofs.OrderLaws.{cmpGroup-is, same-right}
+use Rattle.order.proofs.OrderLaws.{cmpGroup-is}
 use Rattle.takings.specs.Subtotals.{Subtotal, insert, addAll}
-use Rattle.takings.specs.Sales.{Sale, amountsOf}
-use Rattle.takings.proofs.SubtotalLaws.{Rising, rising-insert}
-use Rattle.salekind.specs.Kinds.{kindOf}
-use Rattle.salekind.specs.declared.Kind.{Kind}
-use Rattle.salekind.specs.declared.Kind.the-variants.{Unmatched, Nothing, Amount}
-use Rattle.salekind.proofs.KindLaws.{salesFrom, leftAt, answerAt, unit, from-none, row-unmatched, row-nothing, row-amount, none-sold}
+use Rattle.takings.proofs.SubtotalLaws.{Rising, rising, rising-insert}
+use Rattle.salekind.specs.declared.Kind.the-variants.{Amount}
+use Rattle.salekind.proofs.KindLaws.{leftAt, answerAt, unit, row-amount}
 use Rattle.saleplace.specs.Place.{Placed}
 use Rattle.salecount.specs.Counts.{isThere, TableIs, isAmount}
-use Rattle.salecount.proofs.CountLaws.{left-taken, there-taken, there-cons, there-none, there-insert, length-insert, table-tells, table-fine, none-added, more-added}
+use Rattle.salecount.proofs.CountLaws.{left-taken, there-taken, there-equal, there-insert, length-insert, table-tells, more-added, soldFrom, kindAt, none-more, none-left}
 use Rattle.saleorder.specs.Ordered.{sideOf}
 
 module _ (o : Options) where
-  -- Groups that compare Equal are both there, or neither is.
-  there-equal : (g h : List Cell) (ts : List Subtotal) → cmpGroup o g h ≡ Equal → isThere o g ts ≡ isThere o h ts
-  there-equal g h [] e = there-none o g ∙ sym (there-none o h)
-  there-equal g h (t ∷ ts) e =
-      there-cons o g t ts ∙ rw (← same-right (cmpGroup-is o) (t .group) g h e, there-equal g h ts e) (sym (there-cons o h t ts))
-
   -- How far the count has come: W is the table that the sales so far make, l the last sale's left row.
   pub record Counted (ts U₀ U W : List Subtotal) (any : Bool) (l : List Cell) (m : ℕ) : Type 0 where
     pub rows : m ≡ length W
@@ -64,7 +55,7 @@ module _ (o : Options) where
       → Counted ts U₀ U (insert o u W) any l m
   counted-equal ts U₀ U W false l m u x e c s = let z : _≡_ {A = ℕ} 0 1 = cc in absurd (omega arith)
   counted-equal ts U₀ U W true l m u x e c s =
-      let b : isThere o (u .group) W ≡ true = ap (λ (z : List Cell). isThere o z W) e ∙ there-taken o x W ∙ sym (there-equal l x W s) ∙ c .there refl in
+      let b : isThere o (u .group) W ≡ true = ap (λ (z : List Cell). isThere o z W) e ∙ there-taken o x W ∙ sym (there-equal o l x W s) ∙ c .there refl in
       let i : (g : List Cell) → cmpGroup o (u .group) g ≡ cmpGroup o l g = λ g. ap (λ (z : List Cell). cmpGroup o z g) e ∙ left-taken o (o .by) (o .by) x g (omega arith) ∙ sym (cmpGroup-is o .same l x g s) in
       record {
         rows = c .rows ∙ sym (length-insert o u W (c .order) ∙ rw b);
@@ -77,33 +68,22 @@ module _ (o : Options) where
 -- ---- row by row
 module _ (o : Options) (n rows d : ℕ) (table lv lm av am : Words) (ts : List Subtotal) (t : TableIs o n ts table) where
   abbrev U : ℕ → List Subtotal
-  U i = amountsOf (salesFrom o rows d lv lm av am i)
+  U i = soldFrom o rows d lv lm av am i
 
   abbrev L : ℕ → List Cell
   L i = leftAt o rows d lv lm av am i
-
-  abbrev K : ℕ → Kind
-  K i = kindOf o (L i) (answerAt o rows d lv lm av am i)
 
   pub record CountedTo (any : Bool) (l : List Cell) (m i : ℕ) : Type 0 where
     pub whole : List Subtotal
     pub counted : Counted o ts (U 0) (U i) whole any l m
 
   pub to-starts : (l : List Cell) → CountedTo false l n 0
-  to-starts l = record { whole = ts; counted = record { rows = sym (t .held .rows); order = table-fine o n ts table t .order; left = refl; there = λ e. let z : _≡_ {A = ℕ} 0 1 = cc in absurd (omega arith); behind = λ g e. refl } }
+  to-starts l = record { whole = ts; counted = record { rows = sym (t .held .rows); order = rising o ts (t .held .order); left = refl; there = λ e. let z : _≡_ {A = ℕ} 0 1 = cc in absurd (omega arith); behind = λ g e. refl } }
 
-  skipped : (any : Bool) (l : List Cell) (m i : ℕ) → U i ≡ U (i + 1) → CountedTo any l m i → CountedTo any l m (i + 1)
-  skipped any l m i e r = record { whole = r .whole; counted = rw (← e) (r .counted) }
+  pub to-skip : (any : Bool) (l : List Cell) (m i : ℕ) → i < rows → isAmount (kindAt o rows d lv lm av am i) ≡ false → CountedTo any l m i → CountedTo any l m (i + 1)
+  to-skip any l m i h n r = record { whole = r .whole; counted = rw (← none-more o rows d lv lm av am i h n) (r .counted) }
 
-  pub to-skip : (any : Bool) (l : List Cell) (m i : ℕ) → i < rows → isAmount (K i) ≡ false → CountedTo any l m i → CountedTo any l m (i + 1)
-  to-skip any l m i h n r = by (K i) refl n
-    where
-      by : (z : Kind) → K i ≡ z → isAmount z ≡ false → CountedTo any l m (i + 1)
-      by Unmatched e f = skipped any l m i (ap amountsOf (row-unmatched o rows d lv lm av am i h e)) r
-      by Nothing e f = skipped any l m i (row-nothing o rows d lv lm av am i h e .0) r
-      by Amount e f = let z : _≡_ {A = ℕ} 0 1 = cc in absurd (omega arith)
-
-  module _ (any : Bool) (l : List Cell) (m i : ℕ) (h : i < rows) (e : K i ≡ Amount) (r : CountedTo any l m i) where
+  module _ (any : Bool) (l : List Cell) (m i : ℕ) (h : i < rows) (e : kindAt o rows d lv lm av am i ≡ Amount) (r : CountedTo any l m i) where
     abbrev u : Subtotal
     u = unit o (L i) (answerAt o rows d lv lm av am i)
 
@@ -117,9 +97,7 @@ module _ (o : Options) (n rows d : ℕ) (table lv lm av am : Words) (ts : List S
     to-equal s = record { whole = insert o u (r .whole); counted = counted-equal o ts (U 0) (U (i + 1)) (r .whole) any l m u (L i) refl now s }
 
   pub to-ends : (any : Bool) (l : List Cell) (m i : ℕ) → rows ≤ i → CountedTo any l m i → m ≡ length (addAll o ts (U 0))
-  to-ends any l m i h r =
-      let z : addAll o (r .whole) (U i) ≡ r .whole = ap (λ (z : List Sale). addAll o (r .whole) (amountsOf z)) (from-none o rows d lv lm av am i h) ∙ ap (addAll o (r .whole)) (none-sold .0) ∙ none-added o (r .whole) in
-      r .counted .rows ∙ ap length (sym z ∙ r .counted .left)
+  to-ends any l m i h r = r .counted .rows ∙ ap length (sym (none-left o rows d lv lm av am (r .whole) i h) ∙ r .counted .left)
 
 -- The count grows by one at most.
 pub more-most : (here : Bool) (m : ℕ) → cond here m (m + 1) ≤ m + 1
