@@ -12,12 +12,11 @@ use Rattle.order.specs.declared.Order.the-variants.{Less, Equal}
 use Rattle.order.proofs.OrderLaws.{cmpGroup-is}
 use Rattle.takings.specs.Subtotals.{Subtotal, insert, addAll}
 use Rattle.takings.proofs.SubtotalLaws.{Rising, rising, rising-insert}
-use Rattle.salekind.specs.declared.Kind.the-variants.{Amount}
-use Rattle.salekind.proofs.KindLaws.{leftAt, answerAt, unit, row-amount}
+use Rattle.salekind.proofs.KindLaws.{leftAt, answerAt, unit}
 use Rattle.saleplace.specs.Place.{Placed}
 use Rattle.salecount.specs.Counts.{isThere, TableIs, isAmount}
-use Rattle.salecount.proofs.CountLaws.{left-taken, there-taken, there-equal, there-insert, length-insert, table-tells, more-added, soldFrom, kindAt, none-more, none-left}
-use Rattle.saleorder.specs.Ordered.{sideOf}
+use Rattle.salecount.proofs.CountLaws.{left-taken, there-taken, there-equal, there-insert, length-insert, table-tells, more-added, soldFrom, kindAt, none-more, one-more, none-left}
+use Rattle.saleorder.specs.Ordered.{groupSide, sideOf}
 
 module _ (o : Options) where
   -- How far the count has come: W is the table that the sales so far make, l the last sale's left row.
@@ -26,10 +25,10 @@ module _ (o : Options) where
     pub order : Rising o W
     pub left : addAll o W U ≡ addAll o ts U₀
     pub there : any ≡ true → isThere o l W ≡ true
-    pub behind : (g : List Cell) → sideOf o any l g ≡ Less → isThere o g W ≡ isThere o g ts
+    pub behind : (g : List Cell) → groupSide o any l g ≡ Less → isThere o g W ≡ isThere o g ts
 
   -- A sale of a group behind the last.
-  pub counted-less : (ts U₀ U W : List Subtotal) (any : Bool) (l : List Cell) (m : ℕ) (u : Subtotal) (x : List Cell) → u .group ≡ take (o .by) x → Counted ts U₀ (u ∷ U) W any l m → sideOf o any l x ≡ Less → (here : Bool) → here ≡ isThere o x ts
+  pub counted-less : (ts U₀ U W : List Subtotal) (any : Bool) (l : List Cell) (m : ℕ) (u : Subtotal) (x : List Cell) → u .group ≡ take (o .by) x → Counted ts U₀ (u ∷ U) W any l m → groupSide o any l x ≡ Less → (here : Bool) → here ≡ isThere o x ts
       → Counted ts U₀ U (insert o u W) true x (cond here m (m + 1))
   counted-less ts U₀ U W any l m u x e c s here h =
       let b : isThere o (u .group) W ≡ here = ap (λ (z : List Cell). isThere o z W) e ∙ there-taken o x W ∙ c .behind x s ∙ sym h in
@@ -46,12 +45,12 @@ module _ (o : Options) where
       count true m n e = e
       count false m n e = omega arith
 
-      then : (b : Bool) → sideOf o b l x ≡ Less → (g : List Cell) → cmpGroup o x g ≡ Less → sideOf o b l g ≡ Less
+      then : (b : Bool) → groupSide o b l x ≡ Less → (g : List Cell) → cmpGroup o x g ≡ Less → groupSide o b l g ≡ Less
       then true s g k = cmpGroup-is o .less l x g s k
       then false s g k = refl
 
   -- A sale of the last one's group.
-  pub counted-equal : (ts U₀ U W : List Subtotal) (any : Bool) (l : List Cell) (m : ℕ) (u : Subtotal) (x : List Cell) → u .group ≡ take (o .by) x → Counted ts U₀ (u ∷ U) W any l m → sideOf o any l x ≡ Equal
+  pub counted-equal : (ts U₀ U W : List Subtotal) (any : Bool) (l : List Cell) (m : ℕ) (u : Subtotal) (x : List Cell) → u .group ≡ take (o .by) x → Counted ts U₀ (u ∷ U) W any l m → groupSide o any l x ≡ Equal
       → Counted ts U₀ U (insert o u W) any l m
   counted-equal ts U₀ U W false l m u x e c s = let z : _≡_ {A = ℕ} 0 1 = cc in absurd (omega arith)
   counted-equal ts U₀ U W true l m u x e c s =
@@ -73,6 +72,9 @@ module _ (o : Options) (n rows d : ℕ) (table lv lm av am : Words) (ts : List S
   abbrev L : ℕ → List Cell
   L i = leftAt o rows d lv lm av am i
 
+  abbrev A : ℕ → List Cell
+  A i = answerAt o rows d lv lm av am i
+
   pub record CountedTo (any : Bool) (l : List Cell) (m i : ℕ) : Type 0 where
     pub whole : List Subtotal
     pub counted : Counted o ts (U 0) (U i) whole any l m
@@ -80,21 +82,26 @@ module _ (o : Options) (n rows d : ℕ) (table lv lm av am : Words) (ts : List S
   pub to-starts : (l : List Cell) → CountedTo false l n 0
   to-starts l = record { whole = ts; counted = record { rows = sym (t .held .rows); order = rising o ts (t .held .order); left = refl; there = λ e. let z : _≡_ {A = ℕ} 0 1 = cc in absurd (omega arith); behind = λ g e. refl } }
 
-  pub to-skip : (any : Bool) (l : List Cell) (m i : ℕ) → i < rows → isAmount (kindAt o rows d lv lm av am i) ≡ false → CountedTo any l m i → CountedTo any l m (i + 1)
-  to-skip any l m i h n r = record { whole = r .whole; counted = rw (← none-more o rows d lv lm av am i h n) (r .counted) }
-
-  module _ (any : Bool) (l : List Cell) (m i : ℕ) (h : i < rows) (e : kindAt o rows d lv lm av am i ≡ Amount) (r : CountedTo any l m i) where
+  module _ (any : Bool) (l : List Cell) (m i : ℕ) (h : i < rows) (r : CountedTo any l m i) where
     abbrev u : Subtotal
-    u = unit o (L i) (answerAt o rows d lv lm av am i)
+    u = unit o (L i) (A i)
 
-    now : Counted o ts (U 0) (u ∷ U (i + 1)) (r .whole) any l m
-    now = rw (← row-amount o rows d lv lm av am i h e .0) (r .counted)
+    now : isAmount (kindAt o rows d lv lm av am i) ≡ true → Counted o ts (U 0) (u ∷ U (i + 1)) (r .whole) any l m
+    now e = rw (← one-more o rows d lv lm av am i h e) (r .counted)
 
-    pub to-less : sideOf o any l (L i) ≡ Less → (p : ℕ) (here : Bool) → Placed o (suc (suc (o .by))) 0 n table (L i) p here → CountedTo true (L i) (cond here m (m + 1)) (i + 1)
-    to-less s p here k = record { whole = insert o u (r .whole); counted = counted-less o ts (U 0) (U (i + 1)) (r .whole) any l m u (L i) refl now s here (table-tells o n ts table t (L i) p here k) }
+    pub to-less : sideOf o any l (L i) (A i) ≡ Less → (p : ℕ) (here : Bool) → Placed o (suc (suc (o .by))) 0 n table (L i) p here → CountedTo true (L i) (cond here m (m + 1)) (i + 1)
+    to-less s p here k = by (isAmount (kindAt o rows d lv lm av am i)) refl s
+      where
+        by : (b : Bool) → isAmount (kindAt o rows d lv lm av am i) ≡ b → cond b (groupSide o any l (L i)) Equal ≡ Less → CountedTo true (L i) (cond here m (m + 1)) (i + 1)
+        by true e s = record { whole = insert o u (r .whole); counted = counted-less o ts (U 0) (U (i + 1)) (r .whole) any l m u (L i) refl (now e) s here (table-tells o n ts table t (L i) p here k) }
+        by false e s = let z : _≡_ {A = ℕ} 0 1 = cc in absurd (omega arith)
 
-    pub to-equal : sideOf o any l (L i) ≡ Equal → CountedTo any l m (i + 1)
-    to-equal s = record { whole = insert o u (r .whole); counted = counted-equal o ts (U 0) (U (i + 1)) (r .whole) any l m u (L i) refl now s }
+    pub to-equal : sideOf o any l (L i) (A i) ≡ Equal → CountedTo any l m (i + 1)
+    to-equal s = by (isAmount (kindAt o rows d lv lm av am i)) refl s
+      where
+        by : (b : Bool) → isAmount (kindAt o rows d lv lm av am i) ≡ b → cond b (groupSide o any l (L i)) Equal ≡ Equal → CountedTo any l m (i + 1)
+        by true e s = record { whole = insert o u (r .whole); counted = counted-equal o ts (U 0) (U (i + 1)) (r .whole) any l m u (L i) refl (now e) s }
+        by false e s = record { whole = r .whole; counted = rw (← none-more o rows d lv lm av am i h e) (r .counted) }
 
   pub to-ends : (any : Bool) (l : List Cell) (m i : ℕ) → rows ≤ i → CountedTo any l m i → m ≡ length (addAll o ts (U 0))
   to-ends any l m i h r = r .counted .rows ∙ ap length (sym (none-left o rows d lv lm av am (r .whole) i h) ∙ r .counted .left)

@@ -11,7 +11,7 @@ use saleplace::reach;
 ghost use mathlib.Core.Path.{_≡_};
 ghost use mathlib.Core.Bool.{true, cond};
 ghost use mathlib.Core.List.{List};
-ghost use Prim.Native.Nat.{suc, _+_, _^_, _≤_, _<_};
+ghost use Prim.Native.Nat.{ℕ, suc, _+_, _^_, _≤_, _<_};
 ghost use lib.ListN.{length};
 ghost use Rattle.frames.specs.Cells.{rowFrom, rowsOf, Words};
 ghost use Rattle.options.specs.Options.{withList};
@@ -27,20 +27,26 @@ pub struct Ordered {
     pub told: bool,
 }
 
-// How the group of the last sale, at p, stands to that of the sale at q; the first sale is behind.
+// How the group of the last sale, at p, stands to that of the left row at q, with its answer row at z; the first sale is behind. A row that is no sale with an amount is as if it were of the last group: it makes no row.
 fn side_of(
     any: bool,
     p: usize,
     lv: &[i64],
     lm: &[i64],
     q: usize,
+    am: &[i64],
+    z: usize,
     o: Terms,
     codes: &[i64],
     rising: &[u8],
 ) -> Order
-    requires { ⌜ SideIn (withList o (now codes) (now rising)) any p q (now lv) (now lm) ⌝ }
-    ensures { λ r. ⌜ r ≡ sideOf (withList o (now (codes .entry)) (now (rising .entry))) any (rowFrom (suc (o .by)) p (now (lv .entry)) (now (lm .entry))) (rowFrom (suc (o .by)) q (now (lv .entry)) (now (lm .entry))) ⌝ }
+    requires { ⌜ SideIn (withList o (now codes) (now rising)) any p q (now lv) (now lm) z (now am) ⌝ }
+    ensures { λ r. ⌜ ((av : Words) (d : ℕ) → z + 1 < length av → 2 ≤ d → r ≡ sideOf (withList o (now (codes .entry)) (now (rising .entry))) any (rowFrom (suc (o .by)) p (now (lv .entry)) (now (lm .entry))) (rowFrom (suc (o .by)) q (now (lv .entry)) (now (lm .entry))) (rowFrom d z av (now (am .entry)))) ⌝ }
 {
+    match kind_of(lm, q, am, z, o) {
+        Kind::Amount => {}
+        _ => return Order::Equal,
+    }
     if any {
         return cmp_group(lv, lm, p, lv, lm, q, o, codes, rising);
     }
@@ -113,34 +119,27 @@ pub fn count_ordered(
     let mut q = 0;
     let mut z = 0;
     while i < rows {
-        match kind_of(lm, q, am, z, o) {
-            Kind::Amount => match side_of(any, last, lv, lm, q, o, codes, rising) {
-                Order::Less => {
-                    let p = place_next(table, n, w, near, lv, lm, q, o, codes, rising);
-                    m = more(m, p.here);
-                    near = p.row;
-                    any = true;
-                    last = q;
-                    i += 1;
-                    q += c;
-                    z += d;
-                }
-                Order::Equal => {
-                    i += 1;
-                    q += c;
-                    z += d;
-                }
-                Order::Greater => {
-                    return Ordered {
-                        rows: 0,
-                        told: false,
-                    };
-                }
-            },
-            _ => {
+        match side_of(any, last, lv, lm, q, am, z, o, codes, rising) {
+            Order::Less => {
+                let p = place_next(table, n, w, near, lv, lm, q, o, codes, rising);
+                m = more(m, p.here);
+                near = p.row;
+                any = true;
+                last = q;
                 i += 1;
                 q += c;
                 z += d;
+            }
+            Order::Equal => {
+                i += 1;
+                q += c;
+                z += d;
+            }
+            Order::Greater => {
+                return Ordered {
+                    rows: 0,
+                    told: false,
+                };
             }
         }
     }
