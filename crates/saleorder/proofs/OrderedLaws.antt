@@ -1,8 +1,8 @@
 -- Sales in group order, counted one after the other. Assumes nothing.
 use mathlib.Core.Path.{_≡_, refl, sym, ap, _∙_}
-use mathlib.Core.Bool.{Bool, true, false, cond, _||_}
+use mathlib.Core.Bool.{Bool, true, false, cond, not}
 use mathlib.Core.List.{List, _∷_}
-use Prim.Native.Nat.{ℕ, suc, _+_, _≤_, _<_}
+use Prim.Native.Nat.{ℕ, suc, _+_, _-_, _*_, _≤_, _<_}
 use native.Mathlib.Omega.{arith}
 use lib.ListN.{length, take}
 use Rattle.frames.specs.Cells.{Cell, Words}
@@ -12,8 +12,11 @@ use Rattle.order.specs.declared.Order.the-variants.{Less, Equal}
 use Rattle.order.proofs.OrderLaws.{cmpGroup-is}
 use Rattle.takings.specs.Subtotals.{Subtotal, insert, addAll}
 use Rattle.takings.proofs.SubtotalLaws.{Rising, rising, rising-insert}
+use Rattle.salekind.specs.Kinds.{kindOf}
 use Rattle.salekind.proofs.KindLaws.{leftAt, answerAt, unit}
-use Rattle.saleplace.specs.Place.{Placed}
+use Rattle.salegroup.specs.Group.{plain}
+use Rattle.saleplace.specs.Place.{cmpAt, Placed}
+use Rattle.saleplace.proofs.PlaceLaws.{placed-within}
 use Rattle.salecount.specs.Counts.{isThere, TableIs, isAmount}
 use Rattle.salecount.proofs.CountLaws.{left-taken, there-taken, there-equal, there-insert, length-insert, table-tells, more-added, soldFrom, kindAt, none-more, one-more, none-left}
 use Rattle.saleorder.specs.Ordered.{groupSide, sideOf}
@@ -64,6 +67,23 @@ module _ (o : Options) where
         behind = λ g k. there-insert o g u W ∙ rw (i g, k) (c .behind g k);
       }
 
+  -- The first `near` rows of the table are before every group behind the last sale's.
+  abbrev pub Passed : ℕ → ℕ → Words → Bool → List Cell → Type 0
+  Passed near n table any l = (near ≤ n) × ((g : List Cell) → groupSide o any l g ≡ Less → 0 < near → cmpAt o (suc (suc (o .by))) table g (near - 1) ≡ Less)
+
+  pub passed-starts : (n : ℕ) (table : Words) (any : Bool) (l : List Cell) → Passed 0 n table any l
+  passed-starts n table any l = (omega arith, λ g s h. absurd (omega arith))
+
+  module _ (near n : ℕ) (table : Words) (any : Bool) (l : List Cell) (k : Passed near n table any l) (x : List Cell) (s : groupSide o any l x ≡ Less) (p : ℕ) where
+    -- A place behind them is one among all rows.
+    pub passed-place : (here : Bool) → Placed o (suc (suc (o .by))) near n table x p here → Placed o (suc (suc (o .by))) 0 n table x p here
+    passed-place here h = placed-within o (suc (suc (o .by))) 0 n table x near n p here (omega arith) (omega arith) (k .1 x s) (λ z. absurd (omega arith)) h
+
+    -- And the rows up to it are before every group behind the sale's.
+    pub passed-more : (here : Bool) → Placed o (suc (suc (o .by))) near n table x p here → Passed (cond (not here) p (p + 1)) n table true x
+    passed-more true h = let y = h .yes refl in let e : p + 1 - 1 ≡ p = omega arith in (omega (arith, y .0), λ g z i. rw e (cmpGroup-is o .same (plain (o .by) (p * suc (suc (o .by))) table) x g (y .1) ∙ z))
+    passed-more false h = (h .within, λ g z i. cmpGroup-is o .less (plain (o .by) ((p - 1) * suc (suc (o .by))) table) x g (passed-place false h .no refl .0 i) z)
+
 -- ---- row by row
 module _ (o : Options) (n rows d : ℕ) (table lv lm av am : Words) (ts : List Subtotal) (t : TableIs o n ts table) where
   abbrev U : ℕ → List Subtotal
@@ -105,6 +125,14 @@ module _ (o : Options) (n rows d : ℕ) (table lv lm av am : Words) (ts : List S
 
   pub to-ends : (any : Bool) (l : List Cell) (m i : ℕ) → rows ≤ i → CountedTo any l m i → m ≡ length (addAll o ts (U 0))
   to-ends any l m i h r = r .counted .rows ∙ ap length (sym (none-left o rows d lv lm av am (r .whole) i h) ∙ r .counted .left)
+
+-- A row that is behind the last sale is a sale of a group behind its own.
+pub side-less : (o : Options) (any : Bool) (l x a : List Cell) → sideOf o any l x a ≡ Less → groupSide o any l x ≡ Less
+side-less o any l x a s = by (isAmount (kindOf o x a)) s
+  where
+    by : (b : Bool) → cond b (groupSide o any l x) Equal ≡ Less → groupSide o any l x ≡ Less
+    by true s = s
+    by false s = let z : _≡_ {A = ℕ} 0 1 = cc in absurd (omega arith)
 
 -- The count grows by one at most.
 pub more-most : (here : Bool) (m : ℕ) → cond here m (m + 1) ≤ m + 1

@@ -1,6 +1,6 @@
 -- `saleorder::count_ordered` meets its contract. Assumes nothing.
 use mathlib.Core.Path.{_≡_, sym, _∙_}
-use mathlib.Core.Bool.{true}
+use mathlib.Core.Bool.{true, false}
 use mathlib.Core.List.{List}
 use Prim.Native.Nat.{ℕ, suc, _+_, _-_, _*_, _^_, _≤_, _<_}
 use native.Mathlib.Omega.{arith}
@@ -11,18 +11,19 @@ use Rattle.frames.specs.Cells.{Cell, Words, rowFrom}
 use Rattle.options.specs.Options.{withList}
 use Rattle.options.specs.declared.Options.{Options}
 use Rattle.order.proofs.RowLaws.{row-room}
+use Rattle.order.specs.declared.Order.the-variants.{Less}
 use Rattle.takings.specs.Subtotals.{Subtotal}
 use Rattle.salekind.proofs.KindLaws.{from-all}
 use Rattle.saleplace.proofs.PlaceLaws.{at-least}
 use Rattle.salecount.specs.Counts.{TableIs}
 use Rattle.saleorder.specs.Ordered.{sideOf}
-use Rattle.saleorder.proofs.OrderedLaws.{CountedTo, to-starts, to-less, to-equal, to-ends, more-most}
+use Rattle.saleorder.proofs.OrderedLaws.{CountedTo, to-starts, to-less, to-equal, to-ends, Passed, passed-starts, passed-place, passed-more, side-less, more-most}
 use Rattle.saleorder.proofs.count_ordered.Statement.{statement}
 use Rattle.saleorder.proofs.count_ordered.Tie as tie
 
 abbrev Inv-loop : tie.InvT-loop
 Inv-loop table n lv lm am rows d o codes rising c w m₀ near₀ any₀ last₀ i₀ q₀ z₀ m near any last i q z =
-    (i ≤ rows) × (q ≡ i * suc (o .by)) × (z ≡ i * d) × (m ≤ n + i) × (any ≡ true → last + suc (o .by) ≤ rows * suc (o .by))
+    (i ≤ rows) × (q ≡ i * suc (o .by)) × (z ≡ i * d) × (m ≤ n + i) × (any ≡ true → last + suc (o .by) ≤ rows * suc (o .by)) × Passed (withList o codes rising) near n table any (rowFrom (suc (o .by)) last lv lm)
     × ((ts : List Subtotal) (av : Words) → length am ≤ length av → (t : TableIs (withList o codes rising) n ts table) → CountedTo (withList o codes rising) n rows d table lv lm av am ts t any (rowFrom (suc (o .by)) last lv lm) m i)
 
 abbrev μ-loop : tie.MeasureT-loop
@@ -42,7 +43,7 @@ add-w : tie.Need-add-w Inv-loop μ-loop
 add-w c = let s = c .before .before .before in omega (arith, s .pre .compare .by)
 
 loop-holds : tie.Need-loop-holds Inv-loop μ-loop
-loop-holds c = let s = c .before .before .before in let a = s .args in (omega arith, omega arith, omega arith, omega arith, λ e. (let z : _≡_ {A = ℕ} 0 1 = cc in absurd (omega arith)), λ ts av h t. to-starts (O s) (a .n) (a .rows) (a .d) (now (a .table)) (now (a .lv)) (now (a .lm)) av (now (a .am)) ts t (X s 0))
+loop-holds c = let s = c .before .before .before in let a = s .args in (omega arith, omega arith, omega arith, omega arith, λ e. (let z : _≡_ {A = ℕ} 0 1 = cc in absurd (omega arith)), passed-starts (O s) (a .n) (now (a .table)) false (X s 0), λ ts av h t. to-starts (O s) (a .n) (a .rows) (a .d) (now (a .table)) (now (a .lv)) (now (a .lm)) av (now (a .am)) ts t (X s 0))
 
 -- The rows end within their words, and the next ones are at places that fit a word.
 here : (c : tie.In-loop Inv-loop μ-loop) → let l = c .before .loop in let a = c .before .before .before .before .before .args in (l .q + suc (a .o .by) ≤ a .rows * suc (a .o .by)) × (l .z + a .d ≤ a .rows * a .d)
@@ -88,14 +89,14 @@ side c av h =
 enum-told : tie.Need-enum-told Inv-loop μ-loop
 enum-told c = search needs
 
-place-next-requires : tie.Need-place-next-requires Inv-loop μ-loop
-place-next-requires c κs =
+reach-requires : tie.Need-reach-requires Inv-loop μ-loop
+reach-requires c κs =
     let n = c .before .before .before in
     let s = n .before .before .before .before .before in
     let a = s .args in
     let r = here n in
     let w : a .o .by + 2 ≡ suc (suc (a .o .by)) = omega arith in
-    record { compare = s .pre .compare; wide = omega arith; range = omega arith; rows = rw w (s .pre .table-rows); values = omega (arith, r .0, s .pre .left-values); marks = omega (arith, r .0, s .pre .left-marks) }
+    record { compare = s .pre .compare; wide = omega arith; range = n .before .loop .inv .5 .0; rows = rw w (s .pre .table-rows); values = omega (arith, r .0, s .pre .left-values); marks = omega (arith, r .0, s .pre .left-marks) }
 
 more-requires : tie.Need-more-requires Inv-loop μ-loop
 more-requires c κs =
@@ -105,34 +106,48 @@ more-requires c κs =
     let t = s .good .0 in
     omega (arith, l .inv .3, l .inv .0, s .pre .few, few s, t .0, t .1)
 
+-- The table's rows fit a word.
+more-requires-2 : tie.Need-more-requires-2 Inv-loop μ-loop
+more-requires-2 c κs =
+    let s = c .before .before .before .before .before .before .before .before .before .before .before in
+    let t = s .good .0 in
+    omega (arith, c .before .before .reach .ensures .within, few s, t .0, t .1)
+
 add-i : tie.Need-add-i Inv-loop μ-loop
-add-i c = omega (arith, next (c .before .before .before .before .before))
+add-i c = omega (arith, next (c .before .before .before .before .before .before .before))
 
 add-q : tie.Need-add-q Inv-loop μ-loop
-add-q c = omega (arith, next (c .before .before .before .before .before))
+add-q c = omega (arith, next (c .before .before .before .before .before .before .before))
 
 add-z : tie.Need-add-z Inv-loop μ-loop
-add-z c = omega (arith, next (c .before .before .before .before .before))
+add-z c = omega (arith, next (c .before .before .before .before .before .before .before))
 
 loop-less : tie.Need-loop-less Inv-loop μ-loop
-loop-less c = let n = c .before .before .before .before .before in omega (arith, n .loop-test .taken)
+loop-less c = let n = c .before .before .before .before .before .before .before in omega (arith, n .loop-test .taken)
 
 loop-again : tie.Need-loop-again Inv-loop μ-loop
 loop-again c =
-    let n = c .before .before .before .before .before in
+    let n = c .before .before .before .before .before .before .before in
     let l = n .before .loop in
     let s = n .before .before .before .before .before in
     let a = s .args in
-    let p = c .before .place-next in
+    let r = c .before .before .before .reach in
+    let m = c .before .before .more .ensures in
     let w : a .o .by + 2 ≡ suc (suc (a .o .by)) = omega arith in
-    let x : l .q ≡ l .i * suc (a .o .by) = l .inv .1 in (
+    let x : l .q ≡ l .i * suc (a .o .by) = l .inv .1 in
+    let p = rw (w, x) at (r .ensures) in
+    let e : (av : Words) → length (now (a .am)) ≤ length av → sideOf (O s) (l .any) (X s (l .last)) (X s (l .i * suc (a .o .by))) (rowFrom (a .d) (l .i * a .d) av (now (a .am))) ≡ Less =
+    λ av h. sym (side (c .before .before .before .before .before .before) av h) ∙ c .before .before .before .before .enum-told .given .1 in
+    let g = side-less (O s) (l .any) (X s (l .last)) (X s (l .i * suc (a .o .by))) (rowFrom (a .d) (l .i * a .d) (now (a .am)) (now (a .am))) (e (now (a .am)) (omega arith)) in (
       omega (arith, n .loop-test .taken),
       omega (arith, l .inv .1),
       omega (arith, l .inv .2),
-      omega (arith, l .inv .3, c .more .ensures, more-most (p .result .here) (l .m)),
-      λ e. here n .0,
-      λ ts av h t. rw (← x, ← c .more .ensures) at
-          (to-less (O s) (a .n) (a .rows) (a .d) (now (a .table)) (now (a .lv)) (now (a .lm)) av (now (a .am)) ts t (l .any) (X s (l .last)) (l .m) (l .i) (n .loop-test .taken) (l .inv .5 ts av h t) (sym (side (c .before .before .before .before) av h) ∙ c .before .before .enum-told .given .1) (p .result .row) (p .result .here) (rw (w, x) at (p .ensures))),
+      omega (arith, l .inv .3, m, more-most (r .result .here) (l .m)),
+      λ z. here n .0,
+      rw (← x, ← c .more2 .ensures) at (passed-more (O s) (l .near) (a .n) (now (a .table)) (l .any) (X s (l .last)) (l .inv .5) (X s (l .i * suc (a .o .by))) g (r .result .row) (r .result .here) p),
+      λ ts av h t. rw (← x, ← m) at
+          (to-less (O s) (a .n) (a .rows) (a .d) (now (a .table)) (now (a .lv)) (now (a .lm)) av (now (a .am)) ts t (l .any) (X s (l .last)) (l .m) (l .i) (n .loop-test .taken) (l .inv .6 ts av h t) (e av h) (r .result .row) (r .result .here)
+          (passed-place (O s) (l .near) (a .n) (now (a .table)) (l .any) (X s (l .last)) (l .inv .5) (X s (l .i * suc (a .o .by))) g (r .result .row) (r .result .here) p)),
     )
 
 enum-told-2 : tie.Need-enum-told-2 Inv-loop μ-loop
@@ -161,7 +176,8 @@ loop-again-2 c =
       omega (arith, l .inv .2),
       omega (arith, l .inv .3),
       l .inv .4,
-      λ ts av h t. to-equal (O s) (a .n) (a .rows) (a .d) (now (a .table)) (now (a .lv)) (now (a .lm)) av (now (a .am)) ts t (l .any) (X s (l .last)) (l .m) (l .i) (n .loop-test .taken) (l .inv .5 ts av h t) (sym (side (c .before .before) av h) ∙ c .enum-told2 .given .1),
+      l .inv .5,
+      λ ts av h t. to-equal (O s) (a .n) (a .rows) (a .d) (now (a .table)) (now (a .lv)) (now (a .lm)) av (now (a .am)) ts t (l .any) (X s (l .last)) (l .m) (l .i) (n .loop-test .taken) (l .inv .6 ts av h t) (sym (side (c .before .before) av h) ∙ c .enum-told2 .given .1),
     )
 
 enum-told-3 : tie.Need-enum-told-3 Inv-loop μ-loop
@@ -175,7 +191,7 @@ returns-2 c =
     let l = c .before .loop in
     let s = c .before .before .before .before .before in
     let a = s .args in
-    λ ts av e h t. rw (from-all (O s) (a .rows) (a .d) (now (a .lv)) (now (a .lm)) av (now (a .am))) at (to-ends (O s) (a .n) (a .rows) (a .d) (now (a .table)) (now (a .lv)) (now (a .lm)) av (now (a .am)) ts t (l .any) (X s (l .last)) (l .m) (l .i) (c .loop-test .left) (l .inv .5 ts av h t))
+    λ ts av e h t. rw (from-all (O s) (a .rows) (a .d) (now (a .lv)) (now (a .lm)) av (now (a .am))) at (to-ends (O s) (a .n) (a .rows) (a .d) (now (a .table)) (now (a .lv)) (now (a .lm)) av (now (a .am)) ts t (l .any) (X s (l .last)) (l .m) (l .i) (c .loop-test .left) (l .inv .6 ts av h t))
 
 pub count-ordered-spec : {M : Type 1} → statement M
 count-ordered-spec =
@@ -188,8 +204,9 @@ count-ordered-spec =
     loop-holds
     side-of-requires
     enum-told
-    place-next-requires
+    reach-requires
     more-requires
+    more-requires-2
     add-i
     add-q
     add-z
