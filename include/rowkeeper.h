@@ -771,7 +771,7 @@ rowkeeper_written rowkeeper_join_cut(rowkeeper_options options, const int64_t *l
    Everything is judged before a word is written. What is handed in is only read in every case.
    A call passes table and frame, finds each sale's row by halving, the row of the sale before looked at first, and moves the rows
    behind a new group. With room for the table's rows and one for each row of the frame nothing else is done; with less, rows are
-   counted first, and a frame of many new groups in no order then costs the square of its rows. */
+   counted first: in one walk where sales come in group order, else by one or two halvings for each, with 8 KiB of the stack. */
 rowkeeper_taken rowkeeper_takings_add(rowkeeper_options options, const int64_t *table, size_t table_words,
                                       int64_t number, const int64_t *left, size_t left_words, const int64_t *answers,
                                       size_t answer_words, int64_t *out, size_t out_words);

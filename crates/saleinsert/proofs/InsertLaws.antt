@@ -23,8 +23,8 @@ use Rattle.tables.proofs.CellLaws.{fine-at}
 use Rattle.takings.specs.Subtotals.{Subtotal, cmpSub, plus, insert, rowOf, mostAmount, mostSales}
 use Rattle.takings.proofs.SubtotalLaws.{Every, Above, Rising, abs-plus, rising, rising-ascending, rising-insert}
 use Rattle.salegroup.specs.Group.{plain}
-use Rattle.saleplace.specs.Place.{cmpAt}
-use Rattle.saleinsert.specs.Held.{Plain, EachPlain, Held, subAt, unitOf}
+use Rattle.saleplace.specs.Place.{cmpAt, Placed}
+use Rattle.saleinsert.specs.Held.{Plain, EachPlain, Held, subAt, Stands, unitOf}
 
 -- ---- a table cut at a place
 abbrev nothing : Subtotal
@@ -269,7 +269,7 @@ group-of : (b w p : ℕ) (vs ms : Words) → b ≤ w → take b (rowFrom w p vs 
 unfolding rowFrom
 group-of b w p vs ms h = take-cells b (take w (drop p vs)) (take w (drop p ms)) ∙ rw (take-take b w (drop p vs) h, take-take b w (drop p ms) h)
 
-second-taken : (o : Options) (b j : ℕ) (r s : List Cell) → j ≤ b → cmpFirst o j r s ≡ cmpFirst o j r (take b s)
+pub second-taken : (o : Options) (b j : ℕ) (r s : List Cell) → j ≤ b → cmpFirst o j r s ≡ cmpFirst o j r (take b s)
 unfolding cmpFirst
 second-taken o b zero r s h = refl
 second-taken o b (suc j) r s h = rw (second-taken o b j r s (omega arith), getD-take b s j null (omega arith))
@@ -281,6 +281,16 @@ row-told o n ts b₀ body k x p l z c =
     let w : ℕ = suc (suc (o .by)) in
     let g : plain (o .by) (p * w) body ≡ subAt ts p .group = ap (plain (o .by) (p * w)) (k .words) ∙ group-at (o .by) n ts (drop (n * w) b₀) (k .each) (k .rows) p l in
     sym (second-taken o (o .by) (o .by) (subAt ts p .group) x (omega arith)) ∙ ap (λ (y : List Cell). cmpGroup o y x) (sym g) ∙ c
+
+-- A place among the rows that words hold is one in their table.
+pub placed-stands : (o : Options) (n : ℕ) (ts : List Subtotal) (b₀ body : Words) (x : List Cell) (p : ℕ) (here : Bool) → Held o n ts b₀ body → Placed o (suc (suc (o .by))) 0 n body x p here → Stands o ts (take (o .by) x) p here
+placed-stands o n ts b₀ body x p here k h =
+    let m = k .rows in
+    record {
+      within = omega (arith, h .within);
+      yes = λ t. (omega (arith, h .yes t .0), row-told o n ts b₀ body k x p (h .yes t .0) Equal (h .yes t .1));
+      no = λ t. (λ l. row-told o n ts b₀ body k x (p - 1) (omega (arith, h .within)) Less (h .no t .0 l), λ l. row-told o n ts b₀ body k x p (omega arith) Greater (h .no t .1 (omega arith)));
+    }
 
 same-group : (o : Options) (t u : Subtotal) → cmpSub o t u ≡ Equal → length (t .group) ≡ o .by → length (u .group) ≡ o .by → t .group ≡ u .group
 same-group o t u e a b = ext-getD null (t .group) (u .group) (a ∙ sym b) (λ i l. group-equal o (t .group) (u .group) e i (omega (arith, a)))

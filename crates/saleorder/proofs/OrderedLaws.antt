@@ -1,7 +1,7 @@
 -- Sales in group order, counted one after the other. Assumes nothing.
 use mathlib.Core.Path.{_≡_, refl, sym, ap, _∙_}
-use mathlib.Core.Bool.{Bool, true, false, cond, _||_}
-use mathlib.Core.List.{List, [], _∷_}
+use mathlib.Core.Bool.{Bool, true, false, cond, not}
+use mathlib.Core.List.{List, _∷_}
 use Prim.Native.Nat.{ℕ, suc, _+_, _-_, _*_, _≤_, _<_}
 use native.Mathlib.Omega.{arith}
 use lib.ListN.{length, take}
@@ -9,36 +9,29 @@ use Rattle.frames.specs.Cells.{Cell, Words}
 use Rattle.options.specs.declared.Options.{Options}
 use Rattle.order.specs.Order.{cmpGroup}
 use Rattle.order.specs.declared.Order.the-variants.{Less, Equal}
-use Rattle.order.proofs.OrderLaws.{cmpGroup-is, same-right}
+use Rattle.order.proofs.OrderLaws.{cmpGroup-is}
 use Rattle.takings.specs.Subtotals.{Subtotal, insert, addAll}
-use Rattle.takings.specs.Sales.{Sale, amountsOf}
-use Rattle.takings.proofs.SubtotalLaws.{Rising, rising-insert}
+use Rattle.takings.proofs.SubtotalLaws.{Rising, rising, rising-insert}
 use Rattle.salekind.specs.Kinds.{kindOf}
-use Rattle.salekind.specs.declared.Kind.{Kind}
-use Rattle.salekind.specs.declared.Kind.the-variants.{Unmatched, Nothing, Amount}
-use Rattle.salekind.proofs.KindLaws.{salesFrom, leftAt, answerAt, unit, from-none, row-unmatched, row-nothing, row-amount, none-sold}
-use Rattle.saleplace.specs.Place.{Placed}
+use Rattle.salekind.proofs.KindLaws.{leftAt, answerAt, unit}
+use Rattle.salegroup.specs.Group.{plain}
+use Rattle.saleplace.specs.Place.{cmpAt, Placed}
+use Rattle.saleplace.proofs.PlaceLaws.{placed-within}
 use Rattle.salecount.specs.Counts.{isThere, TableIs, isAmount}
-use Rattle.salecount.proofs.CountLaws.{left-taken, there-taken, there-cons, there-none, there-insert, length-insert, table-tells, table-fine, none-added, more-added}
-use Rattle.saleorder.specs.Ordered.{sideOf}
+use Rattle.salecount.proofs.CountLaws.{left-taken, there-taken, there-equal, there-insert, length-insert, table-tells, more-added, soldFrom, kindAt, none-more, one-more, none-left}
+use Rattle.saleorder.specs.Ordered.{groupSide, sideOf}
 
 module _ (o : Options) where
-  -- Groups that compare Equal are both there, or neither is.
-  there-equal : (g h : List Cell) (ts : List Subtotal) → cmpGroup o g h ≡ Equal → isThere o g ts ≡ isThere o h ts
-  there-equal g h [] e = there-none o g ∙ sym (there-none o h)
-  there-equal g h (t ∷ ts) e =
-      there-cons o g t ts ∙ rw (← same-right (cmpGroup-is o) (t .group) g h e, there-equal g h ts e) (sym (there-cons o h t ts))
-
   -- How far the count has come: W is the table that the sales so far make, l the last sale's left row.
   pub record Counted (ts U₀ U W : List Subtotal) (any : Bool) (l : List Cell) (m : ℕ) : Type 0 where
     pub rows : m ≡ length W
     pub order : Rising o W
     pub left : addAll o W U ≡ addAll o ts U₀
     pub there : any ≡ true → isThere o l W ≡ true
-    pub behind : (g : List Cell) → sideOf o any l g ≡ Less → isThere o g W ≡ isThere o g ts
+    pub behind : (g : List Cell) → groupSide o any l g ≡ Less → isThere o g W ≡ isThere o g ts
 
   -- A sale of a group behind the last.
-  pub counted-less : (ts U₀ U W : List Subtotal) (any : Bool) (l : List Cell) (m : ℕ) (u : Subtotal) (x : List Cell) → u .group ≡ take (o .by) x → Counted ts U₀ (u ∷ U) W any l m → sideOf o any l x ≡ Less → (here : Bool) → here ≡ isThere o x ts
+  pub counted-less : (ts U₀ U W : List Subtotal) (any : Bool) (l : List Cell) (m : ℕ) (u : Subtotal) (x : List Cell) → u .group ≡ take (o .by) x → Counted ts U₀ (u ∷ U) W any l m → groupSide o any l x ≡ Less → (here : Bool) → here ≡ isThere o x ts
       → Counted ts U₀ U (insert o u W) true x (cond here m (m + 1))
   counted-less ts U₀ U W any l m u x e c s here h =
       let b : isThere o (u .group) W ≡ here = ap (λ (z : List Cell). isThere o z W) e ∙ there-taken o x W ∙ c .behind x s ∙ sym h in
@@ -55,16 +48,16 @@ module _ (o : Options) where
       count true m n e = e
       count false m n e = omega arith
 
-      then : (b : Bool) → sideOf o b l x ≡ Less → (g : List Cell) → cmpGroup o x g ≡ Less → sideOf o b l g ≡ Less
+      then : (b : Bool) → groupSide o b l x ≡ Less → (g : List Cell) → cmpGroup o x g ≡ Less → groupSide o b l g ≡ Less
       then true s g k = cmpGroup-is o .less l x g s k
       then false s g k = refl
 
   -- A sale of the last one's group.
-  pub counted-equal : (ts U₀ U W : List Subtotal) (any : Bool) (l : List Cell) (m : ℕ) (u : Subtotal) (x : List Cell) → u .group ≡ take (o .by) x → Counted ts U₀ (u ∷ U) W any l m → sideOf o any l x ≡ Equal
+  pub counted-equal : (ts U₀ U W : List Subtotal) (any : Bool) (l : List Cell) (m : ℕ) (u : Subtotal) (x : List Cell) → u .group ≡ take (o .by) x → Counted ts U₀ (u ∷ U) W any l m → groupSide o any l x ≡ Equal
       → Counted ts U₀ U (insert o u W) any l m
   counted-equal ts U₀ U W false l m u x e c s = let z : _≡_ {A = ℕ} 0 1 = cc in absurd (omega arith)
   counted-equal ts U₀ U W true l m u x e c s =
-      let b : isThere o (u .group) W ≡ true = ap (λ (z : List Cell). isThere o z W) e ∙ there-taken o x W ∙ sym (there-equal l x W s) ∙ c .there refl in
+      let b : isThere o (u .group) W ≡ true = ap (λ (z : List Cell). isThere o z W) e ∙ there-taken o x W ∙ sym (there-equal o l x W s) ∙ c .there refl in
       let i : (g : List Cell) → cmpGroup o (u .group) g ≡ cmpGroup o l g = λ g. ap (λ (z : List Cell). cmpGroup o z g) e ∙ left-taken o (o .by) (o .by) x g (omega arith) ∙ sym (cmpGroup-is o .same l x g s) in
       record {
         rows = c .rows ∙ sym (length-insert o u W (c .order) ∙ rw b);
@@ -74,52 +67,72 @@ module _ (o : Options) where
         behind = λ g k. there-insert o g u W ∙ rw (i g, k) (c .behind g k);
       }
 
+  -- The first `near` rows of the table are before every group behind the last sale's.
+  abbrev pub Passed : ℕ → ℕ → Words → Bool → List Cell → Type 0
+  Passed near n table any l = (near ≤ n) × ((g : List Cell) → groupSide o any l g ≡ Less → 0 < near → cmpAt o (suc (suc (o .by))) table g (near - 1) ≡ Less)
+
+  pub passed-starts : (n : ℕ) (table : Words) (any : Bool) (l : List Cell) → Passed 0 n table any l
+  passed-starts n table any l = (omega arith, λ g s h. absurd (omega arith))
+
+  module _ (near n : ℕ) (table : Words) (any : Bool) (l : List Cell) (k : Passed near n table any l) (x : List Cell) (s : groupSide o any l x ≡ Less) (p : ℕ) where
+    -- A place behind them is one among all rows.
+    pub passed-place : (here : Bool) → Placed o (suc (suc (o .by))) near n table x p here → Placed o (suc (suc (o .by))) 0 n table x p here
+    passed-place here h = placed-within o (suc (suc (o .by))) 0 n table x near n p here (omega arith) (omega arith) (k .1 x s) (λ z. absurd (omega arith)) h
+
+    -- And the rows up to it are before every group behind the sale's.
+    pub passed-more : (here : Bool) → Placed o (suc (suc (o .by))) near n table x p here → Passed (cond (not here) p (p + 1)) n table true x
+    passed-more true h = let y = h .yes refl in let e : p + 1 - 1 ≡ p = omega arith in (omega (arith, y .0), λ g z i. rw e (cmpGroup-is o .same (plain (o .by) (p * suc (suc (o .by))) table) x g (y .1) ∙ z))
+    passed-more false h = (h .within, λ g z i. cmpGroup-is o .less (plain (o .by) ((p - 1) * suc (suc (o .by))) table) x g (passed-place false h .no refl .0 i) z)
+
 -- ---- row by row
 module _ (o : Options) (n rows d : ℕ) (table lv lm av am : Words) (ts : List Subtotal) (t : TableIs o n ts table) where
   abbrev U : ℕ → List Subtotal
-  U i = amountsOf (salesFrom o rows d lv lm av am i)
+  U i = soldFrom o rows d lv lm av am i
 
   abbrev L : ℕ → List Cell
   L i = leftAt o rows d lv lm av am i
 
-  abbrev K : ℕ → Kind
-  K i = kindOf o (L i) (answerAt o rows d lv lm av am i)
+  abbrev A : ℕ → List Cell
+  A i = answerAt o rows d lv lm av am i
 
   pub record CountedTo (any : Bool) (l : List Cell) (m i : ℕ) : Type 0 where
     pub whole : List Subtotal
     pub counted : Counted o ts (U 0) (U i) whole any l m
 
   pub to-starts : (l : List Cell) → CountedTo false l n 0
-  to-starts l = record { whole = ts; counted = record { rows = sym (t .held .rows); order = table-fine o n ts table t .order; left = refl; there = λ e. let z : _≡_ {A = ℕ} 0 1 = cc in absurd (omega arith); behind = λ g e. refl } }
+  to-starts l = record { whole = ts; counted = record { rows = sym (t .held .rows); order = rising o ts (t .held .order); left = refl; there = λ e. let z : _≡_ {A = ℕ} 0 1 = cc in absurd (omega arith); behind = λ g e. refl } }
 
-  skipped : (any : Bool) (l : List Cell) (m i : ℕ) → U i ≡ U (i + 1) → CountedTo any l m i → CountedTo any l m (i + 1)
-  skipped any l m i e r = record { whole = r .whole; counted = rw (← e) (r .counted) }
-
-  pub to-skip : (any : Bool) (l : List Cell) (m i : ℕ) → i < rows → isAmount (K i) ≡ false → CountedTo any l m i → CountedTo any l m (i + 1)
-  to-skip any l m i h n r = by (K i) refl n
-    where
-      by : (z : Kind) → K i ≡ z → isAmount z ≡ false → CountedTo any l m (i + 1)
-      by Unmatched e f = skipped any l m i (ap amountsOf (row-unmatched o rows d lv lm av am i h e)) r
-      by Nothing e f = skipped any l m i (row-nothing o rows d lv lm av am i h e .0) r
-      by Amount e f = let z : _≡_ {A = ℕ} 0 1 = cc in absurd (omega arith)
-
-  module _ (any : Bool) (l : List Cell) (m i : ℕ) (h : i < rows) (e : K i ≡ Amount) (r : CountedTo any l m i) where
+  module _ (any : Bool) (l : List Cell) (m i : ℕ) (h : i < rows) (r : CountedTo any l m i) where
     abbrev u : Subtotal
-    u = unit o (L i) (answerAt o rows d lv lm av am i)
+    u = unit o (L i) (A i)
 
-    now : Counted o ts (U 0) (u ∷ U (i + 1)) (r .whole) any l m
-    now = rw (← row-amount o rows d lv lm av am i h e .0) (r .counted)
+    now : isAmount (kindAt o rows d lv lm av am i) ≡ true → Counted o ts (U 0) (u ∷ U (i + 1)) (r .whole) any l m
+    now e = rw (← one-more o rows d lv lm av am i h e) (r .counted)
 
-    pub to-less : sideOf o any l (L i) ≡ Less → (p : ℕ) (here : Bool) → Placed o (suc (suc (o .by))) 0 n table (L i) p here → CountedTo true (L i) (cond here m (m + 1)) (i + 1)
-    to-less s p here k = record { whole = insert o u (r .whole); counted = counted-less o ts (U 0) (U (i + 1)) (r .whole) any l m u (L i) refl now s here (table-tells o n ts table t (L i) p here k) }
+    pub to-less : sideOf o any l (L i) (A i) ≡ Less → (p : ℕ) (here : Bool) → Placed o (suc (suc (o .by))) 0 n table (L i) p here → CountedTo true (L i) (cond here m (m + 1)) (i + 1)
+    to-less s p here k = by (isAmount (kindAt o rows d lv lm av am i)) refl s
+      where
+        by : (b : Bool) → isAmount (kindAt o rows d lv lm av am i) ≡ b → cond b (groupSide o any l (L i)) Equal ≡ Less → CountedTo true (L i) (cond here m (m + 1)) (i + 1)
+        by true e s = record { whole = insert o u (r .whole); counted = counted-less o ts (U 0) (U (i + 1)) (r .whole) any l m u (L i) refl (now e) s here (table-tells o n ts table t (L i) p here k) }
+        by false e s = let z : _≡_ {A = ℕ} 0 1 = cc in absurd (omega arith)
 
-    pub to-equal : sideOf o any l (L i) ≡ Equal → CountedTo any l m (i + 1)
-    to-equal s = record { whole = insert o u (r .whole); counted = counted-equal o ts (U 0) (U (i + 1)) (r .whole) any l m u (L i) refl now s }
+    pub to-equal : sideOf o any l (L i) (A i) ≡ Equal → CountedTo any l m (i + 1)
+    to-equal s = by (isAmount (kindAt o rows d lv lm av am i)) refl s
+      where
+        by : (b : Bool) → isAmount (kindAt o rows d lv lm av am i) ≡ b → cond b (groupSide o any l (L i)) Equal ≡ Equal → CountedTo any l m (i + 1)
+        by true e s = record { whole = insert o u (r .whole); counted = counted-equal o ts (U 0) (U (i + 1)) (r .whole) any l m u (L i) refl (now e) s }
+        by false e s = record { whole = r .whole; counted = rw (← none-more o rows d lv lm av am i h e) (r .counted) }
 
   pub to-ends : (any : Bool) (l : List Cell) (m i : ℕ) → rows ≤ i → CountedTo any l m i → m ≡ length (addAll o ts (U 0))
-  to-ends any l m i h r =
-      let z : addAll o (r .whole) (U i) ≡ r .whole = ap (λ (z : List Sale). addAll o (r .whole) (amountsOf z)) (from-none o rows d lv lm av am i h) ∙ ap (addAll o (r .whole)) (none-sold .0) ∙ none-added o (r .whole) in
-      r .counted .rows ∙ ap length (sym z ∙ r .counted .left)
+  to-ends any l m i h r = r .counted .rows ∙ ap length (sym (none-left o rows d lv lm av am (r .whole) i h) ∙ r .counted .left)
+
+-- A row that is behind the last sale is a sale of a group behind its own.
+pub side-less : (o : Options) (any : Bool) (l x a : List Cell) → sideOf o any l x a ≡ Less → groupSide o any l x ≡ Less
+side-less o any l x a s = by (isAmount (kindOf o x a)) s
+  where
+    by : (b : Bool) → cond b (groupSide o any l x) Equal ≡ Less → groupSide o any l x ≡ Less
+    by true s = s
+    by false s = let z : _≡_ {A = ℕ} 0 1 = cc in absurd (omega arith)
 
 -- The count grows by one at most.
 pub more-most : (here : Bool) (m : ℕ) → cond here m (m + 1) ≤ m + 1

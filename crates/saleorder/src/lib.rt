@@ -2,22 +2,18 @@
 use compare::cmp_group;
 use options::Terms;
 use order::Order;
-use salegroup::cmp_sale;
 use salekind::Kind;
 use salekind::kind_of;
-use saleplace::Place;
-use saleplace::find_place;
 use saleplace::reach;
 ghost use mathlib.Core.Path.{_≡_};
 ghost use mathlib.Core.Bool.{true, cond};
 ghost use mathlib.Core.List.{List};
-ghost use Prim.Native.Nat.{suc, _+_, _^_, _≤_, _<_};
+ghost use Prim.Native.Nat.{ℕ, suc, _+_, _^_, _≤_, _<_};
 ghost use lib.ListN.{length};
 ghost use Rattle.frames.specs.Cells.{rowFrom, rowsOf, Words};
 ghost use Rattle.options.specs.Options.{withList};
 ghost use Rattle.takings.specs.Subtotals.{Subtotal, addAll};
 ghost use Rattle.takings.specs.Sales.{salesOf, amountsOf};
-ghost use Rattle.saleplace.specs.Place.{PlaceIn, Placed};
 ghost use Rattle.salecount.specs.Counts.{TableIs, CountIn};
 ghost use Rattle.saleorder.specs.Ordered.{sideOf, SideIn};
 
@@ -27,67 +23,44 @@ pub struct Ordered {
     pub told: bool,
 }
 
-// How the group of the last sale, at p, stands to that of the sale at q; the first sale is behind.
+// How the group of the last sale, at p, stands to that of the left row at q, with its answer row at z; the first sale is behind. A row that is no sale with an amount is as if it were of the last group: it makes no row.
 fn side_of(
     any: bool,
     p: usize,
     lv: &[i64],
     lm: &[i64],
     q: usize,
+    am: &[i64],
+    z: usize,
     o: Terms,
     codes: &[i64],
     rising: &[u8],
 ) -> Order
-    requires { ⌜ SideIn (withList o (now codes) (now rising)) any p q (now lv) (now lm) ⌝ }
-    ensures { λ r. ⌜ r ≡ sideOf (withList o (now (codes .entry)) (now (rising .entry))) any (rowFrom (suc (o .by)) p (now (lv .entry)) (now (lm .entry))) (rowFrom (suc (o .by)) q (now (lv .entry)) (now (lm .entry))) ⌝ }
+    requires { ⌜ SideIn (withList o (now codes) (now rising)) any p q (now lv) (now lm) z (now am) ⌝ }
+    ensures { λ r. ⌜ ((av : Words) (d : ℕ) → z + 1 < length av → 2 ≤ d → r ≡ sideOf (withList o (now (codes .entry)) (now (rising .entry))) any (rowFrom (suc (o .by)) p (now (lv .entry)) (now (lm .entry))) (rowFrom (suc (o .by)) q (now (lv .entry)) (now (lm .entry))) (rowFrom d z av (now (am .entry)))) ⌝ }
 {
+    match kind_of(lm, q, am, z, o) {
+        Kind::Amount => {}
+        _ => return Order::Equal,
+    }
     if any {
         return cmp_group(lv, lm, p, lv, lm, q, o, codes, rising);
     }
     Order::Less
 }
 
-// The place among n rows, from a row that is looked at first: behind it in steps that double.
-fn place_next(
-    table: &[i64],
-    n: usize,
-    w: usize,
-    near: usize,
-    lv: &[i64],
-    lm: &[i64],
-    q: usize,
-    o: Terms,
-    codes: &[i64],
-    rising: &[u8],
-) -> Place
-    requires { ⌜ PlaceIn (withList o (now codes) (now rising)) w 0 n (now table) q (now lv) (now lm) ⌝ }
-    ensures { λ r. ⌜ Placed (withList o (now (codes .entry)) (now (rising .entry))) w 0 n (now (table .entry)) (rowFrom (suc (o .by)) q (now (lv .entry)) (now (lm .entry))) (r .row) (r .here) ⌝ }
-{
-    if n <= near {
-        return find_place(table, 0, n, w, lv, lm, q, o, codes, rising);
-    }
-    match cmp_sale(table, near * w, lv, lm, q, o, codes, rising) {
-        Order::Less => reach(table, near + 1, n, w, lv, lm, q, o, codes, rising),
-        Order::Equal => Place {
-            row: near,
-            here: true,
-        },
-        Order::Greater => find_place(table, 0, near, w, lv, lm, q, o, codes, rising),
-    }
-}
-
-// One row more, unless the group has a row.
-fn more(m: usize, here: bool) -> usize
+// One more, unless it stays.
+fn more(m: usize, stays: bool) -> usize
     requires { ⌜ m < 2 ^ 63 ⌝ }
-    ensures { λ r. ⌜ r ≡ cond here m (m + 1) ⌝ }
+    ensures { λ r. ⌜ r ≡ cond stays m (m + 1) ⌝ }
 {
-    if here {
+    if stays {
         return m;
     }
     m + 1
 }
 
-// How many rows n rows of subtotals and the sales of a frame make: each group that the table has not is one more.
+// How many rows n rows of subtotals and the sales of a frame make: each group that the table has not is one more. A group is looked for behind the table's rows up to the last one.
 pub fn count_ordered(
     table: &[i64],
     n: usize,
@@ -113,34 +86,27 @@ pub fn count_ordered(
     let mut q = 0;
     let mut z = 0;
     while i < rows {
-        match kind_of(lm, q, am, z, o) {
-            Kind::Amount => match side_of(any, last, lv, lm, q, o, codes, rising) {
-                Order::Less => {
-                    let p = place_next(table, n, w, near, lv, lm, q, o, codes, rising);
-                    m = more(m, p.here);
-                    near = p.row;
-                    any = true;
-                    last = q;
-                    i += 1;
-                    q += c;
-                    z += d;
-                }
-                Order::Equal => {
-                    i += 1;
-                    q += c;
-                    z += d;
-                }
-                Order::Greater => {
-                    return Ordered {
-                        rows: 0,
-                        told: false,
-                    };
-                }
-            },
-            _ => {
+        match side_of(any, last, lv, lm, q, am, z, o, codes, rising) {
+            Order::Less => {
+                let p = reach(table, near, n, w, lv, lm, q, o, codes, rising);
+                m = more(m, p.here);
+                near = more(p.row, !p.here);
+                any = true;
+                last = q;
                 i += 1;
                 q += c;
                 z += d;
+            }
+            Order::Equal => {
+                i += 1;
+                q += c;
+                z += d;
+            }
+            Order::Greater => {
+                return Ordered {
+                    rows: 0,
+                    told: false,
+                };
             }
         }
     }

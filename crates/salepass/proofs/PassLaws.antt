@@ -19,7 +19,7 @@ use Rattle.takings.specs.Subtotals.{Subtotal, cmpSub, plus, insert, ascending}
 use Rattle.takings.proofs.SubtotalLaws.{Above, Rising, rising, rising-ascending, rising-insert}
 use Rattle.saleplace.specs.Place.{cmpAt, Placed}
 use Rattle.saleinsert.specs.Held.{EachPlain, Held, Addable, subAt, Stands, unitOf, Inserted}
-use Rattle.saleinsert.proofs.InsertLaws.{tableValues, values-append, values-long, body-long, before-long, cut-gap, plain-take, plain-drop, plain-append, above-then, first-greater, row-told}
+use Rattle.saleinsert.proofs.InsertLaws.{tableValues, values-append, values-long, body-long, before-long, cut-gap, plain-take, plain-drop, plain-append, above-then, first-greater, row-told, placed-stands}
 use Rattle.salepass.specs.Pass.{Written, Added, Behind, EachAddable}
 
 abbrev nothing : Subtotal
@@ -145,16 +145,6 @@ module _ (o : Options) where
     stayed-at j q = List·getD-append ts S nothing j (omega (arith, k .rows))
 
   -- ---- places
-  -- A place among the rows that words hold is one in their table.
-  pub placed-stands : (n : ℕ) (ts : List Subtotal) (b₀ body : Words) (x : List Cell) (p : ℕ) (here : Bool) → Held o n ts b₀ body → Placed o w 0 n body x p here → Stands o ts (take (o .by) x) p here
-  placed-stands n ts b₀ body x p here k h =
-      let m = k .rows in
-      record {
-        within = omega (arith, h .within);
-        yes = λ t. (omega (arith, h .yes t .0), row-told o n ts b₀ body k x p (h .yes t .0) Equal (h .yes t .1));
-        no = λ t. (λ l. row-told o n ts b₀ body k x (p - 1) (omega (arith, h .within)) Less (h .no t .0 l), λ l. row-told o n ts b₀ body k x p (omega arith) Greater (h .no t .1 (omega arith)));
-      }
-
   -- A place at the end is behind all rows.
   pub placed-behind : (m : ℕ) (body : Words) (x : List Cell) (p : ℕ) (here : Bool) → Placed o w 0 m body x p here → m ≤ p → Behind o m body x
   placed-behind m body x p true h l = absurd (omega (arith, h .yes refl .0))
@@ -242,7 +232,7 @@ module _ (o : Options) where
     pub among-added : Placed o w 0 m body x p here → p < m → (m′ : ℕ) (body′ : Words) → Inserted o m p here q vs ms amount body m′ body′ → Added o n m taken table q vs ms amount body m′ taken body′
     among-added h l m′ body′ i = record {
       adds = λ T W b₀ a f e s.
-          let t = placed-stands m (s .ts) b₀ body x p here (s .held) h in
+          let t = placed-stands o m (s .ts) b₀ body x p here (s .held) h in
           added-written n m′ taken T (s .ts) W table b₀ body′ (unitOf o x amount) (s .source) (s .within) (s .order) (s .whole)
           (stands-above (s .ts) (drop taken T) (take (o .by) x) p here (rising o (s .ts ++ drop taken T) (rw (s .whole) (s .order))) (omega (arith, s .held .rows)) t)
           (i .holds (s .ts) b₀ a f e t (s .held));

@@ -1,7 +1,7 @@
 // Refusals 15 and 6 of a table and a frame's sales: amounts, sums and the number beside the table; room in the output.
 use framerule::has_room;
 use options::Terms;
-use salecount::count_rows;
+use salegroups::count_groups;
 use salekind::Tally;
 use salekind::count_kinds;
 use saleorder::count_ordered;
@@ -65,7 +65,7 @@ pub fn weigh(
     t
 }
 
-// Whether the result has room in so many words. Most outputs have room for a row for each sale: then no row is counted. Sales in group order are counted in one walk.
+// Whether the result has room in so many words. Most outputs have room for a row for each sale: then no row is counted. Sales in group order are counted in one walk, others by the groups that they are of.
 pub fn rows_fit(
     tv: &[i64],
     n: usize,
@@ -91,6 +91,6 @@ pub fn rows_fit(
     if t.told {
         return has_room(t.rows, w, room);
     }
-    let m = count_rows(tv, n, lv, lm, am, rows, d, o, codes, rising);
+    let m = count_groups(tv, n, lv, lm, am, rows, d, o, codes, rising);
     has_room(m, w, room)
 }

@@ -44,8 +44,8 @@ returns-2 c =
     λ ts av h t e. let s = c .before .before .before .before .before .before .before in let a = s .args in
     rw (width (a .o .by), c .before .before .count-ordered .ensures ts av (c .before .if2 .taken) h t) at (c .has-room2 .ensures)
 
-count-rows-requires : tie.Need-count-rows-requires
-count-rows-requires c κs = let s = c .before .before .before .before .before .before in s .pre .0
+count-groups-requires : tie.Need-count-groups-requires
+count-groups-requires c κs = let s = c .before .before .before .before .before .before in s .pre .0
 
 has-room-requires-3 : tie.Need-has-room-requires-3
 has-room-requires-3 c κs = search needs
@@ -53,7 +53,7 @@ has-room-requires-3 c κs = search needs
 returns-3 : tie.Need-returns-3
 returns-3 c =
     λ ts av h t e. let s = c .before .before .before .before .before .before .before .before in let a = s .args in
-    rw (width (a .o .by), c .before .count-rows .ensures ts av h t) at (c .has-room3 .ensures)
+    rw (width (a .o .by), c .before .count-groups .ensures ts av h t) at (c .has-room3 .ensures)
 
 pub rows-fit-spec : {M : Type 1} → statement M
 rows-fit-spec =
@@ -66,6 +66,6 @@ rows-fit-spec =
     count-ordered-requires
     has-room-requires-2
     returns-2
-    count-rows-requires
+    count-groups-requires
     has-room-requires-3
     returns-3)
