@@ -1,12 +1,11 @@
 -- Runs of sorted rows: between two rows of one group all rows are of their run; and a run whose group is not null is sorted by key. Assumes nothing.
-use mathlib.Core.Path.{_≡_, refl, sym, ap, _∙_}
+use mathlib.Core.Path.{_≡_, refl, sym, _∙_}
 use mathlib.Core.Bool.{Bool, true, false, cond}
-use mathlib.Core.List.{List, [], _∷_, _++_, map}
+use mathlib.Core.List.{List, _∷_, _++_}
 use Prim.Native.Nat.{ℕ, zero, suc, _+_, _-_, _*_, _≤_, _<_}
 use native.Mathlib.Decide.{decLt}
 use native.Mathlib.Omega.{arith}
-use lib.ListN.{length, getD}
-use Rattle.frames.specs.Cells.{Cell, Rows, Words, rowsOf, rowFrom}
+use Rattle.frames.specs.Cells.{Cell, Words, rowsOf, rowFrom}
 use Rattle.frames.proofs.WordLaws.{rows-length}
 use Rattle.options.specs.declared.Options.{Options}
 use Rattle.order.specs.Order.{cmpGroup, nullGroup, sorted}
@@ -14,12 +13,12 @@ use Rattle.order.proofs.OrderLaws.{AtMost, cmpGroup-is, group-at-most, at-most-
 use Rattle.order.proofs.RowLaws.{rows-from}
 use Rattle.order.proofs.SortedLaws.{sorted-at, sorted-cut}
 use Rattle.order.specs.declared.Order.the-variants.{Less, Equal}
-use Rattle.matching.specs.Groups.{sameRun, runs, headOf}
+use Rattle.matching.specs.Groups.{runs}
 use Rattle.matching.specs.Stretches.{between, runOn, runLength, standing}
 use Rattle.matching.specs.Moves.{keysSorted}
 use Rattle.matching.proofs.ScanLaws.{same-yes}
-use Rattle.matching.proofs.WalkLaws.{on-first, on-more, between-all, between-cut, between-length, between-more, run-first, run-up, run-within}
-use Rattle.matching.proofs.Runs.{Parted, Near, sorted-parted}
+use Rattle.matching.proofs.WalkLaws.{on-first, on-more, between-all, between-cut, between-more, run-first, run-up, run-within}
+use Rattle.matching.proofs.Runs.{Parted, sorted-parted}
 use Rattle.matching.proofs.RestLaws.{run-sorted}
 
 -- ---- n sorted rows
@@ -36,8 +35,8 @@ module _ (o : Options) (w n : ℕ) (vs ms : Words) (s : sorted o (rowsOf w n vs 
   group-within : (i k : ℕ) → k < n → cmpGroup o (rowAt i) (rowAt k) ≡ Equal → (j : ℕ) → i ≤ j → j + 1 ≤ k → cmpGroup o (rowAt j) (rowAt (j + 1)) ≡ Equal
   group-within i k l e j h g =
       let back : AtMost (cmpGroup o) (rowAt (j + 1)) (rowAt j) = at-most (cmpGroup-is o) (rowAt (j + 1)) (rowAt i) (rowAt j)
-          (at-most (cmpGroup-is o) (rowAt (j + 1)) (rowAt k) (rowAt i) (group-up (j + 1) k g l) (equal-at-most (cmpGroup-is o) (rowAt k) (rowAt i) (equal-flip (cmpGroup-is o) (rowAt i) (rowAt k) e)))
-          (group-up i j h (omega arith)) in
+      (at-most (cmpGroup-is o) (rowAt (j + 1)) (rowAt k) (rowAt i) (group-up (j + 1) k g l) (equal-at-most (cmpGroup-is o) (rowAt k) (rowAt i) (equal-flip (cmpGroup-is o) (rowAt i) (rowAt k) e)))
+      (group-up i j h (omega arith)) in
       at-most-equal (cmpGroup-is o) (rowAt j) (rowAt (j + 1)) (group-up j (j + 1) (omega arith) (omega arith)) back
 
   -- So they end in one run.

@@ -81,18 +81,22 @@ match-known-requires c κs =
     let k = mul-le-mul-right {m = e .sorted-end2 .result} {n = s .args .nl} (s .args .wl) (u .1) in
     let a = s .args in
     let known : nullGroup (withoutList (a .o)) (rowFrom (a .wl) (l .i * a .wl) (now (a .lv)) (now (a .lm))) ≡ false → keysSorted (withoutList (a .o)) (between (a .wl) (l .i) (e .sorted-end2 .result) (now (a .lv)) (now (a .lm))) ≡ true = λ n.
-        sorted-terms (a .o) (now (a .codes)) (now (a .rising)) (between (a .wl) (l .i) (e .sorted-end2 .result) (now (a .lv)) (now (a .lm)))
-        ∙ run-keys (withList (a .o) (now (a .codes)) (now (a .rising))) (a .wl) (a .nl) (now (a .lv)) (now (a .lm)) (s .pre .1 .left) (l .i) (e .sorted-end2 .result) (e .before .loop-test .taken) (e .sorted-end2 .ensures) n in
-    (room-terms (a .o) (now (a .codes)) (now (a .rising)) (a .wl) (a .m) (now (a .lv)) (now (a .lm)) _ _ (a .wr) (now (a .rv)) (now (a .rm)) _ _ (a .number) _
-    (record {
-      left = record { few = p .left .few; wide = p .left .wide; values = omega (arith, k, p .left .values); marks = omega (arith, k, p .left .marks) };
-      upward = omega arith;
-      within = omega (arith, u .1, p .within);
-      right = record { few = p .right .few; wide = p .right .wide; values = omega (arith, h, p .right .values); marks = omega (arith, h, p .right .marks) };
-      run = g .upward;
-      numbers = omega (arith, g .within, p .numbers);
-      room = omega (arith, p .room, l .inv .1);
-    }), u .0, known, c .before .serve-sorted .ensures .1)
+    sorted-terms (a .o) (now (a .codes)) (now (a .rising)) (between (a .wl) (l .i) (e .sorted-end2 .result) (now (a .lv)) (now (a .lm)))
+    ∙ run-keys (withList (a .o) (now (a .codes)) (now (a .rising))) (a .wl) (a .nl) (now (a .lv)) (now (a .lm)) (s .pre .1 .left) (l .i) (e .sorted-end2 .result) (e .before .loop-test .taken) (e .sorted-end2 .ensures) n in (
+      room-terms (a .o) (now (a .codes)) (now (a .rising)) (a .wl) (a .m) (now (a .lv)) (now (a .lm)) _ _ (a .wr) (now (a .rv)) (now (a .rm)) _ _ (a .number) _
+          (record {
+            left = record { few = p .left .few; wide = p .left .wide; values = omega (arith, k, p .left .values); marks = omega (arith, k, p .left .marks) };
+            upward = omega arith;
+            within = omega (arith, u .1, p .within);
+            right = record { few = p .right .few; wide = p .right .wide; values = omega (arith, h, p .right .values); marks = omega (arith, h, p .right .marks) };
+            run = g .upward;
+            numbers = omega (arith, g .within, p .numbers);
+            room = omega (arith, p .room, l .inv .1);
+          }),
+      u .0,
+      known,
+      c .before .serve-sorted .ensures .1,
+    )
 
 loop-less : tie.Need-loop-less Inv-loop μ-loop
 loop-less c = let u = ahead (c .before .before .before .before) in let t = c .before .before .before .before .before .loop-test .taken in omega arith

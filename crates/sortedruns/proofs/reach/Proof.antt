@@ -1,4 +1,4 @@
-use Prim.Native.Nat.{_-_, _*_, _+_, _<_, _≤_}
+use Prim.Native.Nat.{_-_, _+_, _<_}
 use native.Mathlib.Omega.{arith}
 use Rattle.order.proofs.RowLaws.{row-room}
 use Rattle.tables.proofs.CellLaws.{at-least}

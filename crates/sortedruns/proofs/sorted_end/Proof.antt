@@ -2,7 +2,6 @@ use mathlib.Core.Path.{_∙_}
 use denote.Ref.{now}
 use Rattle.options.specs.Options.{withList}
 use Rattle.order.proofs.TermLaws.{rows-terms}
-use borrow.Author.Needs.{needs}
 use Rattle.sortedruns.proofs.RunsLaws.{end-later}
 use Rattle.sortedruns.proofs.sorted_end.Statement.{statement}
 use Rattle.sortedruns.proofs.sorted_end.Tie as tie
