@@ -2,11 +2,11 @@
 use boundaries::bad_boundaries;
 use cutroom::any_short;
 use framerule::has_room;
-use matchframe::match_frame;
 use neighbours::is_sorted;
 use options::Terms;
 use options::answer_columns;
 use refusals::Refusal;
+use sortedrows::match_sorted;
 use tables::Written;
 ghost use mathlib.Core.Path.{_≡_};
 ghost use Rattle.frames.specs.Cells.{rowsOf};
@@ -119,6 +119,6 @@ pub fn join_rows(
     if let Written::Refused(_) = z {
         return z;
     }
-    match_frame(lv, lm, nl, c, rv, rm, nr, w, 0, o, codes, rising, out);
+    match_sorted(lv, lm, nl, c, rv, rm, nr, w, 0, o, codes, rising, out);
     z
 }

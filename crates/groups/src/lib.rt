@@ -77,7 +77,7 @@ pub fn run_end(
 }
 
 // How the right row at q stands to the left row at p: Less where the cursor passes its run, Equal where it is used.
-fn stands_to(
+pub fn stands_to(
     rv: &[i64],
     rm: &[i64],
     q: usize,

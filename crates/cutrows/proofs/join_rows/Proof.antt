@@ -18,11 +18,12 @@ returns c = rows-refused _ _ _ _ _ _ _ _ (c .enum-told .given .1) (c .before .be
 enum-told-2 : tie.Need-enum-told-2
 enum-told-2 c = search needs
 
-match-frame-requires : tie.Need-match-frame-requires
-match-frame-requires c κs =
+match-sorted-requires : tie.Need-match-sorted-requires
+match-sorted-requires c κs =
     let e = c .before in
     let j = e .before .before in
-    answer-room _ _ _ _ _ _ _ _ _ _ _ _ _ (j .before .before .pre) (passed _ _ _ _ _ _ _ (sym (j .judge-pairs .ensures) ∙ e .enum-told2 .given .1))
+    let q = passed _ _ _ _ _ _ _ (sym (j .judge-pairs .ensures) ∙ e .enum-told2 .given .1) in
+    (answer-room _ _ _ _ _ _ _ _ _ _ _ _ _ (j .before .before .pre) q, record { left = q .left-sorted; right = q .right-sorted })
 
 same-length : tie.Need-same-length
 same-length c = search needs
@@ -31,7 +32,7 @@ returns-2 : tie.Need-returns-2
 returns-2 c =
     let m = c .before in
     let e = m .before .before in
-    rows-written _ _ _ _ _ _ _ _ (e .enum-told2 .given .1) (e .before .before .judge-pairs .ensures) _ (m .match-frame .ensures)
+    rows-written _ _ _ _ _ _ _ _ (e .enum-told2 .given .1) (e .before .before .judge-pairs .ensures) _ (m .match-sorted .ensures)
 
 pub join-rows-spec : {M : Type 1} → statement M
-join-rows-spec = tie.close (tie.spec judge-pairs-requires enum-told returns enum-told-2 match-frame-requires same-length returns-2)
+join-rows-spec = tie.close (tie.spec judge-pairs-requires enum-told returns enum-told-2 match-sorted-requires same-length returns-2)
