@@ -138,8 +138,8 @@ static void any_attempt(attempt *a) {
 /* Ends the run with what was found and with what it takes to see it again. */
 static void fault(const attempt *a, const char *why) {
     printf("FAIL seed %" PRIu64 ", call %" PRIu64 ", %s reader: %s\n", seed, made, a->distance ? "distance" : "plain", why);
-    printf("words %zu, p %" PRIu64 ", row %" PRIu64 ", column %" PRIu64 ", rows %" PRIu64 ", columns %" PRIu64 "\n", a->frame.len, a->carried,
-           a->row, a->column, a->rows, a->columns);
+    printf("words %zu, p %" PRIu64 ", row %" PRIu64 ", column %" PRIu64 ", rows %" PRIu64 ", columns %" PRIu64 "\n", a->frame.len,
+           a->carried, a->row, a->column, a->rows, a->columns);
     exit(1);
 }
 
@@ -159,23 +159,25 @@ static void count_shown(const attempt *a, rowkeeper_cell due) {
 /* Counts what was met. */
 static void count(const attempt *a, uint64_t refusal, rowkeeper_cell due) {
     uint64_t c = a->frame.len > 1 ? (uint64_t)a->frame.words[1] : 0;
+    int more = a->frame.len > 1 && a->frame.words[0] == ROWKEEPER_MOST_ROWS + 1, beyond = a->rows > TABLE_WORDS || a->columns > TABLE_WORDS;
     switch (refusal) {
     case 0: count_shown(a, due); break;
     case ROWKEEPER_TOO_MANY_CARRIED: met[TOO_MANY_CARRIED]++; break;
-    case ROWKEEPER_BAD_FRAME: met[a->frame.len < 2 ? NO_WORDS : a->frame.words[0] == ROWKEEPER_MOST_ROWS + 1 ? TOO_MANY_ROWS : OTHER_WORDS]++; break;
+    case ROWKEEPER_BAD_FRAME: met[a->frame.len < 2 ? NO_WORDS : more ? TOO_MANY_ROWS : OTHER_WORDS]++; break;
     default: met[c == 0 ? NO_COLUMNS : !a->distance && c == a->carried + 2 ? PLAIN_OF_DISTANCE : UNKNOWN]++; break;
     }
-    met[a->rows > TABLE_WORDS || a->columns > TABLE_WORDS ? OWN_COUNTS_BEYOND : a->row < a->rows && a->column < a->columns ? OWN_COUNTS_INSIDE : OWN_COUNTS_OUTSIDE]++;
+    met[beyond ? OWN_COUNTS_BEYOND : a->row < a->rows && a->column < a->columns ? OWN_COUNTS_INSIDE : OWN_COUNTS_OUTSIDE]++;
 }
 
 /* The place through the view. */
 static rowkeeper_shown by_view(const attempt *a, const int64_t *f) {
-    rowkeeper_viewed v = a->distance ? rowkeeper_view_distance(a->carried, f, a->frame.len) : rowkeeper_view_plain(a->carried, f, a->frame.len);
+    size_t len = a->frame.len;
+    rowkeeper_viewed v = a->distance ? rowkeeper_view_distance(a->carried, f, len) : rowkeeper_view_plain(a->carried, f, len);
     rowkeeper_cell cell = {0, 0};
     rowkeeper_shown shown;
     if (v.refusal != 0 && (v.rows != 0 || v.columns != 0)) fault(a, "a refused view told rows or columns");
-    if (v.refusal == 0 && (v.rows != (uint64_t)a->frame.words[0] || v.columns != (uint64_t)a->frame.words[1])) fault(a, "a view told other counts");
-    if (v.refusal == 0) cell = rowkeeper_view_cell(v.rows, v.columns, f, a->frame.len, a->row, a->column);
+    if (v.refusal == 0 && (v.rows != rows(&a->frame) || v.columns != (uint64_t)a->frame.words[1])) fault(a, "a view told other counts");
+    if (v.refusal == 0) cell = rowkeeper_view_cell(v.rows, v.columns, f, len, a->row, a->column);
     shown.refusal = v.refusal;
     shown.value = cell.value;
     shown.mark = cell.mark;
