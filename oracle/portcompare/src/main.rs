@@ -3,6 +3,7 @@ use std::process::ExitCode;
 use std::time::Instant;
 
 mod books;
+mod cases;
 mod compare;
 mod cuts;
 mod pairs;

@@ -9,7 +9,7 @@ use oracle::range::Ways;
 use oracle::spans::{Tally, short, with_rust};
 use port::Port;
 
-use crate::TOLD;
+use crate::cases::{self, compare, numbered};
 
 /// How long a differing input is made smaller.
 const SPENT: Duration = Duration::from_secs(5);
@@ -87,24 +87,24 @@ fn smallest(call: &Spans) -> (Spans, String) {
     (call, why)
 }
 
+impl cases::Tally for Tally {
+    fn missing(&self) -> Option<String> {
+        self.missing()
+    }
+
+    fn line(&self) -> String {
+        self.to_string()
+    }
+}
+
 /// Runs all short inputs and COUNT random ones; whether there was no difference and everything was met.
 pub fn compare_all(seed: u64, count: u64) -> bool {
-    let start = Instant::now();
-    let (mut tally, mut told) = (Tally::default(), 0);
-    let random = (0..count).map(|i| (format!("seed {seed}, input {i}"), input(seed, i)));
-    for (name, call) in all_short().map(|call| ("short input".to_string(), call)).chain(random) {
-        if run(&call, &mut tally).is_err() {
+    let random = numbered(seed, count).map(|(name, number)| (name, input(seed, number)));
+    let inputs = all_short().map(|call| ("short input".to_string(), call)).chain(random);
+    compare("spans", Tally::default(), inputs, |call, tally| {
+        run(&call, tally).map_err(|_| {
             let (call, why) = smallest(&call);
-            println!("DIFFERENCE spans, {name}: {why}\n    {call}");
-            told += 1;
-        }
-        if told == TOLD {
-            println!("{TOLD} differences: no more are looked for");
-            break;
-        }
-    }
-    let missing = tally.missing().filter(|_| told == 0);
-    missing.iter().for_each(|what| println!("FAIL {what}: none in the whole run"));
-    println!("compared spans with the port: {tally}; {told} differences ({:.1} s)", start.elapsed().as_secs_f64());
-    told == 0 && missing.is_none()
+            format!("{why}\n    {call}")
+        })
+    })
 }
