@@ -6,6 +6,7 @@ mod books;
 mod cases;
 mod compare;
 mod cuts;
+mod less;
 mod pairs;
 mod plans;
 mod readers;
