@@ -27,26 +27,24 @@ struct Driven {
     moves: u64,
 }
 
-unsafe extern "C" {
-    fn scanwalk_scan(
-        strategy: u8,
-        left: *const i64,
-        left_len: usize,
-        right: *const i64,
-        right_len: usize,
-        out: *mut i64,
-        out_len: usize,
-    ) -> Driven;
-    fn scanwalk_walk(
-        strategy: u8,
-        left: *const i64,
-        left_len: usize,
-        right: *const i64,
-        right_len: usize,
-        out: *mut i64,
-        out_len: usize,
-    ) -> Driven;
+/// Declares calls that read two frames and write an output.
+macro_rules! drives {
+    ($($name:ident),*) => {
+        unsafe extern "C" {
+            $(fn $name(
+                strategy: u8,
+                left: *const i64,
+                left_len: usize,
+                right: *const i64,
+                right_len: usize,
+                out: *mut i64,
+                out_len: usize,
+            ) -> Driven;)*
+        }
+    };
 }
+
+drives!(scanwalk_scan, scanwalk_walk);
 
 /// Ends the program with one line.
 fn die(status: i32, why: &str) -> ! {

@@ -6,7 +6,7 @@
  *
  *     cut SEED CALLS     prints how often each answer and each case was met; status 1 at the first fault
  */
-#include "guards.h"
+#include "groups.h"
 
 /* What is written at most, and behind it. */
 enum { OUT_WORDS = 200 };
@@ -18,10 +18,10 @@ typedef struct attempt {
     size_t out_words;
 } attempt;
 
-/* Cases that a run must have met; those of 18 are in the order of guards.h. */
+/* Cases that a run must have met; those of options and of 18 are in the order of rules.h and groups.h. */
 enum {
     WROTE, LEFT_ROWS, RIGHT_ROWS, THERE, BETWEEN, BEFORE, BEHIND, NO_ROWS, NO_COLUMNS, NO_BOUNDARY, ALL_BOUNDARIES, LONG_TABLE,
-    WITH_LIST, WITH_CARRIED, DESCENDING, NULLS_LAST, JUST_FULL, BAD_OPTIONS, BAD_FLAG, BAD_SIDE, TOO_MANY_CARRIED, BAD_RANKS, BAD_TABLE,
+    WITH_LIST, WITH_CARRIED, DESCENDING, NULLS_LAST, JUST_FULL, BAD_OPTIONS, BAD_FLAG, TOO_MANY_CARRIED, BAD_RANKS, BAD_SIDE, BAD_TABLE,
     BAD_GROUPS, TABLE_CODE, GROUP_CODE, UNSORTED, TOO_MANY, NONE_TAKEN, NULL_GROUP, EQUAL_GROUPS, FALLING_GROUPS, NO_ROOM, ONE_SHORT,
     NO_OUTPUT, CASES
 };
@@ -30,7 +30,7 @@ static const char *const CASE_NAMES[CASES] = {
     "a boundary before the first row", "a boundary behind the last row", "cut, no rows", "cut, no by-columns",
     "cut, by-columns and no boundary", "cut, 16 boundaries", "cut, more rows than a frame has", "cut, with a list",
     "cut, with carried columns", "cut, a descending column", "cut, a null group last", "cut, output just full", "1: options",
-    "1: a flag", "1: a side that is none", "10: carried columns", "11: a list", "5: the table", "5: the boundaries alone",
+    "1: a flag", "10: carried columns", "11: a list", "1: a side that is none", "5: the table", "5: the boundaries alone",
     "12: the table", "12: a boundary alone", "14: the table", "18: more than 16", "18: no by-columns", "18: a null",
     "18: equal neighbours", "18: a boundary below the one before", "6: no room", "6: one word short", "6: no output at all"};
 
@@ -49,20 +49,18 @@ static size_t columns(const attempt *a) {
 /* The case that is due before the output is looked at, WROTE or that of a refusal, and its number. */
 static int due_case(const attempt *a, uint64_t *refusal) {
     const rowkeeper_options *o = &a->options;
-    int bad;
-    *refusal = ROWKEEPER_BAD_OPTIONS;
-    if (bad_options(o)) return o->by > 4 || o->strategy > 2 || o->tolerance < -1 ? BAD_OPTIONS : BAD_FLAG;
-    if (a->right > 1) return BAD_SIDE;
-    *refusal = ROWKEEPER_TOO_MANY_CARRIED;
-    if (o->carried > ROWKEEPER_MOST_CARRIED) return TOO_MANY_CARRIED;
-    *refusal = ROWKEEPER_BAD_RANKS;
-    if (bad_ranks(o)) return BAD_RANKS;
+    int bad = judge_options(o, refusal);
+    if (bad > WRONG_FLAG && a->right > 1) {
+        *refusal = ROWKEEPER_BAD_OPTIONS;
+        return BAD_SIDE;
+    }
+    if (bad != FINE_OPTIONS) return BAD_OPTIONS + bad;
     *refusal = ROWKEEPER_BAD_FRAME;
     if (!is_table(&table, columns(a), TABLE_WORDS)) return BAD_TABLE;
     if (!is_table(&groups, (size_t)o->by, ROWKEEPER_MOST_ROWS)) return BAD_GROUPS;
     *refusal = ROWKEEPER_UNKNOWN_CODE;
-    if (lacks_code(o, &table)) return TABLE_CODE;
-    if (lacks_code(o, &groups)) return GROUP_CODE;
+    if (lacks_code(o, table.words)) return TABLE_CODE;
+    if (lacks_code(o, groups.words)) return GROUP_CODE;
     *refusal = ROWKEEPER_UNSORTED;
     if (!is_sorted(o, &table)) return UNSORTED;
     *refusal = ROWKEEPER_BAD_BOUNDARIES;
@@ -97,10 +95,10 @@ static int judge(const attempt *a, rowkeeper_written *want) {
 /* ---- what is handed in */
 
 /* The output's length: above all just what the places take, a word less or a few more. */
-static size_t any_room(const attempt *a) {
+static size_t any_output(const attempt *a) {
     uint64_t refusal;
     size_t full = due_case(a, &refusal) == WROTE ? ROWKEEPER_CUT_WORDS(rows(&groups)) : ROWKEEPER_CUT_WORDS(below(6));
-    return any_length(full);
+    return any_room(full);
 }
 
 /* The next call. */
@@ -110,10 +108,7 @@ static attempt any_attempt(void) {
     a.options = any_options();
     a.right = below(2);
     if (mille(8)) {
-        memset(a.options.descending, 0, sizeof a.options.descending);
-        a.options.by = 1;
-        a.options.ranks.given = 0;
-        a.options.carried = below(2);
+        make_plain(&a.options, 1);
         n = LONG_ROWS;
     }
     any_table(&a.options, &table, n, columns(&a), 8);
@@ -121,7 +116,7 @@ static attempt any_attempt(void) {
     if (mille(25)) alter(&table);
     if (mille(20)) a.right = mille(500) ? 2 + below(9) : any() | 2;
     if (mille(30)) spoil_options(&a.options);
-    a.out_words = any_room(&a);
+    a.out_words = any_output(&a);
     fill_blank(out, a.out_words);
     return a;
 }

@@ -6,18 +6,10 @@
  *
  *     hostile SEED CALLS     prints how often each call gave each answer; status 1 at the first fault
  */
-#include <inttypes.h>
-#include <stdio.h>
-#include <stdlib.h>
-#include <string.h>
-
-#if defined(__SANITIZE_ADDRESS__)
-#include <sanitizer/common_interface_defs.h>
-#endif
-
+#include "host.h"
 #include "judge.h"
-#include "lend.h"
 #include "ranked.h"
+#include "rules.h"
 
 static const char *const CALL_NAMES[CALLS] = {"open", "left", "right", "end_right", "ports", "turn", "run", "move"};
 
@@ -56,7 +48,7 @@ typedef struct host {
 static host now, before;
 static int64_t frame[LEND_MOST], out[LEND_MOST], again[LEND_MOST], new_left[LEND_MOST], new_right[LEND_MOST];
 static lend left_lend, right_lend, frame_lend, out_lend, new_left_lend, new_right_lend;
-static uint64_t seed, state, made, met[CALLS][ANSWERS], altered_joins, altered_past_2;
+static uint64_t met[CALLS][ANSWERS], altered_joins, altered_past_2;
 /* Of runs: the turns that they made, those of more than one, and what stopped those in which a turn wrote. */
 static uint64_t run_turns, several, met_after[ANSWERS];
 /* Of turns and runs that wrote: carried cells with a value, and null ones of matched rows. Of accepted right frames: those with
@@ -67,22 +59,9 @@ static uint64_t distances, most_distances, null_distances;
 /* Of accepted frames: those of a join with a list. Of joins whose list or places the host altered: those that were not refused. */
 static uint64_t listed_frames, altered_lists;
 
-/* Any 64 bits (splitmix64). */
-static uint64_t any(void) {
-    uint64_t z = state += 0x9e3779b97f4a7c15u;
-    z = (z ^ (z >> 30)) * 0xbf58476d1ce4e5b9u;
-    z = (z ^ (z >> 27)) * 0x94d049bb133111ebu;
-    return z ^ (z >> 31);
-}
-
-/* A number below n. */
-static uint64_t below(uint64_t n) {
-    return (any() >> 11) % n;
-}
-
 /* Yes in so many of a hundred cases. */
 static int percent(unsigned n) {
-    return below(100) < n;
+    return mille(10 * n);
 }
 
 /* A length: mostly short, at times some thousands. */
@@ -90,16 +69,6 @@ static size_t any_length(void) {
     static const size_t MOST[8] = {4, 16, 60, 60, 200, 200, 900, LEND_MOST};
     size_t most = MOST[below(8)];
     return most > 900 && percent(70) ? below(200) : below(most + 1);
-}
-
-/* A word at which something might go wrong. */
-static int64_t any_word(void) {
-    static const int64_t EDGES[] = {INT64_MIN, INT64_MIN + 1, INT64_MAX, INT64_MAX - 1, INT64_MAX - 3, -1, -2, -4, 4096, 4097};
-    switch (below(4)) {
-    case 0: return EDGES[below(sizeof EDGES / sizeof *EDGES)];
-    case 1: return (int64_t)any();
-    default: return (int64_t)below(8) - 1;
-    }
 }
 
 /* A word's bits as a number that counts. */
@@ -172,7 +141,8 @@ static rowkeeper_options any_options(void) {
 
 /* Whether the join has a list that opening takes. */
 static int has_list(void) {
-    return now.join.options.ranks.given == 1 && judge_options(&now.join.options) == 0;
+    uint64_t refusal;
+    return now.join.options.ranks.given == 1 && judge_options(&now.join.options, &refusal) == FINE_OPTIONS;
 }
 
 /* Whether a side can go on to the next group: a list has no more groups than codes. */
@@ -393,16 +363,6 @@ static void fault(const attempt *a, const char *why) {
     for (i = 0; i < JOIN_WORDS; i++) printf(" %" PRId64, ((const int64_t *)&a->join)[i]);
     printf("\n");
     exit(1);
-}
-
-/* Told where the sanitizer ends the run. */
-static void at_death(void) {
-    fprintf(stderr, "FAIL seed %" PRIu64 ", call %" PRIu64 "\n", seed, made);
-}
-
-/* Lays a slice down at some place. */
-static int64_t *lent(lend *a, const int64_t *words, size_t len) {
-    return lend_words(a, words, len, (int)below(LEND_PLACES), percent(30));
 }
 
 /* A refusal's answer: its number, if it is one. */
@@ -646,7 +606,7 @@ static void equip(attempt *a) {
     if (a->call == CALL_RUN) a->out_len = run_output();
     if (a->call == CALL_RUN) a->turns = any_turns();
     if (a->call == CALL_MOVE) equip_move(a);
-    for (i = 0; i < a->out_len; i++) out[i] = (int64_t)(3 * i % 7) - 9;
+    fill_blank(out, a->out_len);
     for (i = 0; i < 3; i++) a->ports[i] = percent(97) ? percent(95) ? below(2) : 2 : (uint64_t)any_word();
 }
 
@@ -685,10 +645,10 @@ static int spent(void) {
 
 /* The keys of both sides begin about 2^63 apart, the left ones before the right ones or behind them. */
 static void start_apart(void) {
-    now.left_key = 999 + (int64_t)below(4);
+    now.left_key = 999 + (int64_t)below(2);
     now.right_key = INT64_MIN + 1000;
     if (percent(40)) {
-        now.left_key = -1000 - (int64_t)below(4);
+        now.left_key = -1000 - (int64_t)below(2);
         now.right_key = INT64_MAX - 1000;
     }
 }
@@ -773,31 +733,9 @@ static int report(void) {
     return all;
 }
 
-/* A number of the command line, or the end of the program with one line. */
-static uint64_t number(const char *word) {
-    char *end;
-    unsigned long long n = strtoull(word, &end, 10);
-    if (*word < '0' || *word > '9' || *end != '\0') {
-        fprintf(stderr, "hostile: %s is no number\n", word);
-        exit(2);
-    }
-    return n;
-}
-
 /* Opens joins and makes calls on them until there were enough. */
 int main(int argc, char **argv) {
-    uint64_t calls, steps;
-    if (argc != 3) {
-        fprintf(stderr, "hostile: wants a seed and a number of calls\n");
-        return 2;
-    }
-    seed = state = number(argv[1]);
-    calls = number(argv[2]);
-#if defined(__SANITIZE_ADDRESS__)
-    __sanitizer_set_death_callback(at_death);
-#else
-    (void)at_death;
-#endif
+    uint64_t calls = begin(argc, argv, "hostile"), steps;
     lend_init(&left_lend, LEND_MOST);
     lend_init(&right_lend, LEND_MOST);
     lend_init(&frame_lend, LEND_MOST);

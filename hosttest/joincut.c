@@ -9,7 +9,7 @@
  */
 #include <sys/mman.h>
 
-#include "guards.h"
+#include "groups.h"
 
 /* What an area and the output have at most. */
 enum { AREA_WORDS = TABLE_WORDS + 200, OUT_WORDS = TABLE_WORDS + 200 };
@@ -24,7 +24,7 @@ typedef struct attempt {
     int closed;
 } attempt;
 
-/* Cases that a run must have met; those of 18 are in the order of guards.h. */
+/* Cases that a run must have met; those of options and of 18 are in the order of rules.h and groups.h. */
 enum {
     JOINED, MATCHED, BACKWARD, FORWARD, NEAREST, COUNTED_ON, CARRIED_CELL, DISTANCE, FAR_AWAY, WITH_LIST, DESCENDING, NULLS_LAST,
     NO_COLUMNS, NO_BOUNDARY, ALL_BOUNDARIES, ABSENT, LEFT_EMPTY, RIGHT_EMPTY, BOTH_EMPTY, LEFT_FRAMES, RIGHT_FRAMES, MORE_HELD,
@@ -75,8 +75,8 @@ static int bad_words(const rowkeeper_options *o, uint64_t *refusal) {
     if (!is_table(&groups, (size_t)o->by, ROWKEEPER_MOST_ROWS)) return BAD_GROUPS;
     *refusal = ROWKEEPER_UNKNOWN_CODE;
     for (side = 0; side < 2; side++)
-        if (lacks_code(o, &tables[side])) return side ? RIGHT_CODE : LEFT_CODE;
-    if (lacks_code(o, &groups)) return GROUP_CODE;
+        if (lacks_code(o, tables[side].words)) return side ? RIGHT_CODE : LEFT_CODE;
+    if (lacks_code(o, groups.words)) return GROUP_CODE;
     *refusal = ROWKEEPER_UNSORTED;
     for (side = 0; side < 2; side++)
         if (!is_sorted(o, &tables[side])) return side ? UNSORTED_RIGHT : UNSORTED_LEFT;
@@ -85,13 +85,8 @@ static int bad_words(const rowkeeper_options *o, uint64_t *refusal) {
 
 /* The case that is due before any length is looked at, JOINED or that of a refusal, and its number. */
 static int due_case(const rowkeeper_options *o, uint64_t *refusal) {
-    int bad;
-    *refusal = ROWKEEPER_BAD_OPTIONS;
-    if (bad_options(o)) return o->by > 4 || o->strategy > 2 || o->tolerance < -1 ? BAD_OPTIONS : BAD_FLAG;
-    *refusal = ROWKEEPER_TOO_MANY_CARRIED;
-    if (o->carried > ROWKEEPER_MOST_CARRIED) return TOO_MANY_CARRIED;
-    *refusal = ROWKEEPER_BAD_RANKS;
-    if (bad_ranks(o)) return BAD_RANKS;
+    int bad = judge_options(o, refusal);
+    if (bad != FINE_OPTIONS) return BAD_OPTIONS + bad;
     bad = bad_words(o, refusal);
     if (bad != CASES) return bad;
     *refusal = ROWKEEPER_BAD_BOUNDARIES;
@@ -174,15 +169,6 @@ static void needs(const rowkeeper_options *o, size_t *need) {
         if (left > need[LEFT_AREA]) need[LEFT_AREA] = left;
         if (right > need[RIGHT_AREA]) need[RIGHT_AREA] = right;
     }
-}
-
-/* Whether the group or the key of a row is null. */
-static int has_null(const rowkeeper_options *o, const slice *s, size_t row) {
-    size_t j;
-    int64_t v;
-    for (j = 0; j <= o->by; j++)
-        if (!cell(s, row, j, &v)) return 1;
-    return 0;
 }
 
 /* Whether a right row qualifies for a left one, and how far it is. */
@@ -279,10 +265,7 @@ static void any_tables(rowkeeper_options *o) {
     int side, longer = mille(12), far = !longer && mille(100);
     for (side = 0; side < 2; side++) n[side] = mille(100) ? 0 : below(mille(600) ? 8 : SHORT_ROWS + 1);
     if (longer) {
-        memset(o->descending, 0, sizeof o->descending);
-        o->by = below(2);
-        o->ranks.given = 0;
-        o->carried = below(2);
+        make_plain(o, below(2));
         side = (int)below(2);
         n[side] = LONG_ROWS - (mille(200) ? 3 : below(3));
         if (mille(30)) n[1 - side] = LONG_ROWS;
@@ -302,7 +285,7 @@ static void any_lengths(attempt *a) {
     if (fine) needs(&a->options, need);
     for (k = 0; k < ROOMS; k++) {
         size_t full = fine ? need[k] : below(60);
-        a->words[k] = exact ? full : any_length(full);
+        a->words[k] = exact ? full : any_room(full);
     }
 }
 

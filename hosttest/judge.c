@@ -4,44 +4,18 @@
 
 #include <string.h>
 
+#include "rules.h"
+
 /* Whether a + b is above the limit. */
 static int above(uint64_t a, uint64_t b, uint64_t limit) {
     return a > limit || b > limit - a;
 }
 
-/* Whether a flag of the options is neither 0 nor 1. */
-static int strange_flags(const rowkeeper_options *o) {
-    int j, strange = o->allow_eq > 1 || o->check > 2 || o->ranks.given > 1 || o->with_distance > 1;
-    for (j = 0; j < 4; j++) strange |= o->descending[j] > 1 || o->nulls_last[j] > 1;
-    return strange;
-}
-
-int judge_place(const rowkeeper_ranks *k, int64_t value) {
-    int place = 0;
-    while (place < (int)k->count && k->codes[place] != value) place++;
-    return place;
-}
-
-/* Whether a code of a list stands in it before as well. */
-static int has_twice(const rowkeeper_ranks *k) {
-    int place;
-    for (place = 0; place < (int)k->count; place++)
-        if (judge_place(k, k->codes[place]) < place) return 1;
-    return 0;
-}
-
-/* Whether the options have a list that opening refuses. */
-static int bad_list(const rowkeeper_options *o) {
-    const rowkeeper_ranks *k = &o->ranks;
-    if (k->given == 0) return 0;
-    return k->count == 0 || k->count > ROWKEEPER_MOST_RANKS || k->column >= o->by || has_twice(k);
-}
-
-int judge_options(const rowkeeper_options *o) {
-    if (strange_flags(o) || o->by > 4 || o->strategy > 2 || o->tolerance < -1 || (o->strategy == 2 && o->allow_eq == 0))
-        return ROWKEEPER_BAD_OPTIONS;
-    if (o->carried > ROWKEEPER_MOST_CARRIED) return ROWKEEPER_TOO_MANY_CARRIED;
-    return bad_list(o) ? ROWKEEPER_BAD_RANKS : 0;
+/* The refusal that these options meet at opening, or 0. */
+static int options_refusal(const rowkeeper_options *o) {
+    uint64_t refusal;
+    judge_options(o, &refusal);
+    return (int)refusal;
 }
 
 void judge_places(const rowkeeper_ranks *k, uint8_t *places) {
@@ -82,29 +56,14 @@ static int no_join(const rowkeeper_join *j) {
 }
 
 int judge_bad_join(const rowkeeper_join *j, size_t left_len, size_t right_len) {
-    if (no_join(j) || judge_options(&j->options) != 0 || bad_places(j)) return 1;
+    if (no_join(j) || options_refusal(&j->options) != 0 || bad_places(j)) return 1;
     return above(j->base, j->held, right_len / (2 * judge_right_columns(&j->options))) ||
            above(j->queue_start, j->queue_words, left_len) || above(j->pruned, j->held, INT64_MAX) || j->sequence % 2 == 1;
 }
 
 /* Whether the words keep the frame rule. */
 static int is_frame(const int64_t *w, size_t len, uint64_t c) {
-    size_t cells, i;
-    if (len < 2 || w[0] < 0 || w[0] > ROWKEEPER_MOST_ROWS || w[1] != (int64_t)c) return 0;
-    cells = (size_t)w[0] * (size_t)c;
-    if (len != 2 + 2 * cells) return 0;
-    for (i = 2; i < 2 + cells; i++)
-        if (!(w[i + cells] == 1 || (w[i + cells] == 0 && w[i] == 0))) return 0;
-    return 1;
-}
-
-/* Whether a frame of so many columns has a value in the column of the list that the list lacks. */
-static int lacks_code(const rowkeeper_options *o, const int64_t *w, size_t c) {
-    size_t n = (size_t)w[0], i;
-    if (o->ranks.given == 0) return 0;
-    for (i = o->ranks.column; i < n * c; i += c)
-        if (w[2 + n * c + i] == 1 && judge_place(&o->ranks, w[2 + i]) == (int)o->ranks.count) return 1;
-    return 0;
+    return holds_table(w, len, (size_t)c, ROWKEEPER_MOST_ROWS);
 }
 
 /* The length of the frame that waits first, or 0 where none does. */
@@ -134,7 +93,7 @@ static int frame_refusal(const attempt *a) {
     const rowkeeper_join *j = &a->join;
     uint64_t c = a->call == CALL_LEFT ? j->options.by + 1 : judge_right_columns(&j->options);
     if (!is_frame(a->frame, a->frame_len, c)) return ROWKEEPER_BAD_FRAME;
-    if (lacks_code(&j->options, a->frame, c)) return ROWKEEPER_UNKNOWN_CODE;
+    if (lacks_code(&j->options, a->frame)) return ROWKEEPER_UNKNOWN_CODE;
     if (a->call == CALL_LEFT) return above(j->queue_words, a->frame_len, a->left_len) ? ROWKEEPER_NO_ROOM : 0;
     if (above(j->held, (uint64_t)a->frame[0], a->right_len / (2 * c))) return ROWKEEPER_NO_ROOM;
     return above(j->pruned + j->held, (uint64_t)a->frame[0], INT64_MAX) ? ROWKEEPER_USED_UP : 0;
@@ -148,7 +107,7 @@ static int short_of_room(const attempt *a) {
 
 int judge_known(const attempt *a) {
     const uint64_t *p = a->ports;
-    if (a->call == CALL_OPEN) return judge_options(&a->join.options);
+    if (a->call == CALL_OPEN) return options_refusal(&a->join.options);
     if (judge_bad_join(&a->join, a->left_len, a->right_len)) return ROWKEEPER_BAD_JOIN;
     if (a->call == CALL_PORTS && (p[0] > 2 || p[1] > 2 || p[2] > 2)) return ROWKEEPER_BAD_JOIN;
     if (a->call == CALL_MOVE) return short_of_room(a) ? ROWKEEPER_NO_ROOM : 0;
@@ -158,7 +117,7 @@ int judge_known(const attempt *a) {
     if (a->call != CALL_TURN) return 0;
     if (a->join.queue_words == 0) return ANSWER_IDLE;
     if (front(a) == 0) return ROWKEEPER_BAD_FRAME;
-    return lacks_code(&a->join.options, a->left + a->join.queue_start, a->join.options.by + 1) ? ROWKEEPER_UNKNOWN_CODE : -1;
+    return lacks_code(&a->join.options, a->left + a->join.queue_start) ? ROWKEEPER_UNKNOWN_CODE : -1;
 }
 
 /* Whether a turn that got past Idle and refusals 5 and 12 may answer so. */

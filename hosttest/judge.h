@@ -33,12 +33,6 @@ typedef struct outcome {
     const int64_t *left, *right, *out, *new_left, *new_right;
 } outcome;
 
-/* The refusal that these options meet at opening, or 0. */
-int judge_options(const rowkeeper_options *o);
-
-/* The place of a value in a list of at most 64 codes; its length if the list lacks the value. */
-int judge_place(const rowkeeper_ranks *k, int64_t value);
-
 /* The places of a list's codes by rising code, as opening puts them into a join; zeros behind them, and where there is no list
    or it is too long. Of equal codes the last one has the place. */
 void judge_places(const rowkeeper_ranks *k, uint8_t *places);

@@ -6,83 +6,36 @@
  *
  *     plan SEED CALLS     prints how often each answer and each case was met; status 1 at the first fault
  */
-#include <inttypes.h>
-#include <stdio.h>
-#include <stdlib.h>
-#include <string.h>
+#include "tables.h"
 
-#if defined(__SANITIZE_ADDRESS__)
-#include <sanitizer/common_interface_defs.h>
-#endif
+/* How many heights a list has at most, but for a word that is added; what an area has at most. */
+enum { MOST_HEIGHTS = 64, AREA_WORDS = TABLE_WORDS + 2 * MOST_HEIGHTS + 64 };
 
-#include "lend.h"
-#include "rowkeeper.h"
-
-/* Rows of a short table and of a long one, more than a frame may have; what a table and a list of heights have at most. */
-enum { SHORT_ROWS = 24, LONG_ROWS = ROWKEEPER_MOST_ROWS + 3, MOST_COLUMNS = 5, MOST_HEIGHTS = 64 };
-enum { TABLE_WORDS = 2 + 2 * LONG_ROWS * 2 + 2, AREA_WORDS = TABLE_WORDS + 2 * MOST_HEIGHTS + 64 };
-
-/* Words that are handed in. */
-typedef struct slice {
-    int64_t words[TABLE_WORDS];
-    size_t len;
-} slice;
-
-/* Cases that a run must have met. */
+/* Cases that a run must have met; those of options are in the order of rules.h. */
 enum {
-    PLANNED, NO_ROWS, NONE_TAKEN, SOME_UNTAKEN, FEWER_HELD, LONG_TABLE, EMPTY_FRAME, WITH_CARRIED, BAD_OPTIONS, TOO_MANY_CARRIED,
-    BAD_RANKS, BAD_LEFT, BAD_RIGHT, UNSORTED_LEFT, UNSORTED_RIGHT, HEIGHT_BELOW, HEIGHT_ABOVE, OTHER_SUM, CASES
+    PLANNED, NO_ROWS, NONE_TAKEN, SOME_UNTAKEN, FEWER_HELD, LONG_TABLE, EMPTY_FRAME, WITH_CARRIED, WITH_LIST, DESCENDING, BAD_OPTIONS,
+    BAD_FLAG, TOO_MANY_CARRIED, BAD_RANKS, BAD_LEFT, BAD_RIGHT, LEFT_CODE, RIGHT_CODE, UNSORTED_LEFT, UNSORTED_RIGHT, HEIGHT_BELOW,
+    HEIGHT_ABOVE, OTHER_SUM, CASES
 };
 static const char *const CASE_NAMES[CASES] = {
     "planned", "planned, no row held", "planned, no right frame taken", "planned, some right frames never taken",
     "planned, fewer rows held than taken", "planned, more rows than a frame has", "planned, a frame without rows",
-    "planned, with carried columns", "1: options", "10: carried columns", "11: a list", "5: the left table",
-    "5: the right table alone", "14: the left table", "14: the right table alone", "17: a height below 0",
-    "17: a height above 4,096", "17: another sum"};
+    "planned, with carried columns", "planned, with a list", "planned, a descending column", "1: options", "1: a flag",
+    "10: carried columns", "11: a list", "5: the left table", "5: the right table alone", "12: the left table",
+    "12: the right table alone", "14: the left table", "14: the right table alone", "17: a height below 0", "17: a height above 4,096",
+    "17: another sum"};
 
 static slice tables[2], heights[2];
 static lend lends[4];
-static int64_t left_area[AREA_WORDS], right_area[AREA_WORDS], out[2 + 2 * ROWKEEPER_MOST_ROWS * MOST_COLUMNS];
+static int64_t left_area[AREA_WORDS], right_area[AREA_WORDS], out[AREA_WORDS];
 static rowkeeper_options options;
-static uint64_t seed, state, made, met[CASES];
+static uint64_t met[CASES];
 
 /* ---- what is due, told from what came in */
 
 /* The columns of the left table, 0, and of the right one, 1. */
 static size_t columns(int side) {
     return (size_t)(options.by + 1 + (side ? options.carried : 0));
-}
-
-/* Whether the words are a table of its side's columns. */
-static int is_table(int side) {
-    const int64_t *w = tables[side].words;
-    size_t cells, i, len = tables[side].len;
-    if (len < 2 || w[0] < 0 || w[0] > TABLE_WORDS || w[1] != (int64_t)columns(side)) return 0;
-    cells = (size_t)w[0] * columns(side);
-    if (len != 2 + 2 * cells) return 0;
-    for (i = 2; i < 2 + cells; i++)
-        if (!(w[i + cells] == 1 || (w[i + cells] == 0 && w[i] == 0))) return 0;
-    return 1;
-}
-
-/* Whether row i is greater than row k: by-columns and key ascend, nulls first, as these options have it. */
-static int greater(int side, size_t i, size_t k) {
-    const int64_t *w = tables[side].words;
-    size_t c = columns(side), cells = (size_t)w[0] * c, j;
-    for (j = 0; j <= options.by; j++) {
-        size_t x = 2 + i * c + j, y = 2 + k * c + j;
-        if (w[x + cells] != w[y + cells]) return w[x + cells] == 1;
-        if (w[x] != w[y]) return w[x] > w[y];
-    }
-    return 0;
-}
-
-/* Whether no row is greater than the next. */
-static int is_sorted(int side) {
-    size_t i;
-    for (i = 1; i < (size_t)tables[side].words[0]; i++)
-        if (greater(side, i - 1, i)) return 0;
-    return 1;
 }
 
 /* The case of heights that are refused; CASES for none. */
@@ -100,19 +53,17 @@ static int bad_heights(int side) {
 
 /* The case that is due, PLANNED or that of a refusal, and its number. */
 static int due_case(uint64_t *refusal) {
-    int bad[2], side;
-    *refusal = ROWKEEPER_BAD_OPTIONS;
-    if (options.by > 4 || options.strategy > 2 || options.tolerance < -1) return BAD_OPTIONS;
-    *refusal = ROWKEEPER_TOO_MANY_CARRIED;
-    if (options.carried > ROWKEEPER_MOST_CARRIED) return TOO_MANY_CARRIED;
-    *refusal = ROWKEEPER_BAD_RANKS;
-    if (options.ranks.given) return BAD_RANKS;
+    int wrong = judge_options(&options, refusal), bad[2], side;
+    if (wrong != FINE_OPTIONS) return BAD_OPTIONS + wrong;
     *refusal = ROWKEEPER_BAD_FRAME;
     for (side = 0; side < 2; side++)
-        if (!is_table(side)) return side ? BAD_RIGHT : BAD_LEFT;
+        if (!is_table(&tables[side], columns(side), TABLE_WORDS)) return side ? BAD_RIGHT : BAD_LEFT;
+    *refusal = ROWKEEPER_UNKNOWN_CODE;
+    for (side = 0; side < 2; side++)
+        if (lacks_code(&options, tables[side].words)) return side ? RIGHT_CODE : LEFT_CODE;
     *refusal = ROWKEEPER_UNSORTED;
     for (side = 0; side < 2; side++)
-        if (!is_sorted(side)) return side ? UNSORTED_RIGHT : UNSORTED_LEFT;
+        if (!is_sorted(&options, &tables[side])) return side ? UNSORTED_RIGHT : UNSORTED_LEFT;
     *refusal = ROWKEEPER_BAD_HEIGHTS;
     for (side = 0; side < 2; side++) bad[side] = bad_heights(side);
     if (bad[0] != CASES || bad[1] != CASES) return bad[0] != CASES ? bad[0] : bad[1];
@@ -133,9 +84,9 @@ static size_t frame_of(int side, size_t k, int64_t *frame) {
 }
 
 /* Makes the schedule with a right area for so many rows; whether no right frame met a refusal 6. Its figures are told. */
-static int schedule(uint64_t rows, rowkeeper_planned *told) {
+static int schedule(uint64_t held, rowkeeper_planned *told) {
     static int64_t frame[AREA_WORDS];
-    size_t lefts = heights[0].len, rights = heights[1].len, right_words = ROWKEEPER_RIGHT_WORDS(rows, options.by, options.carried), k;
+    size_t lefts = heights[0].len, rights = heights[1].len, right_words = ROWKEEPER_RIGHT_WORDS(held, options.by, options.carried), k;
     uint64_t written = 0;
     rowkeeper_took took = rowkeeper_open(options);
     memset(told, 0, sizeof *told);
@@ -167,64 +118,6 @@ static int schedule(uint64_t rows, rowkeeper_planned *told) {
 
 /* ---- what is handed in */
 
-/* Any 64 bits (splitmix64). */
-static uint64_t any(void) {
-    uint64_t z = state += 0x9e3779b97f4a7c15u;
-    z = (z ^ (z >> 30)) * 0xbf58476d1ce4e5b9u;
-    z = (z ^ (z >> 27)) * 0x94d049bb133111ebu;
-    return z ^ (z >> 31);
-}
-
-/* A number below n. */
-static uint64_t below(uint64_t n) {
-    return (any() >> 11) % n;
-}
-
-/* Yes in so many of a thousand cases. */
-static int mille(unsigned n) {
-    return below(1000) < n;
-}
-
-/* A word at which something might go wrong. */
-static int64_t any_word(void) {
-    static const int64_t EDGES[] = {INT64_MIN, INT64_MIN + 1, INT64_MAX, INT64_MAX - 1, -1, -2, 2, 4096, 4097};
-    return mille(500) ? EDGES[below(sizeof EDGES / sizeof *EDGES)] : mille(500) ? (int64_t)any() : (int64_t)below(8) - 1;
-}
-
-/* Options, mostly such as are accepted. Columns ascend, nulls first. */
-static void any_options(int plain) {
-    memset(&options, 0, sizeof options);
-    options.by = plain ? 0 : below(3);
-    options.strategy = below(3);
-    options.allow_eq = options.strategy == ROWKEEPER_NEAREST ? 1 : below(2);
-    options.tolerance = (int64_t)below(3) - 1;
-    options.check = below(3);
-    options.carried = plain ? below(2) : below(3);
-}
-
-/* Fills a table with n rows: few values, some null, or keys that rise if there are many; then sorts a short one. */
-static void fill(int side, size_t n) {
-    size_t c = columns(side), i, j, k;
-    int64_t *w = tables[side].words;
-    w[0] = (int64_t)n;
-    w[1] = (int64_t)c;
-    tables[side].len = 2 + 2 * n * c;
-    for (i = 0; i < n; i++)
-        for (j = 0; j < c; j++) {
-            int null = n <= SHORT_ROWS && mille(50);
-            w[2 + i * c + j] = null ? 0 : n > SHORT_ROWS ? (int64_t)i : (int64_t)below(j < options.by ? 3 : 30);
-            w[2 + (n + i) * c + j] = !null;
-        }
-    for (i = 1; i < n && n <= SHORT_ROWS; i++)
-        for (k = i; k > 0 && greater(side, k - 1, k); k--)
-            for (j = 0; j < 2 * c; j++) {
-                size_t part = j < c ? 2 + j : 2 + n * c + j - c, x = part + (k - 1) * c, y = part + k * c;
-                int64_t v = w[x];
-                w[x] = w[y];
-                w[y] = v;
-            }
-}
-
 /* Heights that cut n rows. */
 static void cut(int side, size_t n) {
     size_t left = n, most = n > SHORT_ROWS ? ROWKEEPER_MOST_ROWS : 1 + below(6);
@@ -237,43 +130,20 @@ static void cut(int side, size_t n) {
     }
 }
 
-/* Alters a slice: another length, other words, or random words throughout. */
-static void alter(slice *s) {
-    size_t i;
-    switch (below(4)) {
-    case 0: s->len = below(s->len + 1); return;
-    case 1:
-        s->words[s->len] = any_word();
-        s->len++;
-        return;
-    case 2:
-        s->len = below(40);
-        for (i = 0; i < s->len; i++) s->words[i] = any_word();
-        return;
-    default:
-        if (s->len > 0) s->words[below(s->len)] = any_word();
-    }
-}
-
 /* The next call. */
 static void next(void) {
     int side, longer = mille(4);
-    any_options(longer);
+    uint64_t most = mille(500) ? 4 : 30;
+    options = any_options();
+    if (longer) make_plain(&options, 0);
     for (side = 0; side < 2; side++) {
         size_t n = longer && side ? LONG_ROWS : below(SHORT_ROWS + 1);
-        fill(side, n);
+        any_table(&options, &tables[side], n, columns(side), most);
         cut(side, n);
-        if (n > 1 && mille(40)) tables[side].words[2 + below(n) * columns(side) + options.by] = (int64_t)below(30);
         if (mille(25)) alter(&tables[side]);
-        if (mille(30)) alter(&heights[side]);
+        if (mille(40)) alter(&heights[side]);
     }
-    if (mille(30)) switch (below(5)) {
-    case 0: options.by = 5 + below(3); break;
-    case 1: options.strategy = 3 + below(300); break;
-    case 2: options.tolerance = -2 - (int64_t)below(9); break;
-    case 3: options.carried = 9 + below(99); break;
-    default: options.ranks.given = 1; break;
-    }
+    if (mille(50)) spoil_options(&options);
 }
 
 /* ---- calls */
@@ -282,16 +152,6 @@ static void next(void) {
 static void fault(const char *why) {
     printf("FAIL seed %" PRIu64 ", call %" PRIu64 ", rowkeeper_plan: %s\n", seed, made, why);
     exit(1);
-}
-
-/* Told where the sanitizer ends the run. */
-static void at_death(void) {
-    fprintf(stderr, "FAIL seed %" PRIu64 ", call %" PRIu64 "\n", seed, made);
-}
-
-/* Lays a slice down at some place. */
-static const int64_t *lent(int k, const slice *s) {
-    return lend_words(&lends[k], s->words, s->len, (int)below(LEND_PLACES), mille(300));
 }
 
 /* Judges the figures by the schedule, and counts what was met. */
@@ -306,12 +166,15 @@ static void judge_figures(rowkeeper_planned p) {
     met[FEWER_HELD] += p.rights == heights[1].len && p.rows < (uint64_t)tables[1].words[0];
     met[LONG_TABLE] += tables[1].words[0] > ROWKEEPER_MOST_ROWS;
     met[WITH_CARRIED] += options.carried > 0;
+    met[WITH_LIST] += options.ranks.given;
+    met[DESCENDING] += options.by > 0 && options.descending[0];
     for (i = 0; i < heights[1].len; i++) met[EMPTY_FRAME] += heights[1].words[i] == 0;
 }
 
 /* Makes a call over slices that are lent for it alone, and judges it. */
 static void try_call(void) {
-    const int64_t *l = lent(0, &tables[0]), *r = lent(1, &tables[1]), *hl = lent(2, &heights[0]), *hr = lent(3, &heights[1]);
+    const int64_t *l = lent(&lends[0], tables[0].words, tables[0].len), *r = lent(&lends[1], tables[1].words, tables[1].len);
+    const int64_t *hl = lent(&lends[2], heights[0].words, heights[0].len), *hr = lent(&lends[3], heights[1].words, heights[1].len);
     rowkeeper_planned p;
     uint64_t refusal;
     int due, k;
@@ -329,48 +192,16 @@ static void try_call(void) {
     else if (p.rows != 0 || p.turns != 0 || p.rights != 0) fault("a refused call told figures");
 }
 
-/* Prints the counts; whether every case was met. */
-static int report(void) {
-    int i, all = 1;
-    for (i = 0; i < CASES; i++) {
-        printf("%9" PRIu64 "  %s\n", met[i], CASE_NAMES[i]);
-        all &= met[i] > 0;
-    }
-    if (!all) printf("FAIL a case was never met\n");
-    printf("plan: seed %" PRIu64 ", %" PRIu64 " calls, %" PRIu64 " of them planned; no fault\n", seed, made, met[PLANNED]);
-    return all;
-}
-
-/* A number of the command line, or the end of the program with one line. */
-static uint64_t number(const char *word) {
-    char *end;
-    unsigned long long n = strtoull(word, &end, 10);
-    if (*word < '0' || *word > '9' || *end != '\0') {
-        fprintf(stderr, "plan: %s is no number\n", word);
-        exit(2);
-    }
-    return n;
-}
-
 /* Makes calls until there were enough. */
 int main(int argc, char **argv) {
-    uint64_t calls;
-    int k;
-    if (argc != 3) {
-        fprintf(stderr, "plan: wants a seed and a number of calls\n");
-        return 2;
-    }
-    seed = state = number(argv[1]);
-    calls = number(argv[2]);
-#if defined(__SANITIZE_ADDRESS__)
-    __sanitizer_set_death_callback(at_death);
-#else
-    (void)at_death;
-#endif
+    uint64_t calls = begin(argc, argv, "plan");
+    int k, all;
     for (k = 0; k < 4; k++) lend_init(&lends[k], TABLE_WORDS);
     while (made < calls) {
         next();
         try_call();
     }
-    return report() ? 0 : 1;
+    all = report_cases(met, CASE_NAMES, CASES);
+    printf("plan: seed %" PRIu64 ", %" PRIu64 " calls, %" PRIu64 " of them planned; no fault\n", seed, made, met[PLANNED]);
+    return all ? 0 : 1;
 }

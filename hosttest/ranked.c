@@ -5,6 +5,7 @@
 #include <string.h>
 
 #include "lend.h"
+#include "rules.h"
 
 uint64_t ranked_turns, ranked_unlisted;
 
@@ -14,8 +15,8 @@ static int lacked, taken;
 
 /* A value of the list's column as a number. */
 static int64_t as_number(const rowkeeper_ranks *k, int64_t value) {
-    int place = judge_place(k, value);
-    if (place < (int)k->count) return INT64_MIN + place;
+    uint64_t at = place(k, value);
+    if (at < k->count) return INT64_MIN + (int64_t)at;
     lacked = 1;
     taken |= value < INT64_MIN + ROWKEEPER_MOST_RANKS;
     return value;

@@ -6,25 +6,14 @@
  *
  *     readers SEED CALLS     prints how often each answer and each case was met; status 1 at the first fault
  */
-#include <inttypes.h>
-#include <stdio.h>
-#include <stdlib.h>
-#include <string.h>
+#include "tables.h"
 
-#if defined(__SANITIZE_ADDRESS__)
-#include <sanitizer/common_interface_defs.h>
-#endif
-
-#include "lend.h"
-#include "rowkeeper.h"
-
-/* The columns and the words that a frame has at most. */
-enum { MOST_COLUMNS = 11, FRAME_WORDS = 2 + 2 * (ROWKEEPER_MOST_ROWS + 1) * 3 };
+/* The columns that a frame has at most. */
+enum { MOST_COLUMNS = 11 };
 
 /* A call: the frame's words, which reader, p, a place, and counts for view_cell that no view told. */
 typedef struct attempt {
-    int64_t words[FRAME_WORDS];
-    size_t len;
+    slice frame;
     int distance;
     uint64_t carried, row, column, rows, columns;
 } attempt;
@@ -42,16 +31,16 @@ static const char *const CASE_NAMES[CASES] = {
 
 static attempt now;
 static lend frame_lend;
-static uint64_t seed, state, made, met[CASES];
+static uint64_t met[CASES];
 
 /* ---- what is due, told from what came in */
 
 /* Whether the words are a frame of as many columns as they tell: a walk over all its cells, values and marks together. */
 static int is_frame(const attempt *a) {
-    const int64_t *w = a->words;
+    const int64_t *w = a->frame.words;
     int64_t row, column;
-    size_t half = (a->len - 2) / 2, at = 0;
-    if (a->len < 2 || w[0] < 0 || w[0] > ROWKEEPER_MOST_ROWS || w[1] < 0 || a->len % 2 != 0) return 0;
+    size_t half = (a->frame.len - 2) / 2, at = 0;
+    if (a->frame.len < 2 || w[0] < 0 || w[0] > ROWKEEPER_MOST_ROWS || w[1] < 0 || a->frame.len % 2 != 0) return 0;
     for (row = 0; row < w[0]; row++)
         for (column = 0; column < w[1]; column++, at++) {
             if (at == half) return 0;
@@ -65,7 +54,7 @@ static uint64_t refusal_of(const attempt *a) {
     uint64_t c;
     if (a->carried > ROWKEEPER_MOST_CARRIED) return ROWKEEPER_TOO_MANY_CARRIED;
     if (!is_frame(a)) return ROWKEEPER_BAD_FRAME;
-    c = (uint64_t)a->words[1];
+    c = (uint64_t)a->frame.words[1];
     return c == a->carried + 1 || (a->distance && c == a->carried + 2) ? 0 : ROWKEEPER_BAD_COLUMNS;
 }
 
@@ -73,12 +62,12 @@ static uint64_t refusal_of(const attempt *a) {
 static rowkeeper_cell cell_of(const attempt *a) {
     rowkeeper_cell none = {0, 0}, found;
     uint64_t row, column;
-    size_t half = (a->len - 2) / 2, at = 2;
-    for (row = 0; row < (uint64_t)a->words[0]; row++)
-        for (column = 0; column < (uint64_t)a->words[1]; column++, at++)
+    size_t half = (a->frame.len - 2) / 2, at = 2;
+    for (row = 0; row < (uint64_t)a->frame.words[0]; row++)
+        for (column = 0; column < (uint64_t)a->frame.words[1]; column++, at++)
             if (row == a->row && column == a->column) {
-                found.value = a->words[at];
-                found.mark = a->words[at + half];
+                found.value = a->frame.words[at];
+                found.mark = a->frame.words[at + half];
                 return found;
             }
     return none;
@@ -89,44 +78,16 @@ static rowkeeper_cell cell_by_counts(const attempt *a) {
     rowkeeper_cell none = {0, 0}, found;
     size_t cells, at;
     if (a->row >= a->rows || a->column >= a->columns) return none;
-    if (a->rows > FRAME_WORDS || a->columns > FRAME_WORDS) return none;
+    if (a->rows > TABLE_WORDS || a->columns > TABLE_WORDS) return none;
     cells = (size_t)a->rows * (size_t)a->columns;
-    if (2 + 2 * cells > a->len) return none;
+    if (2 + 2 * cells > a->frame.len) return none;
     at = 2 + (size_t)a->row * (size_t)a->columns + (size_t)a->column;
-    found.value = a->words[at];
-    found.mark = a->words[at + cells];
+    found.value = a->frame.words[at];
+    found.mark = a->frame.words[at + cells];
     return found;
 }
 
 /* ---- what is handed in */
-
-/* Any 64 bits (splitmix64). */
-static uint64_t any(void) {
-    uint64_t z = state += 0x9e3779b97f4a7c15u;
-    z = (z ^ (z >> 30)) * 0xbf58476d1ce4e5b9u;
-    z = (z ^ (z >> 27)) * 0x94d049bb133111ebu;
-    return z ^ (z >> 31);
-}
-
-/* A number below n. */
-static uint64_t below(uint64_t n) {
-    return (any() >> 11) % n;
-}
-
-/* Yes in so many of a thousand cases. */
-static int mille(unsigned n) {
-    return below(1000) < n;
-}
-
-/* A word at which something might go wrong. */
-static int64_t any_word(void) {
-    static const int64_t EDGES[] = {INT64_MIN, INT64_MIN + 1, INT64_MAX, INT64_MAX - 1, -1, -2, 2, 4096, 4097};
-    switch (below(4)) {
-    case 0: return EDGES[below(sizeof EDGES / sizeof *EDGES)];
-    case 1: return (int64_t)any();
-    default: return (int64_t)below(8) - 1;
-    }
-}
 
 /* A place below a count most often, at it, or far outside. */
 static uint64_t any_place(uint64_t count) {
@@ -142,34 +103,14 @@ static uint64_t any_count(void) {
     return mille(200) ? LARGE[below(5)] : below(12);
 }
 
-/* Fills a frame: n rows of c columns, some cells null. */
-static void fill(attempt *a, size_t n, size_t c) {
+/* A frame of n rows of c columns, some cells null. */
+static void any_frame(slice *s, size_t n, size_t c) {
     size_t i;
-    a->words[0] = (int64_t)n;
-    a->words[1] = (int64_t)c;
-    a->len = 2 + 2 * n * c;
-    for (i = 0; i < n * c; i++) {
+    shape(s, n, c);
+    for (i = 2; i < 2 + n * c; i++) {
         int null = mille(200);
-        a->words[2 + i] = null ? 0 : any_word();
-        a->words[2 + n * c + i] = !null;
-    }
-}
-
-/* Alters a frame: another length, other words, another column count, or random words throughout. */
-static void alter(attempt *a) {
-    size_t i;
-    switch (below(6)) {
-    case 0: a->len = below(a->len + 1); return;
-    case 1:
-        if (a->len < FRAME_WORDS) a->words[a->len++] = (int64_t)below(2);
-        return;
-    case 2: a->words[1] = any_word(); return;
-    case 3:
-        a->len = below(40);
-        for (i = 0; i < a->len; i++) a->words[i] = any_word();
-        return;
-    default:
-        for (i = 1 + below(3); i > 0; i--) a->words[mille(300) ? below(2) : below(a->len)] = any_word();
+        s->words[i] = null ? 0 : any_word();
+        s->words[n * c + i] = !null;
     }
 }
 
@@ -181,8 +122,9 @@ static void any_attempt(attempt *a) {
         c = p + 1 + below(2);
         n = ROWKEEPER_MOST_ROWS + mille(300);
     }
-    fill(a, n, c);
-    if (mille(100)) alter(a);
+    any_frame(&a->frame, n, c);
+    if (mille(100)) alter(&a->frame);
+    if (mille(10)) a->frame.words[1] = any_word();
     a->distance = mille(500);
     a->carried = mille(960) ? p : mille(500) ? 9 : any();
     a->row = any_place(n);
@@ -196,49 +138,46 @@ static void any_attempt(attempt *a) {
 /* Ends the run with what was found and with what it takes to see it again. */
 static void fault(const attempt *a, const char *why) {
     printf("FAIL seed %" PRIu64 ", call %" PRIu64 ", %s reader: %s\n", seed, made, a->distance ? "distance" : "plain", why);
-    printf("words %zu, p %" PRIu64 ", row %" PRIu64 ", column %" PRIu64 ", rows %" PRIu64 ", columns %" PRIu64 "\n", a->len, a->carried,
-           a->row, a->column, a->rows, a->columns);
+    printf("words %zu, p %" PRIu64 ", row %" PRIu64 ", column %" PRIu64 ", rows %" PRIu64 ", columns %" PRIu64 "\n", a->frame.len,
+           a->carried, a->row, a->column, a->rows, a->columns);
     exit(1);
-}
-
-/* Told where the sanitizer ends the run. */
-static void at_death(void) {
-    fprintf(stderr, "FAIL seed %" PRIu64 ", call %" PRIu64 "\n", seed, made);
 }
 
 /* Counts what was met of a frame that is shown. */
 static void count_shown(const attempt *a, rowkeeper_cell due) {
-    int below_last = a->row >= (uint64_t)a->words[0], beside = a->column >= (uint64_t)a->words[1];
+    int below_last = a->row >= (uint64_t)a->frame.words[0], beside = a->column >= (uint64_t)a->frame.words[1];
     met[VALUE] += due.mark == 1;
     met[NULL_INSIDE] += !below_last && !beside && due.mark == 0;
     met[BELOW] += below_last;
     met[BESIDE] += !below_last && beside;
     met[DISTANCE] += due.mark == 1 && a->column == a->carried + 1;
     met[NO_DISTANCE] += a->distance && !below_last && beside && a->column == a->carried + 1;
-    met[LONG_FRAME] += a->words[0] == ROWKEEPER_MOST_ROWS;
-    met[EMPTY_FRAME] += a->words[0] == 0;
+    met[LONG_FRAME] += a->frame.words[0] == ROWKEEPER_MOST_ROWS;
+    met[EMPTY_FRAME] += a->frame.words[0] == 0;
 }
 
 /* Counts what was met. */
 static void count(const attempt *a, uint64_t refusal, rowkeeper_cell due) {
-    uint64_t c = a->len > 1 ? (uint64_t)a->words[1] : 0;
+    uint64_t c = a->frame.len > 1 ? (uint64_t)a->frame.words[1] : 0;
+    int more = a->frame.len > 1 && a->frame.words[0] == ROWKEEPER_MOST_ROWS + 1, beyond = a->rows > TABLE_WORDS || a->columns > TABLE_WORDS;
     switch (refusal) {
     case 0: count_shown(a, due); break;
     case ROWKEEPER_TOO_MANY_CARRIED: met[TOO_MANY_CARRIED]++; break;
-    case ROWKEEPER_BAD_FRAME: met[a->len < 2 ? NO_WORDS : a->words[0] == ROWKEEPER_MOST_ROWS + 1 ? TOO_MANY_ROWS : OTHER_WORDS]++; break;
+    case ROWKEEPER_BAD_FRAME: met[a->frame.len < 2 ? NO_WORDS : more ? TOO_MANY_ROWS : OTHER_WORDS]++; break;
     default: met[c == 0 ? NO_COLUMNS : !a->distance && c == a->carried + 2 ? PLAIN_OF_DISTANCE : UNKNOWN]++; break;
     }
-    met[a->rows > FRAME_WORDS || a->columns > FRAME_WORDS ? OWN_COUNTS_BEYOND : a->row < a->rows && a->column < a->columns ? OWN_COUNTS_INSIDE : OWN_COUNTS_OUTSIDE]++;
+    met[beyond ? OWN_COUNTS_BEYOND : a->row < a->rows && a->column < a->columns ? OWN_COUNTS_INSIDE : OWN_COUNTS_OUTSIDE]++;
 }
 
 /* The place through the view. */
 static rowkeeper_shown by_view(const attempt *a, const int64_t *f) {
-    rowkeeper_viewed v = a->distance ? rowkeeper_view_distance(a->carried, f, a->len) : rowkeeper_view_plain(a->carried, f, a->len);
+    size_t len = a->frame.len;
+    rowkeeper_viewed v = a->distance ? rowkeeper_view_distance(a->carried, f, len) : rowkeeper_view_plain(a->carried, f, len);
     rowkeeper_cell cell = {0, 0};
     rowkeeper_shown shown;
     if (v.refusal != 0 && (v.rows != 0 || v.columns != 0)) fault(a, "a refused view told rows or columns");
-    if (v.refusal == 0 && (v.rows != (uint64_t)a->words[0] || v.columns != (uint64_t)a->words[1])) fault(a, "a view told other counts");
-    if (v.refusal == 0) cell = rowkeeper_view_cell(v.rows, v.columns, f, a->len, a->row, a->column);
+    if (v.refusal == 0 && (v.rows != rows(&a->frame) || v.columns != (uint64_t)a->frame.words[1])) fault(a, "a view told other counts");
+    if (v.refusal == 0) cell = rowkeeper_view_cell(v.rows, v.columns, f, len, a->row, a->column);
     shown.refusal = v.refusal;
     shown.value = cell.value;
     shown.mark = cell.mark;
@@ -249,16 +188,16 @@ static rowkeeper_shown by_view(const attempt *a, const int64_t *f) {
 static void try_calls(const attempt *a) {
     rowkeeper_cell due = {0, 0}, counts = cell_by_counts(a), cell;
     uint64_t refusal = refusal_of(a);
-    int64_t *f = lend_words(&frame_lend, a->words, a->len, (int)below(LEND_PLACES), mille(300));
+    int64_t *f = lent(&frame_lend, a->frame.words, a->frame.len);
     rowkeeper_shown r, v;
     made++;
     if (refusal == 0) due = cell_of(a);
-    r = a->distance ? rowkeeper_read_distance(a->carried, f, a->len, a->row, a->column)
-                    : rowkeeper_read_plain(a->carried, f, a->len, a->row, a->column);
+    r = a->distance ? rowkeeper_read_distance(a->carried, f, a->frame.len, a->row, a->column)
+                    : rowkeeper_read_plain(a->carried, f, a->frame.len, a->row, a->column);
     v = by_view(a, f);
-    cell = rowkeeper_view_cell(a->rows, a->columns, f, a->len, a->row, a->column);
+    cell = rowkeeper_view_cell(a->rows, a->columns, f, a->frame.len, a->row, a->column);
     if (!lend_intact(&frame_lend)) fault(a, "a guard word was altered");
-    if (!lend_same(&frame_lend, a->words, 0)) fault(a, "the frame was altered");
+    if (!lend_same(&frame_lend, a->frame.words, 0)) fault(a, "the frame was altered");
     if (r.refusal != refusal) fault(a, "another answer than is due");
     if (r.value != due.value || r.mark != due.mark) fault(a, "another cell than is due");
     if (v.refusal != refusal || v.value != due.value || v.mark != due.mark) fault(a, "the view tells another cell than is due");
@@ -266,47 +205,16 @@ static void try_calls(const attempt *a) {
     count(a, refusal, due);
 }
 
-/* Prints the counts; whether every case was met. */
-static int report(void) {
-    int i, all = 1;
-    for (i = 0; i < CASES; i++) {
-        printf("%9" PRIu64 "  %s\n", met[i], CASE_NAMES[i]);
-        all &= met[i] > 0;
-    }
-    if (!all) printf("FAIL a case was never met\n");
-    printf("readers: seed %" PRIu64 ", %" PRIu64 " places, each by reader and view; no fault\n", seed, made);
-    return all;
-}
-
-/* A number of the command line, or the end of the program with one line. */
-static uint64_t number(const char *word) {
-    char *end;
-    unsigned long long n = strtoull(word, &end, 10);
-    if (*word < '0' || *word > '9' || *end != '\0') {
-        fprintf(stderr, "readers: %s is no number\n", word);
-        exit(2);
-    }
-    return n;
-}
-
 /* Makes calls until there were enough. */
 int main(int argc, char **argv) {
-    uint64_t calls;
-    if (argc != 3) {
-        fprintf(stderr, "readers: wants a seed and a number of calls\n");
-        return 2;
-    }
-    seed = state = number(argv[1]);
-    calls = number(argv[2]);
-#if defined(__SANITIZE_ADDRESS__)
-    __sanitizer_set_death_callback(at_death);
-#else
-    (void)at_death;
-#endif
-    lend_init(&frame_lend, FRAME_WORDS);
+    uint64_t calls = begin(argc, argv, "readers");
+    int all;
+    lend_init(&frame_lend, TABLE_WORDS);
     while (made < calls) {
         any_attempt(&now);
         try_calls(&now);
     }
-    return report() ? 0 : 1;
+    all = report_cases(met, CASE_NAMES, CASES);
+    printf("readers: seed %" PRIu64 ", %" PRIu64 " places, each by reader and view; no fault\n", seed, made);
+    return all ? 0 : 1;
 }

@@ -4,21 +4,14 @@ use std::cell::Cell;
 
 use rowkeeper::{ByColumn, Check, Column, Frame, Frames, Match, Options, Ranks, Refusal, Strategy, asof};
 
+mod random;
+
+use random::Random;
+
 type Row = [Option<i64>; 2];
 type Matches = Vec<Option<u64>>;
 
-/// A source of random numbers (splitmix64).
-struct Random(u64);
-
 impl Random {
-    /// A number below n.
-    fn below(&mut self, n: u64) -> u64 {
-        self.0 = self.0.wrapping_add(0x9E37_79B9_7F4A_7C15);
-        let z = (self.0 ^ (self.0 >> 30)).wrapping_mul(0xBF58_476D_1CE4_E5B9);
-        let z = (z ^ (z >> 27)).wrapping_mul(0x94D0_49BB_1331_11EB);
-        (z ^ (z >> 31)) % n
-    }
-
     /// A table of up to 40 rows, sorted as these options want it: a group and a key, some of them null.
     fn table(&mut self, options: &Options) -> Vec<Row> {
         let count = self.below(41);

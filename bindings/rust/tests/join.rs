@@ -5,20 +5,11 @@ use rowkeeper::{
     raw,
 };
 
+mod random;
+
+use random::Random;
+
 type Row = [Option<i64>; 2];
-
-/// A source of random numbers (splitmix64).
-struct Random(u64);
-
-impl Random {
-    /// A number below n.
-    fn below(&mut self, n: u64) -> u64 {
-        self.0 = self.0.wrapping_add(0x9E37_79B9_7F4A_7C15);
-        let z = (self.0 ^ (self.0 >> 30)).wrapping_mul(0xBF58_476D_1CE4_E5B9);
-        let z = (z ^ (z >> 27)).wrapping_mul(0x94D0_49BB_1331_11EB);
-        (z ^ (z >> 31)) % n
-    }
-}
 
 /// A frame of keys.
 fn keys(keys: &[i64]) -> Frame {

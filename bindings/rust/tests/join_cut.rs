@@ -5,22 +5,15 @@ use rowkeeper::{
     ByColumn, Frame, Join, Match, Options, Ranks, Refusal, Side, Strategy, asof, cut, join_cut, join_cut_in, plan,
 };
 
+mod random;
+
+use random::Random;
+
 type Row = Vec<Option<i64>>;
 
 const STRATEGIES: [Strategy; 3] = [Strategy::Backward, Strategy::Forward, Strategy::Nearest];
 
-/// A source of random numbers (splitmix64).
-struct Random(u64);
-
 impl Random {
-    /// A number below n.
-    fn below(&mut self, n: u64) -> u64 {
-        self.0 = self.0.wrapping_add(0x9E37_79B9_7F4A_7C15);
-        let z = (self.0 ^ (self.0 >> 30)).wrapping_mul(0xBF58_476D_1CE4_E5B9);
-        let z = (z ^ (z >> 27)).wrapping_mul(0x94D0_49BB_1331_11EB);
-        (z ^ (z >> 31)) % n
-    }
-
     /// A number below n, or in one of ten cases a null.
     fn cell(&mut self, n: u64) -> Option<i64> {
         (self.below(10) > 0).then(|| self.below(n) as i64)

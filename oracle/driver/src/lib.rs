@@ -8,7 +8,6 @@ pub mod notice;
 pub mod pulled;
 pub mod range;
 pub mod ranks;
-pub mod readers;
 pub mod rust;
 pub mod sample;
 pub mod selftest;

@@ -17,7 +17,7 @@ use judges::whole_table::{self, Counts};
 use crate::compare::{self, Difference, Tally};
 use crate::pulled::{ROOM, all_at_once};
 use crate::rust::{Rust, Spoiled, Ways};
-use crate::{books, ranks, readers, spans};
+use crate::{books, ranks, spans};
 
 /// How a step ends: what it counted, or what went wrong.
 pub type Step = Result<String, String>;
@@ -57,20 +57,21 @@ pub(crate) fn failure(what: &str, calls: &[Call], why: &str) -> String {
     format!("{what}: {why}\n{}", lines.join("\n"))
 }
 
-/// The answers to the worked cases, line by line.
-fn expected_answers(text: &str) -> Vec<&str> {
-    text.lines().filter_map(|l| l.strip_prefix("= ")).collect()
+/// Calls, each with the answer that was read by hand: its line begins with =.
+pub(crate) fn by_hand(text: &str) -> Result<Vec<(Call, &str)>, String> {
+    let lines: Vec<&str> = text.lines().filter(|l| !l.starts_with('=')).collect();
+    let calls = parse_script(&lines.join("\n"))?;
+    let expected: Vec<&str> = text.lines().filter_map(|l| l.strip_prefix("= ")).collect();
+    assert_eq!(calls.len(), expected.len());
+    Ok(calls.into_iter().zip(expected).collect())
 }
 
 /// Calls with the answers that were read from SCOPE by hand, by the rules, and by the Rust where it has a counterpart:
 /// not where the host has altered words.
 pub(crate) fn cases(text: &str) -> Step {
-    let lines: Vec<&str> = text.lines().filter(|l| !l.starts_with('=')).collect();
-    let calls = parse_script(&lines.join("\n"))?;
-    let expected = expected_answers(text);
-    assert_eq!(calls.len(), expected.len());
+    let calls = by_hand(text)?;
     let (mut rust, mut rules, mut parted, mut asked) = (Rust::default(), Rules::default(), false, 0);
-    for (call, want) in calls.iter().zip(&expected) {
+    for (call, want) in &calls {
         let (said, ruled) = (rust.call(call), rules.call(call));
         let opens = matches!(call, Call::Open(_) | Call::Opens(..));
         parted &= !opens;
@@ -556,7 +557,7 @@ pub fn all(seed: u64, count: u64) -> bool {
         ("places of cuts, cases", Box::new(books::places)),
         ("cuts, cases", Box::new(books::cuts)),
         ("takings, cases", Box::new(books::takings)),
-        ("readers, cases", Box::new(readers::cases)),
+        ("readers, cases", Box::new(books::readers)),
         ("spans, cases", Box::new(spans::cases)),
         ("spans, longest tables", Box::new(spans::longest)),
         ("spans, findings", Box::new(spans::findings)),

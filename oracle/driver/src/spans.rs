@@ -10,6 +10,7 @@ use judges::spans::{self, REFUSALS};
 use crate::compare::panic_text;
 use crate::range::{self, Ways};
 use crate::rust::Rust;
+use crate::selftest::by_hand;
 
 /// What a run had in it, so that one that tests nothing is seen.
 #[derive(Default, Clone)]
@@ -104,13 +105,8 @@ pub fn with_rules(call: &Spans, ways: Ways, tally: &mut Tally) -> Result<(), Str
 
 /// Calls with the answers that were read from SCOPE 19 by hand, by the plain reading, and by the Rust.
 pub fn cases() -> Result<String, String> {
-    let text = include_str!("../spans.txt");
-    let lines: Vec<&str> = text.lines().filter(|l| !l.starts_with('=')).collect();
-    let calls = parse_script(&lines.join("\n"))?;
-    let expected: Vec<&str> = text.lines().filter_map(|l| l.strip_prefix("= ")).collect();
-    assert_eq!(calls.len(), expected.len());
-    let mut asked = 0;
-    for (call, want) in calls.iter().zip(&expected) {
+    let (calls, mut asked) = (by_hand(include_str!("../spans.txt"))?, 0);
+    for (call, want) in &calls {
         let (ruled, rust) = (Rules::default().call(call), Rust::default().call(call));
         let Call::Spans(spans) = call else { return Err(format!("{call}: not of SCOPE 19")) };
         if ruled.to_string() != *want || !agrees(spans, &rust, &ruled) {

@@ -21,14 +21,18 @@ pub fn table_rows(columns: usize, words: &[i64]) -> Option<Vec<Row>> {
     if *n < 0 || *c != columns as i64 || cells.len() as i128 != *n as i128 * 2 * columns as i128 {
         return None;
     }
-    let (values, marks) = cells.split_at(cells.len() / 2);
+    Some(cells_of(cells)?.chunks(columns).map(|row| row.to_vec()).collect())
+}
+
+/// The cells of values and, behind them, their marks; none where a mark is none, or a null has a value.
+pub(crate) fn cells_of(words: &[i64]) -> Option<Row> {
+    let (values, marks) = words.split_at(words.len() / 2);
     let cell = |(value, mark): (&i64, &i64)| match (mark, value) {
         (1, value) => Some(Some(*value)),
         (0, 0) => Some(None),
         _ => None,
     };
-    let all = values.iter().zip(marks).map(cell).collect::<Option<Row>>()?;
-    Some(all.chunks(columns).map(|row| row.to_vec()).collect())
+    values.iter().zip(marks).map(cell).collect()
 }
 
 /// The words of a table.

@@ -128,14 +128,20 @@ pub(crate) fn spoil(r: &mut Random, o: &Options, rows: &mut [Row]) {
 }
 
 /// The same words with something in them that breaks the table rule, most of the time.
-pub(crate) fn broken(r: &mut Random, mut words: Vec<i64>) -> Vec<i64> {
+pub(crate) fn broken(r: &mut Random, words: Vec<i64>) -> Vec<i64> {
+    let kind = r.below(9);
+    broken_so(r, kind, &[-1, i64::MIN, i64::MAX, 1 << 62, 1 << 32], words)
+}
+
+/// The same, broken in this way out of nine; one of them gives it a number of rows that it cannot have.
+pub(crate) fn broken_so(r: &mut Random, kind: usize, rows: &[i64], mut words: Vec<i64>) -> Vec<i64> {
     let last = words.len() - 1;
     let half = 2 + (words.len() - 2) / 2;
-    match r.below(9) {
+    match kind {
         0 => words.truncate(r.below(words.len())),
         1 => words.push(r.pick(&[0, 1])),
         2 => words[0] += r.pick(&[-1, 1]),
-        3 => words[0] = r.pick(&[-1, i64::MIN, i64::MAX, 1 << 62, 1 << 32]),
+        3 => words[0] = r.pick(rows),
         4 => words[1] = r.pick(&[0, 1, 2, 3, -1, i64::MIN, i64::MAX]),
         5 => words[last] = r.pick(&[2, -1, i64::MIN, i64::MAX, 256]),
         6 => words[half.min(last)] = r.pick(&[2, -1, 0]),

@@ -1,5 +1,6 @@
 //! Random points and intervals, made from a seed and a number alone, so that every input can be made again.
 use crate::generate::{Random, words};
+use crate::generate_books::{broken_so, output};
 use crate::rules::Row;
 use crate::script::Spans;
 use crate::spans;
@@ -99,22 +100,11 @@ fn interval(r: &mut Random, s: &Shape) -> Row {
 }
 
 /// The same words with something in them that breaks the frame rule, most of the time.
-fn broken(r: &mut Random, mut words: Vec<i64>) -> Vec<i64> {
-    let last = words.len() - 1;
-    let half = 2 + (words.len() - 2) / 2;
+fn broken(r: &mut Random, frame: Vec<i64>) -> Vec<i64> {
     match r.below(10) {
-        0 => words.truncate(r.below(words.len())),
-        1 => words.push(r.pick(&[0, 1])),
-        2 => words[0] += r.pick(&[-1, 1]),
-        3 => words[0] = r.pick(&[-1, 4097, i64::MIN, i64::MAX, 1 << 62, 1 << 32]),
-        4 => words[1] = r.pick(&[0, 1, 2, 3, -1, i64::MIN, i64::MAX]),
-        5 => words[last] = r.pick(&[2, -1, i64::MIN, i64::MAX, 256]),
-        6 => words[half.min(last)] = r.pick(&[2, -1, 0]),
-        7 if half <= last => (words[2], words[half]) = (r.pick(&[1, -1, i64::MIN]), 0),
-        8 => words = crate::generate::words(&vec![vec![Some(0); words[1] as usize]; MOST + 1], words[1] as usize),
-        _ => words.clear(),
+        8 => words(&vec![vec![Some(0); frame[1] as usize]; MOST + 1], frame[1] as usize),
+        kind => broken_so(r, kind, &[-1, 4097, i64::MIN, i64::MAX, 1 << 62, 1 << 32], frame),
     }
-    words
 }
 
 /// Breaks one of both tables, or both, or takes each for the other.
@@ -128,18 +118,6 @@ fn break_tables(r: &mut Random, call: &mut Spans) {
     }
     if which == 9 {
         std::mem::swap(&mut call.points, &mut call.intervals);
-    }
-}
-
-/// The output's length: just enough, longer, one short, or any that is shorter.
-fn output(r: &mut Random, call: &Spans) -> usize {
-    let needed = spans::table(call).map_or(2 + 4 * r.below(5), |words| words.len());
-    match r.below(20) {
-        0 | 1 => needed - 1,
-        2 => needed - 2,
-        3 => r.below(needed),
-        4..=9 => needed + 1 + r.below(9),
-        _ => needed,
     }
 }
 
@@ -158,7 +136,8 @@ pub fn input(seed: u64, number: u64) -> Spans {
     if r.percent(8) {
         break_tables(r, &mut call);
     }
-    call.output = output(r, &call);
+    let needed = spans::table(&call).map_or(2 + 4 * r.below(5), |words| words.len());
+    call.output = output(r, needed);
     call
 }
 

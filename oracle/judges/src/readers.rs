@@ -1,5 +1,6 @@
 //! SCOPE 19.17 to 19.22, the two answer readers, as plainly as they can be said: a frame is taken apart into rows of cells, and a
 //! place is looked up in these. It shares no code with the port or with the step rules.
+use crate::books::cells_of;
 use crate::script::{Answer, Read};
 
 /// The numbers of a reader's refusals, in the order in which they are looked for.
@@ -13,13 +14,7 @@ fn rows(words: &[i64]) -> Option<(Vec<Vec<Option<i64>>>, i128)> {
     if cells.len() as i128 != 2 * rows as i128 * columns {
         return None;
     }
-    let (values, marks) = cells.split_at(cells.len() / 2);
-    let cell = |(value, mark): (&i64, &i64)| match (mark, value) {
-        (1, value) => Some(Some(*value)),
-        (0, 0) => Some(None),
-        _ => None,
-    };
-    let all = values.iter().zip(marks).map(cell).collect::<Option<Vec<_>>>()?;
+    let all = cells_of(cells)?;
     let row = |i: usize| all.iter().skip(i * (all.len() / rows)).take(all.len() / rows).copied().collect();
     Some(((0..rows).map(row).collect(), columns))
 }

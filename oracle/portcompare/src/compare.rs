@@ -2,7 +2,7 @@
 //! they answered, and making a script that differs small.
 use std::fmt;
 use std::panic::{AssertUnwindSafe, catch_unwind};
-use std::time::{Duration, Instant};
+use std::time::Duration;
 
 use judges::generate::Kind;
 use judges::rules::Rules;
@@ -12,7 +12,7 @@ use oracle::compare::{Tally, agrees, no_counterpart, panic_text, parted};
 use oracle::rust::Rust;
 use port::Port;
 
-use crate::spans::parts;
+use crate::less::{self, parts, without_rows};
 
 /// How long a differing script is made smaller.
 const SPENT: Duration = Duration::from_secs(20);
@@ -141,14 +141,6 @@ pub fn all(calls: &[Call], kind: Kind, counts: &mut Counts) -> Result<(), String
     run.unwrap_or_else(|p| Err(format!("panic: {}", panic_text(p))))
 }
 
-/// The frame of a call without so many of its rows from one on.
-fn without_rows(words: &[i64], from: usize, count: usize) -> Vec<i64> {
-    let (n, c) = (words[0] as usize, words[1] as usize);
-    let keep = |at: &usize| !(from..from + count).contains(&((at % (n * c)) / c));
-    let cells = (0..2 * n * c).filter(keep).map(|at| words[2 + at]);
-    [(n - count) as i64, c as i64].into_iter().chain(cells).collect()
-}
-
 /// How many rows a call's frame has, if it is one that a row can be taken from.
 fn rows(call: &Call) -> usize {
     let (Call::Left(w) | Call::Right(w)) = call else { return 0 };
@@ -177,14 +169,6 @@ fn smaller(calls: &[Call]) -> impl Iterator<Item = Vec<Call>> {
 /// A script that still differs and that no call and no row can be taken from, with how it differs; or the smallest that is
 /// found in the time that is spent on it.
 pub fn smallest(calls: &[Call], kind: Kind) -> (Vec<Call>, String) {
-    let (start, differs) = (Instant::now(), |calls: &[Call]| all(calls, kind, &mut Counts::default()).err());
-    let less = |calls: &[Call]| {
-        let mut tried = smaller(calls).take_while(|_| start.elapsed() < SPENT);
-        tried.find_map(|less| differs(&less).map(|why| (less, why)))
-    };
-    let (mut script, mut why) = (calls.to_vec(), differs(calls).unwrap_or_default());
-    while let Some((less, new)) = less(&script) {
-        (script, why) = (less, new);
-    }
-    (script, why)
+    let differs = |calls: &Vec<Call>| all(calls, kind, &mut Counts::default()).err();
+    less::smallest(calls.to_vec(), SPENT, |calls| Box::new(smaller(calls)), differs)
 }

@@ -1,19 +1,17 @@
 //! SCOPE 19.27 and 19.28, where a table is cut: random tables and boundaries through the port and the plain reading; and random pairs of
 //! tables cut at the places that the port tells, each pair of parts joined by itself through the port, beside the uncut join.
-use std::time::Instant;
-
 use judges::cuts::{self, Apart, Cut, Reason};
 use judges::generate_cuts;
 use judges::rules::Rules;
 use judges::script::{Answer, Call, Judge, Options, Places};
 use port::Port;
 
-use crate::TOLD;
+use crate::cases::{self, Cases, caught, numbered, same, shown};
 
 /// One input of so many has a pair of tables beside it that is cut and joined.
 const EVERY: u64 = 10;
 
-/// What a run must have met; each with how often it did.
+/// What a run must have met.
 const CASES: [&str; 24] = [
     "accepted",
     "of left rows",
@@ -41,15 +39,12 @@ const CASES: [&str; 24] = [
     "of them with carried cells and distances there",
 ];
 
-/// What a run had in it, so that one that tests nothing is seen.
-#[derive(Default)]
+/// What a run had in it.
 struct Tally {
-    inputs: u64,
+    cases: Cases,
     /// Pairs of parts that were joined, and rows that were answered.
     parts: u64,
     rows: u64,
-    met: [u64; CASES.len()],
-    refused: [u64; Reason::ALL.len()],
 }
 
 /// Where the cuts of a table lie.
@@ -65,60 +60,43 @@ fn lie(o: &Options, cut: &Cut) -> [bool; 4] {
 }
 
 impl Tally {
-    /// Counts these cases, from one on.
-    fn meet(&mut self, from: usize, is: &[bool]) {
-        is.iter().enumerate().for_each(|(i, is)| self.met[from + i] += *is as u64);
-    }
-
     /// Counts an input that is accepted.
     fn accepted(&mut self, o: &Options, call: &Places, cut: &Cut) {
         let [there, between, before, behind] = lie(o, cut);
         let null = |at: Option<&Vec<Option<i64>>>| at.is_some_and(|row| row[..o.b].first() == Some(&None));
         let nulls = [null(cut.rows.first()), null(cut.rows.last())].map(|is| is && !cut.groups.is_empty());
-        self.meet(0, &[true, call.side == 0, call.side == 1, there, between, before, behind]);
-        self.meet(7, &[cut.rows.is_empty(), o.b == 0, o.b > 0 && cut.groups.is_empty(), cut.groups.len() == 16]);
-        self.meet(11, &[nulls[0], nulls[1], o.descending.contains(&true), o.ranks.given]);
+        self.cases.meet(0, &[true, call.side == 0, call.side == 1, there, between, before, behind]);
+        self.cases.meet(7, &[cut.rows.is_empty(), o.b == 0, o.b > 0 && cut.groups.is_empty(), cut.groups.len() == 16]);
+        self.cases.meet(11, &[nulls[0], nulls[1], o.descending.contains(&true), o.ranks.given]);
         let longer = call.output > 2 + 2 * cut.groups.len();
-        self.meet(15, &[call.side == 1 && o.carried > 0, cut.rows.len() > 4096, longer]);
+        self.cases.meet(15, &[call.side == 1 && o.carried > 0, cut.rows.len() > 4096, longer]);
     }
 
     /// Counts an input that is refused.
     fn refused(&mut self, o: &Options, call: &Places, why: Reason) {
-        self.refused[why as usize] += 1;
+        self.cases.refuse(why as usize);
         let needed = cuts::judged(o, call).map_or(0, |cut| 2 + 2 * cut.groups.len());
         let many = call.boundaries.first().copied().unwrap_or(0);
         let limit = matches!(why, Reason::Many | Reason::Boundaries) && many >= 4096;
-        self.meet(18, &[why == Reason::Short && call.output + 1 == needed, why == Reason::Many && many == 17, limit]);
+        self.cases
+            .meet(18, &[why == Reason::Short && call.output + 1 == needed, why == Reason::Many && many == 17, limit]);
     }
+}
 
-    /// What the run never met, though it is made to.
+impl cases::Tally for Tally {
     fn missing(&self) -> Option<String> {
-        let none = CASES.iter().zip(self.met).find(|(_, n)| *n == 0).map(|(what, _)| what.to_string());
-        let refused = Reason::ALL.iter().zip(self.refused).find(|(_, n)| *n == 0);
-        none.or(refused.map(|((_, number, what), _)| format!("refusals by {number} for {what}")))
+        self.cases.missing()
     }
 
-    /// The counts on one line.
     fn line(&self) -> String {
-        let met: Vec<String> = CASES.iter().zip(self.met).map(|(what, n)| format!("{n} {what}")).collect();
-        let refused =
-            Reason::ALL.iter().zip(self.refused).map(|((_, number, what), n)| format!("{number} ({what}) {n}"));
-        let (refused, joined) = (refused.collect::<Vec<_>>(), format!("{} parts, {} rows", self.parts, self.rows));
-        format!("{} inputs, {} ({joined}); refused by {}", self.inputs, met.join(", "), refused.join(", "))
+        self.cases.line(&format!(" ({} parts, {} rows)", self.parts, self.rows))
     }
 }
 
 /// Runs a call through the port and the plain reading.
 fn one(o: &Options, call: &Places, tally: &mut Tally) -> Result<(), String> {
-    let mut port = Port::default();
-    port.call(&Call::Options(o.clone()));
-    let (said, due) = (port.call(&Call::Places(call.clone())), cuts::place(o, call));
-    tally.inputs += 1;
-    if said != due {
-        return Err(format!("the port says {said}, the plain reading says {due}"));
-    } else if let Some(wrong) = port.wrong() {
-        return Err(wrong.to_string());
-    }
+    tally.cases.inputs += 1;
+    same(&mut Port::default(), o, &Call::Places(call.clone()), &cuts::place(o, call))?;
     match (cuts::due(o, call), cuts::judged(o, call)) {
         (Ok(_), Ok(cut)) => tally.accepted(o, call, &cut),
         (Err(why), _) => tally.refused(o, call, why),
@@ -158,42 +136,26 @@ fn pair(o: &Options, of: &Apart, tally: &mut Tally) -> Result<(), String> {
     let full = |row: &Vec<Option<i64>>| o.carried > 0 && o.distance == 1 && on(row) && !row.contains(&None);
     tally.parts += places[0].len() as u64 + 1;
     tally.rows += whole.len() as u64;
-    tally.meet(21, &[true, whole.iter().any(on), whole.iter().any(full)]);
+    tally.cases.meet(21, &[true, whole.iter().any(on), whole.iter().any(full)]);
     Ok(())
 }
 
 /// An input, and beside one in ten a pair of tables; the difference, with the lines that show it.
 fn input(seed: u64, number: u64, tally: &mut Tally) -> Result<(), String> {
     let (o, call) = generate_cuts::place(seed, number);
-    one(&o, &call, tally).map_err(|why| format!("{why}\n    {}\n    {call}", Call::Options(o)))?;
+    one(&o, &call, tally).map_err(|why| shown(why, &o, &call))?;
     if number % EVERY != 0 {
         return Ok(());
     }
     let (o, of) = generate_cuts::apart(seed, number);
-    let said = std::panic::catch_unwind(std::panic::AssertUnwindSafe(|| pair(&o, &of, tally)));
-    let said = said.unwrap_or_else(|_| Err("a call was answered otherwise than it is due".to_string()));
-    said.map_err(|why| {
+    caught(|| pair(&o, &of, tally)).map_err(|why| {
         let tables = format!("left {:?}, right {:?}, cut at {:?}", of.left, of.right, of.boundaries);
-        format!("two tables: {why}\n    {}\n    {tables}", Call::Options(o))
+        shown(format!("two tables: {why}"), &o, &tables)
     })
 }
 
 /// Runs COUNT inputs; whether there was no difference and everything was met.
 pub fn compare_all(seed: u64, count: u64) -> bool {
-    let (start, mut tally, mut told) = (Instant::now(), Tally::default(), 0);
-    for number in 0..count {
-        if let Err(why) = input(seed, number, &mut tally) {
-            println!("DIFFERENCE places, seed {seed}, input {number}: {why}");
-            told += 1;
-        }
-        if told == TOLD {
-            println!("{TOLD} differences: no more are looked for");
-            break;
-        }
-    }
-    let missing = tally.missing().filter(|_| told == 0);
-    missing.iter().for_each(|what| println!("FAIL {what}: none in the whole run"));
-    let time = start.elapsed().as_secs_f64();
-    println!("compared places with the port: {}; {told} differences ({time:.1} s)", tally.line());
-    told == 0 && missing.is_none()
+    let tally = Tally { cases: Cases::with_reasons(&CASES, &Reason::ALL), parts: 0, rows: 0 };
+    cases::compare("places", tally, numbered(seed, count), |number, tally| input(seed, number, tally))
 }

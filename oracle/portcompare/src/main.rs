@@ -3,8 +3,10 @@ use std::process::ExitCode;
 use std::time::Instant;
 
 mod books;
+mod cases;
 mod compare;
 mod cuts;
+mod less;
 mod pairs;
 mod plans;
 mod readers;

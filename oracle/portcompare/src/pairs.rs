@@ -1,8 +1,6 @@
 //! SCOPE 19.34 to 19.36, two tables cut and joined pair by pair: random tables, boundaries, areas and outputs through the port and the plain
 //! reading. And, where tables and boundaries are fine, each pair of parts joined by itself through the port, by the schedule of its plan in
 //! areas of just the plan's size, beside the call in areas of just enough words; shorter ones must be refused by 6.
-use std::time::Instant;
-
 use judges::books::{table_rows, words};
 use judges::generate_pairs;
 use judges::pairs::{self, Needs, Pair, Reason, Tables};
@@ -10,13 +8,13 @@ use judges::plans::{self, FramesOf};
 use judges::script::{Answer, Call, Judge, Options, Pairs, Plan};
 use port::Port;
 
-use crate::TOLD;
+use crate::cases::{self, Cases, caught, numbered, shown};
 
 /// From so many inputs on a run must have met everything; a shorter one may miss what is rare.
 const ALL_MET: u64 = 20_000;
 
-/// What a run must have met; each with how often it did.
-const CASES: [&str; 31] = [
+/// What a run must have met, the last five in the second judging.
+const CASES: [&str; 36] = [
     "accepted",
     "backward",
     "forward",
@@ -48,10 +46,6 @@ const CASES: [&str; 31] = [
     "refused with 17 boundaries",
     "refused with 4096 boundaries or more",
     "refused one word short",
-];
-
-/// The same of the second judging.
-const APART: [&str; 5] = [
     "joined apart",
     "of them with more than one pair",
     "refused with a left area one word short",
@@ -59,24 +53,18 @@ const APART: [&str; 5] = [
     "with an output one word short",
 ];
 
-/// What a run had in it, so that one that tests nothing is seen.
-#[derive(Default)]
+/// The place of the first of these.
+const APART: usize = 31;
+
+/// What a run had in it.
 struct Tally {
-    inputs: u64,
+    cases: Cases,
     /// Pairs that were joined apart, and rows that were answered.
     pairs: u64,
     rows: u64,
-    met: [u64; CASES.len()],
-    apart: [u64; APART.len()],
-    refused: [u64; Reason::ALL.len()],
 }
 
 impl Tally {
-    /// Counts these cases, from one on.
-    fn meet(&mut self, from: usize, is: &[bool]) {
-        is.iter().enumerate().for_each(|(i, is)| self.met[from + i] += *is as u64);
-    }
-
     /// Counts what the answer to an accepted call is.
     fn written(&mut self, o: &Options, all: &[Pair], written: &[i64]) {
         let first = all.get(1).map_or(0, |pair| pair.before) as i64;
@@ -86,8 +74,8 @@ impl Tally {
         let carried = o.carried > 0 && matched().any(|row| row[1].is_some());
         let distance = o.distance == 1 && matched().any(|row| row[row.len() - 1].is_some());
         let some = matched().next().is_some();
-        self.meet(0, &[true, some && o.strategy == 0, some && o.strategy == 1, some && o.strategy == 2]);
-        self.meet(4, &[some, carried, distance, rows.iter().any(on), some && o.tolerance >= 0]);
+        self.cases.meet(0, &[true, some && o.strategy == 0, some && o.strategy == 1, some && o.strategy == 2]);
+        self.cases.meet(4, &[some, carried, distance, rows.iter().any(on), some && o.tolerance >= 0]);
     }
 
     /// Counts what the options and the tables of an accepted call are.
@@ -96,12 +84,12 @@ impl Tally {
         let null = |row: &Vec<Option<i64>>| row[..o.b].contains(&None);
         let nulls = tables.left.iter().chain(&tables.right).any(null);
         let cut = |is: bool| is && many > 0;
-        self.meet(9, &[cut(o.ranks.given), cut(o.descending.contains(&true))]);
-        self.meet(11, &[cut(nulls && o.nulls_last.contains(&true)), cut(nulls), o.b == 0, cut(o.b == 4)]);
-        self.meet(15, &[o.carried == 8, o.b > 0 && many == 0, many == 16]);
+        self.cases.meet(9, &[cut(o.ranks.given), cut(o.descending.contains(&true))]);
+        self.cases.meet(11, &[cut(nulls && o.nulls_last.contains(&true)), cut(nulls), o.b == 0, cut(o.b == 4)]);
+        self.cases.meet(15, &[o.carried == 8, o.b > 0 && many == 0, many == 16]);
         let lacks = |rows: &[Vec<Option<i64>>], group: &[Option<i64>]| rows.iter().all(|row| row[..o.b] != *group);
         let absent = |group: &Vec<Option<i64>>| lacks(&tables.left, group) && lacks(&tables.right, group);
-        self.meet(18, &[tables.groups.iter().any(absent)]);
+        self.cases.meet(18, &[tables.groups.iter().any(absent)]);
     }
 
     /// Counts what the pairs of an accepted call are.
@@ -110,10 +98,10 @@ impl Tally {
         let left = any(&|pair| pair.left.is_empty() && !pair.right.is_empty());
         let right = any(&|pair| !pair.left.is_empty() && pair.right.is_empty());
         let both = any(&|pair| pair.left.is_empty() && pair.right.is_empty());
-        self.meet(19, &[left, right, both && all.len() > 1]);
-        self.meet(22, &[any(&|pair| pair.left.len() > 4096), any(&|pair| pair.right.len() > 4096)]);
+        self.cases.meet(19, &[left, right, both && all.len() > 1]);
+        self.cases.meet(22, &[any(&|pair| pair.left.len() > 4096), any(&|pair| pair.right.len() > 4096)]);
         let fewer = any(&|pair| !pair.left.is_empty() && pair.held < pair.right.len());
-        self.meet(24, &[any(&|pair| pair.held > 4096), fewer]);
+        self.cases.meet(24, &[any(&|pair| pair.held > 4096), fewer]);
     }
 
     /// Counts a call that is accepted.
@@ -122,12 +110,12 @@ impl Tally {
         self.tables(o, tables);
         self.parts(all);
         let Needs { areas, output } = pairs::needs(o, all);
-        self.meet(26, &[call.areas == areas && call.output == output, call.output > output]);
+        self.cases.meet(26, &[call.areas == areas && call.output == output, call.output > output]);
     }
 
     /// Counts a call that is refused.
     fn refused(&mut self, call: &Pairs, why: Reason, needs: Option<Needs>) {
-        self.refused[why as usize] += 1;
+        self.cases.refuse(why as usize);
         let many = call.boundaries.first().copied().unwrap_or(0);
         let limit = matches!(why, Reason::Many | Reason::Boundaries) && many >= 4096;
         let short = needs.is_some_and(|needs| match why {
@@ -135,37 +123,23 @@ impl Tally {
             Reason::RightArea => call.areas[1] + 1 == needs.areas[1],
             _ => call.output + 1 == needs.output,
         });
-        self.meet(28, &[why == Reason::Many && many == 17, limit, short]);
-    }
-
-    /// All cases with how often each was met.
-    fn all(&self) -> impl Iterator<Item = (&str, u64)> {
-        CASES.into_iter().zip(self.met).chain(APART.into_iter().zip(self.apart))
-    }
-
-    /// What the run never met, though it is made to.
-    fn missing(&self) -> Option<String> {
-        let none = self.all().find(|(_, n)| *n == 0).map(|(what, _)| what.to_string());
-        let refused = Reason::ALL.iter().zip(self.refused).find(|(_, n)| *n == 0);
-        none.or(refused.map(|((_, number, what), _)| format!("refusals by {number} for {what}")))
-    }
-
-    /// The counts on one line.
-    fn line(&self) -> String {
-        let met: Vec<String> = self.all().map(|(what, n)| format!("{n} {what}")).collect();
-        let refused =
-            Reason::ALL.iter().zip(self.refused).map(|((_, number, what), n)| format!("{number} ({what}) {n}"));
-        let (refused, parts) = (refused.collect::<Vec<_>>(), format!("{} pairs, {} rows", self.pairs, self.rows));
-        format!("{} inputs, {} ({parts}); refused by {}", self.inputs, met.join(", "), refused.join(", "))
+        self.cases.meet(28, &[why == Reason::Many && many == 17, limit, short]);
     }
 }
 
-/// The port's answer to a call, which must alter nothing but what it writes.
+impl cases::Tally for Tally {
+    fn missing(&self) -> Option<String> {
+        self.cases.missing().filter(|_| self.cases.inputs >= ALL_MET)
+    }
+
+    fn line(&self) -> String {
+        self.cases.line(&format!(" ({} pairs, {} rows)", self.pairs, self.rows))
+    }
+}
+
+/// A port's answer to a call.
 fn asked(o: &Options, call: Call) -> Result<Answer, String> {
-    let mut port = Port::default();
-    port.call(&Call::Options(o.clone()));
-    let said = port.call(&call);
-    port.wrong().map_or(Ok(said), |wrong| Err(wrong.to_string()))
+    cases::asked(&mut Port::default(), o, &call)
 }
 
 /// The first figure of the pair's plan by the port: it must be the one that is counted from the rows.
@@ -223,20 +197,18 @@ fn apart(o: &Options, call: &Pairs, all: &[Pair], tally: &mut Tally) -> Result<(
     }
     tally.pairs += all.len() as u64;
     tally.rows += written[0] as u64;
-    let met = [true, all.len() > 1, left > 0, right > 0, true];
-    (0..met.len()).for_each(|i| tally.apart[i] += met[i] as u64);
+    tally.cases.meet(APART, &[true, all.len() > 1, left > 0, right > 0, true]);
     Ok(())
 }
 
 /// The port's answer to a call must be the one that is due.
 fn same(o: &Options, call: &Pairs, due: Answer) -> Result<(), String> {
-    let said = asked(o, Call::Pairs(call.clone()))?;
-    if said == due { Ok(()) } else { Err(format!("the port says {said}, the plain reading says {due}")) }
+    cases::same(&mut Port::default(), o, &Call::Pairs(call.clone()), &due)
 }
 
 /// Runs a call through the port and the plain reading; and through the second judging, if its tables and boundaries are fine.
 fn one(o: &Options, call: &Pairs, tally: &mut Tally) -> Result<(), String> {
-    tally.inputs += 1;
+    tally.cases.inputs += 1;
     let tables = match pairs::judged(o, call) {
         Ok(tables) => tables,
         Err(why) => {
@@ -261,23 +233,9 @@ fn one(o: &Options, call: &Pairs, tally: &mut Tally) -> Result<(), String> {
 
 /// Runs COUNT inputs; whether there was no difference and, in a run that is long enough, everything was met.
 pub fn compare_all(seed: u64, count: u64) -> bool {
-    let (start, mut tally, mut told) = (Instant::now(), Tally::default(), 0);
-    for number in 0..count {
+    let tally = Tally { cases: Cases::with_reasons(&CASES, &Reason::ALL), pairs: 0, rows: 0 };
+    cases::compare("cuts", tally, numbered(seed, count), |number, tally| {
         let (o, call) = generate_pairs::cut(seed, number);
-        let said = std::panic::catch_unwind(std::panic::AssertUnwindSafe(|| one(&o, &call, &mut tally)));
-        let said = said.unwrap_or_else(|_| Err("a call was answered otherwise than it is due".to_string()));
-        if let Err(why) = said {
-            println!("DIFFERENCE cut, seed {seed}, input {number}: {why}\n    {}\n    {call}", Call::Options(o));
-            told += 1;
-        }
-        if told == TOLD {
-            println!("{TOLD} differences: no more are looked for");
-            break;
-        }
-    }
-    let missing = tally.missing().filter(|_| told == 0 && count >= ALL_MET);
-    missing.iter().for_each(|what| println!("FAIL {what}: none in the whole run"));
-    let time = start.elapsed().as_secs_f64();
-    println!("compared cuts with the port: {}; {told} differences ({time:.1} s)", tally.line());
-    told == 0 && missing.is_none()
+        caught(|| one(&o, &call, tally)).map_err(|why| shown(why, &o, &call))
+    })
 }

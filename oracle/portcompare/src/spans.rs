@@ -1,6 +1,6 @@
 //! SCOPE 19, points in intervals: random inputs through the port, the plain reading and the Rust, and making one that differs
 //! small.
-use std::time::{Duration, Instant};
+use std::time::Duration;
 
 use judges::generate_spans::{all_short, input};
 use judges::script::{Call, Judge, Spans};
@@ -9,7 +9,8 @@ use oracle::range::Ways;
 use oracle::spans::{Tally, short, with_rust};
 use port::Port;
 
-use crate::TOLD;
+use crate::cases::{self, compare, numbered};
+use crate::less::{parts, smallest, without_rows};
 
 /// How long a differing input is made smaller.
 const SPENT: Duration = Duration::from_secs(5);
@@ -35,22 +36,6 @@ fn rows(words: &[i64], columns: usize) -> usize {
     if whole { *n as usize } else { 0 }
 }
 
-/// The table without so many rows from one on.
-fn without_rows(words: &[i64], from: usize, count: usize) -> Vec<i64> {
-    let (n, c) = (words[0] as usize, words[1] as usize);
-    let keep = |at: &usize| !(from..from + count).contains(&((at % (n * c)) / c));
-    let cells = (0..2 * n * c).filter(keep).map(|at| words[2 + at]);
-    [(n - count) as i64, c as i64].into_iter().chain(cells).collect()
-}
-
-/// Parts of so many rows, long ones first: halves, quarters and on, to single rows. Each is where it begins and how long it
-/// is.
-pub fn parts(rows: usize) -> impl Iterator<Item = (usize, usize)> {
-    let lengths = std::iter::successors(Some(rows.div_ceil(2)), |n| (*n > 1).then(|| n / 2));
-    let lengths = lengths.take_while(|n| *n > 0);
-    lengths.flat_map(move |n| (0..rows).step_by(n).map(move |from| (from, n.min(rows - from))))
-}
-
 /// How many words the output is longer than its table, or shorter; none where there is no table.
 fn spare(call: &Spans) -> Option<i64> {
     spans::table(call).ok().map(|words| call.output as i64 - words.len() as i64)
@@ -72,39 +57,25 @@ fn smaller(call: &Spans) -> impl Iterator<Item = Spans> {
     points.chain(intervals.map(less)).map(move |less| with_spare(less, spare))
 }
 
-/// An input that still differs and that no row can be taken from, with how it differs; or the smallest that is found in the
-/// time that is spent on it.
-fn smallest(call: &Spans) -> (Spans, String) {
-    let (start, differs) = (Instant::now(), |call: &Spans| run(call, &mut Tally::default()).err());
-    let less = |call: &Spans| {
-        let mut tried = smaller(call).take_while(|_| start.elapsed() < SPENT);
-        tried.find_map(|less| differs(&less).map(|why| (less, why)))
-    };
-    let (mut call, mut why) = (call.clone(), differs(call).unwrap_or_default());
-    while let Some((less, new)) = less(&call) {
-        (call, why) = (less, new);
+impl cases::Tally for Tally {
+    fn missing(&self) -> Option<String> {
+        self.missing()
     }
-    (call, why)
+
+    fn line(&self) -> String {
+        self.to_string()
+    }
 }
 
 /// Runs all short inputs and COUNT random ones; whether there was no difference and everything was met.
 pub fn compare_all(seed: u64, count: u64) -> bool {
-    let start = Instant::now();
-    let (mut tally, mut told) = (Tally::default(), 0);
-    let random = (0..count).map(|i| (format!("seed {seed}, input {i}"), input(seed, i)));
-    for (name, call) in all_short().map(|call| ("short input".to_string(), call)).chain(random) {
-        if run(&call, &mut tally).is_err() {
-            let (call, why) = smallest(&call);
-            println!("DIFFERENCE spans, {name}: {why}\n    {call}");
-            told += 1;
-        }
-        if told == TOLD {
-            println!("{TOLD} differences: no more are looked for");
-            break;
-        }
-    }
-    let missing = tally.missing().filter(|_| told == 0);
-    missing.iter().for_each(|what| println!("FAIL {what}: none in the whole run"));
-    println!("compared spans with the port: {tally}; {told} differences ({:.1} s)", start.elapsed().as_secs_f64());
-    told == 0 && missing.is_none()
+    let random = numbered(seed, count).map(|(name, number)| (name, input(seed, number)));
+    let inputs = all_short().map(|call| ("short input".to_string(), call)).chain(random);
+    compare("spans", Tally::default(), inputs, |call, tally| {
+        run(&call, tally).map_err(|_| {
+            let differs = |call: &Spans| run(call, &mut Tally::default()).err();
+            let (call, why) = smallest(call.clone(), SPENT, |call| Box::new(smaller(call)), differs);
+            format!("{why}\n    {call}")
+        })
+    })
 }

@@ -1,18 +1,16 @@
 //! SCOPE 19.29 to 19.33, takings: random calls through the port and the plain reading; and random trees of calls, each in two orders
 //! through the port, beside the sums of all that went into them.
-use std::time::Instant;
-
 use judges::generate_takings::{self, Step, Tree};
-use judges::script::{Adding, Answer, Call, Joining, Judge, Options};
+use judges::script::{Adding, Answer, Call, Joining, Options};
 use judges::takings::{self, AMOUNT, Added, Reason, SALES, Sums};
 use port::Port;
 
-use crate::TOLD;
+use crate::cases::{self, Cases, caught, numbered};
 
 /// One input of so many has a sale beside it that is doubled up to the most that there can be.
 const EVERY: u64 = 100;
 
-/// What a run must have met; each with how often it did.
+/// What a run must have met.
 const CASES: [&str; 31] = [
     "added",
     "to a row that was there",
@@ -47,30 +45,22 @@ const CASES: [&str; 31] = [
     "of them refused with one more",
 ];
 
-/// What a run had in it, so that one that tests nothing is seen.
-#[derive(Default)]
+/// What a run had in it.
 struct Tally {
-    inputs: u64,
+    cases: Cases,
     /// Calls of trees, and sales that they were given.
     calls: u64,
     sales: u64,
-    met: [u64; CASES.len()],
-    refused: [u64; Reason::ALL.len()],
 }
 
 impl Tally {
-    /// Counts these cases, from one on.
-    fn meet(&mut self, from: usize, is: &[bool]) {
-        is.iter().enumerate().for_each(|(i, is)| self.met[from + i] += *is as u64);
-    }
-
     /// Counts what is written for any call.
     fn written(&mut self, o: &Options, sums: &Sums, output: usize) {
         let limit = |total: &i128, count: &i128| total.abs() == count * AMOUNT as i128;
         let needed = 2 + 2 * sums.rows.len() * (o.b + 2);
-        self.meet(21, &[sums.rows.values().any(|(_, total, count)| limit(total, count))]);
-        self.meet(22, &[sums.sales() == SALES as i128, sums.number == SALES as i128]);
-        self.meet(24, &[output == needed, output > needed]);
+        self.cases.meet(21, &[sums.rows.values().any(|(_, total, count)| limit(total, count))]);
+        self.cases.meet(22, &[sums.sales() == SALES as i128, sums.number == SALES as i128]);
+        self.cases.meet(24, &[output == needed, output > needed]);
     }
 
     /// Counts an adding that is accepted.
@@ -79,43 +69,37 @@ impl Tally {
         let there = |group: &Vec<Option<i64>>| added.rows.iter().any(|row| row[..o.b] == group[..]);
         let stays = added.rows.iter().any(|row| groups.iter().all(|group| row[..o.b] != group[..]));
         let (old, new) = (groups.iter().any(|group| there(group)), groups.iter().any(|group| !there(group)));
-        self.meet(0, &[true, old, new, stays, added.sales.iter().any(|sale| sale.amount.is_none())]);
+        self.cases.meet(0, &[true, old, new, stays, added.sales.iter().any(|sale| sale.amount.is_none())]);
         let rows = |words: &[i64], columns: usize| judges::books::table_rows(columns, words).expect("a frame");
         let (left, answers) = (rows(&call.left, o.b + 1), rows(&call.answers, call.answers[1] as usize));
         let far = |row: &Vec<Option<i64>>| row[0].is_none() && row[1].is_some_and(|a| a.unsigned_abs() > AMOUNT as u64);
-        self.meet(5, &[answers.iter().any(|row| row[0].is_none()), answers.iter().any(far)]);
+        self.cases.meet(5, &[answers.iter().any(|row| row[0].is_none()), answers.iter().any(far)]);
         let null = left.iter().zip(&answers).any(|(row, answer)| answer[0].is_some() && row[..o.b].contains(&None));
         let amount = |of: i64| added.sales.iter().any(|sale| sale.amount == Some(of));
-        self.meet(7, &[null, amount(AMOUNT), amount(-AMOUNT), o.b == 0 && !groups.is_empty()]);
+        self.cases.meet(7, &[null, amount(AMOUNT), amount(-AMOUNT), o.b == 0 && !groups.is_empty()]);
         let distance = call.answers[1] as u64 == o.carried + 2;
         let full = |is: bool| is && !groups.is_empty();
-        self.meet(11, &[full(!distance), full(distance), full(o.carried > 1)]);
-        self.meet(14, &[full(o.descending.contains(&true)), full(o.ranks.given)]);
+        self.cases.meet(11, &[full(!distance), full(distance), full(o.carried > 1)]);
+        self.cases.meet(14, &[full(o.descending.contains(&true)), full(o.ranks.given)]);
         let places = |group: &&Vec<Option<i64>>| judges::whole_table::group_places(o, group).collect::<Vec<_>>();
         let falls = groups.windows(2).any(|two| places(&two[0]) > places(&two[1]));
-        self.meet(16, &[falls, added.sales.len() > 2500, added.rows.len() > 4096]);
+        self.cases.meet(16, &[falls, added.sales.len() > 2500, added.rows.len() > 4096]);
     }
 
     /// Counts a refusal; whether the output is one word short is told.
     fn refused(&mut self, why: Reason, short: bool) {
-        self.refused[why as usize] += 1;
-        self.meet(26, &[short]);
+        self.cases.refuse(why as usize);
+        self.cases.meet(26, &[short]);
     }
+}
 
-    /// What the run never met, though it is made to.
+impl cases::Tally for Tally {
     fn missing(&self) -> Option<String> {
-        let none = CASES.iter().zip(self.met).find(|(_, n)| *n == 0).map(|(what, _)| what.to_string());
-        let refused = Reason::ALL.iter().zip(self.refused).find(|(_, n)| *n == 0);
-        none.or(refused.map(|((_, number, what), _)| format!("refusals by {number} for {what}")))
+        self.cases.missing()
     }
 
-    /// The counts on one line.
     fn line(&self) -> String {
-        let met: Vec<String> = CASES.iter().zip(self.met).map(|(what, n)| format!("{n} {what}")).collect();
-        let refused =
-            Reason::ALL.iter().zip(self.refused).map(|((_, number, what), n)| format!("{number} ({what}) {n}"));
-        let (refused, trees) = (refused.collect::<Vec<_>>(), format!("{} calls, {} sales", self.calls, self.sales));
-        format!("{} inputs, {} (trees: {trees}); refused by {}", self.inputs, met.join(", "), refused.join(", "))
+        self.cases.line(&format!(" (trees: {} calls, {} sales)", self.calls, self.sales))
     }
 }
 
@@ -126,12 +110,8 @@ fn asked(port: &mut Port, o: &Options, call: &Call) -> Result<Answer, String> {
         Call::TakingsJoin(call) => takings::join(o, call),
         _ => unreachable!(),
     };
-    port.call(&Call::Options(o.clone()));
-    let said = port.call(call);
-    if said != due {
-        return Err(format!("the port says {said}, the plain reading says {due}: {call}"));
-    }
-    port.wrong().map_or(Ok(said), |wrong| Err(format!("{wrong}: {call}")))
+    cases::same(port, o, call, &due).map_err(|why| format!("{why}: {call}"))?;
+    Ok(due)
 }
 
 /// Runs an adding.
@@ -153,7 +133,7 @@ fn one_joined(o: &Options, call: &Joining, tally: &mut Tally) -> Result<(), Stri
     asked(&mut Port::default(), o, &Call::TakingsJoin(call.clone()))?;
     match takings::joined(o, call) {
         Ok((tables, sums)) if call.output >= sums.words(o).1.len() => {
-            tally.meet(19, &[true, sums.rows.len() < tables[0].len() + tables[1].len()]);
+            tally.cases.meet(19, &[true, sums.rows.len() < tables[0].len() + tables[1].len()]);
             tally.written(o, &sums, call.output);
         },
         Ok((_, sums)) => tally.refused(Reason::Short, call.output + 1 == sums.words(o).1.len()),
@@ -224,7 +204,7 @@ fn whole(o: &Options, tree: &Tree, tally: &mut Tally) -> Sums {
 /// Runs a tree in both orders: each gives the sums, or, where there are more sales than can be, is refused.
 fn one_tree(o: &Options, tree: &Tree, tally: &mut Tally) -> Result<(), String> {
     let gave = [given(o, tree, 0, tally)?, given(o, tree, 1, tally)?];
-    tally.meet(27, &[true, gave.contains(&None)]);
+    tally.cases.meet(27, &[true, gave.contains(&None)]);
     let sums = whole(o, tree, tally);
     let whole = (sums.sales() <= SALES as i128).then(|| sums.words(o)).map(|(number, words)| (words, number));
     if gave[0] != whole || gave[1] != whole {
@@ -256,13 +236,13 @@ fn doubled(o: &Options, tally: &mut Tally) -> Result<(), String> {
     let Answer::Took(0, table) = said else { return Err(format!("doubling was answered {said}")) };
     let full = table[2 + o.b] == SALES * AMOUNT && table[3 + o.b] == SALES;
     let more = asked(&mut port, o, &add(table, 0))?;
-    tally.meet(29, &[full, more == Answer::Refused(15)]);
+    tally.cases.meet(29, &[full, more == Answer::Refused(15)]);
     if full && more == Answer::Refused(15) { Ok(()) } else { Err(format!("one sale more was answered {more}")) }
 }
 
 /// An input: an adding or a joining in turn, a tree, and beside one in a hundred a sale that is doubled.
 fn input(seed: u64, number: u64, tally: &mut Tally) -> Result<(), String> {
-    tally.inputs += 1;
+    tally.cases.inputs += 1;
     let (o, said) = if number % 2 == 0 {
         let (o, call) = generate_takings::adding(seed, number);
         let said = one_added(&o, &call, tally);
@@ -281,21 +261,6 @@ fn input(seed: u64, number: u64, tally: &mut Tally) -> Result<(), String> {
 
 /// Runs COUNT inputs; whether there was no difference and everything was met.
 pub fn compare_all(seed: u64, count: u64) -> bool {
-    let (start, mut tally, mut told) = (Instant::now(), Tally::default(), 0);
-    for number in 0..count {
-        let said = std::panic::catch_unwind(std::panic::AssertUnwindSafe(|| input(seed, number, &mut tally)));
-        if let Err(why) = said.unwrap_or_else(|_| Err("a judge panicked".to_string())) {
-            println!("DIFFERENCE takings, seed {seed}, input {number}: {why}");
-            told += 1;
-        }
-        if told == TOLD {
-            println!("{TOLD} differences: no more are looked for");
-            break;
-        }
-    }
-    let missing = tally.missing().filter(|_| told == 0);
-    missing.iter().for_each(|what| println!("FAIL {what}: none in the whole run"));
-    let time = start.elapsed().as_secs_f64();
-    println!("compared takings with the port: {}; {told} differences ({time:.1} s)", tally.line());
-    told == 0 && missing.is_none()
+    let tally = Tally { cases: Cases::with_reasons(&CASES, &Reason::ALL), calls: 0, sales: 0 };
+    cases::compare("takings", tally, numbered(seed, count), |number, tally| caught(|| input(seed, number, tally)))
 }
