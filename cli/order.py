@@ -65,6 +65,10 @@ class Order:
         """For each row of these columns what it is compared by: of two rows the one with the smaller rank comes first."""
         return list(zip(*(self.comparable(place, cells) for place, cells in enumerate(columns))))
 
+    def rank(self, cells):
+        """What one row of these cells is compared by."""
+        return tuple(self.comparable(place, (cell,))[0] for place, cell in enumerate(cells))
+
     def in_order(self, columns):
         """Whether the rows of these columns are sorted. Where nothing but numbers or texts that rise is there, a row can be out of
         order only where some column falls: those rows alone are looked at."""
