@@ -1,5 +1,6 @@
 """Amounts in cells: whole numbers, or with so many places behind the point or the comma. The library adds them as whole numbers of the
 smallest piece, as cents."""
+import contextlib
 import re
 from array import array
 
@@ -47,8 +48,10 @@ class Amounts:
         return value
 
     def column(self, source, block, name):
-        """The amounts of a block's rows: values and marks."""
+        """The amounts of a block's rows: values and marks. At once if all were met before and none is empty."""
         cells, = block.columns([source.place(name)], source.width)
+        with contextlib.suppress(KeyError, TypeError):
+            return array('q', map(self.known.__getitem__, cells)), None
         if len(self.known) > REMEMBERED:
             self.known.clear()
         for cell in dict.fromkeys(cells):
