@@ -93,7 +93,7 @@ class Waiting:
 
     def take(self, count):
         """The first rows, so many, which wait no longer: their compared columns, and what else is known of them."""
-        found = [column[:count] for column in self.columns]
+        found = self.columns if count == len(self) else [column[:count] for column in self.columns]
         self.columns = [column[count:] for column in self.columns]
         return list(zip(found[:self.width:2], found[1:self.width:2])), found[self.width:]
 
@@ -205,6 +205,14 @@ class InOrder:
         self.file.close()
 
 
+def keep_told(kept, numbers, lines, found):
+    """Keeps what the library told of rows of these numbers and lines, some at a time, since a part may be long."""
+    for first in range(0, len(numbers), ROWS):
+        rows = slice(first, first + ROWS)
+        kept.add(numbers[rows], [STOOD if stands else UNKNOWN if last < 0 else b'%d' % lines[last]
+                                 for stands, last in zip(bytes(found.stands[rows]), found.last[rows].tolist())])
+
+
 class Notices:
     """The notices of one book: which of them stand, by their places in the file."""
 
@@ -260,8 +268,7 @@ class Notices:
         kept = self.run.stack.enter_context(contextlib.closing(Placed(rows_of(table)) if sort else InOrder()))
         for columns, (numbers, lines, flags) in self.parts(order, self.by_sorting(order, table) if sort else self.read(table)):
             found = called(rowkeeper.standing, order, frame_words([*columns, (flags, None)], 0, len(numbers)), 0)
-            kept.add(numbers, [STOOD if stands else UNKNOWN if last < 0 else b'%d' % lines[last]
-                               for stands, last in zip(bytes(found.stands), found.last.tolist())])
+            keep_told(kept, numbers, lines, found)
         return chain.from_iterable(kept.sorted())
 
     def written(self, block, found):
