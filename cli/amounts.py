@@ -1,10 +1,11 @@
 """Amounts in cells: whole numbers, or with so many places behind the point or the comma. The library adds them as whole numbers of the
 smallest piece, as cents."""
+import contextlib
 import re
 from array import array
 
 from .cells import REMEMBERED, number, parted
-from .problem import Problem, at, quoted
+from .problem import Problem, quoted
 
 # The largest size of an amount, in pieces, and the most sales that takings count: the library's limits.
 MOST_AMOUNT, MOST_SALES = 10**9, 2**31
@@ -46,16 +47,17 @@ class Amounts:
             raise ValueError(f'{quoted(cell)} is beyond {self.text(MOST_AMOUNT)}, the largest amount')
         return value
 
-    def column(self, source, block, name):
-        """The amounts of a block's rows: values and marks."""
-        cells, = block.columns([source.place(name)], source.width)
+    def column(self, cells, place):
+        """The amounts in cells: values and marks. At once if all were met before and none is empty. `place` tells where a row stands."""
+        with contextlib.suppress(KeyError, TypeError):
+            return array('q', map(self.known.__getitem__, cells)), None
         if len(self.known) > REMEMBERED:
             self.known.clear()
         for cell in dict.fromkeys(cells):
             try:
                 self.known[cell] = self.known[cell] if cell in self.known else self.amount(cell)
             except ValueError as why:
-                raise Problem(f'{at(source.path, block.line(cells.index(cell)), name)}: {why}') from None
+                raise Problem(f'{place(cells.index(cell))}: {why}') from None
         found = list(map(self.known.__getitem__, cells))
         return parted(found if None in found else array('q', found))
 

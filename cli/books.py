@@ -1,26 +1,36 @@
-"""Books of notices, without sales: `rowkeeper merge` makes two of them one, `rowkeeper standing` tells which notices of one stand. Each is
-one call of the proved library over all rows; the text of rows is read again when it is written."""
+"""Books of notices, without sales: `rowkeeper merge` makes two of them one, `rowkeeper standing` tells which notices of one stand. Each hands
+its rows to the proved library in parts, cut where the answers of the parts, one behind the other, are those of the whole."""
 import contextlib
 from array import array
-from itertools import islice
+from itertools import chain, islice
 
 import rowkeeper
+from rowkeeper import library
 
 from .build import told
 from .cells import frame_words
+from .input import put as keep
+from .input import temporary
 from .joined import expected
 from .pricing import ROWS, free
 from .problem import Problem, at, named, quoted, say
 from .records import written
 from .run import Run
 from .sink import sink
-from .sorting import Side, Texts, encoded
+from .sorting import Placed, Side, decoded, encoded
+from .sorting import written as all_written
+
+# The rows of a book that are read for a part, at most.
+PART = ROWS
 
 # The columns that `standing --all` writes behind each notice, and what it writes where another column has their name.
 STANDS, LAST_LINE, PREFIX = 'stands', 'last_line', 'notice_'
 
 # What may stand in the column of --withdrawn, and whether it withdraws.
 FLAGS = {'': 0, '0': 0, '1': 1}
+
+# What is kept of a notice that stands, and of one that does not and has no last one; of the others it is the line of the last one.
+STOOD, UNKNOWN = b'', b'0'
 
 
 def texts(block, places, width, separator):
@@ -30,25 +40,62 @@ def texts(block, places, width, separator):
     return block.chosen(places, width, separator)
 
 
-class Columns:
-    """The compared columns of a whole book, each its values and its marks, and one column that is carried."""
+def pieces(pairs):
+    """Rows, their columns and what else is known of them, in pieces of at most a part; every column gets its marks."""
+    for columns, known in pairs:
+        ones = array('q', [1]) * len(known[0])
+        every = [*chain.from_iterable((values, ones if marks is None else marks) for values, marks in columns), *known]
+        for first in range(0, len(known[0]), PART):
+            yield [column[first:first + PART] for column in every]
 
-    def __init__(self, width):
-        self.columns = [(array('q'), array('q')) for _ in range(width + 1)]
 
-    def add(self, columns, carried):
-        """Takes rows: their columns, each values and marks or None, and what they carry."""
-        for (values, marks), (more, there) in zip(self.columns, [*columns, (carried, None)]):
-            values.extend(more)
-            marks.extend(array('q', [1]) * len(more) if there is None else there)
+class Waiting:
+    """A book in order, of which some rows wait to be handed in: their compared columns, values and marks in turn, and behind these what
+    else is known of each."""
+
+    def __init__(self, order, pairs):
+        self.order, self.pieces, self.width = order, pieces(pairs), 2 * len(order.columns)
+        self.columns = [*[array('q')] * self.width, []]
 
     def __len__(self):
-        """How many rows."""
-        return len(self.columns[0][0])
+        """How many rows wait."""
+        return len(self.columns[0])
 
-    def words(self):
-        """The book as the library's table."""
-        return frame_words(self.columns, 0, len(self))
+    def more(self):
+        """Reads on; whether there was anything."""
+        piece = next(self.pieces, None)
+        if piece is None:
+            return False
+        if not len(self):
+            self.columns = piece
+            return True
+        for column, new in zip(self.columns, piece):
+            column += new
+        return True
+
+    def rank(self, row):
+        """What a row is compared by."""
+        cells = [column[row] for column in self.columns[:self.width]]
+        return self.order.rank([value if mark else None for value, mark in zip(cells[::2], cells[1::2])])
+
+    def is_known(self, row):
+        """Whether a row has no null."""
+        return all(marks[row] for marks in self.columns[1:self.width:2])
+
+    def place(self, rank, behind):
+        """How many rows come before those of this rank, or are not behind them."""
+        low, high = 0, len(self)
+        while low < high:
+            middle = (low + high) // 2
+            here = self.rank(middle)
+            low, high = (middle + 1, high) if here < rank or behind and here == rank else (low, middle)
+        return low
+
+    def take(self, count):
+        """The first rows, so many, which wait no longer: their compared columns, and what else is known of them."""
+        found = self.columns if count == len(self) else [column[:count] for column in self.columns]
+        self.columns = [column[count:] for column in self.columns]
+        return list(zip(found[:self.width:2], found[1:self.width:2])), found[self.width:]
 
 
 def called(call, order, *given):
@@ -58,38 +105,43 @@ def called(call, order, *given):
                                  ranks=order.ranks))
 
 
-class Book:
-    """One of the books to be merged: its columns in order, each row with its number from `first` on, and the texts in that order."""
+def book_of(run, table, places, separator):
+    """One of the books to be merged: its rows in order, with their texts. With --sort it is read to its end here."""
+    how, order = (places, len(places), separator), run.kinds.coded_order()
+    if not run.args.sort:
+        return Waiting(order, ((columns, [texts(block, *how)]) for block, columns in table.pairs()))
+    side = Side(order, table, 1, tails=True)
+    run.stack.enter_context(contextlib.closing(side.sorter))
+    for block, columns in table.pairs():
+        side.take(columns, block.height, tails=encoded(texts(block, *how)))
+        run.show('sorting')()
+    side.sorter.rest()
+    return Waiting(order, ((columns, [decoded(rows.tails)]) for rows, columns in side.pairs(ROWS)))
 
-    def __init__(self, run, table, places, separator, first):
-        self.run, self.table, self.how = run, table, (places, len(places), separator)
-        self.order, self.columns = run.kinds.coded_order(), Columns(len(run.kinds.all()))
-        for _, columns in self.by_sorting() if run.args.sort else table.pairs(later=True):
-            height = len(columns[0][0])
-            self.columns.add(columns, array('q', range(first, first + height)))
-            first += height
 
-    def by_sorting(self):
-        """The rows sorted; their texts are kept meanwhile."""
-        close = lambda each: self.run.stack.enter_context(contextlib.closing(each))
-        self.kept, self.places, side = close(Texts()), [array('Q'), array('Q')], Side(self.order, self.table, 3)
-        close(side.sorter)
-        for block, columns in self.table.pairs():
-            side.take(columns, block.height, *self.kept.keep(encoded(texts(block, *self.how))))
-        self.kept.written()
-        for rows, columns in side.pairs(ROWS):
-            for place, more in zip(self.places, rows.known[1:]):
-                place.extend(more)
-            yield rows, columns
+def cut(house, festival):
+    """How many of the rows that wait in each book come before all others of both, those that are not read yet too: all of one book, and of
+    the other those that come before what follows in it. Of equal rows the house's come first: where both books wait with equal
+    rows at their ends, the festival's wait on. No part needs to grow for them."""
+    if not len(house) or not len(festival):
+        return len(house), len(festival)
+    last, other = house.rank(-1), festival.rank(-1)
+    if last <= other:
+        return len(house), festival.place(last, behind=False)
+    return house.place(other, behind=True), len(festival)
 
-    def texts(self):
-        """The text of each row, in order."""
-        if self.run.args.sort:
-            yield from (text.decode('utf-8') for text in map(self.kept.at, *self.places))
-            return
-        for block in self.table.again():
-            yield from texts(block, *self.how)
-            self.run.show('writing')()
+
+def merged(order, house, festival):
+    """The texts of both books' rows in the order of one, a part at a time."""
+    while any([len(book) or book.more() for book in (house, festival)]):
+        parts, first, found = [], 0, []
+        for book, count in zip((house, festival), cut(house, festival)):
+            columns, (lines,) = book.take(count)
+            parts.append(frame_words([*columns, (array('q', range(first, first + count)), None)], 0, count))
+            first, found = first + count, found + lines
+        table = called(rowkeeper.merge, order, *parts)
+        numbers = table.words[1 + table.columns:2 + first * table.columns:table.columns]
+        yield list(map(found.__getitem__, numbers))
 
 
 def places_in(house, festival):
@@ -109,6 +161,11 @@ def put(file, lines):
         file.write(''.join(f'{line}\n' for line in part).encode('utf-8'))
 
 
+def rows_of(table):
+    """How many rows a table has."""
+    return sum(height for _, height, _ in table.blocks)
+
+
 def merge(args):
     """Merges two books; how many rows came from each is told on standard error."""
     with contextlib.ExitStack() as stack:
@@ -116,37 +173,68 @@ def merge(args):
         house, festival = (run.source(path, args.left) for path in (args.house, args.festival))
         places = [list(range(house.width)), places_in(house, festival)]
         target, tables = sink(args.output, [args.house, args.festival]), run.judged()
-        books, rows = [], 0
-        for table, where in zip(tables, places):
-            books.append(Book(run, table, where, house.separator, rows))
-            rows += len(books[-1].columns)
-        merged = called(rowkeeper.merge, run.kinds.coded_order(), *(book.columns.words() for book in books))
-        first, numbers = len(books[0].columns), merged.words[1 + merged.columns:2 + rows * merged.columns:merged.columns]
-        of_house, of_festival = (book.texts() for book in books)
+        told(library.library)
+        books = [book_of(run, table, where, house.separator) for table, where in zip(tables, places)]
         file = run.begun(target)
         put(file, [written(house.header, house.separator)])
-        put(file, (next(of_house if number < first else of_festival) for number in numbers))
+        for lines in merged(run.kinds.coded_order(), *books):
+            put(file, lines)
+            run.show('writing')()
+    first, rows = rows_of(tables[0]), sum(map(rows_of, tables))
     say(f'{rows:,} notice{"" if rows == 1 else "s"}: {first:,} of {named(house.path)}, {rows - first:,} of {named(festival.path)}')
 
 
+class InOrder:
+    """Texts that come in their order, on their way through a temporary file; none has a line end."""
+
+    def __init__(self):
+        self.file = temporary()
+
+    def add(self, _, found):
+        """Takes texts; their places are the next ones."""
+        keep(self.file, b''.join(text + b'\n' for text in found))
+
+    def sorted(self):
+        """All texts, in lists."""
+        all_written(self.file)
+        self.file.seek(0)
+        yield from iter(lambda: [line[:-1] for line in islice(self.file, ROWS)], [])
+
+    def close(self):
+        """Gives the temporary file back."""
+        self.file.close()
+
+
+def keep_told(kept, numbers, lines, found):
+    """Keeps what the library told of rows of these numbers and lines, some at a time, since a part may be long."""
+    for first in range(0, len(numbers), ROWS):
+        rows = slice(first, first + ROWS)
+        kept.add(numbers[rows], [STOOD if stands else UNKNOWN if last < 0 else b'%d' % lines[last]
+                                 for stands, last in zip(bytes(found.stands[rows]), found.last[rows].tolist())])
+
+
 class Notices:
-    """The notices of one book: which of them stand, by their numbers in the file."""
+    """The notices of one book: which of them stand, by their places in the file."""
 
     def __init__(self, run, source, withdrawn):
         self.run, self.source = run, source
         self.place = None if withdrawn is None else source.place(withdrawn)
-        self.lines, self.numbers = array('q'), array('q')
+        self.rows = self.stand = 0
+        self.first = None
 
     def read(self, table):
-        """The rows of the file: their columns, how many they are, and which of them withdraw; their lines are kept."""
-        for block, columns in table.pairs():
-            self.lines.extend(map(block.line, range(block.height)))
-            yield columns, block.height, self.flags(block)
+        """The rows of the file: their columns; and of each its number, its line where that will be written, and whether it withdraws.
+        Their text is read only if it is looked at."""
+        number, lines = 0, self.run.args.all
+        for block, columns in table.pairs(later=self.place is None and not lines):
+            nothing = array('q', bytes(8 * block.height))
+            yield columns, [array('q', range(number, number + block.height)),
+                            array('q', map(block.line, range(block.height))) if lines else nothing,
+                            nothing if self.place is None else self.flags(block)]
+            number += block.height
 
     def flags(self, block):
         """1 for each row of a block that withdraws, else 0."""
-        if self.place is None:
-            return array('q', bytes(8 * block.height))
         cells, = block.columns([self.place], self.source.width)
         other = next((row for row, cell in enumerate(cells) if cell.strip() not in FLAGS), None)
         if other is not None:
@@ -154,38 +242,46 @@ class Notices:
                           'which withdraws, nor 0, nor an empty cell')
         return array('q', [FLAGS[cell.strip()] for cell in cells])
 
-    def book(self, table):
-        """The book in the library's order, with the number of each of its rows."""
-        order, found = self.run.kinds.coded_order(), Columns(len(self.run.kinds.all()))
-        if not self.run.args.sort:
-            for columns, _, flags in self.read(table):
-                found.add(columns, flags)
-            self.numbers = array('q', range(len(found)))
-            return found
-        side = Side(order, table, 2)
-        with contextlib.closing(side.sorter):
-            for columns, height, flags in self.read(table):
-                side.take(columns, height, array('Q', flags))
-            for rows, columns in side.pairs(ROWS):
-                self.numbers.extend(array('q', rows.known[0]))
-                found.add(columns, array('q', rows.known[1]))
-        return found
+    def by_sorting(self, order, table):
+        """The rows in the library's order."""
+        side = Side(order, table, 3)
+        self.run.stack.enter_context(contextlib.closing(side.sorter))
+        for columns, (numbers, lines, flags) in self.read(table):
+            side.take(columns, len(numbers), array('Q', lines), array('Q', flags))
+        side.sorter.rest()
+        return ((columns, [array('q', column) for column in rows.known]) for rows, columns in side.pairs(ROWS))
+
+    def parts(self, order, pairs):
+        """The rows in parts: each ends behind the last row of a group and key, and is longer where these have more rows. A row whose
+        group or key is not known has nothing to do with any other."""
+        waiting = Waiting(order, pairs)
+        while waiting.more():
+            count = waiting.place(waiting.rank(-1), behind=False) if waiting.is_known(-1) else len(waiting)
+            if count:
+                yield waiting.take(count)
+        if len(waiting):
+            yield waiting.take(len(waiting))
 
     def judge(self, table):
-        """Asks the library; `stands` and `last` are by the rows of the file, -1 where no row is the last."""
-        told_of = called(rowkeeper.standing, self.run.kinds.coded_order(), self.book(table).words(), 0)
-        self.stands, self.last = bytearray(len(self.numbers)), array('q', bytes(8 * len(self.numbers)))
-        for number, stands, last in zip(self.numbers, told_of.stands, told_of.last):
-            self.stands[number], self.last[number] = int(stands), self.numbers[last] if last >= 0 else -1
+        """Asks the library; what it tells of each row is kept by the rows of the file."""
+        order, sort = self.run.kinds.coded_order(), self.run.args.sort
+        kept = self.run.stack.enter_context(contextlib.closing(Placed(rows_of(table)) if sort else InOrder()))
+        for columns, (numbers, lines, flags) in self.parts(order, self.by_sorting(order, table) if sort else self.read(table)):
+            found = called(rowkeeper.standing, order, frame_words([*columns, (flags, None)], 0, len(numbers)), 0)
+            keep_told(kept, numbers, lines, found)
+        return chain.from_iterable(kept.sorted())
 
-    def written(self, block, first):
-        """What is written of a block that begins with this row: the notices that stand, or all with what is known of them."""
-        rows = range(first, first + block.height)
+    def written(self, block, found):
+        """What is written of a block, with what is known of its rows: the notices that stand, or all."""
+        missing = len(found) - found.count(STOOD)
+        self.rows, self.stand = self.rows + len(found), self.stand + len(found) - missing
+        if missing and self.first is None:
+            self.first = block.line(next(row for row, each in enumerate(found) if each != STOOD))
         if not self.run.args.all:
-            return [line for line, row in zip(block.lines, rows) if self.stands[row]]
+            return [line for line, each in zip(block.lines, found) if each == STOOD]
         sign = self.source.separator
-        return [f'{line}{sign}{"yes" if self.stands[row] else "no"}{sign}{"" if self.last[row] < 0 else self.lines[self.last[row]]}'
-                for line, row in zip(block.lines, rows)]
+        said = {STOOD: f'{sign}yes{sign}', UNKNOWN: f'{sign}no{sign}'}
+        return [line + (said.get(each) or f'{sign}no{sign}{each.decode("ascii")}') for line, each in zip(block.lines, found)]
 
     def header(self):
         """The names of the columns that are written."""
@@ -196,12 +292,12 @@ class Notices:
 
     def said(self):
         """How many notices stand, in words."""
-        rows, stand = len(self.stands), sum(self.stands)
+        rows, stand = self.rows, self.stand
         have = f'{stand:,} of {rows:,} notice{"" if rows == 1 else "s"} stand{"s" if stand == 1 else ""}'
         if stand == rows:
             return have
         many = f'{rows - stand:,} do{"es" if rows - stand == 1 else ""} not'
-        return f'{have}; {many}, {"it is" if rows - stand == 1 else "the first"} in line {self.lines[self.stands.index(0)]}'
+        return f'{have}; {many}, {"it is" if rows - stand == 1 else "the first"} in line {self.first}'
 
 
 def standing(args):
@@ -211,11 +307,10 @@ def standing(args):
         source = run.source(args.notices, args.left)
         notices, target = Notices(run, source, args.withdrawn), sink(args.output, [args.notices])
         table, = run.judged()
-        notices.judge(table)
-        file, first = run.begun(target), 0
+        told(library.library)
+        found, file = notices.judge(table), run.begun(target)
         put(file, [notices.header()])
         for block in table.again():
-            put(file, notices.written(block, first))
-            first += block.height
+            put(file, notices.written(block, list(islice(found, block.height))))
             run.show('writing')()
     say(notices.said())

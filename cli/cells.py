@@ -12,8 +12,9 @@ LEAST, MOST = -2**63, 2**63 - 1
 # The most digits that such a number has.
 DIGITS = 19
 
-# How often each cell of a column stands there where it is read once for all, and how many different times are remembered.
-OFTEN, REMEMBERED = 4, 20000
+# How often each cell of a column stands there where it is read once for all, the cells that are looked at first for that, and how many
+# different times are remembered.
+OFTEN, SAMPLE, REMEMBERED = 4, 64, 20000
 
 WHOLE = re.compile(r'([+-]?)0*([0-9]+)')
 
@@ -45,13 +46,14 @@ class Whole:
     def column(cells):
         """The numbers of a column, None for each null; ValueError where a cell is none. Python's own reader of numbers is taken
         where all cells are plain: it would take other things for numbers too."""
-        different = set(cells)
+        often = len(set(cells[:SAMPLE])) * OFTEN < SAMPLE
+        different = set(cells) if often else cells
         text = ''.join(different)
         if text.isascii() and '_' not in text:
             try:
-                if '' not in different and len(different) * OFTEN < len(cells):
+                if often and '' not in different and len(different) * OFTEN < len(cells):
                     return array('q', map({cell: int(cell) for cell in different}.__getitem__, cells))
-                if '' not in different:
+                with contextlib.suppress(ValueError):
                     return array('q', map(int, cells))
                 column = [int(cell) if cell else None for cell in cells]
                 array('q', filter(None, column))

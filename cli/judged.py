@@ -50,8 +50,8 @@ class Judged:
     def keep(self, block, columns):
         """Keeps the numbers of a block: texts by the order in which they are met."""
         nulls = []
-        for kind, column in zip(self.source.kinds.all(), columns):
-            values, marks = parted(kind.numbers(column) if isinstance(kind, Text) else column)
+        pairs = [parted(kind.numbers(column) if isinstance(kind, Text) else column) for kind, column in zip(self.source.kinds.all(), columns)]
+        for values, marks in pairs + [self.source.read_beside(block, cells) for cells in block.beside]:
             nulls.append(marks is not None)
             put(self.kept, values.tobytes() + (marks.tobytes() if marks is not None else b''))
         self.blocks.append(((block.passed, block.size, block.sum, block.text is not None), block.height, nulls))
@@ -75,11 +75,13 @@ class Judged:
             yield self.source.records.exactly(*how)
 
     def pairs(self, later=False):
-        """The blocks again, from the first on, each with its columns in numbers: values and marks; text by codes in text order.
+        """The blocks again, from the first on, each with its columns in numbers: values and marks; text by codes in text order. A column
+        that is kept beside the compared ones is the last.
         `later`: the text of a block is read when it is wanted."""
         self.start()
         self.kept.seek(0)
-        codes, place = [code and code.tolist() for code in self.source.kinds.codes()], self.source.header_size
+        codes, place = [code and code.tolist() for code in self.source.kinds.codes()][:len(self.source.places)], self.source.header_size
+        codes += [None] * len(self.source.beside)
         for how, height, nulls in self.blocks:
             columns = []
             for code, null in zip(codes, nulls):

@@ -9,9 +9,9 @@ BELOW, ABOVE = -2**64, 2**64
 SHOWN = 8
 
 
-def before_next(column, compared):
-    """The rows of a column, from 0, that compare so with the row behind them."""
-    return compress(count(), map(compared, column, islice(column, 1, None)))
+def falls(cells):
+    """The rows of a column, from 0, that are greater than the row behind them."""
+    return compress(count(), map(operator.gt, cells, cells[1:]))
 
 
 class Order:
@@ -65,14 +65,22 @@ class Order:
         """For each row of these columns what it is compared by: of two rows the one with the smaller rank comes first."""
         return list(zip(*(self.comparable(place, cells) for place, cells in enumerate(columns))))
 
+    def rank(self, cells):
+        """What one row of these cells is compared by."""
+        return tuple(self.comparable(place, (cell,))[0] for place, cell in enumerate(cells))
+
     def in_order(self, columns):
-        """Whether the rows of these columns are sorted. Where nothing but numbers or texts that rise is there, a row can be out of
-        order only where some column falls: those rows alone are looked at."""
+        """Whether the rows of these columns are sorted. Where nothing but numbers or texts that rise is there, the first column must not
+        fall, which Python's sort sees at once, and a row can be out of order only where some other column falls: those rows alone are
+        looked at."""
         if not self.plain or any(isinstance(cells, list) and None in cells for cells in columns):
             ranks = self.ranks_of(columns)
             return all(map(operator.le, ranks, islice(ranks, 1, None)))
-        falls = (row for cells in columns for row in before_next(cells, operator.gt))
-        return all([cells[row] for cells in columns] <= [cells[row + 1] for cells in columns] for row in falls)
+        columns = [list(cells) for cells in columns]
+        if columns[0] != sorted(columns[0]):
+            return False
+        rows = (row for cells in columns[1:] for row in falls(cells))
+        return all([cells[row] for cells in columns] <= [cells[row + 1] for cells in columns] for row in rows)
 
     def fault(self, before, after):
         """The column by which the later of two rows should have come first, from 0; None where they are in order."""

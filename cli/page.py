@@ -158,7 +158,8 @@ WHICH NOTICES STAND
 
   Both commands take the options on columns (--on, --by), files, sorting and -o.
   With --sort a merged book comes out sorted, and the notices that stand come
-  out in their own order. Memory goes by the rows, about 200 bytes each.
+  out in their own order. Memory does not grow with the files; for standing it
+  does with the notices of one performance and minute, about 150 bytes each.
 
 WHICH PERFORMANCES A PASS COVERS
   rowkeeper passes PASSES.csv PERFORMANCES.csv --from valid_from \\

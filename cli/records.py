@@ -61,7 +61,7 @@ class Block:
         self.found_lines, self.found_rows = lines, rows
         self.quoted = text is None or QUOTE in text
         self.height = len(lines) if text is None else text.count('\n') + 1
-        self.passed, self.size, self.sum, self.number, self.texts = 0, 0, 0, 0, None
+        self.passed, self.size, self.sum, self.number, self.texts, self.beside = 0, 0, 0, 0, None, []
 
     @property
     def lines(self):

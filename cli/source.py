@@ -20,6 +20,8 @@ class Source:
         self.records, self.also = Records(source), also
         self.find_header([separator] if separator else SEPARATORS)
         self.width, self.counted = len(self.header), 0
+        # One more column of which the numbers are kept: where it stands, and what reads it from a block and its cells.
+        self.beside, self.read_beside = [], None
         self.restart()
 
     def restart(self):
@@ -88,7 +90,8 @@ class Source:
 
     def columns(self, block):
         """The compared columns of a block, by their kinds."""
-        cells = block.columns(self.places, self.width)
+        cells = block.columns([*self.places, *self.beside], self.width)
+        cells, block.beside = cells[:len(self.places)], cells[len(self.places):]
         if self.kinds.key is None:
             keys = enumerate(zip(*cells[len(self.kinds.by):]))
             row, cell = next(((row, cell) for row, each in keys for cell in each if cell.strip()), (None, None))

@@ -137,17 +137,27 @@ class Adding(Run):
         for name in (TOTAL, SALES):
             self.names.append(free(name, self.names, PREFIX))
         self.of_sales, self.of_notices = (self.source(*each) for each in ((args.sales, args.left), (args.notices, args.right)))
-        self.of_notices.place(args.amount)
+        self.of_notices.beside, self.of_notices.read_beside = [self.of_notices.place(args.amount)], self.amount
         self.subtotals = [Subtotal(self.source(path, args.left[:-1], ordered=False, also=self.names), self.names, self.amounts)
                           for path in args.add]
         self.target = sink(args.output, [args.sales, args.notices, *args.add])
         self.sales = self.matched = 0
-        self.first = None
+        self.first = self.wrong = None
+
+    def amount(self, block, cells):
+        """The amounts of a block's notices: values and marks. The first that cannot be read is told when both files have been found
+        right else."""
+        try:
+            return self.amounts.column(cells, lambda row: at(self.of_notices.path, block.line(row), self.args.amount))
+        except Problem as problem:
+            self.wrong = self.wrong or problem
+            return array('q', bytes(8 * len(cells))), None
 
     def priced(self, table):
         """The notices with their amounts as one column more."""
-        for block, columns in table.pairs():
-            yield block, [*columns, self.amounts.column(self.of_notices, block, self.args.amount)]
+        if self.wrong is not None:
+            raise self.wrong
+        yield from table.pairs(later=True)
 
     def side(self, table, known):
         """A table on its way through a sorter."""

@@ -1,4 +1,5 @@
 """merge and standing: random books against plain readings of them, files of every form, bad input."""
+import contextlib
 import csv
 import io
 import os
@@ -6,7 +7,11 @@ import random
 import subprocess
 import sys
 import unittest
+from unittest import mock
 
+import rowkeeper
+
+from ..build import ROOT
 from .command import PROGRAM, SEASON, Case, apart, within
 from .judge import in_order
 from .test_random import TABLES, Tables
@@ -121,6 +126,107 @@ class RandomBooks(Case):
             run = within(['merge', *paths, '--on', 'm', '--by', 'p', *more])
             self.assertEqual((run.status, run.out), (0, 'p,m,b\n' + wanted))
             self.assertIn('60,000 notices: 30,000 of ', run.err)
+
+
+# The command, which prints at its end the most memory that it had, in KB.
+MEASURED = '''
+import os, re, sys
+sys.path.insert(0, sys.argv[1])
+from cli.main import command
+command(sys.argv[2:])
+with open('/proc/self/status', encoding='ascii') as file:
+    print(re.search('VmHWM: *\\t* *([0-9]+) kB', file.read()).group(1))
+'''
+
+
+class Parts(Case):
+    """Books handed in part by part, and the same books whole."""
+
+    @contextlib.contextmanager
+    def parts_of(self, rows, heights, size=1 << 15):
+        """Has parts of so many rows of a book, and blocks of so many bytes; the rows of each book of each call go to `heights`."""
+        def counted(call):
+            """A call that is counted; words that are not a number are those of a book."""
+            def count(*given, **how):
+                """Counts, and calls."""
+                heights.append([words[0] for words in given if not isinstance(words, int)])
+                return call(*given, **how)
+            return count
+
+        with mock.patch('cli.books.PART', rows), mock.patch('cli.records.FIRST_BYTES', size), mock.patch('cli.records.FEWEST_BYTES', 1), \
+                mock.patch('cli.records.MOST_BYTES', size), mock.patch.object(rowkeeper, 'merge', counted(rowkeeper.merge)), \
+                mock.patch.object(rowkeeper, 'standing', counted(rowkeeper.standing)):
+            yield
+
+    def test_against_the_whole(self):
+        """Parts of 1, 2 and 3 rows, and blocks of a row each, give what one call gives, byte for byte: random books with nulls, equal rows
+        and withdrawn ones, in every order."""
+        whole, cut = [], []
+        for seed in range(TABLES // 15):
+            r = random.Random(seed)
+            books = Books(r)
+            paths = [self.file(name, books.book_text(book, books.names, r)) for name, book in zip(('h.csv', 'f.csv'), books.books)]
+            for words in (['merge', *paths], ['standing', paths[0], '--withdrawn', 'w', '--all'], ['standing', paths[1]]):
+                with self.parts_of(10**6, whole):
+                    wanted = within([*words, *books.options()])
+                self.assertEqual(wanted.status, 0, wanted.err)
+                for rows, size in ((1, 1), (1, 1 << 15), (2, 1 << 15), (3, 1 << 15)):
+                    with self.subTest(seed=seed, words=words[0], rows=rows), self.parts_of(rows, cut, size):
+                        run = within([*words, *books.options()])
+                    self.assertEqual((run.status, run.out, run.err), (0, wanted.out, wanted.err))
+        self.assertEqual(4 * sum(map(sum, whole)), sum(map(sum, cut)))
+        self.assertGreater(len(cut), 12 * len(whole))
+
+    def test_equal_rows(self):
+        """Where all rows are equal, those of a merge are cut all the same, the house's first; of standing notices they are one part, but those
+        without a minute are cut."""
+        same = self.file('same.csv', 'm,n\n' + ''.join(f'7,{number}\n' for number in range(20)))
+        none = self.file('none.csv', 'm,n\n' + ''.join(f',{number}\n' for number in range(20)))
+        heights = []
+        with self.parts_of(3, heights):
+            run = within(['merge', same, same, '--on', 'm'])
+        self.assertEqual(run.out, 'm,n\n' + ''.join(f'7,{number}\n' for number in range(20)) * 2)
+        self.assertEqual((sum(map(sum, heights)), max(map(max, heights))), (40, 3))
+        for path, height in ((same, [20]), (none, [3] * 6 + [2])):
+            del heights[:]
+            with self.parts_of(3, heights):
+                run = within(['standing', path, '--on', 'm', '--all'])
+            self.assertEqual([height for height, in heights], height)
+            self.assertEqual(run.err, f'rowkeeper: {int(path == same)} of 20 notices stand{"s" * (path == same)}; '
+                             f'{20 - int(path == same)} do not, the first in line 2\n')
+
+    def test_order_over_parts(self):
+        """A row that is out of order at the first place of a part, or of a block, is told, and nothing is written."""
+        good = self.file('good.csv', 'm\n' + ''.join(f'{number}\n' for number in range(12)))
+        for place in range(1, 12):
+            rows = [*range(place), place - 2, *range(place, 12)]
+            path = self.file('falls.csv', 'm\n' + ''.join(f'{number}\n' for number in rows))
+            for words in (['merge', good, path], ['merge', path, good], ['standing', path]):
+                with self.parts_of(3, [], 6):
+                    self.refused(within([*words, '--on', 'm']), f'{path}, line {place + 2}, column m: out of order: {place - 2} comes after')
+
+    def test_flags_before_rows(self):
+        """A cell of --withdrawn in the last row that is no flag is told before the first row is written."""
+        path = self.file('n.csv', 'm,w\n' + ''.join(f'{number},\n' for number in range(9999)) + '9999,x\n')
+        for more in ([], ['--sort'], ['--all']):
+            self.refused(apart(['standing', path, '--on', 'm', '--withdrawn', 'w', *more]), f"{path}, line 10001, column w: 'x' is neither")
+
+    def test_memory(self):
+        """It does not go by the rows: ten times as many take no more than what is sorted at once."""
+        r, paths = random.Random(1), []
+        for rows in (15000, 150000):
+            lines = sorted((r.randrange(50), r.randrange(rows // 50), number) for number in range(rows))
+            for sort in (False, True):
+                r.shuffle(lines) if sort else None
+                paths.append(self.file(f'{rows}{sort}.csv', 'p,m,n\n' + ''.join(f'{p:03},{m},"notice {n}"\n' for p, m, n in lines)))
+        for few, many, more, limit in ((paths[0], paths[2], [], 6000), (paths[1], paths[3], ['--sort'], 18000)):
+            for words in (['merge', None, None], ['standing', None, '--all'], ['standing', None]):
+                peaks = []
+                for path in (few, many):
+                    run = [path if word is None else word for word in words] + ['--on', 'm', '--by', 'p', '-o', os.devnull, *more]
+                    ran = subprocess.run([sys.executable, '-c', MEASURED, ROOT, *run], stdout=subprocess.PIPE, stderr=subprocess.PIPE)
+                    peaks.append(int(ran.stdout))
+                self.assertLess(peaks[1] - peaks[0], limit, words + more)
 
 
 class Season(Case):

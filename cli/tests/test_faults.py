@@ -1,15 +1,20 @@
 """What once went wrong around the join: each test has failed."""
 import hashlib
 import os
+import re
 import resource
 import shutil
 import signal
 import subprocess
 import sys
 import time
+from unittest import mock
+
+from rowkeeper.interface import MOST_ROWS
 
 from ..build import ROOT
 from ..page import PAGE
+from ..pricing import Matching
 from .command import PROGRAM, Case, apart, within
 
 ON = ('--on', 'minute', '--by', 'performance')
@@ -134,6 +139,37 @@ class Faults(Case):
         self.assertEqual((self.went_well(run), run.out), ([1, 1, None, None], 'm,notice_row,notice_m\n3,0,4\n'))
         run = within(['join', sales, notices, '--on', 'm'])
         self.assertEqual(self.went_well(run), [0, 1, 1, 3])
+
+    def work(self, rows, more):
+        """What a join of so many sales with as many notices, all of one key, counts: the sales that each frame was to have; and, as
+        --explain tells them, the rows and the frames of sales, the same of notices, and the turns of each kind."""
+        path, wanted, next_sales = self.file('k.csv', 'm\n' + '7\n' * rows), [], Matching.next_sales
+
+        def counted(matching):
+            """Hands in the next sales, counted."""
+            wanted.append(matching.heights.rows)
+            return next_sales(matching)
+
+        with mock.patch.object(Matching, 'next_sales', counted):
+            run = within(['join', path, path, '--on', 'm', '--explain', '-o', os.path.join(self.folder, 'o.csv'), *more])
+        self.assertEqual(run.status, 0, run.err)
+        told = dict(line.split(None, 1) for line in run.err.splitlines())
+        return wanted[:-1], [[int(each.replace(',', '')) for each in re.findall('[0-9][0-9,]*', told[name])]
+                             for name in ('sales', 'notices', 'turns')]
+
+    def test_many_notices_of_one_key(self):
+        """The work grows with the rows: every notice is handed in once, frames grow to full ones and stay full while all notices are
+        held, and the turns beyond those of the first frames are as many as the rows fill. All notices are held by the first frame."""
+        few, many, startup = 20000, 60000, 12
+        for more in ([], ['--sort']):
+            turns = []
+            for rows in (few, many):
+                wanted, (sales, notices, each) = self.work(rows, more)
+                self.assertEqual((sales[0], notices[0], notices[1]), (rows, rows, rows))
+                self.assertEqual(set(wanted[startup:]), {MOST_ROWS})
+                self.assertLess(max(sales[1] - startup, notices[2]), rows / (0.8 * MOST_ROWS) + 1)
+                turns.append(sum(each))
+            self.assertLess(turns[1] - turns[0], 3 * (many - few) / (0.8 * MOST_ROWS) + 3)
 
 
 def gone(pid):

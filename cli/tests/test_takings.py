@@ -223,6 +223,21 @@ class Faults(Case):
                 self.refuses([sales, path, '--by', 'p', *ON, '--decimals', places, *more], f'{path}, line 4, column price: ')
                 self.refuses([none, path, '--by', 'p', *ON, '--decimals', places, *more], said_of)
 
+    def test_amounts_come_last(self):
+        """Of a wrong amount and a fault in what is compared, or in a file that is added, the other one is told; and the amount where a
+        by-column turns out to be text, so that the files are read twice, or is the amount itself."""
+        sales, wrong = self.file('s.csv', 'p,m\n1,5\n'), 'p,m,price\n1,5,x\n'
+        added = self.file('t.csv', 'p,total,sales\n1,5,1\n')
+        for more, words, said_of in (('2,1,1\n1,6,1\n', [], 'line 4, column p: out of order'), ('2,1\n', [], 'line 3: columns: 2, but'),
+                                     ('2,y,1\n', [], "line 3, column m: 'y' is not a whole number"),
+                                     ('', ['--add', added], f'{added}: the last line of takings is missing'),
+                                     ('z,1,1\nz,2,w\n', [], "n.csv, line 2, column price: 'x' is not a whole number"),
+                                     ('z,1,1\nz,2,w\n', ['--sort'], "n.csv, line 2, column price: 'x' is not a whole number")):
+            path = self.file('n.csv', wrong + more)
+            self.refuses([sales, path, '--by', 'p', *ON, *words], said_of)
+        run = within(['takings', sales, sales, '--by', 'p', '--on', 'm', '--amount', 'm'])
+        self.assertEqual((run.status, run.out), (0, 'p,total,sales\n1,5,1\n,,0\n'))
+
     def test_added(self):
         """Files that are no takings."""
         sales, notices = self.file('s.csv', 'p,m\n1,5\n'), self.file('n.csv', 'p,m,price\n1,5,7\n')
