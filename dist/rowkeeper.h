@@ -210,8 +210,8 @@ typedef char rowkeeper_lengths_have_64_bits[sizeof(size_t) == 8 ? 1 : -1];
 /* ---- tools/interface writes: constants */
 /* The version that this header is of: as text, and as a number that grows from version to version
    (1,000,000 × major + 1,000 × minor + patch). */
-#define ROWKEEPER_VERSION "0.5.0"
-#define ROWKEEPER_VERSION_NUMBER 5000
+#define ROWKEEPER_VERSION "0.5.1"
+#define ROWKEEPER_VERSION_NUMBER 5001
 
 /* The rows that a frame can have at most. */
 #define ROWKEEPER_MOST_ROWS 4096
@@ -771,7 +771,7 @@ rowkeeper_written rowkeeper_join_cut(rowkeeper_options options, const int64_t *l
    Everything is judged before a word is written. What is handed in is only read in every case.
    A call passes table and frame, finds each sale's row by halving, the row of the sale before looked at first, and moves the rows
    behind a new group. With room for the table's rows and one for each row of the frame nothing else is done; with less, rows are
-   counted first, and a frame of many new groups in no order then costs the square of its rows. */
+   counted first: in one walk where sales come in group order, else by one or two halvings for each, with 8 KiB of the stack. */
 rowkeeper_taken rowkeeper_takings_add(rowkeeper_options options, const int64_t *table, size_t table_words,
                                       int64_t number, const int64_t *left, size_t left_words, const int64_t *answers,
                                       size_t answer_words, int64_t *out, size_t out_words);
