@@ -32,8 +32,9 @@ def edits_of(crate):
 
 
 # What the check says where a proof's text does not fit the edited program, and no fact is looked at: a name that is not there, a case that the
-# program no longer has, a definition that stands on one which was rejected.
-TEXT = re.compile(r"(?:record |module )?`[^`]*` (?:is not in scope|has no (?:field )?`|was not admitted)|write the equation's arguments")
+# program no longer has, a rewriting that finds no place, a definition that stands on one which was rejected.
+TEXT = re.compile(r"(?:record |module )?`[^`]*` (?:is not in scope|has no (?:field )?`|was not admitted)|write the equation's arguments"
+                  r"|`(?:rw|simp)`: no occurrence")
 
 
 def by_a_fact(said):
