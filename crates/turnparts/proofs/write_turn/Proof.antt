@@ -3,7 +3,7 @@ use denote.Ref.{now}
 use Rattle.frames.specs.Cells.{rowsOf}
 use Rattle.order.proofs.TermLaws.{rows-terms}
 use Rattle.turnrows.proofs.TermLaws.{remembered-terms, remembered-left-terms}
-use Rattle.turnparts.proofs.PartLaws.{kept-last, left-as}
+use Rattle.turnparts.proofs.PartLaws.{kept-last, answer-in, left-as}
 use borrow.Author.Needs.{needs}
 use Rattle.turnparts.proofs.write_turn.Statement.{statement}
 use Rattle.turnparts.proofs.write_turn.Tie as tie
@@ -21,7 +21,7 @@ add-number : tie.Need-add-number
 add-number c = search needs
 
 answer-turn-requires : tie.Need-answer-turn-requires
-answer-turn-requires c κs = (search needs, c .before .before .before .before .pre .in-order)
+answer-turn-requires c κs = let s = c .before .before .before .before in (answer-in (s .pre), s .pre .in-order)
 
 remembered-left-requires : tie.Need-remembered-left-requires
 remembered-left-requires c κs =
