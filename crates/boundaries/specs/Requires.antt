@@ -1,14 +1,11 @@
 -- What the functions of this crate ask of the words that they are handed. Assumes nothing.
 use mathlib.Core.Path.{_≡_}
-use mathlib.Core.Bool.{Bool, true, false, _||_}
-use mathlib.Core.List.{[], _∷_}
 use Prim.Native.Nat.{ℕ, _+_, _*_, _≤_}
 use lib.ListN.{length}
-use Rattle.frames.specs.Cells.{isZero, rowsOf, Words}
+use Rattle.frames.specs.Cells.{Words}
 use Rattle.options.specs.Options.{Few}
 use Rattle.options.specs.declared.Options.{Options}
-use Rattle.order.specs.Order.{sorted}
-use Rattle.order.specs.Requires.{RowsIn}
+use Rattle.order.specs.Requires.{TableIn}
 use Rattle.compare.specs.Requires.{GroupAt}
 
 -- n boundaries, of as many cells as there are by-columns, are all of these words.
@@ -17,17 +14,12 @@ pub record GroupsIn (o : Options) (n : ℕ) (gv gm : Words) : Type 0 where
   pub values : length gv ≡ n * o .by
   pub marks : length gm ≡ n * o .by
 
--- n sorted rows are there, each w wide.
-pub record TableIn (o : Options) (w n : ℕ) (vs ms : Words) : Type 0 where
-  pub rows : RowsIn o w n vs ms
-  pub in-order : sorted o (rowsOf w n vs ms) ≡ true
-
--- With a boundary's cells at place p.
+-- n sorted rows, each w wide, and a boundary's cells at place p.
 pub record CutIn (o : Options) (w n : ℕ) (vs ms : Words) (p : ℕ) (gv gm : Words) : Type 0 where
   pub table : TableIn o w n vs ms
   pub boundary : GroupAt o p gv gm
 
--- With k boundaries, and room for a table of k cells.
+-- n sorted rows, k boundaries, and room for a table of k cells.
 pub record PlacesIn (o : Options) (w n : ℕ) (vs ms : Words) (k : ℕ) (gv gm out : Words) : Type 0 where
   pub table : TableIn o w n vs ms
   pub boundaries : GroupsIn o k gv gm

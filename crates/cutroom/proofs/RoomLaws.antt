@@ -13,13 +13,13 @@ use Rattle.frames.specs.Cells.{Cell, Rows, Words, rowsOf, rowFrom}
 use Rattle.frames.proofs.WordLaws.{rows-length, rows-drop}
 use Rattle.options.specs.Options.{columns, rightColumns}
 use Rattle.options.specs.declared.Options.{Options}
+use Rattle.order.specs.Requires.{TableIn}
 use Rattle.order.proofs.RowLaws.{rest, rest-all, rest-more}
 use Rattle.order.proofs.SortedLaws.{sorted-take, sorted-drop}
 use Rattle.planning.specs.Plan.{plan}
 use Rattle.planning.specs.Heights.{fullHeights, fullFrames}
 use Rattle.planning.proofs.HeightLaws.{rows-take, rows-part}
 use Rattle.boundaries.specs.Boundaries.{cutAt}
-use Rattle.boundaries.specs.Requires.{TableIn}
 use Rattle.boundaries.proofs.PlaceLaws.{cut-within}
 use Rattle.cutpairs.specs.Cut.{Pair, before, behind, cutBy}
 use Rattle.cutpairs.specs.Driver.{wordsFor, tooShort, anyShort}

@@ -5,7 +5,8 @@ use lib.ListN.{length, drop}
 use Rattle.frames.specs.Cells.{Words, rowsOf}
 use Rattle.options.specs.Options.{columns, rightColumns}
 use Rattle.options.specs.declared.Options.{Options}
-use Rattle.boundaries.specs.Requires.{GroupsIn, TableIn}
+use Rattle.order.specs.Requires.{TableIn}
+use Rattle.boundaries.specs.Requires.{GroupsIn}
 use Rattle.cutpairs.specs.Cut.{Pair}
 
 -- n left rows, each c wide, and m right rows, each w wide.

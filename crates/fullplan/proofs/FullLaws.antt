@@ -11,7 +11,7 @@ use lib.ListN.{length, drop, replicate, length-append, length-replicate}
 use Rattle.frames.specs.Cells.{Rows, Words, rowsOf}
 use Rattle.frames.proofs.WordLaws.{rows-length}
 use Rattle.options.specs.declared.Options.{Options}
-use Rattle.boundaries.specs.Requires.{TableIn}
+use Rattle.order.specs.Requires.{TableIn}
 use Rattle.planning.specs.Heights.{total, fullHeights, fullFrames}
 use Rattle.planning.specs.Plan.{plan}
 use Rattle.planning.specs.declared.Figures.{Figures}

@@ -6,9 +6,9 @@ ghost use mathlib.Core.Path.{_≡_};
 ghost use Prim.Native.Nat.{suc, _+_, _<_, min};
 ghost use Rattle.options.specs.Options.{withList};
 ghost use Rattle.frames.specs.Cells.{rowsOf};
+ghost use Rattle.order.specs.Requires.{TableIn};
 ghost use Rattle.planning.specs.Plan.{plan};
 ghost use Rattle.planning.specs.Heights.{fullFrames};
-ghost use Rattle.boundaries.specs.Requires.{TableIn};
 ghost use Rattle.fullplan.specs.Full.{FullStands};
 
 // As many rows as a frame can have.

@@ -115,7 +115,7 @@ pub fn walk_run(
 const FEW: usize = 8;
 
 // Whether a run is one left row over few right rows: a scan is the shortest way then.
-fn is_short(from: usize, to: usize, at: usize, end: usize) -> bool
+pub fn is_short(from: usize, to: usize, at: usize, end: usize) -> bool
     requires { ⌜ (from ≤ to) × (at ≤ end) ⌝ }
     ensures { λ r. ⌜ r ≡ (leb (to - from) 1 && leb (end - at) 8) ⌝ }
 {

@@ -131,6 +131,14 @@ pub fn is_on(check: Check) -> bool
     }
 }
 
+// Whether terms ask for the order of the rows to be checked.
+pub fn checks(o: Terms) -> bool
+    ensures { λ r. ⌜ r ≡ isOn (o .check) ⌝ }
+{
+    let check = o.check;
+    is_on(check)
+}
+
 // Whether the order check is strict.
 pub fn is_strict(check: Check) -> bool
     ensures { λ r. ⌜ r ≡ isStrict check ⌝ }

@@ -1,10 +1,13 @@
 -- What the functions of this crate ask of the words that they are handed: small records, one for each kind of reader. Assumes nothing.
+use mathlib.Core.Path.{_≡_}
+use mathlib.Core.Bool.{true}
 use Prim.Native.Nat.{ℕ, _+_, _*_, _≤_, _<_}
 use lib.IntN.{pos}
 use lib.ListN.{length, getD}
-use Rattle.frames.specs.Cells.{Cell, cellOf, Words}
+use Rattle.frames.specs.Cells.{Cell, cellOf, rowsOf, Words}
 use Rattle.options.specs.Options.{Few}
 use Rattle.options.specs.declared.Options.{Options}
+use Rattle.order.specs.Order.{sorted}
 
 -- The cell whose words stand at place k of values and marks.
 abbrev pub cellAt : ℕ → Words → Words → Cell
@@ -41,6 +44,11 @@ pub record KeysIn (o : Options) (w n : ℕ) (ms : Words) : Type 0 where
   pub few : Few o
   pub wide : o .by < w
   pub marks : n * w ≤ length ms
+
+-- n sorted rows are there, each w wide.
+pub record TableIn (o : Options) (w n : ℕ) (vs ms : Words) : Type 0 where
+  pub rows : RowsIn o w n vs ms
+  pub in-order : sorted o (rowsOf w n vs ms) ≡ true
 
 -- A row of at most five words, at place p.
 pub record SmallRow (w p : ℕ) (vs ms : Words) : Type 0 where

@@ -1,6 +1,7 @@
 // The answer of two sorted tables: that of a frame over held rows, but no run is asked whether it is sorted, and no run is passed to find its end.
 use carrying::spread_rows;
 use keyed::null_group;
+use matchrun::is_short;
 use matchrun::scan_run;
 use matchrun::walk_run;
 use options::Terms;
@@ -26,7 +27,7 @@ ghost use Rattle.matching.specs.Requires.{FrameRoom, AnswerRoom};
 ghost use Rattle.sortedrows.specs.Requires.{BothSorted};
 
 // Left rows from..to, a run of sorted rows, each matched over right rows at..end, which are sorted by key, into an answer of m cells. Rows of no group may be in any
-// order of keys: these are scanned, over no right rows.
+// order of keys: these are scanned, over no right rows. So is a short run, for which a walk is the longer way.
 fn match_known(
     lv: &[i64],
     lm: &[i64],
@@ -46,6 +47,10 @@ fn match_known(
     requires { ⌜ RunRoom (withoutList o) wl m (now lv) (now lm) from to wr (now rv) (now rm) at end number (now out) × (from < to) × (nullGroup (withoutList o) (rowFrom wl (from * wl) (now lv) (now lm)) ≡ false → keysSorted (withoutList o) (between wl from to (now lv) (now lm)) ≡ true) × (keysSorted (withoutList o) (between wr at end (now rv) (now rm)) ≡ true) ⌝ }
     ensures { λ _. ⌜ now (out .exit) ≡ lay m from (map (matchIn (withoutList o) (number + at) (between wr at end (now (rv .entry)) (now (rm .entry)))) (between wl from to (now (lv .entry)) (now (lm .entry)))) (now (out .entry)) ⌝ }
 {
+    if is_short(from, to, at, end) {
+        scan_run(lv, lm, m, wl, from, to, rv, rm, wr, at, end, number, o, out);
+        return;
+    }
     if null_group(lm, from * wl, o) {
         scan_run(lv, lm, m, wl, from, to, rv, rm, wr, at, end, number, o, out);
     } else {

@@ -13,12 +13,11 @@ ghost use Prim.Native.Nat.{ℕ, _+_, _*_, _≤_, _<_};
 ghost use Rattle.frames.specs.Cells.{rowFrom, Words};
 ghost use Rattle.options.specs.Options.{withList, withoutList};
 ghost use Rattle.order.specs.Order.{cmpGroup};
-ghost use Rattle.order.specs.Requires.{RowsIn};
+ghost use Rattle.order.specs.Requires.{RowsIn, TableIn};
 ghost use Rattle.order.specs.declared.Order.the-variants.{Equal};
 ghost use Rattle.matching.specs.Stretches.{between, runLength};
 ghost use Rattle.matching.specs.Loops.{PassRoom, Stands, Passed, Serves};
 ghost use Rattle.matching.specs.Moves.{keysSorted};
-ghost use Rattle.boundaries.specs.Requires.{TableIn};
 
 // A row behind row i of n, or n: no row from there on is asked for. The distance is doubled as long as the row there has the by-values of row i.
 fn reach(values: &[i64], marks: &[i64], n: usize, w: usize, i: usize, o: Terms) -> usize

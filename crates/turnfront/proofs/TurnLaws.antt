@@ -1,6 +1,6 @@
 -- A turn over plain values: what its answers tell, what its words are, and what it leaves. Assumes nothing.
 use mathlib.Core.Path.{_≡_, refl, sym, ap, _∙_}
-use mathlib.Core.Bool.{true, false, not, _&&_}
+use mathlib.Core.Bool.{Bool, true, false, not, cond, _&&_, _||_}
 use Prim.Native.Nat.{ℕ, _+_, _-_, _*_, _%_, _^_, _≤_, _<_}
 use native.Mathlib.Nat.{mul-le-mul-right}
 use native.Mathlib.Omega.{arith}
@@ -9,17 +9,22 @@ use lib.Dec.{ltb, eqb}
 use lib.ListN.{length, take, drop, length-take, length-drop}
 use Rattle.frames.specs.Cells.{Rows, Words, rowsOf}
 use Rattle.frames.specs.Frame.{rowCount, frameWords, valuesIn, marksIn, isFrame, frameRows}
-use Rattle.options.specs.Options.{columns, rightColumns, answerColumns}
+use Rattle.options.specs.Options.{columns, rightColumns, answerColumns, isOn}
+use Rattle.order.specs.Order.{sorted}
+use Rattle.order.specs.Keyed.{firstLeft, rowAt, recall, outOfOrder}
 use Rattle.order.specs.Requires.{RowsIn}
 use Rattle.frames.specs.Front.{HasCount}
 use Rattle.options.specs.declared.Options.{Options}
+use Rattle.order.specs.declared.Row.{Row}
 use Rattle.frames.proofs.WordLaws.{rows-length, rows-drop}
 use Rattle.frames.proofs.FrontLaws.{frame-parts, frame-count, frame-few, values-part, marks-part}
 use Rattle.area.specs.Requires.{BaseIn}
 use Rattle.area.specs.Area.{capacity, heldRows}
 use Rattle.area.proofs.AreaLaws.{held-in}
 use Rattle.searching.specs.Reach.{needMore, pruneBy}
+use Rattle.splitcheck.specs.Split.{outOfOrderAt}
 use Rattle.matching.proofs.ChoiceLaws.{cond-ind}
+use Rattle.sortedrows.specs.Requires.{BothSorted}
 use Rattle.outcomes.specs.Answers.{wrote, lastSequence}
 use Rattle.refusals.specs.declared.Refusal.the-variants.{NoRoom, UsedUp, LeftOrder, RightOrder}
 use Rattle.outcomes.specs.declared.Answer.{Answer}
@@ -39,6 +44,32 @@ next-sequence s e n h = omega arith
 -- A frame's first word is there and is a number of rows.
 pub has-count : (c : ℕ) (f : Words) → isFrame c f ≡ true → HasCount f
 has-count c f h = frame-count c f h
+
+-- ---- the order, with the check on
+-- A test that is not met leaves its parts unmet.
+or-not : (a b : Bool) → (a || not b) ≡ false → b ≡ true
+or-not true b e = let z : _≡_ {A = ℕ} 0 1 = cc in absurd (omega arith)
+or-not false true e = refl
+or-not false false e = let z : _≡_ {A = ℕ} 0 1 = cc in absurd (omega arith)
+
+not-or : (a b : Bool) → (not a || b) ≡ false → a ≡ true
+not-or true b e = refl
+not-or false b e = let z : _≡_ {A = ℕ} 0 1 = cc in absurd (omega arith)
+
+module _ (o : Options) (on : isOn (o .check) ≡ true) where
+  -- Rows that are not out of order are sorted.
+  left-sorted : (m : Row) (rows : Rows) → badLeft o m rows ≡ false → sorted o rows ≡ true
+  unfolding badLeft
+  left-sorted m rows e = or-not (outOfOrder o (recall (columns o) m) (rowAt rows (firstLeft o rows))) (sorted o rows) (rw on at e)
+
+  right-sorted : (m : Row) (n s : ℕ) (held : Rows) → badRightAt o m n s held ≡ false → sorted o held ≡ true
+  unfolding badRightAt
+  right-sorted m n s held e = not-or (sorted o held) (cond (eqb n 0 || eqb (length held) 0) false (outOfOrderAt o m s held)) (rw on at e)
+
+  -- No row is dropped before the order is judged.
+  kept-all : (rows held : Rows) → keptRows o rows held ≡ held
+  unfolding keptRows firstPrune
+  kept-all rows held = rw on
 
 -- ---- the answers
 -- The join of a turn that does not write.
@@ -69,6 +100,14 @@ module _ (o : Options) (j : Part) (rows held : Rows) where
 
   order-writes : (s : ℕ) (t : Answer) → t ≡ orderAnswer o j rows held s → wrote t ≡ true → orderAnswer o j rows held s ≡ Wrote (j .sequence)
   order-writes s t e g = order-all (λ a. wrote a ≡ true → a ≡ Wrote (j .sequence)) s (λ x. cc) (λ x. cc) (λ x. refl) (sym (ap wrote e) ∙ g)
+
+  -- With the check on, the rows of a turn that goes on are sorted.
+  order-sorted : (s : ℕ) → orderAnswer o j rows held s ≡ Wrote (j .sequence) → isOn (o .check) ≡ true → (sorted o rows ≡ true) × (sorted o held ≡ true)
+  unfolding orderAnswer
+  order-sorted s e on =
+      let p = past (badLeft o (j .«last_left») rows) (Refused LeftOrder) _ (Wrote (j .sequence)) (λ x. let z : _≡_ {A = ℕ} 0 1 = cc in omega arith) e in
+      let q = past (badRightAt o (j .«last_right») (length rows) s held) (Refused RightOrder) (Wrote (j .sequence)) (Wrote (j .sequence)) (λ x. let z : _≡_ {A = ℕ} 0 1 = cc in omega arith) (p .1) in
+      (left-sorted o on (j .«last_left») rows (p .0), right-sorted o on (j .«last_right») (length rows) s held (q .0))
 
   -- What a turn that has what it needs can count on.
   pub room-there : (room : ℕ) → roomAnswer o j rows held room ≡ Wrote (j .sequence) → (frameWords (length rows) (answerColumns o) ≤ room) × (j .sequence ≡ lastSequence → ⊥)
@@ -150,6 +189,12 @@ module _ {o : Options} {j : Part} {c w n : ℕ} {lv lm rv rm : Words} (t : TurnI
       unfolding keptRows
       kept-are = rw (ev, em, ← is) (rows-drop w (j .held) first rv rm first-in)
 
+      -- With the check on, both sides of a turn that goes on are sorted: the kept rows are all held rows.
+      both-sorted : (s : ℕ) (a : Answer) → a ≡ orderAnswer o j rows held s → wrote a ≡ true → isOn (o .check) ≡ true → BothSorted o c n lv lm w (j .held - first) kv km
+      both-sorted s a judged goes on =
+          let p = order-sorted o j rows held s (order-writes o j rows held s a judged goes) on in
+          record { left = p .0; right = rw (kept-are, kept-all o on rows held) (p .1) }
+
       module _ (s : ℕ) (at : s ≡ pruneBy o (n - 1) rows (rowsOf w (j .held - first) kv km)) where
         pub last-is : s ≡ lastPrune o rows held
         unfolding lastPrune
@@ -158,8 +203,8 @@ module _ {o : Options} {j : Part} {c w n : ℕ} {lv lm rv rm : Words} (t : TurnI
         pub both-in : first + s ≤ j .held
         both-in = omega (arith, is, last-is, drops-within o rows held, rows-length w (j .held) rv rm)
 
-        pub write-in : (out : Words) → roomAnswer o j rows held (length out) ≡ Wrote (j .sequence) → WriteIn o j c w n lv lm first s kv km out
-        write-in out needs =
+        pub write-in : (out : Words) → roomAnswer o j rows held (length out) ≡ Wrote (j .sequence) → (a : Answer) → a ≡ orderAnswer o j rows held s → wrote a ≡ true → WriteIn o j c w n lv lm first s kv km out
+        write-in out needs a judged goes =
             let p = room-there o j rows held (length out) needs in
             record {
               columns = t .columns;
@@ -171,6 +216,7 @@ module _ {o : Options} {j : Part} {c w n : ℕ} {lv lm rv rm : Words} (t : TurnI
               counts = t .counts;
               room = rw (rows-length c n lv lm) at (p .0);
               sequence = next-sequence (j .sequence) (t .counts .even) (p .1) (t .counts .sequence);
+              in-order = both-sorted s a judged goes;
             }
 
 -- ---- the frame at the front

@@ -11,6 +11,7 @@ use Rattle.options.specs.Options.{answerColumns}
 use Rattle.order.specs.declared.Row.{Row}
 use Rattle.order.specs.Requires.{RowsIn}
 use Rattle.options.proofs.ColumnLaws.{columns-few}
+use Rattle.matching.specs.Requires.{AnswerRoom}
 use Rattle.splitcheck.proofs.BeforeLaws.{rows-take}
 use Rattle.turnrows.specs.Prunes.{remembered, rememberedLeft}
 use Rattle.turnparts.specs.Part.{leftAt, leftPart, TurnIn, WriteIn}
@@ -29,6 +30,18 @@ module _ {o : Options} {j : Part} {c w n : ℕ} {lv lm : Words} {first last : �
   kept-last =
       let m = mul-le-mul-right {m = last} {n = j .held - first} w (omega (arith, t .within)) in
       record { few = t .kept .few; wide = t .kept .wide; values = omega (arith, t .kept .values); marks = omega (arith, t .kept .marks) }
+
+  -- There is room for the frame's answer over the kept rows.
+  pub answer-in : AnswerRoom o c n lv lm w (j .held - first) kv km (j .pruned + first) (n * answerColumns o) out
+  answer-in = record {
+    left = t .left;
+    right = t .kept;
+    carried = t .carried;
+    wide = omega (arith, t .wide);
+    numbers = omega (arith, t .within, t .counts .rows);
+    within = omega arith;
+    room = t .room;
+  }
 
   pub left-as : (l r : Row) (x : Part) → l ≡ rememberedLeft o (j .«last_left») (rowsOf c n lv lm) → r ≡ remembered o (j .«last_right») (rowsOf w last kv km)
       → x ≡ leftAt j (first + last) (frameWords n c) l r → x ≡ leftPart o j (rowsOf c n lv lm) (rowsOf w (j .held - first) kv km) first last (frameWords n c)

@@ -7,7 +7,7 @@ use lib.Dec.{ltb, eqb}
 use lib.ListN.{length, take}
 use Rattle.frames.specs.Cells.{Rows, Words}
 use Rattle.frames.specs.Frame.{frameWords, frameLimit}
-use Rattle.options.specs.Options.{columns, rightColumns, answerColumns}
+use Rattle.options.specs.Options.{columns, rightColumns, answerColumns, isOn}
 use Rattle.order.specs.Requires.{RowsIn}
 use Rattle.options.specs.declared.Options.{Options}
 use Rattle.order.specs.declared.Row.{Row}
@@ -18,6 +18,7 @@ use Rattle.refusals.specs.Tests.{Test, test, firstOf}
 use Rattle.refusals.specs.declared.Refusal.the-variants.{NoRoom, UsedUp, LeftOrder, RightOrder}
 use Rattle.outcomes.specs.declared.Answer.{Answer}
 use Rattle.outcomes.specs.declared.Answer.the-variants.{Wrote, WantsRight, Refused}
+use Rattle.sortedrows.specs.Requires.{BothSorted}
 use Rattle.turnrows.specs.Prunes.{badLeft, badRightAt, remembered, rememberedLeft}
 use Rattle.turnparts.specs.declared.Part.{Part}
 
@@ -102,7 +103,7 @@ pub record TurnIn (o : Options) (j : Part) (c w n : ℕ) (lv lm rv rm : Words) :
   pub right : RowsIn o w (j .held) rv rm
   pub counts : Counts j (frameWords n c)
 
--- The frame's n rows are there, each c wide, and the kept rows, each w wide, and so is the room for the answer; the counters take the new join.
+-- The frame's n rows are there, each c wide, and the kept rows, each w wide, and so is the room for the answer; the counters take the new join. With the check on the order was judged, so both are sorted.
 pub record WriteIn (o : Options) (j : Part) (c w n : ℕ) (lv lm : Words) (first last : ℕ) (kv km out : Words) : Type 0 where
   pub columns : c ≡ columns o
   pub wide : w ≡ rightColumns o
@@ -113,3 +114,4 @@ pub record WriteIn (o : Options) (j : Part) (c w n : ℕ) (lv lm : Words) (first
   pub counts : Counts j (frameWords n c)
   pub room : frameWords n (answerColumns o) ≤ length out
   pub sequence : j .sequence + 2 < 2 ^ 64
+  pub in-order : isOn (o .check) ≡ true → BothSorted o c n lv lm w (j .held - first) kv km

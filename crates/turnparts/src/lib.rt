@@ -1,11 +1,11 @@
 // What a turn works on: the join without its options, which no turn moves, and its state, which none reads or moves; what the turn has and needs, and what it writes and leaves.
-use matchframe::match_frame;
 use options::Terms;
 use options::answer_columns;
 use order::Row;
 use outcomes::Answer;
 use pruning::need_more;
 use refusals::Refusal;
+use turnanswer::answer_turn;
 use turnrows::bad_left;
 use turnrows::bad_right;
 use turnrows::remembered;
@@ -162,7 +162,7 @@ pub fn write_turn(
 {
     let kept = j.held - first;
     let number = j.pruned + first;
-    match_frame(lv, lm, n, c, kv, km, kept, w, number, o, codes, rising, out);
+    answer_turn(lv, lm, n, c, kv, km, kept, w, number, o, codes, rising, out);
     let l = remembered_left(j.last_left, lv, lm, n, c, o);
     let r = remembered(j.last_right, kv, km, last, w, o);
     leave(j, first + last, 2 + 2 * (n * c), l, r)

@@ -3,7 +3,7 @@ use keyed::first_keyed;
 use keyed::last_keyed;
 use neighbours::is_sorted;
 use options::Terms;
-use options::is_on;
+use options::checks;
 use options::is_strict;
 use order::Keyed;
 use order::Row;
@@ -15,20 +15,12 @@ ghost use mathlib.Core.Path.{_≡_};
 ghost use Prim.Native.Nat.{_-_, _*_, _≤_};
 ghost use lib.ListN.{length, drop};
 ghost use Rattle.frames.specs.Cells.{rowsOf, Words};
-ghost use Rattle.options.specs.Options.{withList, withoutList, isOn};
+ghost use Rattle.options.specs.Options.{withList, withoutList};
 ghost use Rattle.order.specs.Keyed.{firstLeft, lastLeft};
 ghost use Rattle.order.specs.Requires.{KeysIn, RowsIn};
 ghost use Rattle.searching.specs.Reach.{pruneBy};
 ghost use Rattle.splitcheck.specs.Requires.{SplitIn};
 ghost use Rattle.turnrows.specs.Prunes.{badLeft, badRightAt, firstPrune, remembered, rememberedLeft};
-
-// Whether the order of the rows is checked.
-fn checks(o: Terms) -> bool
-    ensures { λ r. ⌜ r ≡ isOn (o .check) ⌝ }
-{
-    let check = o.check;
-    is_on(check)
-}
 
 // The row of n left rows that is compared with the remembered one: the first with a key, or, strict, the first.
 fn first_left(marks: &[i64], n: usize, c: usize, o: Terms) -> Keyed

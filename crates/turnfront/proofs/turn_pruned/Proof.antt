@@ -71,10 +71,13 @@ returns c =
 
 write-turn-requires : tie.Need-write-turn-requires
 write-turn-requires c κs =
-    let l = c .before .before .before .before in
+    let i = c .before in
+    let q = i .before .before in
+    let l = q .before in
     let f = l .before .before .before .before in
     let x = f .before .before in
     write-in (x .pre .0) _ (f .first-prune .ensures) _ _ (l .before .before .before .from-row .ensures) (l .before .before .from-row2 .ensures) _ (l .last-prune .ensures) (now (x .args .out)) (x .pre .1)
+    _ (q .judge-order .ensures) (sym (i .before .goes-on .ensures) ∙ not-false (i .before .goes-on .result) (i .if1 .left))
 
 same-length : tie.Need-same-length
 same-length c = search needs

@@ -3,13 +3,13 @@ use denote.Ref.{now}
 use Rattle.frames.specs.Cells.{rowsOf}
 use Rattle.order.proofs.TermLaws.{rows-terms}
 use Rattle.turnrows.proofs.TermLaws.{remembered-terms, remembered-left-terms}
-use Rattle.turnparts.proofs.PartLaws.{kept-last, left-as}
+use Rattle.turnparts.proofs.PartLaws.{kept-last, answer-in, left-as}
 use borrow.Author.Needs.{needs}
 use Rattle.turnparts.proofs.write_turn.Statement.{statement}
 use Rattle.turnparts.proofs.write_turn.Tie as tie
 use Rattle.turnparts.proofs.write_turn.Reads as reads
 use Rattle.turnparts.proofs.write_turn.Lts as lts
-use Rattle.matchframe.proofs.match_frame.Reads as match-frame-reads
+use Rattle.turnanswer.proofs.answer_turn.Reads as answer-turn-reads
 use Rattle.turnparts.proofs.leave.Reads as leave-reads
 use Rattle.turnrows.proofs.remembered.Reads as remembered-reads
 use Rattle.turnrows.proofs.remembered_left.Reads as remembered-left-reads
@@ -20,8 +20,8 @@ sub-kept c = search needs
 add-number : tie.Need-add-number
 add-number c = search needs
 
-match-frame-requires : tie.Need-match-frame-requires
-match-frame-requires c κs = search needs
+answer-turn-requires : tie.Need-answer-turn-requires
+answer-turn-requires c κs = let s = c .before .before .before .before in (answer-in (s .pre), s .pre .in-order)
 
 remembered-left-requires : tie.Need-remembered-left-requires
 remembered-left-requires c κs =
@@ -59,7 +59,7 @@ returns c =
     let a = s .args in
     let l = c .before .before .remembered-left .ensures ∙ remembered-left-terms (a .o) (now (a .codes)) (now (a .rising)) (a .j .«last_left») (rowsOf (a .c) (a .n) (now (a .lv)) (now (a .lm))) in
     let r = c .before .remembered .ensures ∙ remembered-terms (a .o) (now (a .codes)) (now (a .rising)) (a .j .«last_right») (rowsOf (a .w) (a .last) (now (a .kv)) (now (a .km))) in
-    record { part = left-as (s .pre) _ _ _ l r (c .leave .ensures); words = c .before .before .before .before .match-frame .ensures }
+    record { part = left-as (s .pre) _ _ _ l r (c .leave .ensures); words = c .before .before .before .before .answer-turn .ensures }
 
 pub write-turn-spec : {M : Type 1} → statement M
 write-turn-spec =
@@ -67,7 +67,7 @@ write-turn-spec =
     (tie.spec
     sub-kept
     add-number
-    match-frame-requires
+    answer-turn-requires
     remembered-left-requires
     remembered-requires
     add-leave

@@ -8,7 +8,7 @@ use Rattle.turnrows.proofs.bad_right.Reads as reads
 use Rattle.turnrows.proofs.bad_right.Lts as lts
 use Rattle.splitcheck.proofs.bad_split.Reads as bad-split-reads
 use Rattle.neighbours.proofs.is_sorted.Reads as is-sorted-reads
-use Rattle.turnrows.proofs.checks.Reads as checks-reads
+use Rattle.options.proofs.checks.Reads as checks-reads
 
 checks-requires : tie.Need-checks-requires
 checks-requires c κs = search needs

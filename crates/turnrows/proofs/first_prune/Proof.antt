@@ -5,7 +5,7 @@ use Rattle.turnrows.proofs.first_prune.Tie as tie
 use Rattle.turnrows.proofs.first_prune.Reads as reads
 use Rattle.turnrows.proofs.first_prune.Lts as lts
 use Rattle.pruning.proofs.prune_by.Reads as prune-by-reads
-use Rattle.turnrows.proofs.checks.Reads as checks-reads
+use Rattle.options.proofs.checks.Reads as checks-reads
 
 checks-requires : tie.Need-checks-requires
 checks-requires c κs = search needs
