@@ -1,18 +1,24 @@
 -- Rows that have the by-cells of the row before stand in its run. Assumes nothing.
-use mathlib.Core.Path.{_≡_, sym, _∙_}
-use mathlib.Core.Bool.{true}
+use mathlib.Core.Path.{_≡_, refl, sym, _∙_}
+use mathlib.Core.Bool.{true, false}
 use Prim.Native.Nat.{ℕ, zero, suc, _+_, _-_, _*_, _≤_, _<_}
 use native.Mathlib.Omega.{arith}
 use lib.ListN.{length}
-use Rattle.frames.specs.Cells.{Words, rowFrom}
+use Rattle.frames.specs.Cells.{Cell, Words, rowFrom}
 use Rattle.options.specs.declared.Options.{Options}
-use Rattle.order.proofs.RowLaws.{row-room}
+use Rattle.options.specs.Options.{keyRule}
+use Rattle.order.specs.Order.{cmpCell, cmpGroup, isEqual}
+use Rattle.order.specs.declared.Order.{Order}
+use Rattle.order.specs.declared.Order.the-variants.{Less, Equal, Greater}
+use Rattle.order.proofs.OrderLaws.{cmpCell-is, group-equal}
+use Rattle.order.proofs.RowLaws.{row-cell, row-room}
 use Rattle.matching.specs.Groups.{sameRun}
 use Rattle.matching.specs.Stretches.{between, runOn}
 use Rattle.matching.proofs.ScanLaws.{same-yes}
 use Rattle.matching.proofs.WalkLaws.{on-more}
 use Rattle.stretch.specs.Stretch.{SameTo}
 use Rattle.stretch.proofs.StretchLaws.{same-group}
+use Rattle.groups.specs.Alike.{SameCells}
 
 module _ (o : Options) (w n : ℕ) (vs ms : Words) (wide : o .by < w) (fits : n * w ≤ length vs) (e r : ℕ) (s : SameTo (o .by) w n vs ms e r) where
   pair : (k : ℕ) → e ≤ k → k + 1 < r → sameRun o (rowFrom w (k * w) vs ms) (rowFrom w ((k + 1) * w) vs ms) ≡ true
@@ -40,3 +46,21 @@ module _ (o : Options) (w n : ℕ) (vs ms : Words) (wide : o .by < w) (fits : n 
       let a : e + 1 + (r - (e + 1)) ≡ r = omega arith in
       let b : e + (r - (e + 1)) ≡ r - 1 = omega arith in
       rw (a, b) at (walk (r - (e + 1)) (omega arith))
+
+-- Rows of one group have equal by-cells, whatever the columns' order and list; so where these are not all equal, the groups are two.
+pub not-alike : (o : Options) (w p q : ℕ) (vs ms : Words) → o .by < w → p + o .by < length vs → q + o .by < length vs → (SameCells (o .by) p q vs ms → ⊥) → isEqual (cmpGroup o (rowFrom w p vs ms) (rowFrom w q vs ms)) ≡ false
+not-alike o w p q vs ms h a b apart = by (cmpGroup o (rowFrom w p vs ms) (rowFrom w q vs ms)) refl
+  where
+    by : (x : Order) → cmpGroup o (rowFrom w p vs ms) (rowFrom w q vs ms) ≡ x → isEqual x ≡ false
+    by Less e = refl
+    by Greater e = refl
+    by Equal e = absurd (apart (λ j k.
+        sym (row-cell w p j vs ms (omega (arith, h, k)) (omega (arith, k, a))) ∙ group-equal o (rowFrom w p vs ms) (rowFrom w q vs ms) e j k ∙ row-cell w q j vs ms (omega (arith, h, k)) (omega (arith, k, b))))
+
+-- Cells that do not compare Equal are not equal.
+pub unequal : {x y : Cell} → isEqual (cmpCell keyRule x y) ≡ false → x ≡ y → ⊥
+unequal {x = x} {y = y} e h =
+    let f : isEqual (cmpCell keyRule y y) ≡ false = rw h at e in
+    let g = cmpCell-is keyRule .equal y in
+    let z : _≡_ {A = ℕ} 0 1 = cc in
+    omega arith

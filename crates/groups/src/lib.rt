@@ -1,4 +1,5 @@
 // Runs of equal groups, and the one right cursor that serves a frame.
+use cells::cmp_cell;
 use compare::cmp_group;
 use keyed::null_group;
 use matching::RunCursor;
@@ -7,31 +8,52 @@ use options::Terms;
 use order::Order;
 use stretch::same_end;
 ghost use mathlib.Core.Path.{_≡_};
+ghost use mathlib.Core.Bool.{true, false};
+ghost use mathlib.Core.List.{List};
 ghost use Prim.Native.Nat.{ℕ, _+_, _<_};
-ghost use Rattle.frames.specs.Cells.{rowFrom};
-ghost use Rattle.options.specs.Options.{withList};
+ghost use Rattle.frames.specs.Cells.{rowFrom, Words};
+ghost use Rattle.options.specs.Options.{withList, withoutList};
 ghost use Rattle.order.specs.Order.{cmpGroup};
-ghost use Rattle.order.specs.Requires.{RowAt};
+ghost use Rattle.order.specs.Requires.{cellAt, CellIn, RowAt};
 ghost use Rattle.matching.specs.Groups.{sameRun};
 ghost use Rattle.matching.specs.Stretches.{between, runLength, standing};
+ghost use Rattle.stretch.specs.Stretch.{CellsIn};
+ghost use Rattle.groups.specs.Alike.{SameCells};
 ghost use Rattle.matching.specs.Loops.{Within, PassRoom, Stands, Passed, Serves};
 
-// Whether the rows at p and q, which stand one behind the other, are of one run.
-fn same_run(
-    values: &[i64],
-    marks: &[i64],
-    p: usize,
-    q: usize,
-    o: Terms,
-    codes: &[i64],
-    rising: &[u8],
-) -> bool
-    requires { ⌜ RowAt (withList o (now codes) (now rising)) p (now values) (now marks) × RowAt (withList o (now codes) (now rising)) q (now values) (now marks) ⌝ }
-    ensures { λ r. ⌜ ((w : ℕ) → o .by < w → r ≡ sameRun (withList o (now (codes .entry)) (now (rising .entry))) (rowFrom w p (now (values .entry)) (now (marks .entry))) (rowFrom w q (now (values .entry)) (now (marks .entry)))) ⌝ }
+// Whether the cells at a and b are equal: both null, or the same value.
+fn same_cell(values: &[i64], marks: &[i64], a: usize, b: usize) -> bool
+    requires { ⌜ CellIn a (now values) (now marks) × CellIn b (now values) (now marks) ⌝ }
+    ensures { λ r. ⌜ (r ≡ true → cellAt a (now (values .entry)) (now (marks .entry)) ≡ cellAt b (now (values .entry)) (now (marks .entry))) × (r ≡ false → cellAt a (now (values .entry)) (now (marks .entry)) ≡ cellAt b (now (values .entry)) (now (marks .entry)) → ⊥) ⌝ }
 {
-    match cmp_group(values, marks, p, values, marks, q, o, codes, rising) {
-        Order::Equal => return true,
-        _ => {}
+    match cmp_cell(values[a], marks[a], values[b], marks[b], false, false) {
+        Order::Equal => true,
+        _ => false,
+    }
+}
+
+// Whether the first `by` cells of the rows at p and q are equal. Whether two groups are one is told by this, whatever the columns' order and list.
+fn same_cells(values: &[i64], marks: &[i64], p: usize, q: usize, by: usize) -> bool
+    requires { ⌜ CellsIn by p (now values) (now marks) × CellsIn by q (now values) (now marks) ⌝ }
+    ensures { λ r. ⌜ (r ≡ true → SameCells by p q (now (values .entry)) (now (marks .entry))) × (r ≡ false → SameCells by p q (now (values .entry)) (now (marks .entry)) → ⊥) ⌝ }
+{
+    let mut j = 0;
+    while j < by {
+        if !same_cell(values, marks, p + j, q + j) {
+            return false;
+        }
+        j += 1;
+    }
+    true
+}
+
+// Whether the rows at p and q, which stand one behind the other, are of one run.
+fn same_run(values: &[i64], marks: &[i64], p: usize, q: usize, o: Terms) -> bool
+    requires { ⌜ RowAt (withoutList o) p (now values) (now marks) × RowAt (withoutList o) q (now values) (now marks) ⌝ }
+    ensures { λ r. ⌜ ((codes : Words) (rising : List ℕ) (w : ℕ) → o .by < w → r ≡ sameRun (withList o codes rising) (rowFrom w p (now (values .entry)) (now (marks .entry))) (rowFrom w q (now (values .entry)) (now (marks .entry)))) ⌝ }
+{
+    if same_cells(values, marks, p, q, o.by) {
+        return true;
     }
     if !null_group(marks, p, o) {
         return false;
@@ -66,7 +88,7 @@ pub fn run_end(
             e = same_end(values, marks, n, w, e, by);
             p = (e - 1) * w;
         } else {
-            if !same_run(values, marks, p, q, o, codes, rising) {
+            if !same_run(values, marks, p, q, o) {
                 return e;
             }
             p = q;

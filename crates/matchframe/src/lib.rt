@@ -1,22 +1,30 @@
 // The answer of a frame: a row for each of its rows, with the right number, what that row carries, and the distance where the join adds it.
 use carrying::spread_rows;
+use choices::put;
 use groups::run_end;
 use groups::serve;
+use matchrun::is_short;
 use matchrun::match_run;
+use matchrun::scan_run;
 use options::Terms;
 use options::answer_columns;
+use scan::match_row;
 use tables::put_head;
 ghost use mathlib.Core.Path.{_≡_};
-ghost use Prim.Native.Nat.{_*_};
+ghost use mathlib.Core.List.{map};
+ghost use Prim.Native.Nat.{_+_, _*_};
 ghost use Rattle.frames.specs.Cells.{rowsOf};
-ghost use Rattle.options.specs.Options.{withList, answerColumns};
+ghost use Rattle.options.specs.Options.{withList, withoutList, answerColumns};
 ghost use Rattle.tables.specs.Lay.{flat, layCells};
+ghost use Rattle.matching.specs.Match.{matchIn};
 ghost use Rattle.matching.specs.Groups.{runs, byRuns, matchFrame};
 ghost use Rattle.matching.specs.Answer.{answered, frameAnswer};
-ghost use Rattle.matching.specs.Stretches.{lay};
+ghost use Rattle.matching.specs.Stretches.{between, lay};
+ghost use Rattle.matching.specs.Loops.{RunRoom};
 ghost use Rattle.matching.specs.Requires.{FrameRoom, AnswerRoom};
 
-// The runs of the left rows in order, each over the right run that has its group: their choices, into an answer of m cells.
+// The runs of the left rows in order, each over the right run that has its group: their choices, into an answer of m cells. The one row of a
+// short run is looked up here.
 fn match_groups(
     lv: &[i64],
     lm: &[i64],
@@ -42,25 +50,56 @@ fn match_groups(
     while i < nl {
         let e = run_end(lv, lm, nl, wl, i, o, codes, rising);
         let r = serve(rv, rm, nr, wr, at, end, lv, lm, i * wl, o, codes, rising);
-        match_run(
-            lv,
-            lm,
-            m,
-            wl,
-            i,
-            e,
-            rv,
-            rm,
-            wr,
-            r.at,
-            r.used,
-            number,
-            o,
-            out,
-        );
+        let from = i;
         at = r.at;
         end = r.end;
         i = e;
+        if is_short(from, e, at, r.used) {
+            let choice = match_row(lv, lm, from * wl, rv, rm, at, r.used, wr, number, o);
+            put(out, m, from, choice);
+        } else {
+            match_run(
+                lv,
+                lm,
+                m,
+                wl,
+                from,
+                e,
+                rv,
+                rm,
+                wr,
+                at,
+                r.used,
+                number,
+                o,
+                out,
+            );
+        }
+    }
+}
+
+// All nl left rows over all nr right rows, as one run: their choices, into an answer of m cells.
+fn match_all(
+    lv: &[i64],
+    lm: &[i64],
+    m: usize,
+    wl: usize,
+    nl: usize,
+    rv: &[i64],
+    rm: &[i64],
+    wr: usize,
+    nr: usize,
+    number: usize,
+    o: Terms,
+    out: &mut [i64],
+)
+    requires { ⌜ RunRoom (withoutList o) wl m (now lv) (now lm) 0 nl wr (now rv) (now rm) 0 nr number (now out) ⌝ }
+    ensures { λ _. ⌜ now (out .exit) ≡ lay m 0 (map (matchIn (withoutList o) (number + 0) (between wr 0 nr (now (rv .entry)) (now (rm .entry)))) (between wl 0 nl (now (lv .entry)) (now (lm .entry)))) (now (out .entry)) ⌝ }
+{
+    if is_short(0, nl, 0, nr) {
+        scan_run(lv, lm, m, wl, 0, nl, rv, rm, wr, 0, nr, number, o, out);
+    } else {
+        match_run(lv, lm, m, wl, 0, nl, rv, rm, wr, 0, nr, number, o, out);
     }
 }
 
@@ -85,7 +124,7 @@ fn match_rows(
     ensures { λ _. ⌜ now (out .exit) ≡ lay m 0 (matchFrame (withList o (now (codes .entry)) (now (rising .entry))) number (rowsOf wr nr (now (rv .entry)) (now (rm .entry))) (rowsOf wl nl (now (lv .entry)) (now (lm .entry)))) (now (out .entry)) ⌝ }
 {
     if o.by == 0 {
-        match_run(lv, lm, m, wl, 0, nl, rv, rm, wr, 0, nr, number, o, out);
+        match_all(lv, lm, m, wl, nl, rv, rm, wr, nr, number, o, out);
     } else {
         match_groups(
             lv,

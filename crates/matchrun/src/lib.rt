@@ -114,7 +114,7 @@ pub fn walk_run(
 // As many right rows as one left row looks at one by one: with more, the candidates are found sooner.
 const FEW: usize = 8;
 
-// Whether a run is one left row over few right rows: a scan is the shortest way then.
+// Whether a run is one left row over few right rows: a scan is the shortest way then. It is asked where the run is known, since one more call costs as much as the scan.
 pub fn is_short(from: usize, to: usize, at: usize, end: usize) -> bool
     requires { ⌜ (from ≤ to) × (at ≤ end) ⌝ }
     ensures { λ r. ⌜ r ≡ (leb (to - from) 1 && leb (end - at) 8) ⌝ }
@@ -125,7 +125,7 @@ pub fn is_short(from: usize, to: usize, at: usize, end: usize) -> bool
     false
 }
 
-// Left rows from..to, each matched over right rows at..end, into an answer of m cells. Where they are sorted by key, the right run is cut to its candidates first, and walked where those are sorted too; else, or where the run is short, it is scanned.
+// Left rows from..to, each matched over right rows at..end, into an answer of m cells. Where they are sorted by key, the right run is cut to its candidates first, and walked where those are sorted too; else it is scanned.
 pub fn match_run(
     lv: &[i64],
     lm: &[i64],
@@ -145,10 +145,6 @@ pub fn match_run(
     requires { ⌜ RunRoom (withoutList o) wl m (now lv) (now lm) from to wr (now rv) (now rm) at end number (now out) ⌝ }
     ensures { λ _. ⌜ now (out .exit) ≡ lay m from (map (matchIn (withoutList o) (number + at) (between wr at end (now (rv .entry)) (now (rm .entry)))) (between wl from to (now (lv .entry)) (now (lm .entry)))) (now (out .entry)) ⌝ }
 {
-    if is_short(from, to, at, end) {
-        scan_run(lv, lm, m, wl, from, to, rv, rm, wr, at, end, number, o, out);
-        return;
-    }
     if !keys_sorted(lv, lm, from, to, wl, o) {
         scan_run(lv, lm, m, wl, from, to, rv, rm, wr, at, end, number, o, out);
         return;

@@ -1,6 +1,8 @@
 // Neighbouring rows: whether two have the same by-values, whether one is greater than the next, whether rows are sorted.
+use cells::cmp_cell;
 use compare::cmp_row;
 use options::Terms;
+use options::is_ranked;
 use order::Order;
 use rising::key_falls;
 use rising::keys_sorted;
@@ -14,7 +16,7 @@ ghost use Rattle.frames.specs.Cells.{rowFrom, rowsOf, Words};
 ghost use Rattle.options.specs.Options.{withList, withoutList};
 ghost use Rattle.order.specs.Order.{cmpGroup, cmpRow, isGreater, sorted};
 ghost use Rattle.order.specs.Requires.{RowAt, RowsIn};
-ghost use Rattle.order.specs.declared.Order.the-variants.{Equal};
+ghost use Rattle.order.specs.declared.Order.the-variants.{Less, Equal};
 
 // Whether the by-values of the rows at p and q have the same words: then they are of one run, by whatever list. Most rows are told so.
 pub fn same_values(values: &[i64], marks: &[i64], p: usize, q: usize, o: Terms) -> bool
@@ -22,6 +24,29 @@ pub fn same_values(values: &[i64], marks: &[i64], p: usize, q: usize, o: Terms) 
     ensures { λ r. ⌜ (r ≡ true → (codes : Words) (rising : List ℕ) (w : ℕ) → o .by < w → cmpGroup (withList o codes rising) (rowFrom w p (now (values .entry)) (now (marks .entry))) (rowFrom w q (now (values .entry)) (now (marks .entry))) ≡ Equal) ⌝ }
 {
     same_words(values, marks, p, q, o.by)
+}
+
+// Whether the first by-column, which has no list, tells that the row at p is less than the one at q. Where groups are short most rows are told so.
+fn steps_up(values: &[i64], marks: &[i64], p: usize, q: usize, o: Terms) -> bool
+    requires { ⌜ RowAt (withoutList o) p (now values) (now marks) × RowAt (withoutList o) q (now values) (now marks) × (0 < o .by) ⌝ }
+    ensures { λ r. ⌜ (r ≡ true → (codes : Words) (rising : List ℕ) (w : ℕ) → o .by < w → cmpRow (withList o codes rising) (rowFrom w p (now (values .entry)) (now (marks .entry))) (rowFrom w q (now (values .entry)) (now (marks .entry))) ≡ Less) ⌝ }
+{
+    if is_ranked(o, 0) {
+        return false;
+    }
+    let descending = o.descending;
+    let last = o.nulls_last;
+    match cmp_cell(
+        values[p],
+        marks[p],
+        values[q],
+        marks[q],
+        descending[0],
+        last[0],
+    ) {
+        Order::Less => true,
+        _ => false,
+    }
 }
 
 // Whether the row at p is greater than the one at q.
@@ -34,9 +59,12 @@ fn row_falls(
     codes: &[i64],
     rising: &[u8],
 ) -> bool
-    requires { ⌜ RowAt (withList o (now codes) (now rising)) p (now values) (now marks) × RowAt (withList o (now codes) (now rising)) q (now values) (now marks) ⌝ }
+    requires { ⌜ RowAt (withList o (now codes) (now rising)) p (now values) (now marks) × RowAt (withList o (now codes) (now rising)) q (now values) (now marks) × (0 < o .by) ⌝ }
     ensures { λ r. ⌜ ((w : ℕ) → o .by < w → r ≡ isGreater (cmpRow (withList o (now (codes .entry)) (now (rising .entry))) (rowFrom w p (now (values .entry)) (now (marks .entry))) (rowFrom w q (now (values .entry)) (now (marks .entry))))) ⌝ }
 {
+    if steps_up(values, marks, p, q, o) {
+        return false;
+    }
     match cmp_row(values, marks, p, values, marks, q, o, codes, rising) {
         Order::Greater => true,
         _ => false,

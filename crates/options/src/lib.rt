@@ -32,20 +32,21 @@ pub struct Options {
     pub with_distance: bool,
 }
 
-// The options without the codes of the list, which functions take beside them as two slices: a list is 576 bytes, and most joins have none.
+// The options without the codes of the list, which functions take beside them as two slices: a list is 576 bytes, and most joins have none. What is less
+// than a word stands last, so that a copy has no gaps: terms are copied at every call.
 pub struct Terms {
     pub by: usize,
-    pub strategy: u8,
-    pub allow_eq: bool,
     pub tolerance: i64,
-    pub check: Check,
-    pub descending: [bool; 4],
-    pub nulls_last: [bool; 4],
     pub carried: usize,
-    pub given: bool,
     pub column: usize,
     pub count: usize,
+    pub strategy: u8,
+    pub allow_eq: bool,
+    pub check: Check,
+    pub given: bool,
     pub with_distance: bool,
+    pub descending: [bool; 4],
+    pub nulls_last: [bool; 4],
 }
 
 // The options without the codes of the list.

@@ -120,7 +120,7 @@ fn step_back(s: Strategy, start: usize, at: usize) -> usize
     }
 }
 
-// The split of a prune by the left row at p.
+// The split of a prune by the left row at p. Without by-columns nothing is narrowed.
 fn split_at(
     lv: &[i64],
     lm: &[i64],
@@ -136,6 +136,11 @@ fn split_at(
     requires { ⌜ RowAt (withList o (now codes) (now rising)) p (now lv) (now lm) × RowsIn (withList o (now codes) (now rising)) w n (now rv) (now rm) ⌝ }
     ensures { λ r. ⌜ ((wl : ℕ) → o .by < wl → r ≡ splitAt (withList o (now (codes .entry)) (now (rising .entry))) (rowFrom wl p (now (lv .entry)) (now (lm .entry))) (rowsOf w n (now (rv .entry)) (now (rm .entry)))) ⌝ }
 {
+    let strategy = strategy_of(o);
+    if o.by == 0 {
+        let key = find_key(Seek::AtLeast, lv, lm, p, rv, rm, w, 0, n, o);
+        return step_back(strategy, 0, key);
+    }
     let s = narrow(lv, lm, p, rv, rm, n, w, o, codes, rising);
     let at = find_key(
         Seek::AtLeast,
@@ -149,7 +154,7 @@ fn split_at(
         s.end,
         o,
     );
-    step_back(strategy_of(o), s.start, at)
+    step_back(strategy, s.start, at)
 }
 
 // How many of the n held rows a prune by row i of the left frame drops.

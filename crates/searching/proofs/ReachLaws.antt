@@ -103,6 +103,11 @@ module _ (o : Options) (left held : Rows) (m n : ℕ) (ll : length left ≡ m) (
 
 -- ---- the split
 module _ (o : Options) (t : List Cell) (held : Rows) where
+  -- Without by-columns all rows are left.
+  pub narrowed-all : (n : ℕ) → o .by ≡ 0 → length held ≡ n → _≡_ {A = Range} (record { start = 0; end = n }) (narrowed o held t)
+  unfolding narrow
+  narrowed-all n h l = rw (h, ← l)
+
   pub split-is : (r : Range) (v : Cell) (at : ℕ) → r ≡ narrowed o held t → keyOf o t ≡ v → at ≡ findKey o AtLeast v held (r .start) (r .end) → stepBack (strategyOf o) (r .start) at ≡ splitAt o t held
   unfolding splitAt
   split-is r v at e k f = rw (← e, k, ← f)

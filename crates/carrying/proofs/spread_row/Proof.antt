@@ -104,7 +104,10 @@ add-a : tie.Need-add-a
 add-a c = record { fits = key-fits (c .before .before .before .before .before .before .before .before .before .before .before .before .before) }
 
 add-put-last : tie.Need-add-put-last
-add-put-last c = let t = shared (c .before .before .before .before .before .before .before .before .before .before .before .before .before) in omega arith
+add-put-last c =
+    let e = c .before .before .before .before .before .before .before .before .before .before .before .before .before in
+    let t = shared e in
+    omega (arith, t, e .before .fits)
 
 add-put-last-2 : tie.Need-add-put-last-2
 add-put-last-2 c =

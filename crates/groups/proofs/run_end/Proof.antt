@@ -5,7 +5,7 @@ use native.Mathlib.Nat.{mul-le-mul-right}
 use native.Mathlib.Omega.{arith}
 use borrow.Author.Tests.{not-true, not-false}
 use denote.Ref.{now}
-use Rattle.options.specs.Options.{withList}
+use Rattle.options.specs.Options.{withList, withoutList}
 use Rattle.frames.specs.Cells.{rowFrom}
 use Rattle.order.specs.Requires.{RowAt}
 use Rattle.order.proofs.RowLaws.{row-room, one-row}
@@ -42,6 +42,15 @@ rows-at c =
     let p = c .before .before .before .before .pre .rows in
     (record { few = p .few; values = omega arith; marks = omega arith }, record { few = p .few; values = omega arith; marks = omega arith })
 
+-- and whatever the list
+plain-at : (c : tie.In-loop Inv-loop μ-loop) → let l = c .before .loop in let a = c .before .before .before .before .args in
+    RowAt (withoutList (a .o)) (l .p) (now (a .values)) (now (a .marks)) × RowAt (withoutList (a .o)) (l .p + a .w) (now (a .values)) (now (a .marks))
+plain-at c =
+    let a = c .before .before .before .before .args in
+    let r = rows-at c in
+    let plain = row-terms (a .o) (now (a .codes)) (now (a .rising)) in
+    (plain (c .before .loop .p) (now (a .values)) (now (a .marks)) (r .0), plain (c .before .loop .p + a .w) (now (a .values)) (now (a .marks)) (r .1))
+
 -- rows with the same by-values are of one run
 alike : (c : tie.Then2 Inv-loop μ-loop) →
     let l = c .before .before .before .loop in
@@ -60,7 +69,7 @@ told : (c : tie.After-same-run Inv-loop μ-loop) (t : Bool) → c .same-run .res
 told c t e =
     let s = c .before .before .before .before .before .before .before in
     let l = c .before .before .before .before .loop in
-    sym (rw (l .inv .2) at (c .same-run .ensures (s .args .w) (s .pre .rows .wide))) ∙ e
+    sym (rw (l .inv .2) at (c .same-run .ensures (now (s .args .codes)) (now (s .args .rising)) (s .args .w) (s .pre .rows .wide))) ∙ e
 
 returns : tie.Need-returns Inv-loop μ-loop
 returns c =
@@ -83,11 +92,7 @@ add-q : tie.Need-add-q Inv-loop μ-loop
 add-q c = omega (arith, room c)
 
 same-values-requires : tie.Need-same-values-requires Inv-loop μ-loop
-same-values-requires c κs =
-    let a = c .before .before .before .before .args in
-    let r = rows-at c in
-    let plain = row-terms (a .o) (now (a .codes)) (now (a .rising)) in
-    (plain (c .before .loop .p) (now (a .values)) (now (a .marks)) (r .0), plain (c .before .loop .p + a .w) (now (a .values)) (now (a .marks)) (r .1))
+same-values-requires c κs = plain-at c
 
 same-end-requires : tie.Need-same-end-requires Inv-loop μ-loop
 same-end-requires c κs =
@@ -128,7 +133,7 @@ loop-again c =
     (omega (arith, k .start), k .within, last c, l .inv .3 ∙ m ∙ n)
 
 same-run-requires : tie.Need-same-run-requires Inv-loop μ-loop
-same-run-requires c κs = rows-at (c .before .before)
+same-run-requires c κs = plain-at (c .before .before)
 
 returns-2 : tie.Need-returns-2 Inv-loop μ-loop
 returns-2 c =

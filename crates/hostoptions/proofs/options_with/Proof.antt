@@ -14,7 +14,7 @@ terms-from-requires c κs = search needs
 returns : tie.Need-returns
 returns c =
     let t = c .before .before .before in
-    rw (back (t .terms-from .result .tolerance) (c .struct-told .given .1 .1 .1 .0 .1), t .terms-from .ensures [])
+    rw (back (t .terms-from .result .tolerance) (c .struct-told .given .1 .0 .1), t .terms-from .ensures [])
 
 pub options-with-spec : {M : Type 1} → statement M
 options-with-spec = tie.close (tie.spec terms-from-requires returns)

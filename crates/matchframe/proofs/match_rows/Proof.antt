@@ -12,8 +12,8 @@ use borrow.Author.Needs.{needs}
 use Rattle.matchframe.proofs.match_rows.Statement.{statement}
 use Rattle.matchframe.proofs.match_rows.Tie as tie
 
-match-run-requires : tie.Need-match-run-requires
-match-run-requires c κs =
+match-all-requires : tie.Need-match-all-requires
+match-all-requires c κs =
     let s = c .before .before .before .before in
     let a = s .args in
     let p = s .pre in
@@ -29,7 +29,7 @@ same-length c = search needs
 returns : tie.Need-returns
 returns c =
     let a = c .before .before .before .before .before .before .args in
-    c .before .match-run .ensures
+    c .before .match-all .ensures
     ∙ lay-terms (a .o) (now (a .codes)) (now (a .rising)) (a .m) 0 (a .number + 0) (between (a .wr) 0 (a .nr) (now (a .rv)) (now (a .rm))) (between (a .wl) 0 (a .nl) (now (a .lv)) (now (a .lm))) (now (a .out))
     ∙ ap (λ (ks : List Choice). lay (a .m) 0 ks (now (a .out))) (frame-plain (withList (a .o) (now (a .codes)) (now (a .rising))) (a .number) (a .m) (a .wl) (a .nl) (now (a .lv)) (now (a .lm)) (a .wr) (a .nr) (now (a .rv)) (now (a .rm)) (c .before .before .before .if1 .taken))
 
@@ -44,4 +44,4 @@ returns-2 c =
 pub match-rows-spec : {M : Type 1} → statement M
 match-rows-spec =
     tie.close
-    (tie.spec match-run-requires match-groups-requires same-length returns same-length-2 returns-2)
+    (tie.spec match-all-requires match-groups-requires same-length returns same-length-2 returns-2)

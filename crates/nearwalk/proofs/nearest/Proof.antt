@@ -82,7 +82,7 @@ told c =
     let i = d .before .before in
     let a = i .before .before .args in
     let l = i .before .loop in
-    rw (back (getD (now (a .lv)) (l .p) (pos 0)) (d .before .v .given), back (a .o .tolerance) (c .before .struct-told .given .1 .1 .1 .0 .1), l .inv .6, came d .place) at (c .near-row .ensures)
+    rw (back (getD (now (a .lv)) (l .p) (pos 0)) (d .before .v .given), back (a .o .tolerance) (c .before .struct-told .given .1 .0 .1), l .inv .6, came d .place) at (c .near-row .ensures)
 
 -- the choice of row i
 choice : (c : tie.After-near-row Inv-loop μ-loop) →

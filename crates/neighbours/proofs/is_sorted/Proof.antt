@@ -134,7 +134,11 @@ loop-again c =
     (omega (arith, k .start), sym (one-row (c .rise-end .result) (a .w) (omega (arith, k .start))), l .inv .2 ∙ on ∙ rw (z, l .inv .1) past)
 
 row-falls-requires : tie.Need-row-falls-requires Inv-loop μ-loop
-row-falls-requires c κs = rows-at (c .before .before)
+row-falls-requires c κs =
+    let i = c .before .before in
+    let r = rows-at i in
+    let b = i .before .before .if1 .left in
+    (r .0, r .1, omega arith)
 
 returns-3 : tie.Need-returns-3 Inv-loop μ-loop
 returns-3 c =

@@ -18,7 +18,7 @@ unfolding badOptions
 returns-3 c =
     let t = c .before in
     let a = t .before .before .before .before .before .before .args in
-    let e = rw (back (a .o .tolerance) (t .struct-told .given .1 .1 .1 .0 .1)) at (c .if3 .taken) in
+    let e = rw (back (a .o .tolerance) (t .struct-told .given .1 .0 .1)) at (c .if3 .taken) in
     simp (le-ltb _ _ (t .before .before .before .before .if1 .left), le-ltb _ _ (t .before .before .if2 .left), e)
 
 returns-4 : tie.Need-returns-4
@@ -26,7 +26,7 @@ unfolding badOptions
 returns-4 c =
     let t = c .before .before .before .before in
     let a = t .before .before .before .before .before .before .args in
-    let e = rw (back (a .o .tolerance) (t .struct-told .given .1 .1 .1 .0 .1)) at (c .before .before .before .if3 .left) in
+    let e = rw (back (a .o .tolerance) (t .struct-told .given .1 .0 .1)) at (c .before .before .before .if3 .left) in
     simp (le-ltb _ _ (t .before .before .before .before .if1 .left), le-ltb _ _ (t .before .before .if2 .left), e, eq-eqb _ _ (c .before .if4 .taken))
 
 returns-5 : tie.Need-returns-5
@@ -34,7 +34,7 @@ unfolding badOptions
 returns-5 c =
     let t = c .before .before .before in
     let a = t .before .before .before .before .before .before .args in
-    let e = rw (back (a .o .tolerance) (t .struct-told .given .1 .1 .1 .0 .1)) at (c .before .before .if3 .left) in
+    let e = rw (back (a .o .tolerance) (t .struct-told .given .1 .0 .1)) at (c .before .before .if3 .left) in
     simp (le-ltb _ _ (t .before .before .before .before .if1 .left), le-ltb _ _ (t .before .before .if2 .left), e, ne-eqb _ _ (c .if4 .left))
 
 pub bad-options-spec : {M : Type 1} → statement M

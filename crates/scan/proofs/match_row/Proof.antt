@@ -71,7 +71,7 @@ far c =
     rw (
       back (getD (now (a .rv)) (e .before .choose-row .result * a .w + a .o .by) (pos 0)) (c .before .before .too-far-arg .given),
       back (getD (now (a .lv)) (a .p + a .o .by) (pos 0)) (e .before .before .v .given),
-      back (a .o .tolerance) (c .before .struct-told .given .1 .1 .1 .0 .1),
+      back (a .o .tolerance) (c .before .struct-told .given .1 .0 .1),
     ) at (c .too-far .ensures)
 
 add-k : tie.Need-add-k
