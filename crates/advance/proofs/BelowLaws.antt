@@ -16,7 +16,7 @@ use Rattle.order.specs.declared.Order.the-variants.{Less, Equal, Greater}
 use Rattle.matching.specs.Match.{nearer}
 use Rattle.matching.specs.Moves.{NotAbove}
 use Rattle.matching.proofs.MayLaws.{never, is-false, nearer-least, nearer-by}
-use Rattle.advance.specs.Below.{below, gains}
+use Rattle.advance.specs.Below.{below, lastTrue}
 
 -- ---- a bound that counts too is the next one, which does not
 lt-suc : (x y : ℕ) → ltb x (suc y) ≡ not (ltb y x)
@@ -77,29 +77,23 @@ below-next v a = below-at v a ∙ sym (lt-next a v)
 pub lt-down : (a b u : ℤ) → NotAbove (value a) (value b) → ltZ b u ≡ true → ltZ a u ≡ true
 lt-down a b u h e = three-less (ltZ a u) (ltZ u a) (then-less (cmpCell-is keyRule) (value a) (value b) (value u) h (rw e))
 
--- ---- three rows from row n on, counted, where the fourth does not pass the test and what is before one that does passes it too
+-- ---- the first of four rows from row n on that does not pass the test, where the fourth does not and what is before one that does passes it too
 module _ (P : ℕ → Bool) (n : ℕ) (down : (i k : ℕ) → n ≤ i → i ≤ k → k ≤ n + 3 → P k ≡ true → P i ≡ true) (stop : P (n + 3) ≡ false) where
-  pub three-counted : (a b c : Bool) → P n ≡ a → P (n + 1) ≡ b → P (n + 2) ≡ c
-      → ((k : ℕ) → n ≤ k → k < n + gains 1 a b c → P k ≡ true) × (P (n + gains 1 a b c) ≡ false) × (gains 1 a b c ≤ 3)
-  three-counted true true true p q r = (λ k l h. down k (n + 2) l (omega (arith, h)) (omega arith) r, stop, omega arith)
-  three-counted true true false p q r = (λ k l h. down k (n + 1) l (omega (arith, h)) (omega arith) q, r, omega arith)
-  three-counted true false false p q r = (λ k l h. down k n l (omega (arith, h)) (omega arith) p, q, omega arith)
-  three-counted false false false p q r =
+  pub last-true-stops : (a b c : Bool) → P n ≡ a → P (n + 1) ≡ b → P (n + 2) ≡ c
+      → ((k : ℕ) → n ≤ k → k < n + lastTrue a b c → P k ≡ true) × (P (n + lastTrue a b c) ≡ false) × (lastTrue a b c ≤ 3)
+  last-true-stops a b true p q r = (λ k l h. down k (n + 2) l (omega (arith, h)) (omega arith) r, stop, omega arith)
+  last-true-stops a true false p q r = (λ k l h. down k (n + 1) l (omega (arith, h)) (omega arith) q, r, omega arith)
+  last-true-stops true false false p q r = (λ k l h. down k n l (omega (arith, h)) (omega arith) p, q, omega arith)
+  last-true-stops false false false p q r =
       let e : n + 0 ≡ n = omega arith in
       (λ k l h. absurd (omega (arith, l, h)), rw e p, omega arith)
-  three-counted true false true p q r = never (P (n + 1)) (down (n + 1) (n + 2) (omega arith) (omega arith) (omega arith) r) q
-  three-counted false true c p q r = never (P n) (down n (n + 1) (omega arith) (omega arith) (omega arith) q) p
-  three-counted false false true p q r = never (P (n + 1)) (down (n + 1) (n + 2) (omega arith) (omega arith) (omega arith) r) q
 
-pub gains-scaled : (w : ℕ) (a b c : Bool) → gains w a b c ≡ gains 1 a b c * w
-gains-scaled w true true true = omega arith
-gains-scaled w true true false = omega arith
-gains-scaled w true false true = omega arith
-gains-scaled w true false false = omega arith
-gains-scaled w false true true = omega arith
-gains-scaled w false true false = omega arith
-gains-scaled w false false true = omega arith
-gains-scaled w false false false = omega arith
+-- The same by choices, the last test first.
+pub last-true-chosen : (start step : ℕ) (a b c : Bool) → cond c (start + step + step + step) (cond b (start + step + step) (cond a (start + step) start)) ≡ start + lastTrue a b c * step
+last-true-chosen start step a b true = omega arith
+last-true-chosen start step a true false = omega arith
+last-true-chosen start step true false false = omega arith
+last-true-chosen start step false false false = omega arith
 
 -- ---- of keys a ≤ b: b takes the place of a where it is no farther
 pub near-by-distance : (v a b : ℤ) → NotAbove (value a) (value b) → leb (natAbs (b -ℤ v)) (natAbs (a -ℤ v)) ≡ nearer (value v) (value b) (value a)

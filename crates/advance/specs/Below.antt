@@ -24,9 +24,9 @@ keyed w by vs k = value (valueAt w by vs k)
 abbrev pub below : Bool → ℤ → ℤ → Bool
 below inclusive v a = onSide Backward inclusive (cmpCell keyRule (value a) (value v))
 
--- So much for each of three tests that holds.
-abbrev pub gains : ℕ → Bool → Bool → Bool → ℕ
-gains unit a b c = cond a unit 0 + cond b unit 0 + cond c unit 0
+-- How many of three tests there are up to the last that holds.
+abbrev pub lastTrue : Bool → Bool → Bool → ℕ
+lastTrue a b c = cond c 3 (cond b 2 (cond a 1 0))
 
 -- Rows up to `end` are there, each w wide; row `at` is one of them or their end, and its key is at place p.
 pub record AtPlace (w end : ℕ) (vs : Words) (at p : ℕ) : Type 0 where

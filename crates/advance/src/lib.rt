@@ -9,7 +9,7 @@ ghost use lib.Signed.{ltZ};
 ghost use Rattle.frames.specs.Cells.{value};
 ghost use Rattle.matching.specs.Match.{nearer};
 ghost use Rattle.matching.specs.Moves.{NotAbove, Rising};
-ghost use Rattle.advance.specs.Below.{keyed, below, gains, AtPlace, Skipped, Approached};
+ghost use Rattle.advance.specs.Below.{keyed, below, lastTrue, AtPlace, Skipped, Approached};
 
 // A row of a run, and the place of its key.
 pub struct Position {
@@ -17,21 +17,25 @@ pub struct Position {
     pub place: usize,
 }
 
-// `unit` where the key a is below u, else 0: a choice between two numbers, not a jump.
-fn gain(a: i64, u: i64, unit: usize) -> usize
-    ensures { λ r. ⌜ (r ≤ unit) × (r ≡ cond (ltZ a u) unit 0) ⌝ }
+// `yes` where the key a is below u, else `no`: a choice between two numbers, not a jump.
+fn choose(a: i64, u: i64, yes: usize, no: usize) -> usize
+    ensures { λ r. ⌜ r ≡ cond (ltZ a u) yes no ⌝ }
 {
-    if a < u { unit } else { 0 }
+    if a < u { yes } else { no }
 }
 
-// `unit` for each key below u of three rows, the first of which has its key at place p; a fourth row is there too.
-fn three(rv: &[i64], p: usize, w: usize, u: i64, unit: usize) -> usize
-    requires { ⌜ (p + w + w + w < length (now rv)) × (unit ≤ w) ⌝ }
-    ensures { λ r. ⌜ r ≡ gains unit (ltZ (getD (now (rv .entry)) p (pos 0)) u) (ltZ (getD (now (rv .entry)) (p + w) (pos 0)) u) (ltZ (getD (now (rv .entry)) (p + w + w) (pos 0)) u) ⌝ }
+// `start` and one step more for each of three rows, up to the last whose key is below u; the key of the first is at place p, and a fourth row is there too.
+fn stepped(rv: &[i64], p: usize, w: usize, u: i64, start: usize, step: usize) -> usize
+    requires { ⌜ (p + w + w + w < length (now rv)) × (start ≤ p) × (step ≤ w) ⌝ }
+    ensures { λ r. ⌜ r ≡ start + lastTrue (ltZ (getD (now (rv .entry)) p (pos 0)) u) (ltZ (getD (now (rv .entry)) (p + w) (pos 0)) u) (ltZ (getD (now (rv .entry)) (p + w + w) (pos 0)) u) * step ⌝ }
 {
     let q = p + w;
     let r = q + w;
-    gain(rv[p], u, unit) + gain(rv[q], u, unit) + gain(rv[r], u, unit)
+    let one = start + step;
+    let two = one + step;
+    let first = choose(rv[p], u, one, start);
+    let second = choose(rv[q], u, two, first);
+    choose(rv[r], u, two + step, second)
 }
 
 // Whether the key a is below v, or at it where that counts too.
@@ -67,7 +71,7 @@ fn rest(rv: &[i64], at: usize, p: usize, end: usize, w: usize, v: i64, inclusive
     }
 }
 
-// The first row of at..end whose key is not below u, four rows at a time up to row `stop`. Of four rows the last is asked first: where its key is not below u, the others are counted.
+// The first row of at..end whose key is not below u, four rows at a time up to row `stop`. Of four rows the last is asked first: where its key is not below u, the first such row is chosen among them.
 fn skip(rv: &[i64], at: usize, p: usize, stop: usize, end: usize, w: usize, u: i64) -> Position
     requires { ⌜ AtPlace w end (now rv) at p × (stop ≤ end) × Rising (keyed w (p - at * w) (now rv)) at end ⌝ }
     ensures { λ r. ⌜ Skipped w (p - at * w) at end (now (rv .entry)) (λ a. ltZ a u) r ⌝ }
@@ -78,8 +82,8 @@ fn skip(rv: &[i64], at: usize, p: usize, stop: usize, end: usize, w: usize, u: i
         let last = place + w + w + w;
         if !(rv[last] < u) {
             return Position {
-                row: row + three(rv, place, w, u, 1),
-                place: place + three(rv, place, w, u, w),
+                row: stepped(rv, place, w, u, row, 1),
+                place: stepped(rv, place, w, u, place, w),
             };
         }
         row += 4;

@@ -14,8 +14,8 @@ use mir.Val.{toZ, ofZ}
 use mir.Facts.{toZ-ofZ}
 use Rattle.frames.proofs.Signed.{back}
 use Rattle.order.proofs.RowLaws.{row-room}
-use Rattle.advance.specs.Below.{valueAt, gains}
-use Rattle.advance.proofs.BelowLaws.{below-strict, lt-down, three-counted, gains-scaled}
+use Rattle.advance.specs.Below.{valueAt, lastTrue}
+use Rattle.advance.proofs.BelowLaws.{below-strict, lt-down, last-true-stops}
 use Rattle.advance.proofs.skip.Statement.{statement}
 use Rattle.advance.proofs.skip.Tie as tie
 
@@ -64,41 +64,30 @@ told c t h =
     let z : l .place + a .w + a .w + a .w ≡ (l .row + 3) * a .w + (a .p - a .at * a .w) = omega (arith, l .inv .2) in
     rw (back (getD (now (a .rv)) (l .place + a .w + a .w + a .w) (pos 0)) (c .if12 .given), z) at h
 
--- the three rows before it, counted
-counted : (c : tie.Then1 Inv-loop μ-loop) →
-    let s = c .before .before .before .before in
-    let a = s .args in
+-- how many rows on the first row is that is not below u, by the tests of the three rows before the fourth
+abbrev further : tie.Then1 Inv-loop μ-loop → ℕ
+further c =
+    let a = c .before .before .before .before .args in
     let l = c .before .before .before .loop in
     let u = toZ w64 (ofZ w64 (a .u)) in
-    let n = gains 1 (ltZ (getD (now (a .rv)) (l .place) (pos 0)) u) (ltZ (getD (now (a .rv)) (l .place + a .w) (pos 0)) u) (ltZ (getD (now (a .rv)) (l .place + a .w + a .w) (pos 0)) u) in
-    ((k : ℕ) → l .row ≤ k → k < l .row + n → passes s k ≡ true) × (passes s (l .row + n) ≡ false) × (n ≤ 3)
-counted c =
+    lastTrue (ltZ (getD (now (a .rv)) (l .place) (pos 0)) u) (ltZ (getD (now (a .rv)) (l .place + a .w) (pos 0)) u) (ltZ (getD (now (a .rv)) (l .place + a .w + a .w) (pos 0)) u)
+
+-- it is
+chosen : (c : tie.Then1 Inv-loop μ-loop) →
+    let s = c .before .before .before .before in
+    let l = c .before .before .before .loop in
+    ((k : ℕ) → l .row ≤ k → k < l .row + further c → passes s k ≡ true) × (passes s (l .row + further c) ≡ false) × (further c ≤ 3)
+chosen c =
     let s = c .before .before .before .before in
     let a = s .args in
     let l = c .before .before .before .loop in
     let u = toZ w64 (ofZ w64 (a .u)) in
     let x : l .place + a .w ≡ (l .row + 1) * a .w + (a .p - a .at * a .w) = omega (arith, l .inv .2) in
     let y : l .place + a .w + a .w ≡ (l .row + 2) * a .w + (a .p - a .at * a .w) = omega (arith, l .inv .2) in
-    three-counted (passes s) (l .row) (λ i k h g t. down s i k (omega (arith, h, l .inv .0)) g (omega (arith, t, c .before .before .loop-test .taken, s .pre .1)))
+    last-true-stops (passes s) (l .row) (λ i k h g t. down s i k (omega (arith, h, l .inv .0)) g (omega (arith, t, c .before .before .loop-test .taken, s .pre .1)))
     (told (c .before) false (not-true _ (c .if1 .taken)))
     (ltZ (getD (now (a .rv)) (l .place) (pos 0)) u) (ltZ (getD (now (a .rv)) (l .place + a .w) (pos 0)) u) (ltZ (getD (now (a .rv)) (l .place + a .w + a .w) (pos 0)) u)
     (rw (l .inv .2)) (rw x) (rw y)
-
--- what the first count says
-moved : (c : tie.After-three Inv-loop μ-loop) →
-    let s = c .before .before .before .before .before in
-    let l = c .before .before .before .before .loop in
-    ((k : ℕ) → l .row ≤ k → k < l .row + c .three .result → passes s k ≡ true) × (passes s (l .row + c .three .result) ≡ false) × (c .three .result ≤ 3)
-moved c = rw (← c .three .ensures) at (counted (c .before))
-
--- the second count is the first one, in words
-scaled : (c : tie.After-three2 Inv-loop μ-loop) → c .three2 .result ≡ c .before .three .result * c .before .before .before .before .before .before .args .w
-scaled c =
-    let a = c .before .before .before .before .before .before .args in
-    let l = c .before .before .before .before .before .loop in
-    let u = toZ w64 (ofZ w64 (a .u)) in
-    let g = gains-scaled (a .w) (ltZ (getD (now (a .rv)) (l .place) (pos 0)) u) (ltZ (getD (now (a .rv)) (l .place + a .w) (pos 0)) u) (ltZ (getD (now (a .rv)) (l .place + a .w + a .w) (pos 0)) u) in
-    c .three2 .ensures ∙ g ∙ rw (c .before .three .ensures)
 
 loop-holds : tie.Need-loop-holds Inv-loop μ-loop
 loop-holds c = (omega arith, c .pre .0 .within, omega (arith, c .pre .0 .start), λ k l h. absurd (omega (arith, l, h)))
@@ -122,56 +111,48 @@ mul-if1 c = let r = room c in omega (arith, c .before .before .pre .0, c .before
 shared-slice-copy-out-if1 : tie.Need-shared-slice-copy-out-if1 Inv-loop μ-loop
 shared-slice-copy-out-if1 c = let r = room c in omega (arith, c .before .before .pre .0, c .before .loop .inv .2)
 
-three-requires : tie.Need-three-requires Inv-loop μ-loop
-three-requires c κs =
+stepped-requires : tie.Need-stepped-requires Inv-loop μ-loop
+stepped-requires c κs =
     let i = c .before .before in
-    let r = room i in
-    let p = i .before .before .pre .0 in
-    (omega (arith, p, i .before .loop .inv .2), omega (arith, p))
-
-add-t18 : tie.Need-add-t18 Inv-loop μ-loop
-add-t18 c =
-    let i = c .before .before .before in
-    omega (arith, moved c .2, fits-end (i .before .before), i .loop-test .taken, i .before .before .pre .1)
-
-three-requires-2 : tie.Need-three-requires-2 Inv-loop μ-loop
-three-requires-2 c κs =
-    let i = c .before .before .before in
-    let r = room i in
-    let p = i .before .before .pre .0 in
-    (omega (arith, p, i .before .loop .inv .2), omega arith)
-
-add-t20 : tie.Need-add-t20 Inv-loop μ-loop
-add-t20 c =
-    let i = c .before .before .before .before in
     let a = i .before .before .args in
-    let m = mul-le-mul-right {m = c .before .three .result} {n = 3} (a .w) (moved (c .before) .2) in
     let r = room i in
-    omega (arith, m, scaled c, i .before .before .pre .0, i .before .loop .inv .2)
+    let p = i .before .before .pre .0 in
+    let m = mul-le-mul-right {m = 1} {n = a .w} (i .before .loop .row) (omega (arith, p)) in
+    (omega (arith, p, i .before .loop .inv .2), omega (arith, m, i .before .loop .inv .2), omega (arith, p))
+
+stepped-requires-2 : tie.Need-stepped-requires-2 Inv-loop μ-loop
+stepped-requires-2 c κs =
+    let i = c .before .before .before in
+    let r = room i in
+    let p = i .before .before .pre .0 in
+    (omega (arith, p, i .before .loop .inv .2), omega arith, omega arith)
 
 returns : tie.Need-returns Inv-loop μ-loop
 returns c =
-    let i = c .before .before .before .before in
+    let t = c .before .before in
+    let i = t .before .before in
     let s = i .before .before in
     let a = s .args in
     let l = i .before .loop in
-    let n = c .before .three .result in
+    let n = further t in
     let v = toZ-ofZ (s .fits .u) in
-    let m = moved (c .before) in
+    let m = chosen t in
+    let x : c .before .stepped .result ≡ l .row + n = omega (arith, c .before .stepped .ensures) in
     let e : (l .row + n) * a .w ≡ l .row * a .w + n * a .w = omega arith in
     record {
-      upward = omega (arith, l .inv .0);
-      within = omega (arith, m .2, i .loop-test .taken, s .pre .1);
-      place = omega (arith, e, scaled c, l .inv .2);
-      before = λ k g h. rw v at (by k g h (decLt k (l .row)));
-      stop = λ h. rw v at (m .1);
+      upward = omega (arith, l .inv .0, x);
+      within = omega (arith, x, m .2, i .loop-test .taken, s .pre .1);
+      place = rw x (omega (arith, e, c .stepped2 .ensures, l .inv .2));
+      before = λ k g h. rw v at (by k g (rw x at h) (decLt k (l .row)));
+      stop = λ h. rw (← x, v) at (m .1);
     }
   where
-    by : let s = c .before .before .before .before .before .before in
-        let l = c .before .before .before .before .before .loop in
-        (k : ℕ) → s .args .at ≤ k → k < l .row + c .before .three .result → Dec (k < l .row) → passes s k ≡ true
+    by : let t = c .before .before in
+        let s = t .before .before .before .before in
+        let l = t .before .before .before .loop in
+        (k : ℕ) → s .args .at ≤ k → k < l .row + further t → Dec (k < l .row) → passes s k ≡ true
     by k g h (yes e) = c .before .before .before .before .before .loop .inv .3 k g e
-    by k g h (no e) = moved (c .before) .0 k (omega (arith, e)) h
+    by k g h (no e) = chosen (c .before .before) .0 k (omega (arith, e)) h
 
 add-row : tie.Need-add-row Inv-loop μ-loop
 add-row c =
@@ -248,10 +229,8 @@ skip-spec =
     add-last-3
     mul-if1
     shared-slice-copy-out-if1
-    three-requires
-    add-t18
-    three-requires-2
-    add-t20
+    stepped-requires
+    stepped-requires-2
     returns
     add-row
     add-place
