@@ -1,22 +1,20 @@
--- Keys below a left key: the test of an inclusive bound by an exclusive one, four rows at once, and nearness by distance alone. Assumes nothing.
+-- Keys below a left key: the test of an inclusive bound by an exclusive one, four rows at once. Assumes nothing.
 use mathlib.Core.Path.{_≡_, refl, sym, ap, _∙_}
 use mathlib.Core.Bool.{Bool, true, false, cond, not, _||_}
 use Prim.Native.Nat.{ℕ, zero, suc, _+_, _-_, _*_, _^_, _≤_, _<_}
 use native.Mathlib.Omega.{arith}
 use native.Mathlib.Decide.{decLt}
-use borrow.Author.Tests.{lt-ltb, le-ltb, ltb-false, leb-true, leb-false}
-use lib.Dec.{ltb, leb}
-use lib.IntN.{ℤ, pos, negsuc, natAbs, _+ℤ_, _-ℤ_}
+use borrow.Author.Tests.{lt-ltb, le-ltb, ltb-false, not-true}
+use lib.Dec.{ltb}
+use lib.IntN.{ℤ, pos, negsuc, _+ℤ_}
 use lib.Signed.{ltZ, mag}
 use Rattle.frames.specs.Cells.{value}
-use Rattle.options.specs.Options.{keyRule}
 use Rattle.order.specs.Order.{isLess, isEqual}
-use Rattle.order.proofs.OrderLaws.{cmpZ-is, cmpCell-is, three-less, less-greater, then-less}
+use Rattle.order.proofs.OrderLaws.{cmpZ-is, less-greater}
 use Rattle.order.specs.declared.Order.the-variants.{Less, Equal, Greater}
-use Rattle.matching.specs.Match.{nearer}
 use Rattle.matching.specs.Moves.{NotAbove}
-use Rattle.matching.proofs.MayLaws.{never, is-false, nearer-least, nearer-by}
-use Rattle.advance.specs.Below.{below, lastTrue}
+use Rattle.matching.proofs.CursorLaws.{back-down}
+use Rattle.advance.specs.Below.{below, HasNext, lastTrue}
 
 -- ---- a bound that counts too is the next one, which does not
 lt-suc : (x y : ℕ) → ltb x (suc y) ≡ not (ltb y x)
@@ -44,7 +42,7 @@ lt-next (negsuc a) (negsuc (suc n)) = rw (minus-next n, lt-suc a n) (twice (ltb 
     twice false = refl
 
 -- It is a word, unless the bound is the greatest one.
-pub next-fits : (v : ℤ) → mag v < 2 ^ 63 → ltZ (pos 9223372036854775806) v ≡ false → mag (v +ℤ pos 1) < 2 ^ 63
+pub next-fits : (v : ℤ) → mag v < 2 ^ 63 → HasNext v → mag (v +ℤ pos 1) < 2 ^ 63
 next-fits (pos n) h e = omega (arith, ltb-false 9223372036854775806 n e)
 next-fits (negsuc zero) h e = omega arith
 next-fits (negsuc (suc n)) h e = rw (minus-next n) (omega arith)
@@ -73,9 +71,12 @@ below-at v a = by (ltZ a v) (ltZ v a) (λ e. not-greater (ltZ v a) (ltZ a v) (le
 pub below-next : (v a : ℤ) → below true v a ≡ ltZ a (v +ℤ pos 1)
 below-next v a = below-at v a ∙ sym (lt-next a v)
 
--- ---- a key at most one that is below u is below u
-pub lt-down : (a b u : ℤ) → NotAbove (value a) (value b) → ltZ b u ≡ true → ltZ a u ≡ true
-lt-down a b u h e = three-less (ltZ a u) (ltZ u a) (then-less (cmpCell-is keyRule) (value a) (value b) (value u) h (rw e))
+-- ---- a key at most one that has a next has one too
+pub next-before : (a b : ℤ) → NotAbove (value a) (value b) → HasNext b → HasNext a
+next-before a b h e = not-true (ltZ g a) (sym (below-at g a) ∙ back-down true (value a) (value b) (value g) h (below-at g b ∙ rw e))
+  where
+    g : ℤ
+    g = pos 9223372036854775806
 
 -- ---- the first of four rows from row n on that does not pass the test, where the fourth does not and what is before one that does passes it too
 module _ (P : ℕ → Bool) (n : ℕ) (down : (i k : ℕ) → n ≤ i → i ≤ k → k ≤ n + 3 → P k ≡ true → P i ≡ true) (stop : P (n + 3) ≡ false) where
@@ -94,11 +95,3 @@ last-true-chosen start step a b true = omega arith
 last-true-chosen start step a true false = omega arith
 last-true-chosen start step true false false = omega arith
 last-true-chosen start step false false false = omega arith
-
--- ---- of keys a ≤ b: b takes the place of a where it is no farther
-pub near-by-distance : (v a b : ℤ) → NotAbove (value a) (value b) → leb (natAbs (b -ℤ v)) (natAbs (a -ℤ v)) ≡ nearer (value v) (value b) (value a)
-near-by-distance v a b h = by (leb (natAbs (b -ℤ v)) (natAbs (a -ℤ v))) refl
-  where
-    by : (t : Bool) → leb (natAbs (b -ℤ v)) (natAbs (a -ℤ v)) ≡ t → t ≡ nearer (value v) (value b) (value a)
-    by true e = sym (nearer-by (value v) (value b) (value a) (leb-true (natAbs (b -ℤ v)) (natAbs (a -ℤ v)) e) h)
-    by false e = sym (is-false (nearer (value v) (value b) (value a)) (λ t. let n = nearer-least (value v) (value b) (value a) t in omega (arith, n, leb-false (natAbs (b -ℤ v)) (natAbs (a -ℤ v)) e)))

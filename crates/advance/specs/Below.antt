@@ -4,12 +4,12 @@ use mathlib.Core.Bool.{Bool, true, false, cond}
 use Prim.Native.Nat.{ℕ, _+_, _*_, _≤_, _<_}
 use lib.IntN.{ℤ, pos}
 use lib.ListN.{length, getD}
+use lib.Signed.{ltZ}
 use Rattle.frames.specs.Cells.{Cell, value, Words}
 use Rattle.options.specs.Options.{keyRule}
 use Rattle.order.specs.Order.{cmpCell}
-use Rattle.options.specs.declared.Strategy.the-variants.{Backward, Nearest}
+use Rattle.options.specs.declared.Strategy.the-variants.{Backward}
 use Rattle.matching.specs.Match.{onSide}
-use Rattle.matching.specs.Moves.{Rising, Behind, Stopped}
 use Rattle.advance.specs.declared.Position.{Position}
 
 -- The key of row k by its value alone, of rows that are each w wide.
@@ -23,6 +23,10 @@ keyed w by vs k = value (valueAt w by vs k)
 -- SCOPE 10.2: the key a is below v, or at it where that counts too.
 abbrev pub below : Bool → ℤ → ℤ → Bool
 below inclusive v a = onSide Backward inclusive (cmpCell keyRule (value a) (value v))
+
+-- The word v is not the greatest one: there is a next.
+abbrev pub HasNext : ℤ → Type 0
+HasNext v = ltZ (pos 9223372036854775806) v ≡ false
 
 -- How many of three tests there are up to the last that holds.
 abbrev pub lastTrue : Bool → Bool → Bool → ℕ
@@ -42,11 +46,3 @@ pub record Skipped (w by at end : ℕ) (vs : Words) (test : ℤ → Bool) (r : P
   pub place : r .place ≡ r .row * w + by
   pub before : (k : ℕ) → at ≤ k → k < r .row → test (valueAt w by vs k) ≡ true
   pub stop : r .row < end → test (valueAt w by vs (r .row)) ≡ false
-
--- The cursor moved on for Nearest from row `at` to row r, one of the rows up to `end`, and rests there for v.
-pub record Approached (w by at end : ℕ) (vs : Words) (v : ℤ) (r : Position) : Type 0 where
-  pub upward : at ≤ r .row
-  pub there : r .row < end
-  pub place : r .place ≡ r .row * w + by
-  pub behind : (start : ℕ) → start ≤ at → Rising (keyed w by vs) start end → Behind Nearest true (keyed w by vs) start (value v) at → Behind Nearest true (keyed w by vs) start (value v) (r .row)
-  pub stopped : Stopped Nearest true (keyed w by vs) end (value v) (r .row)
