@@ -1,13 +1,50 @@
 // Nearest over a sorted left run and a sorted right run in which every row has a key: one cursor each, which only moves forward.
-use advance::approach;
+use advance::Position;
+use cells::distance;
 use choices::near_row;
 use choices::put;
 use options::Terms;
 ghost use mathlib.Core.Path.{_≡_};
-ghost use Prim.Native.Nat.{_<_};
+ghost use Prim.Native.Nat.{_-_, _*_, _<_};
+ghost use Rattle.frames.specs.Cells.{value};
 ghost use Rattle.options.specs.Options.{withoutList, strategyOf};
 ghost use Rattle.options.specs.declared.Strategy.the-variants.{Nearest};
+ghost use Rattle.matching.specs.Match.{nearer};
+ghost use Rattle.matching.specs.Moves.{NotAbove, Rising};
+ghost use Rattle.advance.specs.Below.{keyed, AtPlace};
 ghost use Rattle.walk.specs.Keyed.{KeysRoom, Walked};
+ghost use Rattle.nearwalk.specs.Near.{Approached};
+
+// Whether b, which is not below a and stands behind it, is as near to v as a, or nearer.
+fn as_near(v: i64, b: i64, a: i64) -> bool
+    ensures { λ r. ⌜ (NotAbove (value a) (value b) → r ≡ nearer (value v) (value b) (value a)) ⌝ }
+{
+    distance(b, v) <= distance(a, v)
+}
+
+// The row of at..end at which the cursor rests for v: it moves on while the next key is as near as its own, or nearer.
+fn approach(rv: &[i64], at: usize, p: usize, end: usize, w: usize, v: i64) -> Position
+    requires { ⌜ AtPlace w end (now rv) at p × (at < end) × Rising (keyed w (p - at * w) (now rv)) at end ⌝ }
+    ensures { λ r. ⌜ Approached w (p - at * w) at end (now (rv .entry)) v r ⌝ }
+{
+    let mut row = at;
+    let mut place = p;
+    while 1 < end - row {
+        let next = place + w;
+        if !as_near(v, rv[next], rv[place]) {
+            return Position {
+                row: row,
+                place: place,
+            };
+        }
+        row += 1;
+        place = next;
+    }
+    Position {
+        row: row,
+        place: place,
+    }
+}
 
 // Left rows from..to, each matched to the nearest right row of at..end, of which there is one: the one at which the cursor rests. Where the cursor has come to.
 pub fn nearest(
