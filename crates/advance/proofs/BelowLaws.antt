@@ -1,22 +1,20 @@
--- Keys below a left key: the test of an inclusive bound by an exclusive one, four rows at once, and nearness by distance alone. Assumes nothing.
+-- Keys below a left key: the test of an inclusive bound by an exclusive one, four rows at once. Assumes nothing.
 use mathlib.Core.Path.{_≡_, refl, sym, ap, _∙_}
 use mathlib.Core.Bool.{Bool, true, false, cond, not, _||_}
 use Prim.Native.Nat.{ℕ, zero, suc, _+_, _-_, _*_, _^_, _≤_, _<_}
 use native.Mathlib.Omega.{arith}
 use native.Mathlib.Decide.{decLt}
-use borrow.Author.Tests.{lt-ltb, le-ltb, ltb-false, leb-true, leb-false}
-use lib.Dec.{ltb, leb}
-use lib.IntN.{ℤ, pos, negsuc, natAbs, _+ℤ_, _-ℤ_}
+use borrow.Author.Tests.{lt-ltb, le-ltb, ltb-false, not-true}
+use lib.Dec.{ltb}
+use lib.IntN.{ℤ, pos, negsuc, _+ℤ_}
 use lib.Signed.{ltZ, mag}
 use Rattle.frames.specs.Cells.{value}
-use Rattle.options.specs.Options.{keyRule}
 use Rattle.order.specs.Order.{isLess, isEqual}
-use Rattle.order.proofs.OrderLaws.{cmpZ-is, cmpCell-is, three-less, less-greater, then-less}
+use Rattle.order.proofs.OrderLaws.{cmpZ-is, less-greater}
 use Rattle.order.specs.declared.Order.the-variants.{Less, Equal, Greater}
-use Rattle.matching.specs.Match.{nearer}
 use Rattle.matching.specs.Moves.{NotAbove}
-use Rattle.matching.proofs.MayLaws.{never, is-false, nearer-least, nearer-by}
-use Rattle.advance.specs.Below.{below, gains}
+use Rattle.matching.proofs.CursorLaws.{back-down}
+use Rattle.advance.specs.Below.{below, HasNext, lastTrue}
 
 -- ---- a bound that counts too is the next one, which does not
 lt-suc : (x y : ℕ) → ltb x (suc y) ≡ not (ltb y x)
@@ -44,7 +42,7 @@ lt-next (negsuc a) (negsuc (suc n)) = rw (minus-next n, lt-suc a n) (twice (ltb 
     twice false = refl
 
 -- It is a word, unless the bound is the greatest one.
-pub next-fits : (v : ℤ) → mag v < 2 ^ 63 → ltZ (pos 9223372036854775806) v ≡ false → mag (v +ℤ pos 1) < 2 ^ 63
+pub next-fits : (v : ℤ) → mag v < 2 ^ 63 → HasNext v → mag (v +ℤ pos 1) < 2 ^ 63
 next-fits (pos n) h e = omega (arith, ltb-false 9223372036854775806 n e)
 next-fits (negsuc zero) h e = omega arith
 next-fits (negsuc (suc n)) h e = rw (minus-next n) (omega arith)
@@ -73,38 +71,27 @@ below-at v a = by (ltZ a v) (ltZ v a) (λ e. not-greater (ltZ v a) (ltZ a v) (le
 pub below-next : (v a : ℤ) → below true v a ≡ ltZ a (v +ℤ pos 1)
 below-next v a = below-at v a ∙ sym (lt-next a v)
 
--- ---- a key at most one that is below u is below u
-pub lt-down : (a b u : ℤ) → NotAbove (value a) (value b) → ltZ b u ≡ true → ltZ a u ≡ true
-lt-down a b u h e = three-less (ltZ a u) (ltZ u a) (then-less (cmpCell-is keyRule) (value a) (value b) (value u) h (rw e))
+-- ---- a key at most one that has a next has one too
+pub next-before : (a b : ℤ) → NotAbove (value a) (value b) → HasNext b → HasNext a
+next-before a b h e = not-true (ltZ g a) (sym (below-at g a) ∙ back-down true (value a) (value b) (value g) h (below-at g b ∙ rw e))
+  where
+    g : ℤ
+    g = pos 9223372036854775806
 
--- ---- three rows from row n on, counted, where the fourth does not pass the test and what is before one that does passes it too
+-- ---- the first of four rows from row n on that does not pass the test, where the fourth does not and what is before one that does passes it too
 module _ (P : ℕ → Bool) (n : ℕ) (down : (i k : ℕ) → n ≤ i → i ≤ k → k ≤ n + 3 → P k ≡ true → P i ≡ true) (stop : P (n + 3) ≡ false) where
-  pub three-counted : (a b c : Bool) → P n ≡ a → P (n + 1) ≡ b → P (n + 2) ≡ c
-      → ((k : ℕ) → n ≤ k → k < n + gains 1 a b c → P k ≡ true) × (P (n + gains 1 a b c) ≡ false) × (gains 1 a b c ≤ 3)
-  three-counted true true true p q r = (λ k l h. down k (n + 2) l (omega (arith, h)) (omega arith) r, stop, omega arith)
-  three-counted true true false p q r = (λ k l h. down k (n + 1) l (omega (arith, h)) (omega arith) q, r, omega arith)
-  three-counted true false false p q r = (λ k l h. down k n l (omega (arith, h)) (omega arith) p, q, omega arith)
-  three-counted false false false p q r =
+  pub last-true-stops : (a b c : Bool) → P n ≡ a → P (n + 1) ≡ b → P (n + 2) ≡ c
+      → ((k : ℕ) → n ≤ k → k < n + lastTrue a b c → P k ≡ true) × (P (n + lastTrue a b c) ≡ false) × (lastTrue a b c ≤ 3)
+  last-true-stops a b true p q r = (λ k l h. down k (n + 2) l (omega (arith, h)) (omega arith) r, stop, omega arith)
+  last-true-stops a true false p q r = (λ k l h. down k (n + 1) l (omega (arith, h)) (omega arith) q, r, omega arith)
+  last-true-stops true false false p q r = (λ k l h. down k n l (omega (arith, h)) (omega arith) p, q, omega arith)
+  last-true-stops false false false p q r =
       let e : n + 0 ≡ n = omega arith in
       (λ k l h. absurd (omega (arith, l, h)), rw e p, omega arith)
-  three-counted true false true p q r = never (P (n + 1)) (down (n + 1) (n + 2) (omega arith) (omega arith) (omega arith) r) q
-  three-counted false true c p q r = never (P n) (down n (n + 1) (omega arith) (omega arith) (omega arith) q) p
-  three-counted false false true p q r = never (P (n + 1)) (down (n + 1) (n + 2) (omega arith) (omega arith) (omega arith) r) q
 
-pub gains-scaled : (w : ℕ) (a b c : Bool) → gains w a b c ≡ gains 1 a b c * w
-gains-scaled w true true true = omega arith
-gains-scaled w true true false = omega arith
-gains-scaled w true false true = omega arith
-gains-scaled w true false false = omega arith
-gains-scaled w false true true = omega arith
-gains-scaled w false true false = omega arith
-gains-scaled w false false true = omega arith
-gains-scaled w false false false = omega arith
-
--- ---- of keys a ≤ b: b takes the place of a where it is no farther
-pub near-by-distance : (v a b : ℤ) → NotAbove (value a) (value b) → leb (natAbs (b -ℤ v)) (natAbs (a -ℤ v)) ≡ nearer (value v) (value b) (value a)
-near-by-distance v a b h = by (leb (natAbs (b -ℤ v)) (natAbs (a -ℤ v))) refl
-  where
-    by : (t : Bool) → leb (natAbs (b -ℤ v)) (natAbs (a -ℤ v)) ≡ t → t ≡ nearer (value v) (value b) (value a)
-    by true e = sym (nearer-by (value v) (value b) (value a) (leb-true (natAbs (b -ℤ v)) (natAbs (a -ℤ v)) e) h)
-    by false e = sym (is-false (nearer (value v) (value b) (value a)) (λ t. let n = nearer-least (value v) (value b) (value a) t in omega (arith, n, leb-false (natAbs (b -ℤ v)) (natAbs (a -ℤ v)) e)))
+-- The same by choices, the last test first.
+pub last-true-chosen : (start step : ℕ) (a b c : Bool) → cond c (start + step + step + step) (cond b (start + step + step) (cond a (start + step) start)) ≡ start + lastTrue a b c * step
+last-true-chosen start step a b true = omega arith
+last-true-chosen start step a true false = omega arith
+last-true-chosen start step true false false = omega arith
+last-true-chosen start step false false false = omega arith

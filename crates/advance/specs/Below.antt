@@ -4,12 +4,12 @@ use mathlib.Core.Bool.{Bool, true, false, cond}
 use Prim.Native.Nat.{ℕ, _+_, _*_, _≤_, _<_}
 use lib.IntN.{ℤ, pos}
 use lib.ListN.{length, getD}
+use lib.Signed.{ltZ}
 use Rattle.frames.specs.Cells.{Cell, value, Words}
 use Rattle.options.specs.Options.{keyRule}
 use Rattle.order.specs.Order.{cmpCell}
-use Rattle.options.specs.declared.Strategy.the-variants.{Backward, Nearest}
+use Rattle.options.specs.declared.Strategy.the-variants.{Backward}
 use Rattle.matching.specs.Match.{onSide}
-use Rattle.matching.specs.Moves.{Rising, Behind, Stopped}
 use Rattle.advance.specs.declared.Position.{Position}
 
 -- The key of row k by its value alone, of rows that are each w wide.
@@ -24,9 +24,13 @@ keyed w by vs k = value (valueAt w by vs k)
 abbrev pub below : Bool → ℤ → ℤ → Bool
 below inclusive v a = onSide Backward inclusive (cmpCell keyRule (value a) (value v))
 
--- So much for each of three tests that holds.
-abbrev pub gains : ℕ → Bool → Bool → Bool → ℕ
-gains unit a b c = cond a unit 0 + cond b unit 0 + cond c unit 0
+-- The word v is not the greatest one: there is a next.
+abbrev pub HasNext : ℤ → Type 0
+HasNext v = ltZ (pos 9223372036854775806) v ≡ false
+
+-- How many of three tests there are up to the last that holds.
+abbrev pub lastTrue : Bool → Bool → Bool → ℕ
+lastTrue a b c = cond c 3 (cond b 2 (cond a 1 0))
 
 -- Rows up to `end` are there, each w wide; row `at` is one of them or their end, and its key is at place p.
 pub record AtPlace (w end : ℕ) (vs : Words) (at p : ℕ) : Type 0 where
@@ -42,11 +46,3 @@ pub record Skipped (w by at end : ℕ) (vs : Words) (test : ℤ → Bool) (r : P
   pub place : r .place ≡ r .row * w + by
   pub before : (k : ℕ) → at ≤ k → k < r .row → test (valueAt w by vs k) ≡ true
   pub stop : r .row < end → test (valueAt w by vs (r .row)) ≡ false
-
--- The cursor moved on for Nearest from row `at` to row r, one of the rows up to `end`, and rests there for v.
-pub record Approached (w by at end : ℕ) (vs : Words) (v : ℤ) (r : Position) : Type 0 where
-  pub upward : at ≤ r .row
-  pub there : r .row < end
-  pub place : r .place ≡ r .row * w + by
-  pub behind : (start : ℕ) → start ≤ at → Rising (keyed w by vs) start end → Behind Nearest true (keyed w by vs) start (value v) at → Behind Nearest true (keyed w by vs) start (value v) (r .row)
-  pub stopped : Stopped Nearest true (keyed w by vs) end (value v) (r .row)

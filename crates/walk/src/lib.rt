@@ -5,22 +5,47 @@ use choices::put;
 use matching::Choice;
 use options::Terms;
 ghost use mathlib.Core.Path.{_≡_};
-ghost use Prim.Native.Nat.{_+_, _-_, _*_, _^_, _≤_, _<_};
+ghost use Prim.Native.Nat.{ℕ, _+_, _-_, _*_, _^_, _≤_, _<_};
 ghost use lib.IntN.{pos};
 ghost use lib.ListN.{length, getD};
+ghost use lib.Signed.{ltZ};
 ghost use Rattle.options.specs.Options.{withoutList, strategyOf};
 ghost use Rattle.options.specs.declared.Strategy.the-variants.{Backward, Forward};
 ghost use Rattle.matching.specs.Loops.{Small};
+ghost use Rattle.matching.specs.Moves.{Rising};
 ghost use Rattle.matching.specs.declared.Choice.the-variants.{Nothing};
+ghost use Rattle.advance.specs.Below.{valueAt, keyed, HasNext};
 ghost use Rattle.choices.specs.Choices.{unlessFar};
 ghost use Rattle.walk.specs.Keyed.{KeysRoom, Walked};
 
-// Up to which row of at..end a walk of so many left rows takes four rows at a time: none where the left rows are many beside the right ones.
-fn fours_to(left: usize, at: usize, end: usize) -> usize
-    requires { ⌜ at ≤ end ⌝ }
-    ensures { λ r. ⌜ r ≤ end ⌝ }
+// Whether v is the greatest word: then there is no next one.
+fn is_greatest(v: i64) -> bool
+    ensures { λ r. ⌜ r ≡ ltZ (pos 9223372036854775806) v ⌝ }
 {
-    if end - at < left / 4 {
+    9223372036854775806 < v
+}
+
+// Up to which row of at..end a walk of left rows from..to takes four rows at a time: none where the left rows are many beside the right ones, or where the last left key, which no other is above, is the greatest word.
+fn fours_to(
+    lv: &[i64],
+    wl: usize,
+    by: usize,
+    from: usize,
+    to: usize,
+    at: usize,
+    end: usize,
+) -> usize
+    requires { ⌜ (by < wl) × (to * wl ≤ length (now lv)) × (from ≤ to) × (at ≤ end) × Rising (keyed wl by (now lv)) from to ⌝ }
+    ensures { λ r. ⌜ (r ≤ end) × (at + 3 < r → (k : ℕ) → from ≤ k → k < to → HasNext (valueAt wl by (now (lv .entry)) k)) ⌝ }
+{
+    if end - at < (to - from) / 4 {
+        return at;
+    }
+    if from == to {
+        return at;
+    }
+    let last = (to - 1) * wl + by;
+    if is_greatest(lv[last]) {
         return at;
     }
     end
@@ -84,7 +109,7 @@ pub fn backward(
     ensures { λ r. ⌜ Walked (withoutList o) wl m (now (lv .entry)) from to wr (now (rv .entry)) at end number (now (out .entry)) r (now (out .exit)) ⌝ }
 {
     let by = o.by;
-    let stop = fours_to(to - from, at, end);
+    let stop = fours_to(lv, wl, by, from, to, at, end);
     let mut row = at;
     let mut place = at * wr + by;
     let mut i = from;
@@ -121,7 +146,7 @@ pub fn forward(
     ensures { λ r. ⌜ Walked (withoutList o) wl m (now (lv .entry)) from to wr (now (rv .entry)) at end number (now (out .entry)) r (now (out .exit)) ⌝ }
 {
     let by = o.by;
-    let stop = fours_to(to - from, at, end);
+    let stop = fours_to(lv, wl, by, from, to, at, end);
     let mut row = at;
     let mut place = at * wr + by;
     let mut i = from;

@@ -5,12 +5,12 @@ use Rattle.advance.proofs.bound.Statement.{statement}
 use Rattle.advance.proofs.bound.Tie as tie
 
 add-result : tie.Need-add-result
-add-result c = let s = c .before in rw (toZ-ofZ (s .fits .v)) (record { sfits = next-fits (s .args .v) (s .fits .v .sfits) (s .pre (c .if1 .taken)) })
+add-result c = let s = c .before in rw (toZ-ofZ (s .fits .v)) (record { sfits = next-fits (s .args .v) (s .fits .v .sfits) (s .pre) })
 
 returns : tie.Need-returns
 returns c = λ a.
     let s = c .before in
-    rw (toZ-ofZ (s .fits .v), back _ (next-fits (s .args .v) (s .fits .v .sfits) (s .pre (c .if1 .taken))), c .if1 .taken) (below-next (s .args .v) a)
+    rw (toZ-ofZ (s .fits .v), back _ (next-fits (s .args .v) (s .fits .v .sfits) (s .pre)), c .if1 .taken) (below-next (s .args .v) a)
 
 returns-2 : tie.Need-returns-2
 returns-2 c = λ a. let s = c .before in rw (toZ-ofZ (s .fits .v), c .if1 .left) (below-strict (s .args .v) a)

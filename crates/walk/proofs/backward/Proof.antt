@@ -7,6 +7,8 @@ use native.Mathlib.Omega.{arith}
 use denote.Ref.{now}
 use lib.IntN.{ℤ, pos}
 use lib.ListN.{length, getD}
+use mir.Syntax.{w64}
+use mir.Val.{toZ, ofZ}
 use Rattle.frames.specs.Cells.{Words, rowFrom}
 use Rattle.frames.proofs.Signed.{back}
 use Rattle.options.specs.Options.{withoutList}
@@ -17,7 +19,7 @@ use Rattle.matching.specs.Stretches.{between, lay}
 use Rattle.matching.specs.declared.Choice.the-variants.{Nothing}
 use Rattle.matching.proofs.BestLaws.{key-at}
 use Rattle.matching.proofs.LayLaws.{lay-more, lay-done}
-use Rattle.advance.specs.Below.{valueAt, keyed, below, Skipped}
+use Rattle.advance.specs.Below.{valueAt, keyed, below, HasNext, Skipped}
 use Rattle.choices.specs.Choices.{unlessFar}
 use Rattle.walk.specs.Keyed.{Marked}
 use Rattle.walk.proofs.KeyedLaws.{Reached, reached-here, below-later, below-on, back-choice, row-before}
@@ -112,11 +114,8 @@ starts s =
     let a = s .args in
     (mul-le-mul-right {m = a .from} {n = a .to} (a .wl) (s .pre .0 .upward), mul-le-mul-right {m = a .at} {n = a .end} (a .wr) (s .pre .0 .run))
 
-sub-fours-to : tie.Need-sub-fours-to Inv-loop μ-loop
-sub-fours-to c = c .pre .0 .upward
-
 fours-to-requires : tie.Need-fours-to-requires Inv-loop μ-loop
-fours-to-requires c κs = c .pre .0 .run
+fours-to-requires c κs = let p = c .pre .0 in (p .left-wide, p .left-values, p .upward, p .run, p .left-rising)
 
 mul-place : tie.Need-mul-place Inv-loop μ-loop
 mul-place c = let p = c .before .pre .0 in omega (arith, starts (c .before) .1, p .right-values)
@@ -141,6 +140,13 @@ mul-v c = let r = room c in let p = c .before .before .before .pre .0 in omega (
 shared-slice-copy-out-v : tie.Need-shared-slice-copy-out-v Inv-loop μ-loop
 shared-slice-copy-out-v c = let r = room c in let p = c .before .before .before .pre .0 in omega (arith, p .left-wide, p .left-values, c .before .loop .inv .6)
 
+-- where four rows are taken at a time, the key of row i has a next
+has-next : (c : tie.After-v Inv-loop μ-loop) → let a = c .before .before .before .before .args in a .at + 3 < c .before .before .before .fours-to .result → HasNext (toZ w64 (ofZ w64 (getD (now (a .lv)) (c .before .before .loop .p) (pos 0))))
+has-next c h =
+    let a = c .before .before .before .before .args in
+    let l = c .before .before .loop in
+    rw (back (getD (now (a .lv)) (l .p) (pos 0)) (c .v .given), l .inv .6) (c .before .before .before .fours-to .ensures .1 h (l .i) (l .inv .0) (c .before .loop-test .taken))
+
 advance-requires : tie.Need-advance-requires Inv-loop μ-loop
 advance-requires c κs =
     let s = c .before .before .before .before in
@@ -149,8 +155,9 @@ advance-requires c κs =
     let l = c .before .before .loop in
     let e : l .place - l .row * a .wr ≡ a .o .by = omega (arith, l .inv .5) in (
       record { within = l .inv .4; values = p .right-values; start = omega (arith, l .inv .5); wide = omega (arith, l .inv .5, p .right-wide) },
-      c .before .before .before .fours-to .ensures,
+      c .before .before .before .fours-to .ensures .0,
       rw e (λ i k g t h. p .right-rising i k (omega (arith, g, l .inv .3)) t h),
+      λ h. has-next c (omega (arith, h, l .inv .3)),
     )
 
 choice-back-requires : tie.Need-choice-back-requires Inv-loop μ-loop
@@ -233,7 +240,6 @@ backward-spec =
     (tie.spec
     Inv-loop
     μ-loop
-    sub-fours-to
     fours-to-requires
     mul-place
     add-place

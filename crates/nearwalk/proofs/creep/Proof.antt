@@ -16,9 +16,9 @@ use Rattle.options.specs.declared.Strategy.the-variants.{Nearest}
 use Rattle.matching.specs.Match.{nearer}
 use Rattle.matching.specs.Moves.{Rising, Behind}
 use Rattle.matching.proofs.CursorLaws.{moved}
 use Rattle.advance.specs.Below.{keyed}
-use Rattle.advance.proofs.approach.Statement.{statement}
-use Rattle.advance.proofs.approach.Tie as tie
+use Rattle.nearwalk.proofs.creep.Statement.{statement}
+use Rattle.nearwalk.proofs.creep.Tie as tie
 
 abbrev Inv-loop : tie.InvT-loop
 Inv-loop rv at p end w v row₀ place₀ row place =
@@ -129,8 +129,8 @@ returns-2 c =
       stopped = λ (h : l .row + 1 < s .args .end). absurd (omega (arith, h, c .loop-test .left));
     }
 
-pub approach-spec : {M : Type 1} → statement M
-approach-spec =
+pub creep-spec : {M : Type 1} → statement M
+creep-spec =
     tie.close
     (tie.spec
     Inv-loop
