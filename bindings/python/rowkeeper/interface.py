@@ -3,8 +3,8 @@ import ctypes
 from ctypes import c_int64, c_size_t, c_uint8, c_uint64, c_void_p
 
 # The version of the library that these declarations are of.
-VERSION = '0.5.1'
-VERSION_NUMBER = 5001
+VERSION = '0.5.2'
+VERSION_NUMBER = 5002
 
 # The name of its shared object, which has another number if a host must be compiled anew.
 SONAME = 'librowkeeper.so.3'

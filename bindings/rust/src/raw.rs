@@ -2,9 +2,9 @@
 
 // ---- tools/interface writes: structs
 /// The version of the library that these declarations are of.
-pub const VERSION: &str = "0.5.1";
+pub const VERSION: &str = "0.5.2";
 /// The same as a number: 1,000,000 × major + 1,000 × minor + patch.
-pub const VERSION_NUMBER: u64 = 5001;
+pub const VERSION_NUMBER: u64 = 5002;
 /// The rows that a frame can have at most.
 pub const MOST_ROWS: usize = 4096;
 /// The by-columns that a join can have at most.

@@ -7,4 +7,4 @@ versionOf major minor patch = major * 1_000_000 + minor * 1_000 + patch
 
 -- The version of this library.
 abbrev pub versionNow : ℕ
-versionNow = versionOf 0 5 1
+versionNow = versionOf 0 5 2

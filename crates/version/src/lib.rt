@@ -2,8 +2,8 @@
 ghost use mathlib.Core.Path.{_≡_};
 ghost use Rattle.version.specs.Version.{versionNow};
 
-// Version 0.5.1: major × 1,000,000 + minor × 1,000 + patch.
-const NUMBER: u64 = 5001;
+// Version 0.5.2: major × 1,000,000 + minor × 1,000 + patch.
+const NUMBER: u64 = 5002;
 
 // The version of this library as a number: major × 1,000,000 + minor × 1,000 + patch.
 pub fn version_now() -> u64
