@@ -111,6 +111,17 @@ fn approach(rv: &[i64], at: usize, p: usize, end: usize, w: usize, v: i64) -> Po
     creep(rv, row, place, end, w, v)
 }
 
+// The row of at..end at which the cursor rests for v: looked for row by row where the right rows are few, since three together are then never there.
+fn come_near(rv: &[i64], at: usize, p: usize, end: usize, w: usize, v: i64, few: bool) -> Position
+    requires { ⌜ AtPlace w end (now rv) at p × (at < end) × Rising (keyed w (p - at * w) (now rv)) at end ⌝ }
+    ensures { λ r. ⌜ Approached w (p - at * w) at end (now (rv .entry)) v r ⌝ }
+{
+    if few {
+        return creep(rv, at, p, end, w, v);
+    }
+    approach(rv, at, p, end, w, v)
+}
+
 // Left rows from..to, each matched to the nearest right row of at..end, of which there is one: the one at which the cursor rests. Where the cursor has come to.
 pub fn nearest(
     lv: &[i64],
@@ -130,13 +141,14 @@ pub fn nearest(
     ensures { λ r. ⌜ Walked (withoutList o) wl m (now (lv .entry)) from to wr (now (rv .entry)) at end number (now (out .entry)) r (now (out .exit)) ⌝ }
 {
     let by = o.by;
+    let few = end - at <= 3;
     let mut row = at;
     let mut place = at * wr + by;
     let mut i = from;
     let mut p = from * wl + by;
     while i < to {
         let v = lv[p];
-        let c = approach(rv, row, place, end, wr, v);
+        let c = come_near(rv, row, place, end, wr, v, few);
         row = c.row;
         place = c.place;
         let choice = near_row(rv, place, v, o.tolerance, number + row);

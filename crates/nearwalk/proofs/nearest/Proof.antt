@@ -28,7 +28,7 @@ use Rattle.nearwalk.proofs.nearest.Statement.{statement}
 use Rattle.nearwalk.proofs.nearest.Tie as tie
 
 abbrev Inv-loop : tie.InvT-loop
-Inv-loop lv m wl from to rv wr at end number o out₀ by row₀ place₀ i₀ p₀ out row place i p =
+Inv-loop lv m wl from to rv wr at end number o out₀ by few row₀ place₀ i₀ p₀ out row place i p =
     (from ≤ i) × (i ≤ to) × (length out ≡ length out₀) × (at ≤ row) × (row < end) × (place ≡ row * wr + o .by) × (p ≡ i * wl + o .by)
     × ((u : ℤ) → Reached (keyed wl (o .by) lv) from i u → Behind Nearest true (keyed wr (o .by) rv) at (value u) row)
     × ((lm rm : Words) → Marked (withoutList o) wl from to lv lm → Marked (withoutList o) wr at end rv rm
@@ -36,7 +36,7 @@ Inv-loop lv m wl from to rv wr at end number o out₀ by row₀ place₀ i₀ p�
     ≡ lay m i (map (matchIn (withoutList o) (number + at) (between wr at end rv rm)) (between wl i to lv lm)) out)
 
 abbrev μ-loop : tie.MeasureT-loop
-μ-loop lv m wl from to rv wr at end number o out₀ by row₀ place₀ i₀ p₀ out row place i p = to - i
+μ-loop lv m wl from to rv wr at end number o out₀ by few row₀ place₀ i₀ p₀ out row place i p = to - i
 
 -- row i ends within the left rows
 room : (c : tie.In-loop Inv-loop μ-loop) → let a = c .before .before .args in c .before .loop .i * a .wl + a .wl ≤ a .to * a .wl
@@ -47,22 +47,22 @@ abbrev left : tie.In-loop Inv-loop μ-loop → ℤ
 left c = let a = c .before .before .args in valueAt (a .wl) (a .o .by) (now (a .lv)) (c .before .loop .i)
 
 -- where the cursor has come to
-came : (c : tie.After-approach Inv-loop μ-loop) →
+came : (c : tie.After-come-near Inv-loop μ-loop) →
     let i = c .before .before in
     let a = i .before .before .args in
-    Approached (a .wr) (a .o .by) (i .before .loop .row) (a .end) (now (a .rv)) (left i) (c .approach .result)
+    Approached (a .wr) (a .o .by) (i .before .loop .row) (a .end) (now (a .rv)) (left i) (c .come-near .result)
 came c =
     let i = c .before .before in
     let a = i .before .before .args in
     let l = i .before .loop in
     let e : l .place - l .row * a .wr ≡ a .o .by = omega (arith, l .inv .5) in
-    rw (e, back (getD (now (a .lv)) (l .p) (pos 0)) (c .before .v .given), l .inv .6) at (c .approach .ensures)
+    rw (e, back (getD (now (a .lv)) (l .p) (pos 0)) (c .before .v .given), l .inv .6) at (c .come-near .ensures)
 
 -- what it has passed gives way to where it is
-passed : (c : tie.After-approach Inv-loop μ-loop) →
+passed : (c : tie.After-come-near Inv-loop μ-loop) →
     let i = c .before .before in
     let a = i .before .before .args in
-    Behind Nearest true (keyed (a .wr) (a .o .by) (now (a .rv))) (a .at) (value (left i)) (c .approach .result .row)
+    Behind Nearest true (keyed (a .wr) (a .o .by) (now (a .rv))) (a .at) (value (left i)) (c .come-near .result .row)
 passed c =
     let i = c .before .before in
     let s = i .before .before in
@@ -76,7 +76,7 @@ told : (c : tie.After-near-row Inv-loop μ-loop) →
     let d = c .before .before in
     let i = d .before .before in
     let a = i .before .before .args in
-    let n = d .approach .result .row in
+    let n = d .come-near .result .row in
     Small (c .near-row .result) × (c .near-row .result ≡ unlessFar (a .o .tolerance) (left i) (valueAt (a .wr) (a .o .by) (now (a .rv)) n) (a .number + n))
 told c =
     let d = c .before .before in
@@ -97,7 +97,7 @@ choice c lm rm ml mr =
     let s = i .before .before in
     let a = s .args in
     let l = i .before .loop in
-    let n = d .approach .result .row in
+    let n = d .come-near .result .row in
     let g = came d in
     let h : a .at ≤ n = omega (arith, l .inv .3, g .upward) in
     let ex = key-at (withoutList (a .o)) (a .wl) (a .to) (now (a .lv)) lm (ml .rows) (l .i) (i .loop-test .taken) ∙ ml .keys (l .i) (l .inv .0) (i .loop-test .taken) in
@@ -110,6 +110,9 @@ starts : (s : tie.Start Inv-loop μ-loop) → let a = s .args in (a .from * a .w
 starts s =
     let a = s .args in
     (mul-le-mul-right {m = a .from} {n = a .to} (a .wl) (s .pre .0 .upward), mul-le-mul-right {m = a .at} {n = a .end} (a .wr) (s .pre .0 .run))
+
+sub-few : tie.Need-sub-few Inv-loop μ-loop
+sub-few c = omega (arith, c .pre .0 .run)
 
 mul-place : tie.Need-mul-place Inv-loop μ-loop
 mul-place c = let p = c .pre .0 in omega (arith, starts c .1, p .right-values)
@@ -134,8 +137,8 @@ mul-v c = let r = room c in let p = c .before .before .pre .0 in omega (arith, p
 shared-slice-copy-out-v : tie.Need-shared-slice-copy-out-v Inv-loop μ-loop
 shared-slice-copy-out-v c = let r = room c in let p = c .before .before .pre .0 in omega (arith, p .left-wide, p .left-values, c .before .loop .inv .6)
 
-approach-requires : tie.Need-approach-requires Inv-loop μ-loop
-approach-requires c κs =
+come-near-requires : tie.Need-come-near-requires Inv-loop μ-loop
+come-near-requires c κs =
     let i = c .before in
     let s = i .before .before in
     let a = s .args in
@@ -157,7 +160,7 @@ near-row-requires c κs =
     let a = s .args in
     let g = came d in
     let p = s .pre .0 in
-    (omega (arith, g .place, row-room (d .approach .result .row) (a .end) (a .wr) (g .there), p .right-values, p .right-wide), omega (arith, g .there, p .numbers))
+    (omega (arith, g .place, row-room (d .come-near .result .row) (a .end) (a .wr) (g .there), p .right-values, p .right-wide), omega (arith, g .there, p .numbers))
 
 put-requires : tie.Need-put-requires Inv-loop μ-loop
 put-requires c κs =
@@ -189,7 +192,7 @@ loop-again c =
     let l = i .before .loop in
     let t = i .loop-test .taken in
     let g = came d in
-    let n = d .approach .result .row in
+    let n = d .come-near .result .row in
     let z : (l .i + 1) * a .wl ≡ l .i * a .wl + a .wl = omega arith in (
       omega (arith, l .inv .0),
       omega (arith, t),
@@ -226,6 +229,7 @@ nearest-spec =
     (tie.spec
     Inv-loop
     μ-loop
+    sub-few
     mul-place
     add-place
     mul-p
@@ -233,7 +237,7 @@ nearest-spec =
     loop-holds
     mul-v
     shared-slice-copy-out-v
-    approach-requires
+    come-near-requires
     add-near-row
     near-row-requires
     put-requires
