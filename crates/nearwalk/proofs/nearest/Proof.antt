@@ -20,7 +20,7 @@ use Rattle.matching.proofs.BestLaws.{key-at}
 use Rattle.matching.proofs.CursorLaws.{later}
 use Rattle.matching.proofs.LayLaws.{lay-more, lay-done}
 use Rattle.advance.specs.Below.{valueAt, keyed}
-use Rattle.nearwalk.specs.Near.{Approached}
+use Rattle.approach.specs.Near.{Approached}
 use Rattle.choices.specs.Choices.{unlessFar}
 use Rattle.walk.specs.Keyed.{Marked}
 use Rattle.walk.proofs.KeyedLaws.{Reached, reached-here, near-rests}

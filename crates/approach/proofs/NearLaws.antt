@@ -18,7 +18,7 @@ use Rattle.matching.specs.Match.{nearer}
 use Rattle.matching.specs.Moves.{NotAbove, Rising, Behind, Stopped}
 use Rattle.matching.proofs.MayLaws.{never, is-false, nearer-least, nearer-by}
 use Rattle.matching.proofs.CursorLaws.{moved}
-use Rattle.nearwalk.specs.Near.{closes, stepsOn}
+use Rattle.approach.specs.Near.{closes, stepsOn}
 
 K : IsOrder (cmpCell keyRule)
 K = cmpCell-is keyRule

@@ -1,8 +1,8 @@
 use borrow.Author.Needs.{needs}
 use mir.Facts.{toZ-ofZ}
-use Rattle.nearwalk.proofs.NearLaws.{near-by-distance}
-use Rattle.nearwalk.proofs.as_near.Statement.{statement}
-use Rattle.nearwalk.proofs.as_near.Tie as tie
+use Rattle.approach.proofs.NearLaws.{near-by-distance}
+use Rattle.approach.proofs.as_near.Statement.{statement}
+use Rattle.approach.proofs.as_near.Tie as tie
 
 distance-requires : tie.Need-distance-requires
 distance-requires c κs = search needs

@@ -6,10 +6,10 @@ use lib.Signed.{ltZ}
 use mir.Syntax.{w64}
 use mir.Val.{toZ, ofZ}
 use mir.Facts.{toZ-ofZ}
-use Rattle.nearwalk.specs.Near.{closes}
-use Rattle.nearwalk.proofs.NearLaws.{near-by-distance, near-no, near-yes, three-below, last-fails, second-fails, first-tells}
-use Rattle.nearwalk.proofs.closes_three.Statement.{statement}
-use Rattle.nearwalk.proofs.closes_three.Tie as tie
+use Rattle.approach.specs.Near.{closes}
+use Rattle.approach.proofs.NearLaws.{near-by-distance, near-no, near-yes, three-below, last-fails, second-fails, first-tells}
+use Rattle.approach.proofs.closes_three.Statement.{statement}
+use Rattle.approach.proofs.closes_three.Tie as tie
 
 returns : tie.Need-returns
 returns c =

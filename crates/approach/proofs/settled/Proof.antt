@@ -1,10 +1,10 @@
 use borrow.Author.Needs.{needs}
 use mathlib.Core.Path.{_≡_, _∙_}
 use mir.Facts.{toZ-ofZ}
-use Rattle.nearwalk.specs.Near.{closes}
-use Rattle.nearwalk.proofs.NearLaws.{near-by-distance, steps-chosen}
-use Rattle.nearwalk.proofs.settled.Statement.{statement}
-use Rattle.nearwalk.proofs.settled.Tie as tie
+use Rattle.approach.specs.Near.{closes}
+use Rattle.approach.proofs.NearLaws.{near-by-distance, steps-chosen}
+use Rattle.approach.proofs.settled.Statement.{statement}
+use Rattle.approach.proofs.settled.Tie as tie
 
 distance-requires : tie.Need-distance-requires
 distance-requires c κs = search needs

@@ -16,10 +16,10 @@ use Rattle.order.proofs.RowLaws.{row-room}
 use Rattle.options.specs.declared.Strategy.the-variants.{Nearest}
 use Rattle.matching.specs.Moves.{NotAbove, Rising, Behind}
 use Rattle.advance.specs.Below.{valueAt, keyed}
-use Rattle.nearwalk.specs.Near.{closes, stepsOn}
-use Rattle.nearwalk.proofs.NearLaws.{steps-few, steps-stop, steps-behind, three-behind}
-use Rattle.nearwalk.proofs.approach.Statement.{statement}
-use Rattle.nearwalk.proofs.approach.Tie as tie
+use Rattle.approach.specs.Near.{closes, stepsOn}
+use Rattle.approach.proofs.NearLaws.{steps-few, steps-stop, steps-behind, three-behind}
+use Rattle.approach.proofs.approach.Statement.{statement}
+use Rattle.approach.proofs.approach.Tie as tie
 
 abbrev Inv-loop : tie.InvT-loop
 Inv-loop rv at p end w v row₀ place₀ row place =

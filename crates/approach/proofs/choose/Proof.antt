@@ -1,6 +1,6 @@
 use borrow.Author.Tests.{le-leb, lt-leb}
-use Rattle.nearwalk.proofs.choose.Statement.{statement}
-use Rattle.nearwalk.proofs.choose.Tie as tie
+use Rattle.approach.proofs.choose.Statement.{statement}
+use Rattle.approach.proofs.choose.Tie as tie
 
 returns : tie.Need-returns
 returns c = search (le-leb, lt-leb)

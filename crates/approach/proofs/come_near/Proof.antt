@@ -1,8 +1,8 @@
--- `nearwalk::come_near` meets its contract. Assumes nothing.
+-- `approach::come_near` meets its contract. Assumes nothing.
 use borrow.Author.Needs.{needs}
 use mir.Facts.{toZ-ofZ}
-use Rattle.nearwalk.proofs.come_near.Statement.{statement}
-use Rattle.nearwalk.proofs.come_near.Tie as tie
+use Rattle.approach.proofs.come_near.Statement.{statement}
+use Rattle.approach.proofs.come_near.Tie as tie
 
 creep-requires : tie.Need-creep-requires
 creep-requires c κs = search needs

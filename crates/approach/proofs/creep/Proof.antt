@@ -17,8 +17,8 @@ use Rattle.matching.specs.Match.{nearer}
 use Rattle.matching.specs.Moves.{Rising, Behind}
 use Rattle.matching.proofs.CursorLaws.{moved}
 use Rattle.advance.specs.Below.{keyed}
-use Rattle.nearwalk.proofs.creep.Statement.{statement}
-use Rattle.nearwalk.proofs.creep.Tie as tie
+use Rattle.approach.proofs.creep.Statement.{statement}
+use Rattle.approach.proofs.creep.Tie as tie
 
 abbrev Inv-loop : tie.InvT-loop
 Inv-loop rv at p end w v row₀ place₀ row place =
