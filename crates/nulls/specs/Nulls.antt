@@ -5,7 +5,7 @@ use Prim.Native.Nat.{ℕ}
 use Rattle.frames.specs.Cells.{isZero, Rows, Words}
 use Rattle.order.specs.Order.{nullIn}
 
--- A null among the first n cells of a row.
+-- A null among the first n cells of any row.
 unfoldable pub anyNull : ℕ → Rows → Bool
 anyNull n [] = false
 anyNull n (r ∷ rs) = nullIn n r || anyNull n rs

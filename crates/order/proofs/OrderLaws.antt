@@ -350,7 +350,3 @@ module _ (o : Options) where
   pub group-at-most : (r s : List Cell) → AtMost (cmpRow o) r s → AtMost (cmpGroup o) r s
   unfolding cmpRow
   group-at-most r s h = λ g. h (rw g)
-
-  pub row-less : (r s : List Cell) → cmpRow o r s ≡ Less → (cmpGroup o r s ≡ Less) ⊎ ((cmpGroup o r s ≡ Equal) × (cmpKey r s ≡ Less))
-  unfolding cmpRow
-  row-less r s e = next-less (cmpGroup o r s) (cmpKey r s) e

@@ -338,9 +338,6 @@ module _ (o : Options) (q : ℕ) (vs ms : Words) (h : q + o .by < length vs) (l 
     risen : Rising o ts
     risen = rising o ts (k .order)
 
-    room-left : length b₀ ≡ length body
-    room-left = sym (k .long)
-
     -- The group is there.
     pub inserted-here : p < n → cmpGroup o (subAt ts p .group) (u .group) ≡ Equal → (body′ : Words)
         → body′ ≡ paste body (p * w) (take (o .by) (drop q vs) ++ (getD body (p * w + o .by) (pos 0) +ℤ amount) ∷ (getD body (p * w + o .by + 1) (pos 0) +ℤ pos 1) ∷ []) w
