@@ -155,8 +155,8 @@
  * With a list of ranks every call goes over the list once, whatever the frame has, and a value of its column that is not the
  * one of the row before is looked up by halving the list.
  * In instructions, counted by callgrind: a left or a right call of one row 760 to 800, and 3.25 for each word more of its frame
- * where no cell is null; a turn that writes, for each row of a full frame, 76 without by-columns and 98 with one and large
- * groups, all passes over both sides included, with the check on 71 and 93, and some 32 for each cell that is carried; a held
+ * where no cell is null; a turn that writes, for each row of a full frame, 77 without by-columns and 99 with one and large
+ * groups, all passes over both sides included, with the check on 72 and 94, and some 32 for each cell that is carried; a held
  * row ahead of the frame 5 (Backward); a turn that writes one row 2,200 without by-columns, 3,000 with one; a turn that wants
  * right rows 1,800 to 2,200 without by-columns, and 1.4 for each word of the frame that waits; with a list of ranks 10 more for
  * each of its codes in every call. docs/BENCH.md has these and the times.
