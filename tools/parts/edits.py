@@ -32,9 +32,10 @@ def edits_of(crate):
 
 
 # What the check says where a proof's text does not fit the edited program, and no fact is looked at: a name that is not there, a case that the
-# program no longer has, a rewriting that finds no place, a definition that stands on one which was rejected.
-TEXT = re.compile(r"(?:record |module )?`[^`]*` (?:is not in scope|has no (?:field )?`|was not admitted)|write the equation's arguments"
-                  r"|`(?:rw|simp)`: no occurrence")
+# program no longer has, a rewriting that finds no place, a definition that stands on one which was rejected, needs in another order.
+TEXT = re.compile(r"(?:`[^`]*`: )?(?:record |module )?`[^`]*` (?:is not in scope|has no (?:field )?`|was not admitted)"
+                  r"|write the equation's arguments|`(?:rw|simp)`: no occurrence"
+                  r"|expected type `tie\.Need-[^`]*`, but this has type `tie\.Need-")
 
 
 def by_a_fact(said):
