@@ -131,7 +131,7 @@
  *
  * If memory is to be fixed beforehand and both tables are at hand, rowkeeper_plan tells the smallest right area for a host
  * that lets all left frames wait and hands in a right frame only when a turn wants one: ROWKEEPER_RIGHT_WORDS(rows, by,
- * carried) of its first figure (proved: `table-plans` in crates/plan).
+ * carried) of its first figure (proved: `table-plans` in crates/schedules).
  *
  * Turns free what they no longer need, and freed words are used again. A right area for all right rows is always enough.
  * If it is smaller, a frame with no room is refused by 6. It can be handed in again after turns have freed room, or be cut
@@ -512,7 +512,7 @@ rowkeeper_took rowkeeper_end_right(rowkeeper_join join, const int64_t *left, siz
    Refused by 2 before that, if the join does not hold together or does not fit the old areas; 3 and 4 do not apply, so a join that has
    failed or ended is moved too, and stays what it is. A refused move alters no word and returns the join as it came.
    What a move costs is the words that it copies. No later answer or match is another one than without the move, but that a
-   frame may find room in the one pair of areas and none in the other (proved: `move-lists` in crates/movelists).
+   frame may find room in the one pair of areas and none in the other (proved: `move-lists` in crates/lists).
    An area of length 0, old or new, may have any pointer, null too. The new areas must overlap neither the old ones nor each
    other. */
 rowkeeper_took rowkeeper_move(rowkeeper_join join, const int64_t *left, size_t left_len, const int64_t *right,
@@ -705,7 +705,7 @@ rowkeeper_planned rowkeeper_plan(rowkeeper_options options, const int64_t *left,
    behind them are untouched, and `rows` is k.
    Both tables of a join cut at these places, each pair of parts joined by itself, on machines of their own, and the answers
    appended, with the right rows of the pairs before added to each right number, are the answers of the uncut tables (proved:
-   `UncutCalls` in crates/cuts).
+   `UncutCalls` in crates/schedules).
    Refused by 1, 10, 11, 5, 12, 14, 18 and 6, in this order: options that opening would refuse, or a side that is neither 0 nor 1; a table that is none
    of that side's columns, or boundaries that are no frame of `by` columns; a value that the list of ranks lacks, in either; a table
    that is not sorted; boundaries that are too many, null, out of order, or any at all where by is 0; too short an output. Table
@@ -728,7 +728,7 @@ rowkeeper_written rowkeeper_cut(rowkeeper_options options, uint64_t right, const
 /* Joins two sorted tables, all left rows (by + 1 columns) and all right rows (by + 1 + carried), cut at 0 to 16 boundaries: groups
    in a frame of `by` columns, strictly ascending, none null (by 0: a frame of no rows and no columns). Each pair of parts is joined by
    itself, and the answers are appended as one table. That is the answer of the uncut tables, whatever the boundaries (proved:
-   `DriverWrites` in crates/cuts): 1 + carried columns, or 2 + carried with the distance, a row for each left row, right rows numbered
+   `DriverWrites` in crates/schedules): 1 + carried columns, or 2 + carried with the distance, a row for each left row, right rows numbered
    from 0 over the whole right table. ROWKEEPER_OUTPUT_WORDS(rows, carried), or ROWKEEPER_DISTANCE_WORDS with the distance, are the
    output's words; those behind them are untouched, and `rows` is the left table's.
    The areas are those in which the pairs can be joined one after the other, by the schedule of rowkeeper_plan in frames of 4,096 rows and,

@@ -109,8 +109,10 @@ def sources(crates):
     found = {}
     for crate in sorted(os.listdir(crates.folder)):
         folder = os.path.join(crates.folder, crate, 'src')
-        for name in sorted(os.listdir(folder)) if os.path.isdir(folder) else []:
-            found[f'{crate}/src/{name}'] = crates.read(f'{crate}/src/{name}')
+        for where, _, names in sorted(os.walk(folder)):
+            for name in sorted(names):
+                path = os.path.relpath(os.path.join(where, name), crates.folder)
+                found[path] = crates.read(path)
     return found
 
 

@@ -11,7 +11,7 @@ use lib.ListN.{length, drop, getD, length-drop}
 use lib.Seq.{getD-drop}
 use Rattle.frames.specs.Cells.{Cell, Rows}
 use Rattle.order.specs.Order.{cmpRow, isEqual}
-use Rattle.options.specs.declared.Options.{Options}
+use Rattle.order.specs.declared.options.Options.{Options}
 use Rattle.order.proofs.OrderLaws.{cmpRow-is}
 use Rattle.books.specs.Standing.{corrects, corrected, lastOf, LastIs, namedBy, NamesLast}
 

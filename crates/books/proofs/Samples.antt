@@ -6,17 +6,17 @@ use Prim.Native.Nat.{ℕ}
 use lib.IntN.{pos, negsuc}
 use Rattle.frames.specs.Cells.{Cell, null, value, cell, Rows, Words, rowsOf, cellsOf}
 use Rattle.frames.specs.Frame.{frameRows, pairsFine, isTable}
-use Rattle.ranks.specs.Ranks.{badRanks, rises, risesBehind, below, placed, listed as inList}
-use Rattle.options.specs.Options.{badOptions}
+use Rattle.order.specs.ranks.Ranks.{badRanks, rises, risesBehind, below, placed, listed as inList}
+use Rattle.order.specs.options.Options.{badOptions}
 use Rattle.order.specs.Order.{cmpRow, cmpFirst, nullIn, sorted}
-use Rattle.options.specs.declared.Options.{Options}
+use Rattle.order.specs.declared.options.Options.{Options}
 use Rattle.order.specs.Listed.{unlistedIn}
 use Rattle.order.proofs.Samples.{options, carrying, ranking, ranksBy, row, frameOf}
 use Rattle.matching.specs.Match.{wholeTable, matchTable, choose, tolerate, fits, takesOver}
 use Rattle.matching.specs.declared.Choice.the-variants.{Row, Nothing}
-use Rattle.refusals.specs.Refusals.{number}
+use Rattle.frames.specs.refusals.Refusals.{number}
 use Rattle.tables.specs.Table.{wordsOf, tableOf, laid, After}
-use Rattle.refusals.specs.declared.Refusal.the-variants.{BadOptions, TooManyCarried, BadRanks, BadFrame, UnknownCode, BadColumns, Unsorted, NoRoom}
+use Rattle.frames.specs.declared.refusals.Refusal.the-variants.{BadOptions, TooManyCarried, BadRanks, BadFrame, UnknownCode, BadColumns, Unsorted, NoRoom}
 use Rattle.tables.specs.declared.Written.{Written}
 use Rattle.tables.specs.declared.Written.the-variants.{Rows as Wrote, Refused}
 use Rattle.books.specs.Merge.{merge}

@@ -11,13 +11,13 @@ use lib.Dec.{ltb, eqb}
 use lib.ListN.{length, getD, length-append}
 use lib.Seq.{getD-append-seam}
 use Rattle.frames.specs.Cells.{Cell, Rows}
-use Rattle.options.specs.Options.{strategyOf, keyRule}
+use Rattle.order.specs.options.Options.{strategyOf, keyRule}
 use Rattle.order.specs.Order.{cmpRow, cmpGroup, cmpCell, isEqual, keyOf, nullKey, nullGroup, distance}
-use Rattle.options.specs.declared.Options.{Options}
+use Rattle.order.specs.declared.options.Options.{Options}
 use Rattle.order.specs.declared.Order.{Order}
 use Rattle.order.specs.declared.Order.the-variants.{Less, Equal, Greater}
-use Rattle.options.specs.declared.Strategy.{Strategy}
-use Rattle.options.specs.declared.Strategy.the-variants.{Backward, Forward, Nearest}
+use Rattle.order.specs.declared.options.Strategy.{Strategy}
+use Rattle.order.specs.declared.options.Strategy.the-variants.{Backward, Forward, Nearest}
 use Rattle.order.proofs.OrderLaws.{cmpCell-is, cmpGroup-is, row-equal}
 use Rattle.frames.proofs.BoolLaws.{and-true}
 use Rattle.order.proofs.KeyLaws.{null-group}

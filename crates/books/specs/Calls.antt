@@ -6,13 +6,13 @@ use lib.Dec.{ltb}
 use lib.ListN.{length}
 use Rattle.frames.specs.Cells.{Rows, Words}
 use Rattle.frames.specs.Frame.{frameWords, isTable}
-use Rattle.options.specs.Options.{rightColumns}
-use Rattle.options.specs.declared.Options.{Options}
+use Rattle.order.specs.options.Options.{rightColumns}
+use Rattle.order.specs.declared.options.Options.{Options}
 use Rattle.order.specs.Order.{sorted}
 use Rattle.order.specs.Listed.{lacksCode}
 use Rattle.tables.specs.Options.{unless}
 use Rattle.tables.specs.Table.{tableRows, After, leave}
-use Rattle.refusals.specs.declared.Refusal.the-variants.{BadFrame, UnknownCode, BadColumns, Unsorted, NoRoom}
+use Rattle.frames.specs.declared.refusals.Refusal.the-variants.{BadFrame, UnknownCode, BadColumns, Unsorted, NoRoom}
 use Rattle.tables.specs.declared.Written.{Written}
 use Rattle.tables.specs.declared.Written.the-variants.{Rows as Wrote, Refused}
 use Rattle.books.specs.Merge.{merge}

@@ -8,7 +8,7 @@ use Rattle.frames.specs.Cells.{Rows, Words}
 use Rattle.frames.specs.Frame.{pairsFine, frameWords}
 use Rattle.order.specs.Order.{cmpRow, isLess}
 use Rattle.order.specs.Requires.{RowsIn}
-use Rattle.options.specs.declared.Options.{Options}
+use Rattle.order.specs.declared.options.Options.{Options}
 
 -- The next row is the festival's where it is less than the house's next, and where the house has none.
 abbrev pub takesFestival : Options → Rows → Rows → Bool

@@ -9,10 +9,10 @@ use lib.IntN.{pos}
 use lib.ListN.{length, drop, getD}
 use Rattle.frames.specs.Cells.{Cell, null, value, cell, Rows}
 use Rattle.frames.specs.Frame.{sameZ}
-use Rattle.options.specs.Options.{strategyOf}
+use Rattle.order.specs.options.Options.{strategyOf}
 use Rattle.order.specs.Order.{cmpRow, isEqual, nullKey, nullGroup}
-use Rattle.options.specs.declared.Options.{Options}
-use Rattle.options.specs.declared.Strategy.the-variants.{Backward, Nearest}
+use Rattle.order.specs.declared.options.Options.{Options}
+use Rattle.order.specs.declared.options.Strategy.the-variants.{Backward, Nearest}
 use Rattle.matching.specs.Match.{wholeTable}
 use Rattle.matching.specs.declared.Choice.{Choice}
 use Rattle.matching.specs.declared.Choice.the-variants.{Row, Nothing}

@@ -9,18 +9,18 @@ use lib.ListN.{length}
 use Rattle.frames.specs.Cells.{Words}
 use Rattle.frames.specs.Frame.{rowCount, isFrame, frameRows}
 use Rattle.frames.specs.Front.{HasCount}
-use Rattle.options.specs.Options.{columns, rightColumns}
-use Rattle.options.specs.declared.Options.{Options}
+use Rattle.order.specs.options.Options.{columns, rightColumns}
+use Rattle.order.specs.declared.options.Options.{Options}
 use Rattle.order.specs.Listed.{lacksCode}
-pub use Rattle.options.proofs.OptionLaws.{or-both, few-columns}
+pub use Rattle.order.proofs.options.OptionLaws.{or-both, few-columns}
 use Rattle.frames.proofs.FrontLaws.{frame-count}
-use Rattle.area.specs.Area.{capacity, newBase, pushed, moved, written}
-use Rattle.outcomes.specs.Answers.{isRunning, isDone, mostRows}
-use Rattle.outcomes.specs.declared.NodeState.{NodeState}
-use Rattle.refusals.specs.declared.Refusal.{Refusal}
-use Rattle.refusals.specs.declared.Refusal.the-variants.{BadJoin, Failed, Closed, BadFrame, UnknownCode, NoRoom, UsedUp}
-use Rattle.outcomes.specs.declared.Took.{Took}
-use Rattle.outcomes.specs.declared.Took.the-variants.{Accepted, Refused}
+use Rattle.buffer.specs.area.Area.{capacity, newBase, pushed, moved, written}
+use Rattle.frames.specs.outcomes.Answers.{isRunning, isDone, mostRows}
+use Rattle.frames.specs.declared.outcomes.NodeState.{NodeState}
+use Rattle.frames.specs.declared.refusals.Refusal.{Refusal}
+use Rattle.frames.specs.declared.refusals.Refusal.the-variants.{BadJoin, Failed, Closed, BadFrame, UnknownCode, NoRoom, UsedUp}
+use Rattle.frames.specs.declared.outcomes.Took.{Took}
+use Rattle.frames.specs.declared.outcomes.Took.the-variants.{Accepted, Refused}
 use Rattle.callrules.specs.Judged.{leftJudged, endJudged, rightJudged, LeftFed, RightFed}
 
 -- A chain of refusals that came to Accepted did not stop at its first.

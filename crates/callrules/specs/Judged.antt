@@ -7,18 +7,18 @@ use lib.Dec.{ltb, eqb}
 use lib.ListN.{length}
 use Rattle.frames.specs.Cells.{Words}
 use Rattle.frames.specs.Frame.{rowCount, isFrame, frameRows}
-use Rattle.options.specs.Options.{badOptions, manyCarried, badRanked, refusedOptions, columns, rightColumns, Few}
-use Rattle.options.specs.declared.Options.{Options}
+use Rattle.order.specs.options.Options.{badOptions, manyCarried, badRanked, refusedOptions, columns, rightColumns, Few}
+use Rattle.order.specs.declared.options.Options.{Options}
 use Rattle.order.specs.Listed.{lacksCode}
-use Rattle.area.specs.Area.{capacity, newBase, pushed, moved, written}
-use Rattle.outcomes.specs.Answers.{isRunning, isDone, mostRows}
-use Rattle.outcomes.specs.declared.NodeState.{NodeState}
-use Rattle.refusals.specs.Tests.{Test, test, firstOf}
-use Rattle.refusals.specs.declared.Refusal.the-variants.{BadOptions, TooManyCarried, BadRanks, BadJoin, Failed, Closed, BadFrame, UnknownCode, NoRoom, UsedUp}
-use Rattle.outcomes.specs.declared.Took.{Took}
-use Rattle.outcomes.specs.declared.Took.the-variants.{Accepted, Refused}
-use Rattle.outcomes.specs.declared.Answer.{Answer}
-use Rattle.outcomes.specs.declared.Answer.the-variants.{Wrote, Idle, Refused as TurnRefused}
+use Rattle.buffer.specs.area.Area.{capacity, newBase, pushed, moved, written}
+use Rattle.frames.specs.outcomes.Answers.{isRunning, isDone, mostRows}
+use Rattle.frames.specs.declared.outcomes.NodeState.{NodeState}
+use Rattle.frames.specs.refusals.Tests.{Test, test, firstOf}
+use Rattle.frames.specs.declared.refusals.Refusal.the-variants.{BadOptions, TooManyCarried, BadRanks, BadJoin, Failed, Closed, BadFrame, UnknownCode, NoRoom, UsedUp}
+use Rattle.frames.specs.declared.outcomes.Took.{Took}
+use Rattle.frames.specs.declared.outcomes.Took.the-variants.{Accepted, Refused}
+use Rattle.frames.specs.declared.outcomes.Answer.{Answer}
+use Rattle.frames.specs.declared.outcomes.Answer.the-variants.{Wrote, Idle, Refused as TurnRefused}
 use Rattle.callrules.specs.declared.FedLeft.{FedLeft}
 use Rattle.callrules.specs.declared.FedRight.{FedRight}
 use Rattle.callrules.specs.declared.FedEnd.{FedEnd}

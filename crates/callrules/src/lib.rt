@@ -1,5 +1,12 @@
+// Rules of the calls over the numbers of a join: validity, refusals in checking order, accepted frames, ports.
 // What left and right frames, the end of right and opening are answered, by the numbers of a join, and what a frame that is taken leaves: definitions and laws. `bad` says whether the join meets refusal 2.
-use outcomes::Took;
+pub mod consistency;
+pub mod intake;
+pub mod judges;
+pub mod listed;
+pub mod ports;
+
+use frames::outcomes::Took;
 
 // After a left frame: the answer, where the queue starts and how many words wait.
 pub struct FedLeft {

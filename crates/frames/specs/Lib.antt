@@ -1,3 +1,5 @@
 pub mod Cells
 pub mod Frame
 pub mod Front
+pub mod refusals
+pub mod outcomes

@@ -5,8 +5,8 @@ use Prim.Native.Nat.{ℕ, zero, suc, _+_, _-_, _*_, _≤_, _<_}
 use native.Mathlib.Omega.{arith}
 use lib.ListN.{length}
 use Rattle.frames.specs.Cells.{Cell, Words, rowFrom}
-use Rattle.options.specs.declared.Options.{Options}
-use Rattle.options.specs.Options.{keyRule}
+use Rattle.order.specs.declared.options.Options.{Options}
+use Rattle.order.specs.options.Options.{keyRule}
 use Rattle.order.specs.Order.{cmpCell, cmpGroup, isEqual}
 use Rattle.order.specs.declared.Order.{Order}
 use Rattle.order.specs.declared.Order.the-variants.{Less, Equal, Greater}
@@ -16,8 +16,8 @@ use Rattle.matching.specs.Groups.{sameRun}
 use Rattle.matching.specs.Stretches.{between, runOn}
 use Rattle.matching.proofs.ScanLaws.{same-yes}
 use Rattle.matching.proofs.WalkLaws.{on-more}
-use Rattle.stretch.specs.Stretch.{SameTo}
-use Rattle.stretch.proofs.StretchLaws.{same-group}
+use Rattle.groups.specs.stretch.Stretch.{SameTo}
+use Rattle.groups.proofs.stretch.StretchLaws.{same-group}
 use Rattle.groups.specs.Alike.{SameCells}
 
 module _ (o : Options) (w n : ℕ) (vs ms : Words) (wide : o .by < w) (fits : n * w ≤ length vs) (e r : ℕ) (s : SameTo (o .by) w n vs ms e r) where

@@ -1,23 +1,30 @@
+// Groups of rows: rows of one group, runs and where they end, and whether rows are sorted.
 // Runs of equal groups, and the one right cursor that serves a frame.
-use cells::cmp_cell;
-use compare::cmp_group;
-use keyed::null_group;
+pub mod neighbours;
+pub mod rising;
+pub mod sortedruns;
+pub mod stretch;
+pub mod stretchkeys;
+
+use crate::neighbours::same_values;
+use crate::stretch::same_end;
 use matching::RunCursor;
-use neighbours::same_values;
-use options::Terms;
 use order::Order;
-use stretch::same_end;
+use order::options::Terms;
+use rows::cells::cmp_cell;
+use rows::compare::cmp_group;
+use rows::keyed::null_group;
 ghost use mathlib.Core.Path.{_≡_};
 ghost use mathlib.Core.Bool.{true, false};
 ghost use mathlib.Core.List.{List};
 ghost use Prim.Native.Nat.{ℕ, _+_, _<_};
 ghost use Rattle.frames.specs.Cells.{rowFrom, Words};
-ghost use Rattle.options.specs.Options.{withList, withoutList};
+ghost use Rattle.order.specs.options.Options.{withList, withoutList};
 ghost use Rattle.order.specs.Order.{cmpGroup};
 ghost use Rattle.order.specs.Requires.{cellAt, CellIn, RowAt};
 ghost use Rattle.matching.specs.Groups.{sameRun};
 ghost use Rattle.matching.specs.Stretches.{between, runLength, standing};
-ghost use Rattle.stretch.specs.Stretch.{CellsIn};
+ghost use Rattle.groups.specs.stretch.Stretch.{CellsIn};
 ghost use Rattle.groups.specs.Alike.{SameCells};
 ghost use Rattle.matching.specs.Loops.{Within, PassRoom, Stands, Passed, Serves};
 

@@ -8,34 +8,34 @@ use Rattle.frames.specs.Cells.{Words}
 use Rattle.node.specs.State.{fresh}
 use Rattle.node.specs.Calls.{After, leftCall, rightCall, endCall, portsCall, turnCall}
 use Rattle.callrules.specs.Judged.{openAnswer}
-use Rattle.runs.specs.Run.{runCall}
+use Rattle.node.specs.runs.Run.{runCall}
 use Rattle.node.specs.Contracts.{LeftContract, RightContract, EndContract, PortsContract, TurnContract}
-use Rattle.runs.specs.RunContract.{RunContract}
-use Rattle.moves.specs.Moves.{moveCall, MoveContract}
+use Rattle.node.specs.runs.RunContract.{RunContract}
+use Rattle.node.specs.moves.Moves.{moveCall, MoveContract}
 use Rattle.node.specs.declared.Join.{Join}
-use Rattle.outcomes.specs.declared.PortState.{PortState}
+use Rattle.frames.specs.declared.outcomes.PortState.{PortState}
 use Rattle.node.specs.declared.TookJoin.{TookJoin}
 use Rattle.node.specs.declared.PortedJoin.{PortedJoin}
 use Rattle.node.specs.declared.TurnedJoin.{TurnedJoin}
-use Rattle.runs.specs.declared.RanJoin.{RanJoin}
-use Rattle.refusals.specs.declared.Refusal.the-variants.{BadOptions, BadJoin}
-use Rattle.outcomes.specs.declared.Took.{Took}
-use Rattle.outcomes.specs.declared.Took.the-variants.{Refused}
-use Rattle.outcomes.specs.declared.Ported.the-variants.{Refused as PortsRefused}
-use Rattle.outcomes.specs.declared.Answer.{Answer}
-use Rattle.outcomes.specs.declared.Answer.the-variants.{Refused as TurnRefused}
-use Rattle.codes.specs.Codes.{isCode, portOf}
-use Rattle.convert.specs.Convert.{isJoin, joinOf, encode, decode}
-use Rattle.hostoptions.specs.HostOptions.{isOptions, optionsOf, decodeOptions}
-use Rattle.results.specs.Results.{tookHost, portedHost, turnedHost, freshHost, Made, ranHost, refusedRun}
+use Rattle.node.specs.declared.runs.RanJoin.{RanJoin}
+use Rattle.frames.specs.declared.refusals.Refusal.the-variants.{BadOptions, BadJoin}
+use Rattle.frames.specs.declared.outcomes.Took.{Took}
+use Rattle.frames.specs.declared.outcomes.Took.the-variants.{Refused}
+use Rattle.frames.specs.declared.outcomes.Ported.the-variants.{Refused as PortsRefused}
+use Rattle.frames.specs.declared.outcomes.Answer.{Answer}
+use Rattle.frames.specs.declared.outcomes.Answer.the-variants.{Refused as TurnRefused}
+use Rattle.ffi.specs.codes.Codes.{isCode, portOf}
+use Rattle.ffi.specs.convert.Convert.{isJoin, joinOf, encode, decode}
+use Rattle.ffi.specs.hostoptions.HostOptions.{isOptions, optionsOf, decodeOptions}
+use Rattle.ffi.specs.results.Results.{tookHost, portedHost, turnedHost, freshHost, Made, ranHost, refusedRun}
 use Rattle.hostcalls.specs.Calls.{HostAfter, afterHost, encodeAfter, byJoin, openHost, leftHost, rightHost, endHost, moveHost, portsHost, turnHost, ranAfter, runHost}
 use Rattle.hostcalls.specs.Contracts.{HostLeftContract, HostRightContract, HostEndContract, HostMoveContract, HostPortsContract, HostTurnContract, HostRunContract}
-use Rattle.hostoptions.specs.declared.HostOptions.{HostOptions}
-use Rattle.convert.specs.declared.HostJoin.{HostJoin}
-use Rattle.results.specs.declared.HostTook.{HostTook}
-use Rattle.results.specs.declared.HostPorted.{HostPorted}
-use Rattle.results.specs.declared.HostTurned.{HostTurned}
-use Rattle.results.specs.declared.HostRan.{HostRan}
+use Rattle.ffi.specs.declared.hostoptions.HostOptions.{HostOptions}
+use Rattle.ffi.specs.declared.convert.HostJoin.{HostJoin}
+use Rattle.ffi.specs.declared.results.HostTook.{HostTook}
+use Rattle.ffi.specs.declared.results.HostPorted.{HostPorted}
+use Rattle.ffi.specs.declared.results.HostTurned.{HostTurned}
+use Rattle.ffi.specs.declared.results.HostRan.{HostRan}
 
 -- ---- what is read
 options-none : (h : HostOptions) → isOptions h ≡ false → decodeOptions h ≡ none

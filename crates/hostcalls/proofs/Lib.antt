@@ -1,3 +1,4 @@
 pub mod CallLaws
 pub mod PromiseLaws
 pub mod NumberLaws
+pub mod hostlists

@@ -2,13 +2,13 @@
 use mathlib.Core.Path.{_≡_, sym, _∙_}
 use mathlib.Core.Bool.{Bool, false}
 use Rattle.frames.specs.Cells.{Words}
-use Rattle.options.specs.Options.{termsOf, withList}
-use Rattle.options.specs.declared.Terms.{Terms}
+use Rattle.order.specs.options.Options.{termsOf, withList}
+use Rattle.order.specs.declared.options.Terms.{Terms}
 use Rattle.callrules.specs.Judged.{badNumbers}
 use Rattle.node.specs.State.{badJoin}
 use Rattle.node.proofs.Good.{Good, good, bad-told}
-use Rattle.convert.specs.Convert.{joinOf}
-use Rattle.convert.specs.declared.HostJoin.{HostJoin}
+use Rattle.ffi.specs.convert.Convert.{joinOf}
+use Rattle.ffi.specs.declared.convert.HostJoin.{HostJoin}
 
 -- Whether the numbers and the areas hold together is told of the join.
 pub bad-is : (h : HostJoin) (left right : Words) (t : Terms) (b : Bool) → t ≡ termsOf (joinOf h .options)

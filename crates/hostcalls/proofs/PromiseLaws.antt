@@ -8,42 +8,42 @@ use native.Mathlib.Omega.{arith}
 use borrow.Author.Tests.{not-true}
 use lib.Dec.{eqb}
 use lib.ListN.{take, drop}
-use Rattle.ports.specs.Ports.{portsJudged}
+use Rattle.callrules.specs.ports.Ports.{portsJudged}
 use Rattle.frames.specs.Cells.{Words}
-use Rattle.options.specs.Options.{answerColumns, badOptions, manyCarried, badRanked, refusedOptions}
-use Rattle.options.specs.declared.Options.{Options}
+use Rattle.order.specs.options.Options.{answerColumns, badOptions, manyCarried, badRanked, refusedOptions}
+use Rattle.order.specs.declared.options.Options.{Options}
 use Rattle.node.specs.State.{fresh, badJoin, stateAt, endedRight}
-use Rattle.outcomes.specs.Answers.{portCode, wrote}
+use Rattle.frames.specs.outcomes.Answers.{portCode, wrote}
 use Rattle.node.specs.Calls.{After, after, leftAnswer, leftCall, queued, rightAnswer, rightCall, pushedRight, endAnswer, endCall, portsAnswer, portsState, portsCall, turnAnswer, turnCall, turned, dequeued, dropped, spoiled}
 use Rattle.callrules.specs.Judged.{openAnswer, leftJudged, endJudged, rightJudged}
 use Rattle.node.specs.declared.Join.{Join}
-use Rattle.outcomes.specs.declared.PortState.{PortState}
-use Rattle.refusals.specs.Refusals.{marksFailed}
-use Rattle.refusals.specs.declared.Refusal.{Refusal}
-use Rattle.refusals.specs.declared.Refusal.the-variants.{BadOptions, TooManyCarried, BadRanks, BadJoin}
-use Rattle.outcomes.specs.declared.Took.{Took}
-use Rattle.outcomes.specs.declared.Took.the-variants.{Accepted, Refused}
-use Rattle.outcomes.specs.declared.Ported.{Ported}
-use Rattle.outcomes.specs.declared.Ported.the-variants.{Ports, Refused as PortsRefused}
-use Rattle.outcomes.specs.declared.Answer.{Answer}
-use Rattle.outcomes.specs.declared.Answer.the-variants.{Wrote, WantsRight, Idle, Refused as TurnRefused}
-use Rattle.outcomes.specs.declared.Stop.{Stop}
-use Rattle.runs.specs.Run.{Ran, ran, andThen, stopOf, turnWords, runCall}
+use Rattle.frames.specs.declared.outcomes.PortState.{PortState}
+use Rattle.frames.specs.refusals.Refusals.{marksFailed}
+use Rattle.frames.specs.declared.refusals.Refusal.{Refusal}
+use Rattle.frames.specs.declared.refusals.Refusal.the-variants.{BadOptions, TooManyCarried, BadRanks, BadJoin}
+use Rattle.frames.specs.declared.outcomes.Took.{Took}
+use Rattle.frames.specs.declared.outcomes.Took.the-variants.{Accepted, Refused}
+use Rattle.frames.specs.declared.outcomes.Ported.{Ported}
+use Rattle.frames.specs.declared.outcomes.Ported.the-variants.{Ports, Refused as PortsRefused}
+use Rattle.frames.specs.declared.outcomes.Answer.{Answer}
+use Rattle.frames.specs.declared.outcomes.Answer.the-variants.{Wrote, WantsRight, Idle, Refused as TurnRefused}
+use Rattle.frames.specs.declared.outcomes.Stop.{Stop}
+use Rattle.node.specs.runs.Run.{Ran, ran, andThen, stopOf, turnWords, runCall}
 use Rattle.node.proofs.Good.{opened-bad}
-use Rattle.runs.proofs.RunLaws.{turn-options}
-use Rattle.moves.specs.Moves.{moveAnswer, atFront, leftMoved, rightMoved, moveCall}
-use Rattle.codes.specs.Codes.{isCode, portOf, tookCode}
-use Rattle.convert.specs.Convert.{layoutNow, isJoin, joinOf, decode}
-use Rattle.hostoptions.specs.HostOptions.{isOptions, optionsOf, decodeOptions}
-use Rattle.results.specs.Results.{freshHost, Made, refusedRun}
+use Rattle.node.proofs.runs.RunLaws.{turn-options}
+use Rattle.node.specs.moves.Moves.{moveAnswer, atFront, leftMoved, rightMoved, moveCall}
+use Rattle.ffi.specs.codes.Codes.{isCode, portOf, tookCode}
+use Rattle.ffi.specs.convert.Convert.{layoutNow, isJoin, joinOf, decode}
+use Rattle.ffi.specs.hostoptions.HostOptions.{isOptions, optionsOf, decodeOptions}
+use Rattle.ffi.specs.results.Results.{freshHost, Made, refusedRun}
 use Rattle.hostcalls.specs.Calls.{HostAfter, afterHost, encodeAfter, byJoin, openHost, leftHost, rightHost, endHost, moveHost, portsHost, turnHost, ranAfter, runHost}
 use Rattle.hostcalls.specs.Promises.{stays, staysAt, noTurn, Shut, NoJoin, Same, Follows, Promises}
-use Rattle.hostoptions.specs.declared.HostOptions.{HostOptions}
-use Rattle.convert.specs.declared.HostJoin.{HostJoin}
-use Rattle.results.specs.declared.HostTook.{HostTook}
-use Rattle.codes.proofs.CodeLaws.{port-is, port-back}
-use Rattle.convert.proofs.ConvertLaws.{join-numbers, join-same, decoded-options, Is, decoded, there-and-back}
-use Rattle.hostoptions.proofs.OptionsLaws.{options-parts}
+use Rattle.ffi.specs.declared.hostoptions.HostOptions.{HostOptions}
+use Rattle.ffi.specs.declared.convert.HostJoin.{HostJoin}
+use Rattle.ffi.specs.declared.results.HostTook.{HostTook}
+use Rattle.ffi.proofs.codes.CodeLaws.{port-is, port-back}
+use Rattle.ffi.proofs.convert.ConvertLaws.{join-numbers, join-same, decoded-options, Is, decoded, there-and-back}
+use Rattle.ffi.proofs.hostoptions.OptionsLaws.{options-parts}
 use Rattle.hostcalls.proofs.CallLaws.{open-bad, open-through, by-none, by-some}
 
 -- ---- the node's calls that change nothing

@@ -7,23 +7,23 @@ use Rattle.frames.specs.Cells.{Words}
 use Rattle.node.specs.State.{fresh}
 use Rattle.node.specs.Calls.{After, after, leftCall, rightCall, endCall, portsCall, turnCall}
 use Rattle.callrules.specs.Judged.{openAnswer}
-use Rattle.moves.specs.Moves.{moveCall}
-use Rattle.runs.specs.Run.{Ran, runCall}
+use Rattle.node.specs.moves.Moves.{moveCall}
+use Rattle.node.specs.runs.Run.{Ran, runCall}
 use Rattle.node.specs.declared.Join.{Join}
-use Rattle.refusals.specs.declared.Refusal.the-variants.{BadOptions, BadJoin}
-use Rattle.outcomes.specs.declared.Took.{Took}
-use Rattle.outcomes.specs.declared.Took.the-variants.{Refused}
-use Rattle.outcomes.specs.declared.Ported.{Ported}
-use Rattle.outcomes.specs.declared.Ported.the-variants.{Refused as PortsRefused}
-use Rattle.outcomes.specs.declared.Answer.{Answer}
-use Rattle.outcomes.specs.declared.Answer.the-variants.{Refused as TurnRefused}
-use Rattle.codes.specs.Codes.{isCode, portOf}
-use Rattle.convert.specs.Convert.{decode, encode}
-use Rattle.hostoptions.specs.HostOptions.{decodeOptions}
-use Rattle.hostoptions.specs.declared.HostOptions.{HostOptions}
-use Rattle.convert.specs.declared.HostJoin.{HostJoin}
-use Rattle.results.specs.Results.{tookHost, freshHost, Made, refusedRun}
-use Rattle.results.specs.declared.HostTook.{HostTook}
+use Rattle.frames.specs.declared.refusals.Refusal.the-variants.{BadOptions, BadJoin}
+use Rattle.frames.specs.declared.outcomes.Took.{Took}
+use Rattle.frames.specs.declared.outcomes.Took.the-variants.{Refused}
+use Rattle.frames.specs.declared.outcomes.Ported.{Ported}
+use Rattle.frames.specs.declared.outcomes.Ported.the-variants.{Refused as PortsRefused}
+use Rattle.frames.specs.declared.outcomes.Answer.{Answer}
+use Rattle.frames.specs.declared.outcomes.Answer.the-variants.{Refused as TurnRefused}
+use Rattle.ffi.specs.codes.Codes.{isCode, portOf}
+use Rattle.ffi.specs.convert.Convert.{decode, encode}
+use Rattle.ffi.specs.hostoptions.HostOptions.{decodeOptions}
+use Rattle.ffi.specs.declared.hostoptions.HostOptions.{HostOptions}
+use Rattle.ffi.specs.declared.convert.HostJoin.{HostJoin}
+use Rattle.ffi.specs.results.Results.{tookHost, freshHost, Made, refusedRun}
+use Rattle.ffi.specs.declared.results.HostTook.{HostTook}
 
 -- Opening: options that cannot be encoded are refused as 1, others by the first of 1 and 10 that they meet; the join holds them, with everything else as in a fresh join.
 unfoldable pub openHost : HostOptions → HostTook

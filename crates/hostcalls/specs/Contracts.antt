@@ -2,14 +2,14 @@
 use mathlib.Core.Path.{_≡_}
 use Prim.Native.Nat.{ℕ}
 use Rattle.frames.specs.Cells.{Words}
-use Rattle.results.specs.Results.{tookHost, portedHost, turnedHost, ranHost}
+use Rattle.ffi.specs.results.Results.{tookHost, portedHost, turnedHost, ranHost}
 use Rattle.hostcalls.specs.Calls.{openHost, leftHost, rightHost, endHost, moveHost, portsHost, turnHost, runHost}
-use Rattle.hostoptions.specs.declared.HostOptions.{HostOptions}
-use Rattle.convert.specs.declared.HostJoin.{HostJoin}
-use Rattle.results.specs.declared.HostTook.{HostTook}
-use Rattle.results.specs.declared.HostPorted.{HostPorted}
-use Rattle.results.specs.declared.HostTurned.{HostTurned}
-use Rattle.results.specs.declared.HostRan.{HostRan}
+use Rattle.ffi.specs.declared.hostoptions.HostOptions.{HostOptions}
+use Rattle.ffi.specs.declared.convert.HostJoin.{HostJoin}
+use Rattle.ffi.specs.declared.results.HostTook.{HostTook}
+use Rattle.ffi.specs.declared.results.HostPorted.{HostPorted}
+use Rattle.ffi.specs.declared.results.HostTurned.{HostTurned}
+use Rattle.ffi.specs.declared.results.HostRan.{HostRan}
 
 -- Opening.
 pub record HostOpenContract (h : HostOptions) (r : HostTook) : Type 0 where

@@ -6,29 +6,29 @@ use mathlib.Core.Option.{none, some}
 use Prim.Native.Nat.{ℕ, suc}
 use lib.Dec.{eqb}
 use Rattle.frames.specs.Cells.{Words}
-use Rattle.options.specs.declared.Options.{Options}
+use Rattle.order.specs.declared.options.Options.{Options}
 use Rattle.node.specs.State.{fresh}
-use Rattle.outcomes.specs.Answers.{portCode}
+use Rattle.frames.specs.outcomes.Answers.{portCode}
 use Rattle.node.specs.Calls.{After, leftCall, rightCall, endCall, portsCall, turnCall}
 use Rattle.node.specs.declared.Join.{Join}
-use Rattle.outcomes.specs.declared.PortState.{PortState}
-use Rattle.refusals.specs.Refusals.{marksFailed}
-use Rattle.refusals.specs.declared.Refusal.{Refusal}
-use Rattle.refusals.specs.declared.Refusal.the-variants.{BadJoin}
-use Rattle.outcomes.specs.declared.Took.the-variants.{Refused}
-use Rattle.outcomes.specs.declared.Ported.the-variants.{Refused as PortsRefused}
-use Rattle.outcomes.specs.declared.Answer.{Answer}
-use Rattle.outcomes.specs.declared.Answer.the-variants.{Wrote, WantsRight, Idle, Refused as TurnRefused}
-use Rattle.outcomes.specs.declared.Stop.{Stop}
-use Rattle.outcomes.specs.declared.Stop.the-variants.{Used, WantsRight as StopWants, Idle as StopIdle, Refused as StopRefused}
-use Rattle.runs.specs.Run.{runCall}
-use Rattle.moves.specs.Moves.{moveCall}
-use Rattle.convert.specs.Convert.{layoutNow, decode}
-use Rattle.hostoptions.specs.HostOptions.{decodeOptions}
-use Rattle.results.specs.Results.{Made}
+use Rattle.frames.specs.declared.outcomes.PortState.{PortState}
+use Rattle.frames.specs.refusals.Refusals.{marksFailed}
+use Rattle.frames.specs.declared.refusals.Refusal.{Refusal}
+use Rattle.frames.specs.declared.refusals.Refusal.the-variants.{BadJoin}
+use Rattle.frames.specs.declared.outcomes.Took.the-variants.{Refused}
+use Rattle.frames.specs.declared.outcomes.Ported.the-variants.{Refused as PortsRefused}
+use Rattle.frames.specs.declared.outcomes.Answer.{Answer}
+use Rattle.frames.specs.declared.outcomes.Answer.the-variants.{Wrote, WantsRight, Idle, Refused as TurnRefused}
+use Rattle.frames.specs.declared.outcomes.Stop.{Stop}
+use Rattle.frames.specs.declared.outcomes.Stop.the-variants.{Used, WantsRight as StopWants, Idle as StopIdle, Refused as StopRefused}
+use Rattle.node.specs.runs.Run.{runCall}
+use Rattle.node.specs.moves.Moves.{moveCall}
+use Rattle.ffi.specs.convert.Convert.{layoutNow, decode}
+use Rattle.ffi.specs.hostoptions.HostOptions.{decodeOptions}
+use Rattle.ffi.specs.results.Results.{Made}
 use Rattle.hostcalls.specs.Calls.{HostAfter, afterHost, encodeAfter, openHost, leftHost, rightHost, endHost, moveHost, portsHost, turnHost, ranAfter, runHost}
-use Rattle.hostoptions.specs.declared.HostOptions.{HostOptions}
-use Rattle.convert.specs.declared.HostJoin.{HostJoin}
+use Rattle.ffi.specs.declared.hostoptions.HostOptions.{HostOptions}
+use Rattle.ffi.specs.declared.convert.HostJoin.{HostJoin}
 
 -- The answers of a turn that changes nothing: Wants right, Idle, and any refusal but 8 and 9.
 abbrev pub stays : Answer → Bool

@@ -9,7 +9,7 @@ use lib.IntN.{pos, negsuc}
 use Rattle.frames.specs.Cells.{null, value, Rows, Words}
 use Rattle.order.specs.Order.{sorted, cmpRow, cmpFirst, nullIn}
 use Rattle.order.proofs.Samples.{options, plain, carrying, row, keys, frameOf}
-use Rattle.options.specs.declared.Options.{Options}
+use Rattle.order.specs.declared.options.Options.{Options}
 use Rattle.matching.specs.Match.{choose, takesOver, fits, tolerate, matchTable, wholeTable}
 use Rattle.matching.specs.Answer.{cellsFrom, answerRow}
 use Rattle.lists.specs.Lists.{Call, left, right, end, turn, start, events, final, leftFrames, rightFrames, rowsIn, outputs, Entry, entriesOf, writtenIn, matchesIn}

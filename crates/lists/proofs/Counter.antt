@@ -7,11 +7,11 @@ use Prim.Native.Nat.{ℕ, _-_, _*_, _^_}
 use lib.IntN.{pos, negsuc}
 use lib.ListN.{length, replicate}
 use Rattle.frames.specs.Cells.{Cell, null, value, Words}
-use Rattle.ranks.specs.Ranks.{badRanks}
-use Rattle.options.specs.Options.{badOptions}
+use Rattle.order.specs.ranks.Ranks.{badRanks}
+use Rattle.order.specs.options.Options.{badOptions}
 use Rattle.order.proofs.Samples.{options, plain, carrying, checking, distancing, row, keys, frameOf}
-use Rattle.options.specs.declared.Options.{Options}
-use Rattle.options.specs.declared.Check.the-variants.{Strict}
+use Rattle.order.specs.declared.options.Options.{Options}
+use Rattle.order.specs.declared.options.Check.the-variants.{Strict}
 use Rattle.callrules.specs.Judged.{openAnswer}
 use Rattle.lists.specs.Lists.{Call, left, right, end, turn, start, final}
 use Rattle.lists.proofs.Script.{Said, ok, refused, wrote, wants, leftArea, rightArea, space, sayTook, says}

@@ -8,34 +8,34 @@ use borrow.Author.Tests.{le-ltb, ne-eqb}
 use lib.Dec.{ltb, eqb}
 use lib.ListN.{length, take, drop, length-take}
 use lib.Seq.{drop-drop}
-use Rattle.ports.specs.Ports.{portsJudged}
+use Rattle.callrules.specs.ports.Ports.{portsJudged}
 use Rattle.callrules.specs.Judged.{endJudged, leftJudged, rightJudged}
 use Rattle.frames.specs.Cells.{Rows, Words, rowsOf}
 use Rattle.order.specs.declared.Row.{Row}
 use Rattle.frames.specs.Frame.{rowCount, valuesIn, marksIn, frameRows, frameWords, isFrame, front}
 use Rattle.frames.proofs.WordLaws.{drop-take, rows-read, rows-length}
 use Rattle.order.specs.Listed.{lacksCode}
-use Rattle.area.specs.Area.{capacity, heldRows, newBase, moved, written, pushed}
+use Rattle.buffer.specs.area.Area.{capacity, heldRows, newBase, moved, written, pushed}
 use Rattle.searching.specs.Reach.{pruneBy}
-use Rattle.area.proofs.PushLaws.{newBase-room, append-length, append-part, pushed-length, pushed-values, pushed-marks}
+use Rattle.buffer.proofs.area.PushLaws.{newBase-room, append-length, append-part, pushed-length, pushed-values, pushed-marks}
 use Rattle.node.specs.declared.Join.{Join}
-use Rattle.outcomes.specs.Answers.{isRunning, isDone, mostRows}
-use Rattle.outcomes.specs.declared.PortState.{PortState}
-use Rattle.outcomes.specs.declared.Answer.{Answer}
-use Rattle.outcomes.specs.declared.Answer.the-variants.{Wrote, WantsRight, Idle, Refused as TurnRefused}
-use Rattle.refusals.specs.Refusals.{marksFailed}
-use Rattle.refusals.specs.declared.Refusal.{Refusal}
-use Rattle.refusals.specs.declared.Refusal.the-variants.{BadJoin, Failed, Closed, BadFrame, UnknownCode, NoRoom, UsedUp}
-use Rattle.outcomes.specs.declared.Took.{Took}
-use Rattle.outcomes.specs.declared.Took.the-variants.{Accepted, Refused}
-use Rattle.outcomes.specs.declared.Ported.{Ported}
-use Rattle.outcomes.specs.declared.Ported.the-variants.{Ports, Refused as PortsRefused}
-use Rattle.outcomes.specs.declared.NodeState.{NodeState}
+use Rattle.frames.specs.outcomes.Answers.{isRunning, isDone, mostRows}
+use Rattle.frames.specs.declared.outcomes.PortState.{PortState}
+use Rattle.frames.specs.declared.outcomes.Answer.{Answer}
+use Rattle.frames.specs.declared.outcomes.Answer.the-variants.{Wrote, WantsRight, Idle, Refused as TurnRefused}
+use Rattle.frames.specs.refusals.Refusals.{marksFailed}
+use Rattle.frames.specs.declared.refusals.Refusal.{Refusal}
+use Rattle.frames.specs.declared.refusals.Refusal.the-variants.{BadJoin, Failed, Closed, BadFrame, UnknownCode, NoRoom, UsedUp}
+use Rattle.frames.specs.declared.outcomes.Took.{Took}
+use Rattle.frames.specs.declared.outcomes.Took.the-variants.{Accepted, Refused}
+use Rattle.frames.specs.declared.outcomes.Ported.{Ported}
+use Rattle.frames.specs.declared.outcomes.Ported.the-variants.{Ports, Refused as PortsRefused}
+use Rattle.frames.specs.declared.outcomes.NodeState.{NodeState}
 use Rattle.node.specs.State.{queueAt, heldAt, nextTurn, endedRight, stateAt, markedFailed, leftWidth, rightWidth, badJoin, heldOf, heldValues, heldMarks, waiting}
 use Rattle.node.specs.Calls.{After, after, leftAnswer, leftCall, queued, rightAnswer, rightCall, pushedRight, endAnswer, endCall, portsAnswer, portsCall, portsState, turnAnswer, turnCall, turned, dropped, dequeued, spoiled}
-use Rattle.turnrows.specs.Prunes.{firstPrune, keptRows, lastPrune}
+use Rattle.matchframe.specs.turnrows.Prunes.{firstPrune, keptRows, lastPrune}
 use Rattle.node.proofs.Good.{Good, LeftTaken, left-taken, RightTaken, right-taken}
-use Rattle.turnrows.proofs.PruneLaws.{drops-within}
+use Rattle.matchframe.proofs.turnrows.PruneLaws.{drops-within}
 use Rattle.lists.specs.Lists.{Call, left, right, end, ports, turn, Event, onLeft, onRight, onEnd, onPorts, onTurn, World, stepped, step, events, final, tookRefusal}
 use Rattle.lists.specs.Elsewhere.{placedAt, SameLive, noRoom, Elsewhere}
 

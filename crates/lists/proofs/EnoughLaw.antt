@@ -7,15 +7,15 @@ use Prim.Native.Nat.{ℕ, _<_}
 use native.Mathlib.Omega.{arith}
 use lib.ListN.{length, getD}
 use Rattle.frames.specs.Cells.{Cell, Rows}
-use Rattle.options.specs.Options.{strategyOf}
+use Rattle.order.specs.options.Options.{strategyOf}
 use Rattle.order.specs.Order.{cmpGroup, cmpRow, keyOf, distance}
 use Rattle.order.proofs.OrderLaws.{AtMost, cmpGroup-is, cmpRow-is, cmpKey-is, cmpKey, less-greater, less-at-most, equal-at-most, not-both, then-less, equal-flip, at-most, group-at-most}
 use Rattle.order.proofs.SortedLaws.{All, all-map}
 use Rattle.order.proofs.KeyLaws.{Inside, inside, key-at-most, key-less, key-up, farther-above}
-use Rattle.options.specs.declared.Options.{Options}
+use Rattle.order.specs.declared.options.Options.{Options}
 use Rattle.order.specs.declared.Order.the-variants.{Equal}
-use Rattle.options.specs.declared.Strategy.{Strategy}
-use Rattle.options.specs.declared.Strategy.the-variants.{Backward, Forward, Nearest}
+use Rattle.order.specs.declared.options.Strategy.{Strategy}
+use Rattle.order.specs.declared.options.Strategy.the-variants.{Backward, Forward, Nearest}
 use Rattle.searching.proofs.Promise.{Past, Enough, Settled}
 use Rattle.matching.specs.Match.{Hit, nobody, hit, onSide, takesOver, choose, tolerate, matchTable}
 use Rattle.matching.proofs.ChoiceLaws.{Has, Keeps, keeps-dead, choose-best, choose-wait}

@@ -6,8 +6,8 @@ use native.Mathlib.Omega.{arith}
 use lib.ListN.{length, drop, length-map}
 use lib.Seq.{take-at, drop-at}
 use Rattle.frames.specs.Cells.{valueWord, markWord, Rows, Words}
-use Rattle.options.specs.Options.{answerColumns}
-use Rattle.options.specs.declared.Options.{Options}
+use Rattle.order.specs.options.Options.{answerColumns}
+use Rattle.order.specs.declared.options.Options.{Options}
 use Rattle.tables.specs.Table.{wordsOf, tableOf}
 use Rattle.tables.proofs.TableLaws.{Wide, words-length}
 use Rattle.matching.specs.Answer.{answered}

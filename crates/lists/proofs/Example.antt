@@ -8,10 +8,10 @@ use lib.IntN.{pos}
 use Rattle.frames.specs.Cells.{Words}
 use Rattle.order.specs.Order.{sorted, cmpRow, cmpFirst, nullIn}
 use Rattle.order.proofs.Samples.{plain, keys, frameOf}
-use Rattle.options.specs.declared.Options.{Options}
+use Rattle.order.specs.declared.options.Options.{Options}
 use Rattle.matching.specs.Answer.{cellsFrom, answerRow}
 use Rattle.matching.specs.Match.{choose, takesOver, fits, tolerate, matchTable, wholeTable}
-use Rattle.outcomes.specs.declared.PortState.the-variants.{Ready, Done as PortDone}
+use Rattle.frames.specs.declared.outcomes.PortState.the-variants.{Ready, Done as PortDone}
 use Rattle.lists.specs.Lists.{Call, left, right, end, ports, turn, start, events, final, leftFrames, rightFrames, rowsIn, outputs, Entry, entriesOf, writtenIn, matchesIn}
 use Rattle.lists.specs.WholeTables.{dueOver, lefts, rights, turnedRows, matches}
 use Rattle.lists.proofs.Script.{Said, ok, refused, wrote, wants, idle, ports as said-ports, leftArea, rightArea, space, says, speakAll}

@@ -13,31 +13,31 @@ use Rattle.callrules.specs.Judged.{leftJudged, endJudged, rightJudged}
 use Rattle.frames.proofs.BoolLaws.{and-true-right}
 use Rattle.frames.specs.Cells.{Rows, Words}
 use Rattle.frames.specs.Frame.{rowCount, isFrame, frameRows, front}
-use Rattle.options.specs.Options.{columns, rightColumns, refusedOptions}
-use Rattle.options.specs.declared.Options.{Options}
-use Rattle.options.specs.declared.Check.the-variants.{Strict}
+use Rattle.order.specs.options.Options.{columns, rightColumns, refusedOptions}
+use Rattle.order.specs.declared.options.Options.{Options}
+use Rattle.order.specs.declared.options.Check.the-variants.{Strict}
 use Rattle.frames.proofs.FrameLaws.{frame-length}
 use Rattle.order.specs.Listed.{lacksCode}
-use Rattle.area.specs.Area.{capacity}
+use Rattle.buffer.specs.area.Area.{capacity}
 use Rattle.node.proofs.Good.{left-taken, right-taken}
 use Rattle.node.specs.declared.Join.{Join}
-use Rattle.outcomes.specs.declared.NodeState.{NodeState}
-use Rattle.outcomes.specs.declared.NodeState.the-variants.{Running, Flush, Done}
-use Rattle.outcomes.specs.declared.PortState.{PortState}
-use Rattle.outcomes.specs.declared.PortState.the-variants.{Blocked, Ready, Done as PortDone}
-use Rattle.refusals.specs.declared.Refusal.{Refusal}
-use Rattle.refusals.specs.declared.Refusal.the-variants.{BadOptions, BadJoin, Failed, Closed, BadFrame, UnknownCode, NoRoom, UsedUp, LeftOrder, RightOrder}
-use Rattle.outcomes.specs.declared.Answer.{Answer}
-use Rattle.outcomes.specs.declared.Answer.the-variants.{Wrote, WantsRight, Idle, Refused as TurnRefused}
-use Rattle.outcomes.specs.declared.Took.{Took}
-use Rattle.outcomes.specs.declared.Took.the-variants.{Accepted, Refused}
-use Rattle.outcomes.specs.declared.Ported.{Ported}
-use Rattle.outcomes.specs.declared.Ported.the-variants.{Ports, Refused as PortsRefused}
+use Rattle.frames.specs.declared.outcomes.NodeState.{NodeState}
+use Rattle.frames.specs.declared.outcomes.NodeState.the-variants.{Running, Flush, Done}
+use Rattle.frames.specs.declared.outcomes.PortState.{PortState}
+use Rattle.frames.specs.declared.outcomes.PortState.the-variants.{Blocked, Ready, Done as PortDone}
+use Rattle.frames.specs.declared.refusals.Refusal.{Refusal}
+use Rattle.frames.specs.declared.refusals.Refusal.the-variants.{BadOptions, BadJoin, Failed, Closed, BadFrame, UnknownCode, NoRoom, UsedUp, LeftOrder, RightOrder}
+use Rattle.frames.specs.declared.outcomes.Answer.{Answer}
+use Rattle.frames.specs.declared.outcomes.Answer.the-variants.{Wrote, WantsRight, Idle, Refused as TurnRefused}
+use Rattle.frames.specs.declared.outcomes.Took.{Took}
+use Rattle.frames.specs.declared.outcomes.Took.the-variants.{Accepted, Refused}
+use Rattle.frames.specs.declared.outcomes.Ported.{Ported}
+use Rattle.frames.specs.declared.outcomes.Ported.the-variants.{Ports, Refused as PortsRefused}
 use Rattle.node.specs.State.{fresh, endedRight, stateAt, leftWidth, rightWidth, badJoin, overRight, overLeft, overRows, oddSequence, heldOf, waiting}
-use Rattle.outcomes.specs.Answers.{isRunning, isDone, mostRows}
-use Rattle.refusals.specs.Refusals.{number}
+use Rattle.frames.specs.outcomes.Answers.{isRunning, isDone, mostRows}
+use Rattle.frames.specs.refusals.Refusals.{number}
 use Rattle.node.specs.Calls.{After, leftAnswer, leftCall, queued, rightAnswer, rightCall, pushedRight, endAnswer, endCall, portsAnswer, portsCall, portsState}
-use Rattle.ports.specs.Ports.{portsIn, toFlush, toDone, portDone, portsJudged}
+use Rattle.callrules.specs.ports.Ports.{portsIn, toFlush, toDone, portDone, portsJudged}
 use Rattle.lists.specs.Lists.{Call, left, right, end, ports, turn, Event, onLeft, onRight, onEnd, onPorts, onTurn, World, start, step, leftIn, rightIn, leftFrames, rightFrames, rowsIn, outputIn, outputs, endsRight, rightEnded, leftDone, leftEnded, framesWaiting, backToBack, doneBy, nodeDone, refusalIn, tookRefusal, portsRefusal, refusedWith, turnIn, turnsIn}
 use Rattle.lists.proofs.ListLaws.{left-append, right-append, outputs-append, turns-append, ended-append, left-ended-append, refused-append, done-snoc}
 use Rattle.lists.proofs.Turned.{turnedOf, turned-more, Together}

@@ -24,3 +24,5 @@ pub mod Carried
 pub mod RunTurns
 pub mod RestWitness
 pub mod SplitList
+pub mod movelists
+pub mod isolation

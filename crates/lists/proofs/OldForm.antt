@@ -2,7 +2,7 @@
 use mathlib.Core.Path.{_≡_, ap}
 use native.Mathlib.Omega.{arith}
 use Rattle.frames.specs.Cells.{Words}
-use Rattle.options.specs.Options.{answerColumns}
+use Rattle.order.specs.options.Options.{answerColumns}
 use Rattle.tables.specs.Table.{laid}
 use Rattle.matching.specs.Match.{wholeTable}
 use Rattle.matching.specs.Answer.{answered}

@@ -4,12 +4,12 @@ use mathlib.Core.List.{List, [], _∷_}
 use Rattle.frames.specs.Cells.{Words}
 use Rattle.node.specs.Calls.{leftAnswer, leftCall, queued, rightAnswer, rightCall, pushedRight, endAnswer, endCall, portsAnswer, portsCall}
 use Rattle.node.specs.declared.Join.{Join}
-use Rattle.outcomes.specs.declared.PortState.{PortState}
-use Rattle.outcomes.specs.declared.Took.{Took}
-use Rattle.outcomes.specs.declared.Took.the-variants.{Accepted, Refused}
-use Rattle.outcomes.specs.declared.Ported.{Ported}
-use Rattle.outcomes.specs.declared.Ported.the-variants.{Ports, Refused as PortsRefused}
-use Rattle.runs.proofs.RunLaws.{turn-options}
+use Rattle.frames.specs.declared.outcomes.PortState.{PortState}
+use Rattle.frames.specs.declared.outcomes.Took.{Took}
+use Rattle.frames.specs.declared.outcomes.Took.the-variants.{Accepted, Refused}
+use Rattle.frames.specs.declared.outcomes.Ported.{Ported}
+use Rattle.frames.specs.declared.outcomes.Ported.the-variants.{Ports, Refused as PortsRefused}
+use Rattle.node.proofs.runs.RunLaws.{turn-options}
 use Rattle.lists.specs.Lists.{Call, left, right, end, ports, turn, World, step, final}
 
 module _ (j : Join) (l r : Words) where

@@ -8,15 +8,15 @@ use native.Mathlib.Omega.{arith}
 use lib.ListN.{length, getD, take, drop, take-append-drop}
 use lib.Seq.{drop-cons, getD-take, length-take-le}
 use Rattle.frames.specs.Cells.{Cell, Rows}
-use Rattle.options.specs.Options.{strategyOf}
+use Rattle.order.specs.options.Options.{strategyOf}
 use Rattle.order.specs.Order.{cmpGroup, cmpRow, keyOf, sorted}
 use Rattle.order.proofs.OrderLaws.{AtMost, cmpGroup-is, cmpRow-is, cmpKey-is, cmpKey, less-at-most, equal-at-most, equal-flip, not-both, less-then, group-at-most, row-by-key}
 use Rattle.order.proofs.SortedLaws.{all-by, sorted-cut, sorted-at}
 use Rattle.order.proofs.KeyLaws.{Inside, inside, key-less, key-up, nearer-below}
-use Rattle.options.specs.declared.Options.{Options}
+use Rattle.order.specs.declared.options.Options.{Options}
 use Rattle.order.specs.declared.Order.the-variants.{Less, Equal}
-use Rattle.options.specs.declared.Strategy.{Strategy}
-use Rattle.options.specs.declared.Strategy.the-variants.{Backward, Forward, Nearest}
+use Rattle.order.specs.declared.options.Strategy.{Strategy}
+use Rattle.order.specs.declared.options.Strategy.the-variants.{Backward, Forward, Nearest}
 use Rattle.searching.proofs.Promise.{Covered, Dropped, Split}
 use Rattle.matching.specs.Match.{onSide, takesOver, choose, nobody, tolerate, matchTable}
 use Rattle.matching.proofs.ChoiceLaws.{Wins, choose-skip}

@@ -7,13 +7,13 @@ use native.Mathlib.Omega.{arith}
 use lib.ListN.{length, take, drop, length-append}
 use lib.Seq.{drop-drop, length-take-le}
 use Rattle.frames.specs.Cells.{Words}
-use Rattle.options.specs.Options.{answerColumns}
+use Rattle.order.specs.options.Options.{answerColumns}
 use Rattle.node.specs.Calls.{After, turnCall}
-use Rattle.outcomes.specs.Answers.{wrote}
-use Rattle.runs.specs.Run.{Ran, runCall, turnWords}
-use Rattle.outcomes.specs.declared.Answer.{Answer}
-use Rattle.outcomes.specs.declared.Answer.the-variants.{Wrote, WantsRight, Idle, Refused}
-use Rattle.runs.proofs.RunLaws.{turn-fits, turn-length, turn-untouched, turn-areas, turn-options}
+use Rattle.frames.specs.outcomes.Answers.{wrote}
+use Rattle.node.specs.runs.Run.{Ran, runCall, turnWords}
+use Rattle.frames.specs.declared.outcomes.Answer.{Answer}
+use Rattle.frames.specs.declared.outcomes.Answer.the-variants.{Wrote, WantsRight, Idle, Refused}
+use Rattle.node.proofs.runs.RunLaws.{turn-fits, turn-length, turn-untouched, turn-areas, turn-options}
 use Rattle.lists.specs.Lists.{turn, World, step, events, final, whenWrote, outputs, backToBack}
 use Rattle.lists.specs.Runs.{lentBy, stopIn, writtenWords, answersOf, wordsOf, ranFrom, RunIsTurns, Runs}
 

@@ -5,15 +5,15 @@ use mathlib.Core.Option.{Option, none, some}
 use Prim.Native.Nat.{ℕ, zero, suc, _*_, _%_}
 use lib.IntN.{pos, negsuc, natAbs, subℕ}
 use lib.ListN.{take, getD, replicate}
-use Rattle.ports.specs.Ports.{portsJudged}
+use Rattle.callrules.specs.ports.Ports.{portsJudged}
 use Rattle.frames.specs.Cells.{Cell, cellsOf, rowsOf, Words}
 use Rattle.frames.specs.Frame.{rowCount, frameWords, pairsFine, isFrame, frameRows, front, isTable}
-use Rattle.ranks.specs.Ranks.{badRanks}
-use Rattle.options.specs.Options.{badOptions, refusedOptions}
+use Rattle.order.specs.ranks.Ranks.{badRanks}
+use Rattle.order.specs.options.Options.{badOptions, refusedOptions}
 use Rattle.order.specs.Order.{cmpFirst, cmpRow, sorted, nullIn}
 use Rattle.order.specs.Keyed.{firstFrom, lastBelow, recall, remember, rememberLast}
-use Rattle.options.specs.declared.Options.{Options}
-use Rattle.area.specs.Area.{heldRows, movedRows, pushed}
+use Rattle.order.specs.declared.options.Options.{Options}
+use Rattle.buffer.specs.area.Area.{heldRows, movedRows, pushed}
 use Rattle.searching.specs.Search.{searchFor, search, find}
 use Rattle.searching.specs.Reach.{narrowBy, narrow, keyNeedsMore, rowNeedsMore, needMore, splitAt, pruneBy, rowBefore, badSplit}
 use Rattle.matching.specs.Match.{fits, takesOver, choose, tolerate, matchIn}
@@ -21,19 +21,19 @@ use Rattle.matching.specs.Groups.{joinRun, runs, passes, pass, used, byRuns, ma
 use Rattle.tables.specs.Table.{wordsOf, tableOf, laid}
 use Rattle.matching.specs.Answer.{cellsFrom, answerRow, answerRows, answered}
 use Rattle.node.specs.State.{badJoin, heldOf, waiting, leftWidth}
-use Rattle.outcomes.specs.Answers.{stateCode, portCode}
-use Rattle.refusals.specs.Refusals.{number}
+use Rattle.frames.specs.outcomes.Answers.{stateCode, portCode}
+use Rattle.frames.specs.refusals.Refusals.{number}
 use Rattle.node.specs.Calls.{leftAnswer, queued, leftCall, rightAnswer, pushedRight, rightCall, endAnswer, endCall, portsAnswer, portsCall, turnAnswer, dropped, dequeued, turned, turnCall}
 use Rattle.callrules.specs.Judged.{openAnswer, leftJudged, endJudged, rightJudged}
-use Rattle.turnrows.specs.Prunes.{badLeft, badRight, firstPrune, remembered, rememberedLeft}
+use Rattle.matchframe.specs.turnrows.Prunes.{badLeft, badRight, firstPrune, remembered, rememberedLeft}
 use Rattle.lists.specs.Lists.{Call, Event, onLeft, onRight, onEnd, onPorts, onTurn, World, start, step}
 use Rattle.node.specs.declared.Join.{Join}
-use Rattle.outcomes.specs.declared.Answer.{Answer}
-use Rattle.outcomes.specs.declared.Answer.the-variants.{Wrote, WantsRight, Idle, Refused as TurnRefused}
-use Rattle.outcomes.specs.declared.Took.{Took}
-use Rattle.outcomes.specs.declared.Took.the-variants.{Accepted, Refused}
-use Rattle.outcomes.specs.declared.Ported.{Ported}
-use Rattle.outcomes.specs.declared.Ported.the-variants.{Ports, Refused as PortsRefused}
+use Rattle.frames.specs.declared.outcomes.Answer.{Answer}
+use Rattle.frames.specs.declared.outcomes.Answer.the-variants.{Wrote, WantsRight, Idle, Refused as TurnRefused}
+use Rattle.frames.specs.declared.outcomes.Took.{Took}
+use Rattle.frames.specs.declared.outcomes.Took.the-variants.{Accepted, Refused}
+use Rattle.frames.specs.declared.outcomes.Ported.{Ported}
+use Rattle.frames.specs.declared.outcomes.Ported.the-variants.{Ports, Refused as PortsRefused}
 
 -- An answer: ok; refused N; wrote SEQ and the words written; wants; idle; ports L R S STATE; no join;
 -- areas: the words of both; state: base, held, pruned, queue start, queue words, state, ended, failed, sequence, and the cells of the left and right remembered row.

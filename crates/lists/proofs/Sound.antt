@@ -10,10 +10,10 @@ use lib.ListN.{length, getD, take, drop, take-append-drop}
 use lib.Seq.{take-append-le, drop-append-le, drop-drop, take-add}
 use Rattle.frames.specs.Cells.{Cell, Rows, Words}
 use Rattle.frames.specs.Frame.{isFrame, frameRows}
-use Rattle.options.specs.Options.{columns, rightColumns, answerColumns, isOn}
+use Rattle.order.specs.options.Options.{columns, rightColumns, answerColumns, isOn}
 use Rattle.order.specs.Order.{cmpRow, sorted}
 use Rattle.order.specs.Keyed.{recall, rememberLast, rememberAt, firstLeft, lastLeft}
-use Rattle.options.specs.declared.Options.{Options}
+use Rattle.order.specs.declared.options.Options.{Options}
 use Rattle.order.proofs.OrderLaws.{AtMost}
 use Rattle.order.proofs.SortedLaws.{All, all-at, all-by, all-map, all-cut, all-join, sorted-cut, sorted-at, sorted-drop}
 use Rattle.frames.proofs.WordLaws.{map-append}
@@ -33,14 +33,14 @@ use Rattle.matching.proofs.FromLaws.{table-from, row-from}
 use Rattle.matching.proofs.AnswerRows.{answer-map}
 use Rattle.node.specs.declared.Join.{Join}
 use Rattle.node.specs.Calls.{dropped, dequeued}
-use Rattle.turnrows.specs.Prunes.{badLeft, badRight, firstPrune, remembered, rememberedLeft, keptRows, lastPrune}
+use Rattle.matchframe.specs.turnrows.Prunes.{badLeft, badRight, firstPrune, remembered, rememberedLeft, keptRows, lastPrune}
 use Rattle.lists.specs.Lists.{rowsIn, Entry, writtenIn, matchesIn}
 use Rattle.lists.specs.WholeTables.{asWritten, dueOver}
 use Rattle.lists.proofs.ListLaws.{rows-in-append, matches-append}
 use Rattle.lists.proofs.Turned.{frame-cells, turnedOf, turned-after, turned-more}
 use Rattle.lists.proofs.Stock.{Frames}
 use Rattle.lists.proofs.EntryLaws.{written-back}
-use Rattle.turnrows.proofs.PruneLaws.{first-within}
+use Rattle.matchframe.proofs.turnrows.PruneLaws.{first-within}
 use Rattle.lists.proofs.Turn.{leftBy, matchedBy, matched-wide}
 
 -- ---- small laws of lists

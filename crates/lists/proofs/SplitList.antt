@@ -8,27 +8,27 @@ use lib.ListN.{length, take, drop, take-append-drop}
 use lib.Seq.{drop-append-le, drop-drop}
 use Rattle.frames.specs.Cells.{Rows, Words}
 use Rattle.frames.specs.Frame.{frameRows}
-use Rattle.options.specs.Options.{rightColumns, refusedOptions, isOn}
+use Rattle.order.specs.options.Options.{rightColumns, refusedOptions, isOn}
 use Rattle.order.specs.Order.{sorted}
 use Rattle.order.specs.Keyed.{recall, rememberLast}
-use Rattle.options.specs.declared.Options.{Options}
+use Rattle.order.specs.declared.options.Options.{Options}
 use Rattle.order.specs.declared.Row.{Row}
 use Rattle.order.proofs.SortedLaws.{All, all-cut}
 use Rattle.searching.specs.Reach.{pruneBy, badSplit}
 use Rattle.node.specs.declared.Join.{Join}
-use Rattle.outcomes.specs.declared.PortState.{PortState}
-use Rattle.refusals.proofs.RefusalLaws.{marked-ind}
-use Rattle.refusals.specs.declared.Refusal.{Refusal}
-use Rattle.outcomes.specs.declared.Answer.{Answer}
-use Rattle.outcomes.specs.declared.Answer.the-variants.{Wrote, WantsRight, Idle, Refused as TurnRefused}
-use Rattle.outcomes.specs.declared.Took.{Took}
-use Rattle.outcomes.specs.declared.Took.the-variants.{Accepted, Refused}
-use Rattle.outcomes.specs.declared.Ported.{Ported}
-use Rattle.outcomes.specs.declared.Ported.the-variants.{Ports, Refused as PortsRefused}
+use Rattle.frames.specs.declared.outcomes.PortState.{PortState}
+use Rattle.frames.proofs.refusals.RefusalLaws.{marked-ind}
+use Rattle.frames.specs.declared.refusals.Refusal.{Refusal}
+use Rattle.frames.specs.declared.outcomes.Answer.{Answer}
+use Rattle.frames.specs.declared.outcomes.Answer.the-variants.{Wrote, WantsRight, Idle, Refused as TurnRefused}
+use Rattle.frames.specs.declared.outcomes.Took.{Took}
+use Rattle.frames.specs.declared.outcomes.Took.the-variants.{Accepted, Refused}
+use Rattle.frames.specs.declared.outcomes.Ported.{Ported}
+use Rattle.frames.specs.declared.outcomes.Ported.the-variants.{Ports, Refused as PortsRefused}
 use Rattle.node.specs.State.{endedRight, stateAt, markedFailed, heldOf}
-use Rattle.outcomes.specs.Answers.{isDone}
+use Rattle.frames.specs.outcomes.Answers.{isDone}
 use Rattle.node.specs.Calls.{leftAnswer, leftCall, queued, rightAnswer, rightCall, pushedRight, endAnswer, endCall, portsAnswer, portsCall, portsState, turnAnswer, turnCall, turned, dropped, dequeued, spoiled}
-use Rattle.turnrows.specs.Prunes.{badRight, firstPrune, remembered, keptRows, lastPrune}
+use Rattle.matchframe.specs.turnrows.Prunes.{badRight, firstPrune, remembered, keptRows, lastPrune}
 use Rattle.matching.specs.Answer.{answered}
 use Rattle.lists.specs.Lists.{Call, left, right, end, ports, turn, Event, onLeft, onRight, onEnd, onPorts, onTurn, World, start, step, events, final, rightIn, rightFrames, rowsIn, leftFrames, outputs, rightEnded}
 use Rattle.lists.specs.SplitAlone.{heldAfter, rememberedAfter, SplitsAlone}

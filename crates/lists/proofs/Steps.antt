@@ -8,29 +8,29 @@ use lib.Dec.{eqb}
 use lib.ListN.{length, drop}
 use Rattle.frames.specs.Cells.{Rows, Words}
 use Rattle.frames.specs.Frame.{frameRows, isFrame}
-use Rattle.options.specs.Options.{columns, rightColumns, refusedOptions}
+use Rattle.order.specs.options.Options.{columns, rightColumns, refusedOptions}
 use Rattle.order.specs.Order.{sorted}
 use Rattle.order.specs.Keyed.{recall}
-use Rattle.options.specs.declared.Options.{Options}
+use Rattle.order.specs.declared.options.Options.{Options}
 use Rattle.order.proofs.SortedLaws.{sorted-cut}
 use Rattle.matching.specs.Answer.{answered}
 use Rattle.order.proofs.ListedLaws.{lacks-none}
 use Rattle.node.specs.declared.Join.{Join}
-use Rattle.outcomes.specs.declared.PortState.{PortState}
-use Rattle.refusals.specs.Refusals.{marksFailed}
-use Rattle.refusals.proofs.RefusalLaws.{marked-ind}
-use Rattle.refusals.specs.declared.Refusal.{Refusal}
-use Rattle.refusals.specs.declared.Refusal.the-variants.{Failed, Closed}
-use Rattle.outcomes.specs.declared.Answer.{Answer}
-use Rattle.outcomes.specs.declared.Answer.the-variants.{Wrote, WantsRight, Idle, Refused as TurnRefused}
-use Rattle.outcomes.specs.declared.Took.{Took}
-use Rattle.outcomes.specs.declared.Took.the-variants.{Accepted, Refused}
-use Rattle.outcomes.specs.declared.Ported.{Ported}
-use Rattle.outcomes.specs.declared.Ported.the-variants.{Ports, Refused as PortsRefused}
+use Rattle.frames.specs.declared.outcomes.PortState.{PortState}
+use Rattle.frames.specs.refusals.Refusals.{marksFailed}
+use Rattle.frames.proofs.refusals.RefusalLaws.{marked-ind}
+use Rattle.frames.specs.declared.refusals.Refusal.{Refusal}
+use Rattle.frames.specs.declared.refusals.Refusal.the-variants.{Failed, Closed}
+use Rattle.frames.specs.declared.outcomes.Answer.{Answer}
+use Rattle.frames.specs.declared.outcomes.Answer.the-variants.{Wrote, WantsRight, Idle, Refused as TurnRefused}
+use Rattle.frames.specs.declared.outcomes.Took.{Took}
+use Rattle.frames.specs.declared.outcomes.Took.the-variants.{Accepted, Refused}
+use Rattle.frames.specs.declared.outcomes.Ported.{Ported}
+use Rattle.frames.specs.declared.outcomes.Ported.the-variants.{Ports, Refused as PortsRefused}
 use Rattle.node.specs.State.{waiting, heldValues, heldMarks, endedRight, stateAt, markedFailed}
-use Rattle.outcomes.specs.Answers.{isDone}
+use Rattle.frames.specs.outcomes.Answers.{isDone}
 use Rattle.node.specs.Calls.{leftAnswer, leftCall, queued, rightAnswer, rightCall, pushedRight, endAnswer, endCall, portsAnswer, portsCall, portsState, turnAnswer, turnCall, turned, spoiled}
-use Rattle.turnrows.specs.Prunes.{badLeft, badRight}
+use Rattle.matchframe.specs.turnrows.Prunes.{badLeft, badRight}
 use Rattle.lists.specs.Lists.{Call, left, right, end, ports, turn, Event, onLeft, onRight, onEnd, onPorts, onTurn, World, start, step, events, final, leftIn, rightIn, leftFrames, rightFrames, rowsIn, outputIn, outputs, rightEnded, turnRefusal, matchesIn, backToBack, leftEnded, doneAfter, refusedWith, turnsIn}
 use Rattle.lists.proofs.ListLaws.{left-append, right-append, outputs-append, ended-append, rows-in-append}
 use Rattle.lists.proofs.Stock.{next-frame}

@@ -10,20 +10,20 @@ use lib.ListN.{length, take, drop, length-append, length-drop, length-map, take-
 use lib.Seq.{drop-append-le, drop-drop, drop-at, take-at, length-take-le}
 use Rattle.frames.specs.Cells.{Rows, Words, rowsOf}
 use Rattle.frames.specs.Frame.{rowCount, frameWords, valuesIn, marksIn, isFrame, frameRows, front}
-use Rattle.options.specs.Options.{columns, rightColumns, answerColumns}
-use Rattle.options.specs.declared.Options.{Options}
+use Rattle.order.specs.options.Options.{columns, rightColumns, answerColumns}
+use Rattle.order.specs.declared.options.Options.{Options}
 use Rattle.order.specs.Listed.{lacksCode}
 use Rattle.order.proofs.ListedLaws.{lacks-both, lacks-parts}
 use Rattle.order.specs.declared.Row.{Row}
 use Rattle.frames.proofs.WordLaws.{map-append, drop-take, rows-read, rows-append, rows-drop, rows-length}
 use Rattle.frames.proofs.FrameLaws.{frame-length, values-length, marks-length, frame-rows, count-append}
-use Rattle.area.specs.Area.{capacity, heldRows, newBase, pushed, moved, written}
-use Rattle.area.proofs.PushLaws.{newBase-room, append-length, append-part, pushed-length, pushed-values, pushed-marks}
+use Rattle.buffer.specs.area.Area.{capacity, heldRows, newBase, pushed, moved, written}
+use Rattle.buffer.proofs.area.PushLaws.{newBase-room, append-length, append-part, pushed-length, pushed-values, pushed-marks}
 use Rattle.tables.proofs.TableLaws.{Wide}
 use Rattle.matching.specs.Answer.{answered}
 use Rattle.node.specs.declared.Join.{Join}
 use Rattle.node.specs.State.{queueAt, heldAt, nextTurn, heldOf, heldValues, heldMarks, waiting}
-use Rattle.outcomes.specs.Answers.{mostRows}
+use Rattle.frames.specs.outcomes.Answers.{mostRows}
 use Rattle.node.specs.Calls.{dropped, dequeued, queued, pushedRight}
 use Rattle.lists.specs.Lists.{World, rowsIn, writtenIn, matchesIn, backToBack}
 use Rattle.lists.specs.WholeTables.{asWritten}

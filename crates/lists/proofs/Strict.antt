@@ -6,18 +6,18 @@ use lib.Dec.{ltb, eqb}
 use lib.ListN.{length, take, drop}
 use Rattle.frames.specs.Cells.{Rows, Words}
 use Rattle.frames.specs.Frame.{frameWords, frameRows}
-use Rattle.options.specs.Options.{columns, rightColumns, answerColumns, refusedOptions}
-use Rattle.options.specs.declared.Options.{Options}
-use Rattle.options.specs.declared.Check.the-variants.{Strict}
+use Rattle.order.specs.options.Options.{columns, rightColumns, answerColumns, refusedOptions}
+use Rattle.order.specs.declared.options.Options.{Options}
+use Rattle.order.specs.declared.options.Check.the-variants.{Strict}
 use Rattle.order.specs.Order.{sorted}
 use Rattle.searching.specs.Reach.{needMore}
-use Rattle.refusals.specs.declared.Refusal.the-variants.{Failed, Closed, NoRoom, UsedUp, LeftOrder, RightOrder}
-use Rattle.outcomes.specs.Answers.{isDone, lastSequence}
-use Rattle.outcomes.specs.declared.Answer.{Answer}
-use Rattle.outcomes.specs.declared.Answer.the-variants.{Wrote, WantsRight, Idle, Refused}
+use Rattle.frames.specs.declared.refusals.Refusal.the-variants.{Failed, Closed, NoRoom, UsedUp, LeftOrder, RightOrder}
+use Rattle.frames.specs.outcomes.Answers.{isDone, lastSequence}
+use Rattle.frames.specs.declared.outcomes.Answer.{Answer}
+use Rattle.frames.specs.declared.outcomes.Answer.the-variants.{Wrote, WantsRight, Idle, Refused}
 use Rattle.node.specs.declared.Join.{Join}
 use Rattle.node.specs.Calls.{turnAnswer, turnCall, turned}
-use Rattle.turnrows.specs.Prunes.{badLeft, badRight}
+use Rattle.matchframe.specs.turnrows.Prunes.{badLeft, badRight}
 use Rattle.lists.specs.Lists.{Event, World, start, events, final, leftFrames, rightFrames, outputs, rowsIn}
 use Rattle.lists.specs.Strict.{isLeftOrder, judgedOrder, StrictTheorem}
 use Rattle.lists.proofs.Turned.{turnedOf, exact}

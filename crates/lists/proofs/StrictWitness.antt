@@ -4,10 +4,10 @@ use mathlib.Core.Bool.{true, false, not}
 use mathlib.Core.List.{List, [], _∷_, _++_, map}
 use lib.IntN.{pos, negsuc}
 use Rattle.frames.specs.Cells.{null, value, Words}
-use Rattle.ranks.specs.Ranks.{badRanks}
-use Rattle.options.specs.Options.{badOptions, refusedOptions}
-use Rattle.options.specs.declared.Options.{Options}
-use Rattle.options.specs.declared.Check.the-variants.{Strict}
+use Rattle.order.specs.ranks.Ranks.{badRanks}
+use Rattle.order.specs.options.Options.{badOptions, refusedOptions}
+use Rattle.order.specs.declared.options.Options.{Options}
+use Rattle.order.specs.declared.options.Check.the-variants.{Strict}
 use Rattle.order.specs.Order.{sorted}
 use Rattle.order.proofs.Samples.{options, checking, row, frameOf}
 use Rattle.lists.specs.Lists.{Call, left, right, turn, events, final, leftFrames, rightFrames, rowsIn, outputs}

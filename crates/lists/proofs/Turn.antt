@@ -12,9 +12,9 @@ use lib.ListN.{length, take, drop, length-append, length-drop}
 use Rattle.frames.proofs.BoolLaws.{and-true-right}
 use Rattle.frames.specs.Cells.{Cell, Rows, Words}
 use Rattle.frames.specs.Frame.{rowCount, frameWords, isFrame, frameRows, front}
-use Rattle.options.specs.Options.{columns, rightColumns, answerColumns, refusedOptions, isOn}
-use Rattle.options.specs.declared.Options.{Options}
-use Rattle.options.specs.declared.Check.the-variants.{Strict}
+use Rattle.order.specs.options.Options.{columns, rightColumns, answerColumns, refusedOptions, isOn}
+use Rattle.order.specs.declared.options.Options.{Options}
+use Rattle.order.specs.declared.options.Check.the-variants.{Strict}
 use Rattle.frames.proofs.FrameLaws.{frame-length, frame-rows}
 use Rattle.order.proofs.KeyedLaws.{wide-enough}
 use Rattle.searching.specs.Reach.{needMore, pruneBy, noPrune, splitAt}
@@ -27,20 +27,20 @@ use Rattle.matching.proofs.AnswerRows.{answer-wide, answer-count}
 use Rattle.tables.proofs.TableLaws.{Wide}
 use Rattle.order.specs.Listed.{lacksCode}
 use Rattle.node.specs.declared.Join.{Join}
-use Rattle.refusals.specs.Refusals.{marksFailed}
-use Rattle.refusals.proofs.RefusalLaws.{marked-ind}
-use Rattle.outcomes.proofs.Tests.{past}
-use Rattle.refusals.specs.declared.Refusal.{Refusal}
-use Rattle.refusals.specs.declared.Refusal.the-variants.{Failed, Closed, NoRoom, UsedUp, LeftOrder, RightOrder}
-use Rattle.outcomes.specs.declared.Answer.{Answer}
-use Rattle.outcomes.specs.declared.Answer.the-variants.{Wrote, WantsRight, Idle, Refused as TurnRefused}
+use Rattle.frames.specs.refusals.Refusals.{marksFailed}
+use Rattle.frames.proofs.refusals.RefusalLaws.{marked-ind}
+use Rattle.frames.proofs.outcomes.Tests.{past}
+use Rattle.frames.specs.declared.refusals.Refusal.{Refusal}
+use Rattle.frames.specs.declared.refusals.Refusal.the-variants.{Failed, Closed, NoRoom, UsedUp, LeftOrder, RightOrder}
+use Rattle.frames.specs.declared.outcomes.Answer.{Answer}
+use Rattle.frames.specs.declared.outcomes.Answer.the-variants.{Wrote, WantsRight, Idle, Refused as TurnRefused}
 use Rattle.node.specs.State.{nextTurn, markedFailed, badJoin, heldOf, waiting}
-use Rattle.outcomes.specs.Answers.{isRunning, isDone, lastSequence}
+use Rattle.frames.specs.outcomes.Answers.{isRunning, isDone, lastSequence}
 use Rattle.node.specs.Calls.{After, after, turnAnswer, turnCall, turned, dropped, dequeued, spoiled}
-use Rattle.turnrows.specs.Prunes.{badLeft, badRight, firstPrune, remembered, rememberedLeft, keptRows, lastPrune}
-use Rattle.turnrows.proofs.PruneLaws.{drops-within}
-use Rattle.refusals.specs.Tests.{test, firstOf}
-use Rattle.turnparts.specs.Part.{roomTests, orderTests}
+use Rattle.matchframe.specs.turnrows.Prunes.{badLeft, badRight, firstPrune, remembered, rememberedLeft, keptRows, lastPrune}
+use Rattle.matchframe.proofs.turnrows.PruneLaws.{drops-within}
+use Rattle.frames.specs.refusals.Tests.{test, firstOf}
+use Rattle.node.specs.turnparts.Part.{roomTests, orderTests}
 use Rattle.lists.specs.Lists.{turn, Event, onTurn, World, step, leftIn, rightIn, leftFrames, rightFrames, rowsIn, outputIn, outputs, backToBack, framesWaiting, doneBy, refusedWith, turnRefusal}
 use Rattle.lists.proofs.ListLaws.{left-append, right-append, outputs-append}
 use Rattle.lists.proofs.Turned.{frame-cells, turnedOf, turned-after, Together, together-more}

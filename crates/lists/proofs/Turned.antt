@@ -9,15 +9,15 @@ use lib.ListN.{length, take, drop, take-append-drop, length-append}
 use Rattle.frames.specs.Cells.{Rows, Words}
 use Rattle.frames.specs.Frame.{isFrame, frameRows}
 use Rattle.frames.proofs.FrameLaws.{frame-rows, frame-wide}
-use Rattle.options.specs.Options.{columns, isOn, isStrict}
-use Rattle.options.specs.declared.Options.{Options}
-use Rattle.options.specs.declared.Check.the-variants.{Strict}
+use Rattle.order.specs.options.Options.{columns, isOn, isStrict}
+use Rattle.order.specs.declared.options.Options.{Options}
+use Rattle.order.specs.declared.options.Check.the-variants.{Strict}
 use Rattle.order.specs.Order.{sorted}
 use Rattle.order.specs.Keyed.{lastLeft, recall, rememberAt, noRow}
 use Rattle.order.specs.declared.Row.{Row}
 use Rattle.order.proofs.SortedLaws.{All, all-by, sorted-cut}
 use Rattle.order.proofs.SeamLaws.{unsorted, Recalls, recalled-none, recalled, seam}
-use Rattle.turnrows.specs.Prunes.{badLeft, rememberedLeft}
+use Rattle.matchframe.specs.turnrows.Prunes.{badLeft, rememberedLeft}
 use Rattle.lists.specs.Lists.{rowsIn}
 use Rattle.lists.proofs.ListLaws.{rows-in-append, take-next, take-more}
 

@@ -8,16 +8,16 @@ use lib.ListN.{length}
 use Rattle.callrules.specs.Judged.{leftJudged, rightJudged}
 use Rattle.frames.specs.Cells.{Words}
 use Rattle.frames.specs.Frame.{rowCount}
-use Rattle.area.specs.Area.{newBase}
-use Rattle.area.proofs.PushLaws.{newBase-room, append-length, pushed-length}
+use Rattle.buffer.specs.area.Area.{newBase}
+use Rattle.buffer.proofs.area.PushLaws.{newBase-room, append-length, pushed-length}
 use Rattle.node.specs.declared.Join.{Join}
-use Rattle.outcomes.specs.declared.PortState.{PortState}
-use Rattle.outcomes.specs.declared.Answer.{Answer}
-use Rattle.outcomes.specs.declared.Answer.the-variants.{Wrote, WantsRight, Idle, Refused as TurnRefused}
-use Rattle.outcomes.specs.declared.Took.{Took}
-use Rattle.outcomes.specs.declared.Took.the-variants.{Accepted, Refused}
-use Rattle.outcomes.specs.declared.Ported.{Ported}
-use Rattle.outcomes.specs.declared.Ported.the-variants.{Ports, Refused as PortsRefused}
+use Rattle.frames.specs.declared.outcomes.PortState.{PortState}
+use Rattle.frames.specs.declared.outcomes.Answer.{Answer}
+use Rattle.frames.specs.declared.outcomes.Answer.the-variants.{Wrote, WantsRight, Idle, Refused as TurnRefused}
+use Rattle.frames.specs.declared.outcomes.Took.{Took}
+use Rattle.frames.specs.declared.outcomes.Took.the-variants.{Accepted, Refused}
+use Rattle.frames.specs.declared.outcomes.Ported.{Ported}
+use Rattle.frames.specs.declared.outcomes.Ported.the-variants.{Ports, Refused as PortsRefused}
 use Rattle.node.specs.State.{endedRight, rightWidth, badJoin, waiting, heldValues, heldMarks}
 use Rattle.node.specs.Calls.{After, after, leftAnswer, leftCall, queued, rightAnswer, rightCall, pushedRight, endAnswer, endCall, portsAnswer, portsCall, turnAnswer, turnCall, turned}
 use Rattle.node.proofs.Good.{left-taken, right-taken}

@@ -11,9 +11,9 @@ use lib.ListN.{length, take, drop, replicate, take-append-drop, length-append, l
 use lib.Seq.{take-all, drop-at}
 use Rattle.frames.specs.Cells.{Cell, null, valueWord, markWord, Rows, Words}
 use Rattle.frames.specs.Frame.{rowCount, frameWords, isFrame, frameRows, front}
-use Rattle.options.specs.Options.{columns, rightColumns, answerColumns, refusedOptions}
+use Rattle.order.specs.options.Options.{columns, rightColumns, answerColumns, refusedOptions}
 use Rattle.order.specs.Order.{sorted}
-use Rattle.options.specs.declared.Options.{Options}
+use Rattle.order.specs.declared.options.Options.{Options}
 use Rattle.frames.proofs.FrameLaws.{frame-length, count-append}
 use Rattle.order.proofs.SortedLaws.{sorted-cut}
 use Rattle.matching.specs.Match.{matchTable, wholeTable}
@@ -22,12 +22,12 @@ use Rattle.matching.specs.declared.Choice.{Choice}
 use Rattle.matching.specs.declared.Choice.the-variants.{Row, Nothing}
 use Rattle.matching.proofs.PickedLaw.{picked-none, picked-row}
 use Rattle.node.specs.declared.Join.{Join}
-use Rattle.outcomes.specs.declared.Answer.{Answer}
-use Rattle.outcomes.specs.declared.Answer.the-variants.{Wrote, WantsRight, Idle, Refused as TurnRefused}
+use Rattle.frames.specs.declared.outcomes.Answer.{Answer}
+use Rattle.frames.specs.declared.outcomes.Answer.the-variants.{Wrote, WantsRight, Idle, Refused as TurnRefused}
 use Rattle.node.specs.State.{waiting}
-use Rattle.outcomes.specs.Answers.{lastSequence, isDone}
+use Rattle.frames.specs.outcomes.Answers.{lastSequence, isDone}
 use Rattle.node.specs.Calls.{turnAnswer, turnCall, turned}
-use Rattle.turnrows.specs.Prunes.{badLeft, badRight}
+use Rattle.matchframe.specs.turnrows.Prunes.{badLeft, badRight}
 use Rattle.lists.specs.Lists.{Call, turn, Event, onTurn, World, start, step, events, final, leftFrames, rightFrames, rowsIn, outputIn, outputs, Entry, matchesIn, rightEnded, nodeDone, doneBy, refusedWith, backToBack, framesIn, queueRows}
 use Rattle.lists.specs.WholeTables.{asWritten, dueOver, Correct, isNone, isRow, Each, ends, pairs, ListHolds, WholeTableTheorem}
 use Rattle.lists.proofs.ListLaws.{rows-in-append, matches-append, drop-next, left-append, right-append, outputs-append, ended-append, done-snoc}

@@ -6,3 +6,5 @@ pub mod Unread
 pub mod SplitAlone
 pub mod OldForm
 pub mod Strict
+pub mod movelists
+pub mod isolation

@@ -6,19 +6,19 @@ use lib.Dec.{eqb}
 use lib.ListN.{length, take, drop}
 use Rattle.frames.specs.Cells.{Rows, Words}
 use Rattle.frames.specs.Frame.{rowCount, frameRows, frameWords, front}
-use Rattle.options.specs.declared.Options.{Options}
+use Rattle.order.specs.declared.options.Options.{Options}
 use Rattle.node.specs.State.{fresh, waiting, leftWidth}
-use Rattle.refusals.specs.Refusals.{number}
+use Rattle.frames.specs.refusals.Refusals.{number}
 use Rattle.node.specs.Calls.{After, leftCall, rightCall, endCall, portsCall, turnCall}
-use Rattle.ports.specs.Ports.{portDone}
+use Rattle.callrules.specs.ports.Ports.{portDone}
 use Rattle.node.specs.declared.Join.{Join}
-use Rattle.outcomes.specs.declared.PortState.{PortState}
-use Rattle.outcomes.specs.declared.Answer.{Answer}
-use Rattle.outcomes.specs.declared.Answer.the-variants.{Wrote, WantsRight, Idle, Refused as TurnRefused}
-use Rattle.outcomes.specs.declared.Took.{Took}
-use Rattle.outcomes.specs.declared.Took.the-variants.{Accepted, Refused}
-use Rattle.outcomes.specs.declared.Ported.{Ported}
-use Rattle.outcomes.specs.declared.Ported.the-variants.{Ports, Refused as PortsRefused}
+use Rattle.frames.specs.declared.outcomes.PortState.{PortState}
+use Rattle.frames.specs.declared.outcomes.Answer.{Answer}
+use Rattle.frames.specs.declared.outcomes.Answer.the-variants.{Wrote, WantsRight, Idle, Refused as TurnRefused}
+use Rattle.frames.specs.declared.outcomes.Took.{Took}
+use Rattle.frames.specs.declared.outcomes.Took.the-variants.{Accepted, Refused}
+use Rattle.frames.specs.declared.outcomes.Ported.{Ported}
+use Rattle.frames.specs.declared.outcomes.Ported.the-variants.{Ports, Refused as PortsRefused}
 
 -- A call: a left or right frame of any words, the end of right, ports (left, right, send), a turn with any words as its output.
 pub data Call : Type 0 where

@@ -6,8 +6,8 @@ use Prim.Native.Nat.{ℕ, _+_, _*_}
 use lib.ListN.{length}
 use Rattle.frames.specs.Cells.{Cell, Rows, Words}
 use Rattle.frames.specs.Frame.{frameWords}
-use Rattle.options.specs.Options.{columns, rightColumns, answerColumns}
-use Rattle.options.specs.declared.Options.{Options}
+use Rattle.order.specs.options.Options.{columns, rightColumns, answerColumns}
+use Rattle.order.specs.declared.options.Options.{Options}
 use Rattle.tables.specs.Table.{laid}
 use Rattle.matching.specs.Match.{wholeTable}
 use Rattle.matching.specs.Answer.{numberWord, choiceMark, answerRows, numberWords, answered}

@@ -5,12 +5,12 @@ use mathlib.Core.List.{List, [], _∷_, _++_, map}
 use Prim.Native.Nat.{ℕ, zero, suc}
 use lib.ListN.{length, take, drop}
 use Rattle.frames.specs.Cells.{Words}
-use Rattle.options.specs.Options.{answerColumns}
+use Rattle.order.specs.options.Options.{answerColumns}
 use Rattle.node.specs.Calls.{turnCall}
-use Rattle.outcomes.specs.Answers.{wrote}
-use Rattle.runs.specs.Run.{Ran, runCall, turnWords, stopOf}
-use Rattle.outcomes.specs.declared.Stop.{Stop}
-use Rattle.outcomes.specs.declared.Stop.the-variants.{Used}
+use Rattle.frames.specs.outcomes.Answers.{wrote}
+use Rattle.node.specs.runs.Run.{Ran, runCall, turnWords, stopOf}
+use Rattle.frames.specs.declared.outcomes.Stop.{Stop}
+use Rattle.frames.specs.declared.outcomes.Stop.the-variants.{Used}
 use Rattle.lists.specs.Lists.{Call, turn, Event, onLeft, onRight, onEnd, onPorts, onTurn, World, step, events, final, outputs, backToBack}
 
 -- The outputs that a run lends to its turns: each the words behind those that the turn before it wrote. A turn that did not write is the last.

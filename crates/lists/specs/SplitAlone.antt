@@ -5,13 +5,13 @@ use mathlib.Core.Bool.{true, false, not, _&&_}
 use mathlib.Core.List.{List}
 use Prim.Native.Nat.{ℕ}
 use Rattle.frames.specs.Cells.{Rows, Words}
-use Rattle.options.specs.Options.{refusedOptions, isOn}
+use Rattle.order.specs.options.Options.{refusedOptions, isOn}
 use Rattle.order.specs.Order.{sorted}
-use Rattle.options.specs.declared.Options.{Options}
+use Rattle.order.specs.declared.options.Options.{Options}
 use Rattle.order.specs.declared.Row.{Row}
 use Rattle.searching.specs.Reach.{badSplit}
 use Rattle.node.specs.State.{heldOf}
-use Rattle.turnrows.specs.Prunes.{badRight}
+use Rattle.matchframe.specs.turnrows.Prunes.{badRight}
 use Rattle.lists.specs.Lists.{Call, start, final}
 
 module _ (o : Options) (l r : Words) (calls : List Call) where

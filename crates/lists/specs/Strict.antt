@@ -5,13 +5,13 @@ use mathlib.Core.List.{List, _++_, map}
 use lib.Dec.{eqb}
 use lib.ListN.{take}
 use Rattle.frames.specs.Cells.{Rows, Words}
-use Rattle.options.specs.Options.{columns, refusedOptions}
-use Rattle.options.specs.declared.Options.{Options}
-use Rattle.options.specs.declared.Check.the-variants.{Strict}
+use Rattle.order.specs.options.Options.{columns, refusedOptions}
+use Rattle.order.specs.declared.options.Options.{Options}
+use Rattle.order.specs.declared.options.Check.the-variants.{Strict}
 use Rattle.order.specs.Order.{sorted}
-use Rattle.refusals.specs.Refusals.{marksFailed}
-use Rattle.outcomes.specs.declared.Answer.{Answer}
-use Rattle.outcomes.specs.declared.Answer.the-variants.{Wrote, WantsRight, Idle, Refused}
+use Rattle.frames.specs.refusals.Refusals.{marksFailed}
+use Rattle.frames.specs.declared.outcomes.Answer.{Answer}
+use Rattle.frames.specs.declared.outcomes.Answer.the-variants.{Wrote, WantsRight, Idle, Refused}
 use Rattle.node.specs.Calls.{turnCall}
 use Rattle.lists.specs.Lists.{Call, World, start, final, rowsIn, turnRefusal}
 use Rattle.lists.specs.WholeTables.{rights, turnedRows, waitingFrames, matches, due, Correct, Each}

@@ -7,9 +7,9 @@ use lib.IntN.{pos}
 use lib.ListN.{length, take, drop, getD, replicate}
 use Rattle.frames.specs.Cells.{Cell, valueWord, markWord, Rows, Words}
 use Rattle.frames.specs.Frame.{rowCount, frameWords, valuesIn, marksIn}
-use Rattle.options.specs.Options.{columns, rightColumns, answerColumns, refusedOptions}
+use Rattle.order.specs.options.Options.{columns, rightColumns, answerColumns, refusedOptions}
 use Rattle.order.specs.Order.{sorted}
-use Rattle.options.specs.declared.Options.{Options}
+use Rattle.order.specs.declared.options.Options.{Options}
 use Rattle.matching.specs.Match.{wholeTable}
 use Rattle.matching.specs.Picked.{Picked, NoneQualifies}
 use Rattle.matching.specs.Answer.{behindNumber, answerRow}

@@ -1,20 +1,26 @@
+// Matching the rows of a turn: pruning by them, the order check, the matches run by run, the answer frame.
 // The answer of a frame: a row for each of its rows, with the right number, what that row carries, and the distance where the join adds it.
-use carrying::spread_rows;
-use choices::put;
+pub mod carrying;
+pub mod sortedrows;
+pub mod turnanswer;
+pub mod turnrows;
+
+use crate::carrying::spread_rows;
 use groups::run_end;
 use groups::serve;
+use matchrun::choices::put;
 use matchrun::is_short;
 use matchrun::match_run;
+use matchrun::scan::match_row;
 use matchrun::scan_run;
-use options::Terms;
-use options::answer_columns;
-use scan::match_row;
+use order::options::Terms;
+use order::options::answer_columns;
 use tables::put_head;
 ghost use mathlib.Core.Path.{_≡_};
 ghost use mathlib.Core.List.{map};
 ghost use Prim.Native.Nat.{_+_, _*_};
 ghost use Rattle.frames.specs.Cells.{rowsOf};
-ghost use Rattle.options.specs.Options.{withList, withoutList, answerColumns};
+ghost use Rattle.order.specs.options.Options.{withList, withoutList, answerColumns};
 ghost use Rattle.tables.specs.Lay.{flat, layCells};
 ghost use Rattle.matching.specs.Match.{matchIn};
 ghost use Rattle.matching.specs.Groups.{runs, byRuns, matchFrame};

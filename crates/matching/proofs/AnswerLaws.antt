@@ -8,8 +8,8 @@ use lib.ListN.{length, drop, length-append, length-drop}
 use lib.Seq.{take-length, drop-at}
 use Rattle.frames.specs.Cells.{valueWord, markWord, Rows, Words}
 use Rattle.frames.specs.Frame.{rowCount, frameWords}
-use Rattle.options.specs.Options.{answerColumns}
-use Rattle.options.specs.declared.Options.{Options}
+use Rattle.order.specs.options.Options.{answerColumns}
+use Rattle.order.specs.declared.options.Options.{Options}
 use Rattle.tables.specs.Table.{wordsOf, tableOf, laid}
 use Rattle.tables.proofs.TableLaws.{Wide, words-length}
 use Rattle.matching.specs.Answer.{answered}

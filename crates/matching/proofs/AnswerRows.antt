@@ -6,8 +6,8 @@ use Prim.Native.Nat.{ℕ, zero, suc, _-_}
 use native.Mathlib.Omega.{arith}
 use lib.ListN.{length, getD, replicate, length-append}
 use Rattle.frames.specs.Cells.{Cell, null, Rows}
-use Rattle.options.specs.Options.{columns, answerColumns}
-use Rattle.options.specs.declared.Options.{Options}
+use Rattle.order.specs.options.Options.{columns, answerColumns}
+use Rattle.order.specs.declared.options.Options.{Options}
 use Rattle.order.specs.Order.{keyOf, distance}
 use Rattle.tables.proofs.TableLaws.{Wide}
 use Rattle.matching.specs.declared.Choice.{Choice}

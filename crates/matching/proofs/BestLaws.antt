@@ -10,14 +10,14 @@ use lib.Dec.{ltb}
 use lib.Signed.{leZ}
 use lib.ListN.{getD, length}
 use Rattle.frames.specs.Cells.{Cell, value, isNull, Rows, Words, rowFrom}
-use Rattle.options.specs.Options.{strategyOf, keyRule}
+use Rattle.order.specs.options.Options.{strategyOf, keyRule}
 use Rattle.order.specs.Order.{cmpCell, keyOf, nullKey}
 use Rattle.order.specs.Requires.{cellAt, RowsIn}
 use Rattle.order.proofs.RowLaws.{row-cell, row-room}
 use Rattle.order.proofs.SortedLaws.{all-by}
 use Rattle.frames.proofs.BoolLaws.{and-true}
-use Rattle.options.specs.declared.Options.{Options}
-use Rattle.options.specs.declared.Strategy.{Strategy}
+use Rattle.order.specs.declared.options.Options.{Options}
+use Rattle.order.specs.declared.options.Strategy.{Strategy}
 use Rattle.matching.specs.Match.{Hit, nobody, hit, onSide, fits, takesOver, meet, choose, tooFar, tolerate, matchIn}
 use Rattle.matching.specs.Stretches.{between, hitAt}
 use Rattle.matching.specs.Loops.{Small, BestIn, TakesOver, Meets, Met}

@@ -8,9 +8,9 @@ use native.Mathlib.Nat.{add-zero, add-suc, suc-add}
 use native.Mathlib.Omega.{arith}
 use lib.ListN.{length, getD}
 use Rattle.frames.specs.Cells.{Cell, Rows}
-use Rattle.options.specs.Options.{strategyOf}
+use Rattle.order.specs.options.Options.{strategyOf}
 use Rattle.order.proofs.SortedLaws.{All}
-use Rattle.options.specs.declared.Options.{Options}
+use Rattle.order.specs.declared.options.Options.{Options}
 use Rattle.matching.specs.Match.{Hit, nobody, hit, meet, choose, takesOver}
 
 -- A choice by a test, from a fact of each way.

@@ -9,15 +9,15 @@ use native.Mathlib.Decide.{ℕ-discrete}
 use borrow.Author.Tests.{not-true, not-false}
 use lib.IntN.{ℤ, pos, negsuc}
 use Rattle.frames.specs.Cells.{Cell, null, value, isNull}
-use Rattle.options.specs.Options.{keyRule}
+use Rattle.order.specs.options.Options.{keyRule}
 use Rattle.order.specs.Order.{cmpCell, distance}
 use Rattle.order.proofs.OrderLaws.{AtMost, IsOrder, cmpCell-is, cell-equal, three, less-or, less-then, then-less, same-right, less-greater, greater-less, less-at-most}
 use Rattle.order.proofs.KeyLaws.{gap, distance-gap, key-up, nearer-below, nearer-above, farther-above}
 use Rattle.frames.proofs.BoolLaws.{and-true}
 use Rattle.order.specs.declared.Order.{Order}
 use Rattle.order.specs.declared.Order.the-variants.{Less, Equal, Greater}
-use Rattle.options.specs.declared.Strategy.{Strategy}
-use Rattle.options.specs.declared.Strategy.the-variants.{Backward, Forward, Nearest}
+use Rattle.order.specs.declared.options.Strategy.{Strategy}
+use Rattle.order.specs.declared.options.Strategy.the-variants.{Backward, Forward, Nearest}
 use Rattle.matching.specs.Match.{onSide, nearer}
 use Rattle.matching.specs.Moves.{Rising, fitsKey, passed, movesOn, Behind, Stopped}
 use Rattle.matching.proofs.MayLaws.{never, is-false, back-side, fore-side, nearer-least, nearer-by, nearer-then}

@@ -8,8 +8,8 @@ use lib.Dec.{eqb}
 use lib.ListN.{length, drop, length-append, length-drop, List·getD-append}
 use lib.Seq.{getD-drop}
 use Rattle.frames.specs.Cells.{Cell, Rows}
-use Rattle.options.specs.Options.{strategyOf}
-use Rattle.options.specs.declared.Options.{Options}
+use Rattle.order.specs.options.Options.{strategyOf}
+use Rattle.order.specs.declared.options.Options.{Options}
 use Rattle.order.specs.Order.{cmpGroup, isEqual, nullGroup}
 use Rattle.matching.specs.declared.Choice.{Choice}
 use Rattle.matching.specs.declared.Choice.the-variants.{Row, Nothing}

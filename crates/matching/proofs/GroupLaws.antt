@@ -12,7 +12,7 @@ use Rattle.frames.specs.Cells.{Cell, Rows}
 use Rattle.order.specs.Order.{cmpFirst, cmpGroup, isLess, isEqual, nullIn, nullGroup, sorted}
 use Rattle.order.proofs.OrderLaws.{AtMost, cmpGroup-is, equal-at-most, less-at-most, less-greater, greater-less, less-then, then-less, not-less, same-right}
 use Rattle.order.proofs.SortedLaws.{All, all-map, all-by, all-join}
-use Rattle.options.specs.declared.Options.{Options}
+use Rattle.order.specs.declared.options.Options.{Options}
 use Rattle.order.specs.declared.Order.{Order}
 use Rattle.order.specs.declared.Order.the-variants.{Less, Equal, Greater}
 use Rattle.matching.specs.Match.{fits, nobody, choose, sameGroup, matchIn, matchTable}

@@ -8,7 +8,7 @@ use native.Mathlib.Omega.{arith}
 use borrow.Author.Tests.{eq-eqb, ne-eqb}
 use lib.ListN.{length, set, length-map}
 use Rattle.frames.specs.Cells.{Cell, Rows, Words, rowsOf, rowFrom}
-use Rattle.options.specs.declared.Options.{Options}
+use Rattle.order.specs.declared.options.Options.{Options}
 use Rattle.matching.specs.Match.{matchIn}
 use Rattle.matching.specs.Groups.{runs, byRuns, matchFrame}
 use Rattle.matching.specs.Answer.{numberWord, choiceMark}

@@ -9,16 +9,16 @@ use native.Mathlib.Decide.{decLt}
 use borrow.Author.Tests.{ltb-true, eqb-true, lt-ltb, le-ltb, eq-eqb, not-true}
 use lib.Dec.{ltb, eqb}
 use Rattle.frames.specs.Cells.{Cell}
-use Rattle.options.specs.Options.{strategyOf, keyRule}
+use Rattle.order.specs.options.Options.{strategyOf, keyRule}
 use Rattle.order.specs.Order.{cmpCell, cmpGroup, isLess, isEqual, nullGroup, nullKey, keyOf, distance}
 use Rattle.order.proofs.OrderLaws.{AtMost, cmpCell-is, cmpKey, at-most, less-greater, greater-less, less-at-most}
 use Rattle.frames.proofs.BoolLaws.{and-true}
 use Rattle.order.proofs.KeyLaws.{null-group}
-use Rattle.options.specs.declared.Options.{Options}
+use Rattle.order.specs.declared.options.Options.{Options}
 use Rattle.order.specs.declared.Order.{Order}
 use Rattle.order.specs.declared.Order.the-variants.{Less, Equal, Greater}
-use Rattle.options.specs.declared.Strategy.{Strategy}
-use Rattle.options.specs.declared.Strategy.the-variants.{Backward, Forward, Nearest}
+use Rattle.order.specs.declared.options.Strategy.{Strategy}
+use Rattle.order.specs.declared.options.Strategy.the-variants.{Backward, Forward, Nearest}
 use Rattle.matching.specs.Match.{onSide, fits, nearer, takesOver, sameGroup}
 
 -- ---- tests: none is both, and what cannot be true is false

@@ -7,7 +7,7 @@ use native.Mathlib.Omega.{arith}
 use lib.ListN.{length}
 use Rattle.frames.specs.Cells.{Cell, valueWord, markWord, Rows, Words}
 use Rattle.tables.specs.Table.{wordsOf, tableOf}
-use Rattle.options.specs.declared.Options.{Options}
+use Rattle.order.specs.declared.options.Options.{Options}
 use Rattle.matching.specs.declared.Choice.{Choice}
 use Rattle.matching.specs.declared.Choice.the-variants.{Row, Nothing}
 use Rattle.matching.specs.Answer.{numberWord, choiceMark, cellsFrom, answerRow, answerRows, numberWords, OldForm}

@@ -11,17 +11,17 @@ use lib.IntN.{pos, natAbs}
 use lib.Signed.{leZ}
 use lib.ListN.{length, getD}
 use Rattle.frames.specs.Cells.{Cell, Rows}
-use Rattle.options.specs.Options.{strategyOf, keyRule}
+use Rattle.order.specs.options.Options.{strategyOf, keyRule}
 use Rattle.order.specs.Order.{cmpCell, cmpGroup, isLess, isEqual, isGreater, keyOf, distance, sorted}
 use Rattle.order.proofs.OrderLaws.{AtMost, flip, cmpCell-is, cmpGroup-is, cmpKey-is, cmpKey, same-right, not-less}
 use Rattle.order.proofs.SortedLaws.{sorted-at}
 use Rattle.frames.proofs.BoolLaws.{and-true}
 use Rattle.order.proofs.KeyLaws.{key-at-most, nearer-below, nearer-above}
-use Rattle.options.specs.declared.Options.{Options}
+use Rattle.order.specs.declared.options.Options.{Options}
 use Rattle.order.specs.declared.Order.{Order}
 use Rattle.order.specs.declared.Order.the-variants.{Less, Equal, Greater}
-use Rattle.options.specs.declared.Strategy.{Strategy}
-use Rattle.options.specs.declared.Strategy.the-variants.{Backward, Forward, Nearest}
+use Rattle.order.specs.declared.options.Strategy.{Strategy}
+use Rattle.order.specs.declared.options.Strategy.the-variants.{Backward, Forward, Nearest}
 use Rattle.matching.specs.Match.{Hit, nobody, hit, onSide, takesOver, meet, choose, tooFar, tolerate, matchTable, qualifies}
 use Rattle.matching.specs.Picked.{better, Picked, NoneQualifies}
 use Rattle.matching.specs.declared.Choice.the-variants.{Row, Nothing}

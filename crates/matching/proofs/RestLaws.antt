@@ -10,17 +10,17 @@ use lib.IntN.{ℤ}
 use lib.ListN.{length, drop, getD}
 use lib.Seq.{drop-drop}
 use Rattle.frames.specs.Cells.{Cell, null, value, isNull, Rows, Words, rowsOf, rowFrom}
-use Rattle.options.specs.Options.{strategyOf, keyRule}
+use Rattle.order.specs.options.Options.{strategyOf, keyRule}
 use Rattle.order.specs.Order.{cmpCell, cmpGroup, isGreater, keyOf, nullGroup, sorted}
 use Rattle.order.specs.Requires.{RowsIn}
 use Rattle.order.proofs.OrderLaws.{AtMost, cmpKey, cmpKey-is, cmpGroup-is, at-most, at-most-refl, row-by-key}
 use Rattle.order.proofs.SortedLaws.{All, all-by, all-map, not-greater}
 use Rattle.frames.proofs.BoolLaws.{and-true}
 use Rattle.order.proofs.RowLaws.{rows-from}
-use Rattle.options.specs.declared.Options.{Options}
+use Rattle.order.specs.declared.options.Options.{Options}
 use Rattle.order.specs.declared.Order.the-variants.{Equal}
-use Rattle.options.specs.declared.Strategy.{Strategy}
-use Rattle.options.specs.declared.Strategy.the-variants.{Backward, Forward, Nearest}
+use Rattle.order.specs.declared.options.Strategy.{Strategy}
+use Rattle.order.specs.declared.options.Strategy.the-variants.{Backward, Forward, Nearest}
 use Rattle.matching.specs.Match.{nobody, hit, fits, takesOver, choose}
 use Rattle.matching.specs.Stretches.{between, hitAt}
 use Rattle.matching.specs.Moves.{keysSorted, keyAt, Rising, fitsKey, CursorAt, Stopped}

@@ -9,7 +9,7 @@ use Rattle.frames.specs.Cells.{Cell, Rows, cell}
 use Rattle.order.specs.Order.{cmpGroup, cmpRow, isEqual, nullIn, nullGroup, sorted}
 use Rattle.order.proofs.OrderLaws.{AtMost, cmpGroup-is, group-equal, group-at-most, less-then}
 use Rattle.order.proofs.SortedLaws.{All, all-map, Ordered, ordered}
-use Rattle.options.specs.declared.Options.{Options}
+use Rattle.order.specs.declared.options.Options.{Options}
 use Rattle.order.specs.declared.Order.{Order}
 use Rattle.order.specs.declared.Order.the-variants.{Less, Equal, Greater}
 use Rattle.matching.specs.Groups.{sameRun, joinRun, runs, headOf}

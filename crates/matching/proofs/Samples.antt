@@ -7,7 +7,7 @@ use lib.IntN.{pos, negsuc}
 use Rattle.frames.specs.Cells.{null, value}
 use Rattle.order.specs.Order.{cmpFirst, nullIn}
 use Rattle.order.proofs.Samples.{options, plain, row, keys}
-use Rattle.options.specs.declared.Options.{Options}
+use Rattle.order.specs.declared.options.Options.{Options}
 use Rattle.matching.specs.Match.{fits, takesOver, choose, tolerate, matchIn, matchTable, wholeTable}
 use Rattle.matching.specs.Groups.{matchFrame, byRuns, runs, joinRun, pass, passes, used}
 use Rattle.matching.specs.declared.Choice.the-variants.{Row, Nothing}

@@ -11,9 +11,9 @@ use lib.Dec.{ltb, eqb, leb·zero}
 use lib.IntN.{ℤ, pos, negsuc}
 use lib.Signed.{ltZ, leZ}
 use Rattle.frames.specs.Cells.{Cell, null, value, isZero, cellOf, isNull}
-use Rattle.options.specs.Options.{keyRule}
+use Rattle.order.specs.options.Options.{keyRule}
 use Rattle.order.specs.Order.{cmpZ, cmpCell, cmpGroup, nullGroup, isLess, isEqual, isGreater}
-use Rattle.options.specs.declared.Options.{Options}
+use Rattle.order.specs.declared.options.Options.{Options}
 use Rattle.order.specs.declared.Order.{Order}
 use Rattle.order.specs.declared.Order.the-variants.{Less, Equal, Greater}
 use Rattle.order.proofs.Order.{the-type}

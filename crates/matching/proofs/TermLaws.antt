@@ -4,10 +4,10 @@ use mathlib.Core.Bool.{Bool, cond, not, _&&_}
 use mathlib.Core.List.{List, [], _∷_, map}
 use Prim.Native.Nat.{ℕ, suc}
 use Rattle.frames.specs.Cells.{Cell, Rows, Words}
-use Rattle.options.specs.Options.{withList, withoutList, keyRule, strategyOf}
-use Rattle.options.specs.declared.Terms.{Terms}
-use Rattle.options.specs.declared.Strategy.{Strategy}
-use Rattle.options.specs.declared.Strategy.the-variants.{Backward, Forward, Nearest}
+use Rattle.order.specs.options.Options.{withList, withoutList, keyRule, strategyOf}
+use Rattle.order.specs.declared.options.Terms.{Terms}
+use Rattle.order.specs.declared.options.Strategy.{Strategy}
+use Rattle.order.specs.declared.options.Strategy.the-variants.{Backward, Forward, Nearest}
 use Rattle.order.specs.Order.{cmpCell, isGreater, keyOf}
 use Rattle.order.proofs.TermLaws.{rows-terms}
 use Rattle.matching.specs.Match.{Hit, nobody, hit, fits, takesOver, meet, choose, tolerate, matchIn}

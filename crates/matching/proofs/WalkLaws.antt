@@ -9,7 +9,7 @@ use lib.Seq.{drop-drop, take-at, drop-at}
 use Rattle.frames.specs.Cells.{Cell, Rows, Words, rowsOf, rowFrom}
 use Rattle.order.specs.Order.{cmpGroup, nullGroup, isLess}
 use Rattle.frames.proofs.WordLaws.{rows-length}
-use Rattle.options.specs.declared.Options.{Options}
+use Rattle.order.specs.declared.options.Options.{Options}
 use Rattle.order.specs.declared.Order.{Order}
 use Rattle.order.specs.declared.Order.the-variants.{Less, Equal, Greater}
 use Rattle.matching.specs.Match.{matchIn}

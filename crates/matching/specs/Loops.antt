@@ -6,11 +6,11 @@ use Prim.Native.Nat.{ℕ, _+_, _-_, _*_, _^_, _≤_, _<_}
 use lib.IntN.{ℤ}
 use lib.ListN.{length}
 use Rattle.frames.specs.Cells.{Cell, value, Rows, Words, rowFrom}
-use Rattle.options.specs.Options.{strategyOf}
+use Rattle.order.specs.options.Options.{strategyOf}
 use Rattle.order.specs.Order.{keyOf, nullKey}
 use Rattle.order.specs.Requires.{RowAt, RowsIn}
-use Rattle.options.specs.declared.Options.{Options}
-use Rattle.options.specs.declared.Strategy.{Strategy}
+use Rattle.order.specs.declared.options.Options.{Options}
+use Rattle.order.specs.declared.options.Strategy.{Strategy}
 use Rattle.matching.specs.Match.{fits, takesOver, meet, matchIn}
 use Rattle.matching.specs.Groups.{runs, pass, used, headOf, byRuns}
 use Rattle.matching.specs.Stretches.{between, runLength, hitAt}

@@ -6,12 +6,12 @@ use lib.Dec.{ltb, eqb}
 use lib.IntN.{pos, natAbs}
 use lib.Signed.{leZ}
 use Rattle.frames.specs.Cells.{Cell, Rows}
-use Rattle.options.specs.Options.{strategyOf, keyRule}
+use Rattle.order.specs.options.Options.{strategyOf, keyRule}
 use Rattle.order.specs.Order.{cmpCell, cmpGroup, isLess, isEqual, isGreater, keyOf, nullGroup, nullKey, distance}
-use Rattle.options.specs.declared.Options.{Options}
+use Rattle.order.specs.declared.options.Options.{Options}
 use Rattle.order.specs.declared.Order.{Order}
-use Rattle.options.specs.declared.Strategy.{Strategy}
-use Rattle.options.specs.declared.Strategy.the-variants.{Backward, Forward, Nearest}
+use Rattle.order.specs.declared.options.Strategy.{Strategy}
+use Rattle.order.specs.declared.options.Strategy.the-variants.{Backward, Forward, Nearest}
 use Rattle.matching.specs.declared.Choice.{Choice}
 use Rattle.matching.specs.declared.Choice.the-variants.{Row, Nothing}
 

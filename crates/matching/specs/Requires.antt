@@ -2,9 +2,9 @@
 use Prim.Native.Nat.{ℕ, _+_, _-_, _*_, _^_, _≤_}
 use lib.ListN.{length}
 use Rattle.frames.specs.Cells.{Words}
-use Rattle.options.specs.Options.{rightColumns, answerColumns}
+use Rattle.order.specs.options.Options.{rightColumns, answerColumns}
 use Rattle.order.specs.Requires.{RowAt, RowsIn}
-use Rattle.options.specs.declared.Options.{Options}
+use Rattle.order.specs.declared.options.Options.{Options}
 
 -- The left row at p, and right rows from..to, whose numbers an answer has room for.
 pub record RowRoom (o : Options) (p : ℕ) (lv lm : Words) (w from to : ℕ) (rv rm : Words) (number : ℕ) : Type 0 where

@@ -6,7 +6,7 @@ use lib.Dec.{ltb}
 use lib.ListN.{drop, set}
 use Rattle.frames.specs.Cells.{Cell, Rows, Words, rowsOf, rowFrom}
 use Rattle.order.specs.Order.{cmpGroup, nullGroup}
-use Rattle.options.specs.declared.Options.{Options}
+use Rattle.order.specs.declared.options.Options.{Options}
 use Rattle.order.specs.declared.Order.{Order}
 use Rattle.order.specs.declared.Order.the-variants.{Less}
 use Rattle.matching.specs.Match.{Hit, nobody, hit}

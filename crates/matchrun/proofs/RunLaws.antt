@@ -10,7 +10,7 @@ use Rattle.frames.specs.Cells.{Cell, Rows, Words, rowFrom}
 use Rattle.order.specs.Order.{nullKey}
 use Rattle.order.specs.Requires.{RowsIn}
 use Rattle.order.proofs.KeyLaws.{key-up}
-use Rattle.options.specs.declared.Options.{Options}
+use Rattle.order.specs.declared.options.Options.{Options}
 use Rattle.matching.specs.Match.{nobody, fits, tolerate, matchIn}
 use Rattle.matching.specs.Moves.{FirstKey, keyAt, Rising}
 use Rattle.matching.specs.Stretches.{between, lay}
@@ -24,9 +24,9 @@ use Rattle.matching.proofs.WalkLaws.{between-length, between-cut}
 use Rattle.matching.proofs.BestLaws.{key-at, none-null}
 use Rattle.matching.proofs.LayLaws.{lay-append}
 use Rattle.matching.proofs.RestLaws.{all-between}
-use Rattle.candidates.proofs.CutLaws.{cut}
-use Rattle.advance.specs.Below.{keyed}
-use Rattle.walk.specs.Keyed.{Marked}
+use Rattle.matchrun.proofs.candidates.CutLaws.{cut}
+use Rattle.matchrun.specs.advance.Below.{keyed}
+use Rattle.matchrun.specs.walk.Keyed.{Marked}
 
 module _ (o : Options) (w from to : ℕ) (vs ms : Words) (rows : RowsIn o w to vs ms) (r : ℕ) (q : FirstKey o w from to ms r) where
   -- ---- from row r on each row has a key

@@ -1,27 +1,39 @@
+// Matching a run of left rows against a right run: candidates, the scan, the walk.
 // A run of left rows, matched over a right run: walked or scanned, its choices laid into the answer.
-use candidates::candidates;
-use choices::put;
-use choices::put_nothing;
-use cursor::first_key;
-use cursor::keys_sorted;
-use nearwalk::nearest;
-use options::Strategy;
-use options::Terms;
-use options::strategy_of;
-use scan::match_row;
-use walk::backward;
-use walk::forward;
+pub mod advance;
+pub mod approach;
+pub mod candidates;
+pub mod choices;
+pub mod cursor;
+pub mod fits;
+pub mod look;
+pub mod nearwalk;
+pub mod scan;
+pub mod walk;
+
+use crate::candidates::candidates;
+use crate::choices::put;
+use crate::choices::put_nothing;
+use crate::cursor::first_key;
+use crate::cursor::keys_sorted;
+use crate::nearwalk::nearest;
+use crate::scan::match_row;
+use crate::walk::backward;
+use crate::walk::forward;
+use order::options::Strategy;
+use order::options::Terms;
+use order::options::strategy_of;
 ghost use mathlib.Core.Path.{_≡_};
 ghost use mathlib.Core.Bool.{_&&_};
 ghost use mathlib.Core.List.{map};
 ghost use Prim.Native.Nat.{_+_, _-_, _<_, _≤_};
 ghost use lib.Dec.{leb};
-ghost use Rattle.options.specs.Options.{withoutList};
+ghost use Rattle.order.specs.options.Options.{withoutList};
 ghost use Rattle.matching.specs.Match.{matchIn};
 ghost use Rattle.matching.specs.Stretches.{between, lay};
 ghost use Rattle.matching.specs.Loops.{RunRoom};
 ghost use Rattle.matching.specs.Moves.{WalkRoom, Counted};
-ghost use Rattle.walk.specs.Keyed.{KeysRoom, Walked};
+ghost use Rattle.matchrun.specs.walk.Keyed.{KeysRoom, Walked};
 
 // Left rows from..to, each matched by a scan over right rows at..end, into an answer of m cells.
 pub fn scan_run(

@@ -7,20 +7,20 @@ use Rattle.node.specs.Calls.{leftAnswer, leftCall, queued, rightAnswer, 
 use Rattle.node.specs.Contracts.{LeftContract, RightContract, EndContract, PortsContract}
 use Rattle.callrules.specs.Judged.{leftJudged, endJudged, rightJudged, EndFed, LeftFed, RightFed}
 use Rattle.callrules.specs.declared.FedEnd.{FedEnd}
-use Rattle.ports.specs.Ports.{portsIn, portsJudged, movedState, Moves}
-use Rattle.ports.specs.declared.PortsMoved.{PortsMoved}
+use Rattle.callrules.specs.ports.Ports.{portsIn, portsJudged, movedState, Moves}
+use Rattle.callrules.specs.declared.ports.PortsMoved.{PortsMoved}
 use Rattle.callrules.specs.declared.FedLeft.{FedLeft}
 use Rattle.callrules.specs.declared.FedRight.{FedRight}
 use Rattle.node.specs.declared.Join.{Join}
-use Rattle.outcomes.specs.declared.NodeState.{NodeState}
-use Rattle.outcomes.specs.declared.NodeState.the-variants.{Running, Flush, Done}
-use Rattle.outcomes.specs.declared.PortState.{PortState}
-use Rattle.refusals.specs.declared.Refusal.{Refusal}
-use Rattle.refusals.specs.declared.Refusal.the-variants.{BadJoin, Failed}
-use Rattle.outcomes.specs.declared.Took.{Took}
-use Rattle.outcomes.specs.declared.Took.the-variants.{Accepted, Refused}
-use Rattle.outcomes.specs.declared.Ported.{Ported}
-use Rattle.outcomes.specs.declared.Ported.the-variants.{Refused as PortsRefused}
+use Rattle.frames.specs.declared.outcomes.NodeState.{NodeState}
+use Rattle.frames.specs.declared.outcomes.NodeState.the-variants.{Running, Flush, Done}
+use Rattle.frames.specs.declared.outcomes.PortState.{PortState}
+use Rattle.frames.specs.declared.refusals.Refusal.{Refusal}
+use Rattle.frames.specs.declared.refusals.Refusal.the-variants.{BadJoin, Failed}
+use Rattle.frames.specs.declared.outcomes.Took.{Took}
+use Rattle.frames.specs.declared.outcomes.Took.the-variants.{Accepted, Refused}
+use Rattle.frames.specs.declared.outcomes.Ported.{Ported}
+use Rattle.frames.specs.declared.outcomes.Ported.the-variants.{Refused as PortsRefused}
 
 -- The join whose right has ended, or not.
 abbrev pub endedAt : Join → Bool → Join

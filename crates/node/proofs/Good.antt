@@ -10,23 +10,23 @@ use lib.ListN.{length}
 use Rattle.callrules.specs.Judged.{leftJudged, endJudged, rightJudged}
 use Rattle.frames.specs.Cells.{Words}
 use Rattle.frames.specs.Frame.{rowCount, isFrame, frameRows}
-use Rattle.options.specs.Options.{refusedOptions, badRanked, Few, termsOf, withList}
-use Rattle.options.specs.declared.Terms.{Terms}
+use Rattle.order.specs.options.Options.{refusedOptions, badRanked, Few, termsOf, withList}
+use Rattle.order.specs.declared.options.Terms.{Terms}
 use Rattle.callrules.specs.Judged.{badNumbers}
 use Rattle.frames.specs.Front.{HasCount}
-use Rattle.options.specs.declared.Options.{Options}
+use Rattle.order.specs.declared.options.Options.{Options}
 use Rattle.frames.proofs.FrontLaws.{frame-count}
 use Rattle.order.specs.Listed.{lacksCode}
-use Rattle.area.specs.Area.{capacity}
-use Rattle.options.proofs.OptionLaws.{or-both, allowed-parts}
+use Rattle.buffer.specs.area.Area.{capacity}
+use Rattle.order.proofs.options.OptionLaws.{or-both, allowed-parts}
 use Rattle.node.specs.State.{fresh, leftWidth, rightWidth, badJoin, overRight, overLeft, overRows, oddSequence}
-use Rattle.outcomes.specs.Answers.{isRunning, isDone, mostRows}
+use Rattle.frames.specs.outcomes.Answers.{isRunning, isDone, mostRows}
 use Rattle.node.specs.Calls.{leftAnswer, rightAnswer, endAnswer}
 use Rattle.node.specs.declared.Join.{Join}
-use Rattle.refusals.specs.declared.Refusal.{Refusal}
-use Rattle.refusals.specs.declared.Refusal.the-variants.{BadJoin, Failed, Closed, BadFrame, UnknownCode, NoRoom, UsedUp}
-use Rattle.outcomes.specs.declared.Took.{Took}
-use Rattle.outcomes.specs.declared.Took.the-variants.{Accepted, Refused}
+use Rattle.frames.specs.declared.refusals.Refusal.{Refusal}
+use Rattle.frames.specs.declared.refusals.Refusal.the-variants.{BadJoin, Failed, Closed, BadFrame, UnknownCode, NoRoom, UsedUp}
+use Rattle.frames.specs.declared.outcomes.Took.{Took}
+use Rattle.frames.specs.declared.outcomes.Took.the-variants.{Accepted, Refused}
 
 -- ---- tests
 -- A chain of refusals that came to Accepted did not stop at its first.

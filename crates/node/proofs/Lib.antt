@@ -1,4 +1,5 @@
 pub mod Good
 pub mod CallLaws
 pub mod PortsMeet
-pub mod TurnCall
+pub mod TurnCallLaws
+pub mod moves

@@ -2,21 +2,21 @@
 use mathlib.Core.Path.{_≡_, refl, sym, ap, _∙_}
 use Prim.Native.Nat.{ℕ}
 use native.Mathlib.Omega.{arith}
-use Rattle.ports.specs.Ports.{portsJudged}
+use Rattle.callrules.specs.ports.Ports.{portsJudged}
 use Rattle.frames.specs.Cells.{Words}
 use Rattle.node.specs.State.{badJoin}
 use Rattle.node.specs.Calls.{portsState, portsAnswer, portsCall}
 use Rattle.node.specs.Contracts.{PortsContract}
 use Rattle.node.specs.declared.Join.{Join}
 use Rattle.node.specs.declared.PortedJoin.{PortedJoin}
-use Rattle.outcomes.specs.declared.NodeState.{NodeState}
-use Rattle.outcomes.specs.declared.PortState.{PortState}
-use Rattle.refusals.specs.declared.Refusal.{Refusal}
-use Rattle.refusals.specs.declared.Refusal.the-variants.{BadJoin, Failed}
-use Rattle.outcomes.specs.declared.Ported.{Ported}
-use Rattle.outcomes.specs.declared.Ported.the-variants.{Ports, Refused}
-use Rattle.outcomes.proofs.Tests.{past}
-use Rattle.ports.proofs.PortRule.{Moved, Told, three, moved-rule, told-rule}
+use Rattle.frames.specs.declared.outcomes.NodeState.{NodeState}
+use Rattle.frames.specs.declared.outcomes.PortState.{PortState}
+use Rattle.frames.specs.declared.refusals.Refusal.{Refusal}
+use Rattle.frames.specs.declared.refusals.Refusal.the-variants.{BadJoin, Failed}
+use Rattle.frames.specs.declared.outcomes.Ported.{Ported}
+use Rattle.frames.specs.declared.outcomes.Ported.the-variants.{Ports, Refused}
+use Rattle.frames.proofs.outcomes.Tests.{past}
+use Rattle.callrules.proofs.ports.PortRule.{Moved, Told, three, moved-rule, told-rule}
 
 pub record PortsMeet (j : Join) (l r s : PortState) (u : NodeState) (a b d : PortState) : Type 0 where
   pub moved : Moved (j .state) l s (j .«queue_words») u

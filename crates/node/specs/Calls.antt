@@ -6,27 +6,27 @@ use lib.ListN.{length, drop, take}
 use Rattle.frames.specs.Cells.{Words}
 use Rattle.frames.specs.Frame.{rowCount, isFrame, frameRows, front}
 use Rattle.order.specs.Listed.{lacksCode}
-use Rattle.area.specs.Area.{capacity, newBase, pushed, moved, written}
+use Rattle.buffer.specs.area.Area.{capacity, newBase, pushed, moved, written}
 use Rattle.searching.specs.Reach.{pruneBy}
 use Rattle.matching.specs.Answer.{frameAnswer, answered}
-use Rattle.ports.specs.Ports.{toFlush, toDone, portsJudged}
-use Rattle.turnrows.specs.Prunes.{badLeft, badRight, firstPrune, remembered, rememberedLeft}
+use Rattle.callrules.specs.ports.Ports.{toFlush, toDone, portsJudged}
+use Rattle.matchframe.specs.turnrows.Prunes.{badLeft, badRight, firstPrune, remembered, rememberedLeft}
 use Rattle.node.specs.State.{queueAt, heldAt, stateAt, endedRight, markedFailed, nextTurn, leftWidth, rightWidth, badJoin, heldOf, waiting}
 use Rattle.node.specs.declared.Join.{Join}
-use Rattle.outcomes.specs.declared.NodeState.{NodeState}
-use Rattle.outcomes.specs.declared.PortState.{PortState}
-use Rattle.refusals.specs.Refusals.{marksFailed}
-use Rattle.refusals.specs.Tests.{test, firstOf}
+use Rattle.frames.specs.declared.outcomes.NodeState.{NodeState}
+use Rattle.frames.specs.declared.outcomes.PortState.{PortState}
+use Rattle.frames.specs.refusals.Refusals.{marksFailed}
+use Rattle.frames.specs.refusals.Tests.{test, firstOf}
 use Rattle.callrules.specs.Judged.{leftJudged, endJudged, rightJudged, readyTests}
-use Rattle.turnparts.specs.Part.{roomTests, orderTests}
-use Rattle.refusals.specs.declared.Refusal.{Refusal}
-use Rattle.refusals.specs.declared.Refusal.the-variants.{BadFrame, UnknownCode}
-use Rattle.outcomes.specs.declared.Answer.{Answer}
-use Rattle.outcomes.specs.declared.Answer.the-variants.{Wrote, WantsRight, Idle, Refused as TurnRefused}
-use Rattle.outcomes.specs.declared.Took.{Took}
-use Rattle.outcomes.specs.declared.Took.the-variants.{Accepted, Refused}
-use Rattle.outcomes.specs.declared.Ported.{Ported}
-use Rattle.outcomes.specs.declared.Ported.the-variants.{Ports, Refused as PortsRefused}
+use Rattle.node.specs.turnparts.Part.{roomTests, orderTests}
+use Rattle.frames.specs.declared.refusals.Refusal.{Refusal}
+use Rattle.frames.specs.declared.refusals.Refusal.the-variants.{BadFrame, UnknownCode}
+use Rattle.frames.specs.declared.outcomes.Answer.{Answer}
+use Rattle.frames.specs.declared.outcomes.Answer.the-variants.{Wrote, WantsRight, Idle, Refused as TurnRefused}
+use Rattle.frames.specs.declared.outcomes.Took.{Took}
+use Rattle.frames.specs.declared.outcomes.Took.the-variants.{Accepted, Refused}
+use Rattle.frames.specs.declared.outcomes.Ported.{Ported}
+use Rattle.frames.specs.declared.outcomes.Ported.the-variants.{Ports, Refused as PortsRefused}
 
 -- What a call leaves: its answer, the join handed back, and the words of the two areas and of the output (of a call that is lent one).
 pub record After (A : Type 0) : Type 0 where

@@ -1,12 +1,12 @@
 -- What each call of the join leaves: the answer, the join handed back and the words of what it was lent to write in, as Calls gives them. Assumes nothing.
 use mathlib.Core.Path.{_≡_}
 use Rattle.frames.specs.Cells.{Words}
-use Rattle.options.specs.declared.Options.{Options}
+use Rattle.order.specs.declared.options.Options.{Options}
 use Rattle.node.specs.State.{fresh}
 use Rattle.callrules.specs.Judged.{openAnswer}
 use Rattle.node.specs.Calls.{leftCall, rightCall, endCall, portsCall, turnCall}
 use Rattle.node.specs.declared.Join.{Join}
-use Rattle.outcomes.specs.declared.PortState.{PortState}
+use Rattle.frames.specs.declared.outcomes.PortState.{PortState}
 use Rattle.node.specs.declared.TookJoin.{TookJoin}
 use Rattle.node.specs.declared.PortedJoin.{PortedJoin}
 use Rattle.node.specs.declared.TurnedJoin.{TurnedJoin}

@@ -2,3 +2,8 @@ pub mod State
 pub mod Calls
 pub mod Contracts
 pub mod TurnPart
+pub mod turnparts
+pub mod turnfront
+pub mod turncall
+pub mod runs
+pub mod moves

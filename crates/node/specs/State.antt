@@ -4,14 +4,14 @@ use Prim.Native.Nat.{ℕ, _+_, _*_, _%_}
 use lib.Dec.{ltb, eqb}
 use lib.ListN.{length, take, drop}
 use Rattle.frames.specs.Cells.{Rows, Words}
-use Rattle.options.specs.Options.{refusedOptions, columns, rightColumns}
+use Rattle.order.specs.options.Options.{refusedOptions, columns, rightColumns}
 use Rattle.order.specs.Keyed.{noRow}
-use Rattle.options.specs.declared.Options.{Options}
+use Rattle.order.specs.declared.options.Options.{Options}
 use Rattle.order.specs.declared.Row.{Row}
-use Rattle.area.specs.Area.{capacity, heldRows}
-use Rattle.outcomes.specs.Answers.{mostRows}
-use Rattle.outcomes.specs.declared.NodeState.{NodeState}
-use Rattle.outcomes.specs.declared.NodeState.the-variants.{Running}
+use Rattle.buffer.specs.area.Area.{capacity, heldRows}
+use Rattle.frames.specs.outcomes.Answers.{mostRows}
+use Rattle.frames.specs.declared.outcomes.NodeState.{NodeState}
+use Rattle.frames.specs.declared.outcomes.NodeState.the-variants.{Running}
 use Rattle.node.specs.declared.Join.{Join}
 
 -- A join from all that it is.

@@ -1,8 +1,8 @@
 -- What the functions inside the calls answer: whether a turn may look at its queue, and the join without its options and its state, on which a turn works. Assumes nothing.
 use Rattle.frames.specs.Cells.{Words}
-use Rattle.outcomes.specs.declared.Answer.{Answer}
+use Rattle.frames.specs.declared.outcomes.Answer.{Answer}
 use Rattle.callrules.specs.Judged.{readyJudged}
-use Rattle.turnparts.specs.declared.Part.{Part}
+use Rattle.node.specs.declared.turnparts.Part.{Part}
 use Rattle.node.specs.State.{joinOf, badJoin}
 use Rattle.node.specs.declared.Join.{Join}
 

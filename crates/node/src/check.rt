@@ -1,7 +1,7 @@
 // Whether a join and its areas hold together, for any field values and any areas.
 use crate::Join;
-use consistency::bad_numbers;
-use options::terms_of;
+use callrules::consistency::bad_numbers;
+use order::options::terms_of;
 ghost use mathlib.Core.Path.{_≡_};
 ghost use Rattle.node.specs.State.{badJoin};
 

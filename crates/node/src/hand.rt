@@ -1,9 +1,9 @@
 // The join in another state, and the part of it that a turn works on.
 use crate::Join;
 use crate::TurnedJoin;
-use outcomes::NodeState;
-use turnfront::TurnedPart;
-use turnparts::Part;
+use crate::turnfront::TurnedPart;
+use crate::turnparts::Part;
+use frames::outcomes::NodeState;
 ghost use mathlib.Core.Path.{_≡_};
 ghost use Rattle.node.specs.State.{stateAt};
 ghost use Rattle.node.specs.TurnPart.{partOf, joinWith};

@@ -10,9 +10,9 @@ use borrow.Author.Tests.{ltb-true, ltb-false, lt-ltb, le-ltb}
 use lib.IntN.{ℤ, pos, negsuc, natAbs, subℕ}
 use lib.Signed.{ltZ}
 use Rattle.frames.specs.Cells.{Cell, null, value, cell, isNull}
-use Rattle.options.specs.Options.{keyRule}
+use Rattle.order.specs.options.Options.{keyRule}
 use Rattle.order.specs.Order.{cmpZ, cmpCell, cmpGroup, cmpRow, nullIn, nullGroup, distance}
-use Rattle.options.specs.declared.Options.{Options}
+use Rattle.order.specs.declared.options.Options.{Options}
 use Rattle.order.specs.declared.Order.the-variants.{Less, Equal, Greater}
 use Rattle.order.proofs.OrderLaws.{AtMost, three, three-less, less-greater, equal-at-most, equal-flip, at-most, at-most-equal, cmpZ-is, cmpCell-is, cell-equal, cmpGroup-is, cmpKey, group-equal, group-at-most, row-by-key}
 

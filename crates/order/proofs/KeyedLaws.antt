@@ -9,10 +9,10 @@ use lib.IntN.{pos}
 use lib.ListN.{length, take, getD, replicate, length-map}
 use lib.Seq.{getD-take, length-take-le, take-at}
 use Rattle.frames.specs.Cells.{Cell, null, Rows, valueWord, markWord}
-use Rattle.options.specs.Options.{columns, isStrict}
+use Rattle.order.specs.options.Options.{columns, isStrict}
 use Rattle.order.specs.Order.{cmpFirst, cmpRow, nullKey}
 use Rattle.order.specs.Keyed.{firstFrom, firstKeyed, lastBelow, lastKeyed, firstRow, lastRow, firstLeft, lastLeft, rowAt, recall, remember, rememberLast, rememberAt, compared, outOfOrder}
-use Rattle.options.specs.declared.Options.{Options}
+use Rattle.order.specs.declared.options.Options.{Options}
 use Rattle.order.specs.declared.Row.{Row}
 use Rattle.order.specs.declared.Keyed.{Keyed}
 use Rattle.order.specs.declared.Keyed.the-variants.{At, Nothing}

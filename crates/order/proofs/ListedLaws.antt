@@ -5,8 +5,8 @@ use mathlib.Core.List.{List, [], _∷_, _++_}
 use Prim.Native.Nat.{ℕ}
 use native.Mathlib.Omega.{arith}
 use Rattle.frames.specs.Cells.{Cell, cell, Rows, Words}
-use Rattle.ranks.specs.Ranks.{codesOf}
-use Rattle.options.specs.declared.Options.{Options}
+use Rattle.order.specs.ranks.Ranks.{codesOf}
+use Rattle.order.specs.declared.options.Options.{Options}
 use Rattle.order.specs.Listed.{lacks, unlistedIn, lacksCode}
 
 or-assoc : (a b c : Bool) → (a || (b || c)) ≡ (a || b || c)

@@ -11,10 +11,10 @@ use borrow.Author.Tests.{ltb-true, ltb-false, lt-ltb, le-ltb}
 use lib.IntN.{ℤ, pos, negsuc}
 use lib.Signed.{ltZ}
 use Rattle.frames.specs.Cells.{Cell, null, value, cell, Words}
-use Rattle.ranks.specs.Ranks.{placeIn}
-use Rattle.options.specs.Options.{Rule, byRule, keyRule}
+use Rattle.order.specs.ranks.Ranks.{placeIn}
+use Rattle.order.specs.options.Options.{Rule, byRule, keyRule}
 use Rattle.order.specs.Order.{next, cmpZ, cmpValue, cmpCell, cmpFirst, cmpGroup, cmpRow, keyOf}
-use Rattle.options.specs.declared.Options.{Options}
+use Rattle.order.specs.declared.options.Options.{Options}
 use Rattle.order.specs.declared.Order.{Order}
 use Rattle.order.specs.declared.Order.the-variants.{Less, Equal, Greater}
 

@@ -13,11 +13,11 @@ use lib.IntN.{ℤ, pos}
 use lib.ListN.{length, take, drop, getD, set, length-take, length-drop, length-map, length-append, replicate}
 use lib.Seq.{getD-drop, getD-take, drop-drop, length-take-le, take-suc, set-at}
 use Rattle.frames.specs.Cells.{Cell, null, value, isZero, cellOf, cellsOf, rowsOf, rowFrom, cell, isNull, Rows, Words}
-use Rattle.options.specs.Options.{byRule}
+use Rattle.order.specs.options.Options.{byRule}
 use Rattle.order.specs.Order.{next, cmpCell, cmpFirst, cmpRow, isGreater, sorted, nullIn, nullKey}
 use Rattle.order.specs.Keyed.{firstFrom, lastBelow, five}
 use Rattle.order.specs.Requires.{cellAt}
-use Rattle.options.specs.declared.Options.{Options}
+use Rattle.order.specs.declared.options.Options.{Options}
 use Rattle.order.specs.declared.Order.{Order}
 use Rattle.order.specs.declared.Order.the-variants.{Less, Equal, Greater}
 use Rattle.order.specs.declared.Keyed.the-variants.{At, Nothing}

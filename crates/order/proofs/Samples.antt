@@ -6,14 +6,14 @@ use Prim.Native.Nat.{ℕ, _-_, _^_}
 use lib.IntN.{ℤ, pos, negsuc}
 use lib.ListN.{length, replicate}
 use Rattle.frames.specs.Cells.{Cell, null, value, valueWord, markWord, Rows, Words, cellsOf}
-use Rattle.options.specs.Options.{columns}
+use Rattle.order.specs.options.Options.{columns}
 use Rattle.order.specs.Order.{distance, cmpRow, nullGroup, nullIn, cmpFirst}
 use Rattle.order.specs.Keyed.{firstLeft, lastLeft, firstFrom, lastBelow, rowAt, recall, remember, rememberAt, noRow, outOfOrder}
-use Rattle.options.specs.declared.Options.{Options}
-use Rattle.ranks.specs.Ranks.{ranksFor}
-use Rattle.ranks.specs.declared.Ranks.{Ranks}
-use Rattle.options.specs.declared.Check.{Check}
-use Rattle.options.specs.declared.Check.the-variants.{Off, On, Strict}
+use Rattle.order.specs.declared.options.Options.{Options}
+use Rattle.order.specs.ranks.Ranks.{ranksFor}
+use Rattle.order.specs.declared.ranks.Ranks.{Ranks}
+use Rattle.order.specs.declared.options.Check.{Check}
+use Rattle.order.specs.declared.options.Check.the-variants.{Off, On, Strict}
 use Rattle.order.specs.declared.Order.the-variants.{Less}
 use Rattle.order.specs.declared.Row.{Row}
 

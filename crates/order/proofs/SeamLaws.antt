@@ -10,8 +10,8 @@ use lib.ListN.{length, getD, length-append}
 use lib.Seq.{length-take-le}
 use Rattle.frames.specs.Cells.{Cell, Rows}
 use Rattle.frames.proofs.BoolLaws.{and-true}
-use Rattle.options.specs.Options.{columns, isStrict}
-use Rattle.options.specs.declared.Options.{Options}
+use Rattle.order.specs.options.Options.{columns, isStrict}
+use Rattle.order.specs.declared.options.Options.{Options}
 use Rattle.order.specs.Order.{cmpRow, isGreater, sorted}
 use Rattle.order.specs.Keyed.{firstRow, lastRow, firstLeft, lastLeft, rowAt, recall, remember, rememberAt, compared, noRow, outOfOrder}
 use Rattle.order.specs.declared.Row.{Row}

@@ -8,7 +8,7 @@ use lib.ListN.{length, getD, take, drop, take-append-drop, length-append, List·
 use lib.Seq.{getD-append-add}
 use Rattle.frames.specs.Cells.{Cell, Rows}
 use Rattle.order.specs.Order.{cmpRow, isGreater, sorted}
-use Rattle.options.specs.declared.Options.{Options}
+use Rattle.order.specs.declared.options.Options.{Options}
 use Rattle.order.specs.declared.Order.{Order}
 use Rattle.order.specs.declared.Order.the-variants.{Less, Equal, Greater}
 use Rattle.frames.proofs.BoolLaws.{and-true}

@@ -5,9 +5,9 @@ use mathlib.Core.List.{List, [], _∷_}
 use Prim.Native.Nat.{ℕ, zero, suc}
 use lib.ListN.{length, getD}
 use Rattle.frames.specs.Cells.{Rows, Words}
-use Rattle.options.specs.Options.{isStrict, withList, withoutList}
-use Rattle.options.specs.declared.Terms.{Terms}
-use Rattle.options.proofs.TermLaws.{few-terms}
+use Rattle.order.specs.options.Options.{isStrict, withList, withoutList}
+use Rattle.order.specs.declared.options.Terms.{Terms}
+use Rattle.order.proofs.options.TermLaws.{few-terms}
 use Rattle.order.specs.Order.{nullKey}
 use Rattle.order.specs.Keyed.{firstFrom, lastBelow, firstRow, lastRow, firstLeft, lastLeft, rememberAt}
 use Rattle.order.specs.Requires.{RowAt, RowsIn, KeysIn}

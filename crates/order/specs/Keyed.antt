@@ -6,9 +6,9 @@ use Prim.Native.Nat.{ℕ, zero, suc, _-_}
 use lib.IntN.{pos}
 use lib.ListN.{length, take, getD, replicate}
 use Rattle.frames.specs.Cells.{Cell, cellsOf, valueWord, markWord, Rows, Words}
-use Rattle.options.specs.Options.{columns, isStrict}
+use Rattle.order.specs.options.Options.{columns, isStrict}
 use Rattle.order.specs.Order.{nullKey, cmpRow, isGreater}
-use Rattle.options.specs.declared.Options.{Options}
+use Rattle.order.specs.declared.options.Options.{Options}
 use Rattle.order.specs.declared.Row.{Row}
 use Rattle.order.specs.declared.Keyed.{Keyed}
 use Rattle.order.specs.declared.Keyed.the-variants.{At, Nothing}

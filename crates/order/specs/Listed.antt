@@ -3,8 +3,8 @@ use mathlib.Core.Bool.{Bool, false, not, _&&_, _||_}
 use mathlib.Core.List.{List, [], _∷_}
 use Prim.Native.Nat.{ℕ}
 use Rattle.frames.specs.Cells.{Cell, null, value, cell, Rows, Words}
-use Rattle.ranks.specs.Ranks.{codesOf, listed}
-use Rattle.options.specs.declared.Options.{Options}
+use Rattle.order.specs.ranks.Ranks.{codesOf, listed}
+use Rattle.order.specs.declared.options.Options.{Options}
 
 -- The list lacks the value of a cell; a null is no value.
 abbrev pub lacks : Words → Cell → Bool

@@ -5,9 +5,9 @@ use Prim.Native.Nat.{ℕ, zero, suc}
 use lib.IntN.{ℤ, pos, natAbs, _-ℤ_}
 use lib.Signed.{ltZ}
 use Rattle.frames.specs.Cells.{Cell, null, value, cell, isNull, Rows, Words}
-use Rattle.ranks.specs.Ranks.{placeIn}
-use Rattle.options.specs.Options.{Rule, byRule, keyRule}
-use Rattle.options.specs.declared.Options.{Options}
+use Rattle.order.specs.ranks.Ranks.{placeIn}
+use Rattle.order.specs.options.Options.{Rule, byRule, keyRule}
+use Rattle.order.specs.declared.options.Options.{Options}
 use Rattle.order.specs.declared.Order.{Order}
 use Rattle.order.specs.declared.Order.the-variants.{Less, Equal, Greater}
 

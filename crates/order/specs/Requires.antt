@@ -5,8 +5,8 @@ use Prim.Native.Nat.{ℕ, _+_, _*_, _≤_, _<_}
 use lib.IntN.{pos}
 use lib.ListN.{length, getD}
 use Rattle.frames.specs.Cells.{Cell, cellOf, rowsOf, Words}
-use Rattle.options.specs.Options.{Few}
-use Rattle.options.specs.declared.Options.{Options}
+use Rattle.order.specs.options.Options.{Few}
+use Rattle.order.specs.declared.options.Options.{Options}
 use Rattle.order.specs.Order.{sorted}
 
 -- The cell whose words stand at place k of values and marks.

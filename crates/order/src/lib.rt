@@ -1,4 +1,7 @@
+// Options, the list of ranked codes, and the order of cells, groups and rows.
 // Order: cells, groups and rows compared, sorted rows, rows with a key and the row that a side remembers: their definitions and laws. The code is in crates compare and keyed.
+pub mod options;
+pub mod ranks;
 
 // How two compare.
 pub enum Order {

@@ -17,7 +17,7 @@ use Rattle.frames.proofs.WordLaws.{rows-drop}
 use Rattle.frames.proofs.BoolLaws.{and-true}
 use Rattle.frames.proofs.FrameLaws.{table-parts}
 use Rattle.frames.proofs.FrontLaws.{few-count, few-negative}
-use Rattle.options.proofs.OptionLaws.{or-both}
+use Rattle.order.proofs.options.OptionLaws.{or-both}
 use Rattle.planning.specs.Heights.{total, anyBad, heightsOf, badHeights, heightWithin, HeightIn, inFrames, fullHeights}
 
 -- ---- a table's words

@@ -10,20 +10,20 @@ use lib.Dec.{eqb}
 use lib.ListN.{length, drop, getD, length-drop}
 use lib.Seq.{getD-drop}
 use Rattle.frames.specs.Cells.{Cell, Rows}
-use Rattle.options.specs.Options.{isOn, strategyOf}
+use Rattle.order.specs.options.Options.{isOn, strategyOf}
 use Rattle.order.specs.Order.{cmpGroup, cmpRow, keyOf, sorted}
-use Rattle.options.specs.declared.Options.{Options}
+use Rattle.order.specs.declared.options.Options.{Options}
 use Rattle.order.specs.declared.Order.{Order}
 use Rattle.order.specs.declared.Order.the-variants.{Less, Equal, Greater}
-use Rattle.options.specs.declared.Strategy.{Strategy}
-use Rattle.options.specs.declared.Strategy.the-variants.{Backward, Forward, Nearest}
+use Rattle.order.specs.declared.options.Strategy.{Strategy}
+use Rattle.order.specs.declared.options.Strategy.the-variants.{Backward, Forward, Nearest}
 use Rattle.order.proofs.OrderLaws.{AtMost, cmpGroup-is, cmpRow-is, less-then, group-at-most}
 use Rattle.order.proofs.SortedLaws.{sorted-at, sorted-drop}
 use Rattle.searching.specs.Reach.{narrowed, findKey, stepBack, splitAt, pruneBy}
 use Rattle.searching.specs.declared.Seek.the-variants.{AtLeast}
 use Rattle.searching.proofs.Bounds.{Bounds, group-bounds, key-cut, find-within, below-is-less, at-least-not-less}
 use Rattle.searching.proofs.SplitLaw.{split-within}
-use Rattle.turnrows.specs.Prunes.{firstPrune, keptRows, lastPrune}
+use Rattle.matchframe.specs.turnrows.Prunes.{firstPrune, keptRows, lastPrune}
 
 -- Where the rows that are less end: below p they are less, from p on they are not.
 record Ends (less : ℕ → Type 0) (n p : ℕ) : Type 0 where

@@ -6,7 +6,7 @@ use Prim.Native.Nat.{ℕ, zero, suc, _≤_}
 use native.Mathlib.Omega.{arith}
 use lib.ListN.{length}
 use Rattle.frames.specs.Cells.{Rows}
-use Rattle.options.specs.declared.Options.{Options}
+use Rattle.order.specs.declared.options.Options.{Options}
 use Rattle.searching.specs.Reach.{needMore}
 use Rattle.planning.specs.declared.Figures.{Figures}
 use Rattle.planning.specs.Plan.{rest, afterTurn, afterTaking, keptAfter, planFrom}

@@ -7,16 +7,16 @@ use lib.IntN.{pos, negsuc}
 use lib.ListN.{take}
 use Rattle.frames.specs.Cells.{null, value, Rows, Words, rowsOf, cellsOf}
 use Rattle.frames.specs.Frame.{isTable, pairsFine, frameRows}
-use Rattle.ranks.specs.Ranks.{badRanks, rises, risesBehind, below, placed, listed}
-use Rattle.options.specs.Options.{badOptions}
-use Rattle.options.specs.declared.Options.{Options}
+use Rattle.order.specs.ranks.Ranks.{badRanks, rises, risesBehind, below, placed, listed}
+use Rattle.order.specs.options.Options.{badOptions}
+use Rattle.order.specs.declared.options.Options.{Options}
 use Rattle.order.specs.Order.{sorted, cmpRow, cmpFirst}
 use Rattle.order.specs.Listed.{unlistedIn}
 use Rattle.order.proofs.Samples.{options, plain, carrying, ranksBy, ranking, row, keys, frameOf}
 use Rattle.searching.specs.Search.{search, searchFor, find}
 use Rattle.searching.specs.Reach.{needMore, rowNeedsMore, keyNeedsMore, narrow, narrowBy, splitAt, pruneBy}
-use Rattle.turnrows.specs.Prunes.{firstPrune, keptRows, lastPrune}
-use Rattle.refusals.specs.declared.Refusal.the-variants.{BadOptions, TooManyCarried, BadRanks, BadFrame, UnknownCode, Unsorted, BadHeights}
+use Rattle.matchframe.specs.turnrows.Prunes.{firstPrune, keptRows, lastPrune}
+use Rattle.frames.specs.declared.refusals.Refusal.the-variants.{BadOptions, TooManyCarried, BadRanks, BadFrame, UnknownCode, Unsorted, BadHeights}
 use Rattle.planning.specs.declared.Figures.{Figures}
 use Rattle.planning.specs.declared.Planned.{Planned}
 use Rattle.planning.specs.declared.Planned.the-variants.{Needs, Refused}

@@ -2,12 +2,12 @@
 use mathlib.Core.Bool.{cond, not, _&&_, _||_}
 use Rattle.frames.specs.Cells.{Words}
 use Rattle.frames.specs.Frame.{rowCount, frameRows, isTable}
-use Rattle.options.specs.Options.{columns, rightColumns}
-use Rattle.options.specs.declared.Options.{Options}
+use Rattle.order.specs.options.Options.{columns, rightColumns}
+use Rattle.order.specs.declared.options.Options.{Options}
 use Rattle.order.specs.Order.{sorted}
 use Rattle.order.specs.Listed.{lacksCode}
 use Rattle.tables.specs.Options.{unless}
-use Rattle.refusals.specs.declared.Refusal.the-variants.{BadFrame, UnknownCode, Unsorted, BadHeights}
+use Rattle.frames.specs.declared.refusals.Refusal.the-variants.{BadFrame, UnknownCode, Unsorted, BadHeights}
 use Rattle.planning.specs.Heights.{heightsOf, badHeights, inFrames}
 use Rattle.planning.specs.Plan.{plan}
 use Rattle.planning.specs.declared.Figures.{Figures}

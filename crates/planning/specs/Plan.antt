@@ -4,9 +4,9 @@ use mathlib.Core.List.{List, [], _∷_, _++_}
 use Prim.Native.Nat.{ℕ, zero, suc, _+_, max}
 use lib.ListN.{length, drop}
 use Rattle.frames.specs.Cells.{Rows}
-use Rattle.options.specs.declared.Options.{Options}
+use Rattle.order.specs.declared.options.Options.{Options}
 use Rattle.searching.specs.Reach.{needMore}
-use Rattle.turnrows.specs.Prunes.{firstPrune, lastPrune}
+use Rattle.matchframe.specs.turnrows.Prunes.{firstPrune, lastPrune}
 use Rattle.planning.specs.declared.Figures.{Figures}
 
 -- SCOPE 19.25: from where the rows `held` are held: nothing is left to write; a turn that writes; a turn that wants right, and the frame that it gets.

@@ -1,5 +1,12 @@
+// The lengths of the areas that a join needs: definitions, laws, and the call that computes them.
 // How large an area to lend: the figures of a schedule, worked out from the rows of two tables and the heights of their frames. Definitions and laws.
-use refusals::Refusal;
+pub mod fullplan;
+pub mod heights;
+pub mod plancall;
+pub mod planjudge;
+pub mod planwalk;
+
+use frames::refusals::Refusal;
 
 // The right rows that have to find room at once; the turn calls up to the last frame written, those that want right rows among them; and the right frames taken.
 pub struct Figures {

@@ -17,7 +17,7 @@ use Rattle.frames.proofs.FrontLaws.{frame-few}
 use Rattle.order.proofs.SortedLaws.{All, all-by}
 use Rattle.tables.specs.Table.{tableOf}
 use Rattle.tables.proofs.TableLaws.{Wide, table-is, table-rows}
-use Rattle.refusals.specs.declared.Refusal.the-variants.{TooManyCarried, BadColumns}
+use Rattle.frames.specs.declared.refusals.Refusal.the-variants.{TooManyCarried, BadColumns}
 use Rattle.readers.specs.declared.Viewed.{Viewed}
 use Rattle.readers.specs.declared.Viewed.the-variants.{Frame, Refused}
 use Rattle.readers.specs.declared.Shown.{Shown}

@@ -16,7 +16,7 @@ use Rattle.frames.proofs.FrontLaws.{frame-parts}
 use Rattle.order.specs.Requires.{cellAt}
 use Rattle.order.proofs.RowLaws.{row-cell, rows-from, row-room}
 use Rattle.tables.proofs.CellLaws.{fine-at}
-use Rattle.refusals.specs.declared.Refusal.{Refusal}
+use Rattle.frames.specs.declared.refusals.Refusal.{Refusal}
 use Rattle.readers.specs.declared.Viewed.{Viewed}
 use Rattle.readers.specs.declared.Viewed.the-variants.{Frame, Refused}
 use Rattle.readers.specs.declared.CellWords.{CellWords}

@@ -5,7 +5,7 @@ use Prim.Native.Nat.{ℕ, _-_, _^_}
 use lib.IntN.{pos, negsuc}
 use Rattle.frames.specs.Cells.{rowsOf, cellsOf, Words}
 use Rattle.frames.specs.Frame.{isTable, isFrame, pairsFine, frameRows}
-use Rattle.refusals.specs.Refusals.{number}
+use Rattle.frames.specs.refusals.Refusals.{number}
 use Rattle.readers.specs.declared.CellWords.{CellWords}
 use Rattle.readers.specs.declared.Shown.{Shown}
 use Rattle.readers.specs.declared.Shown.the-variants.{Pair, Refused}

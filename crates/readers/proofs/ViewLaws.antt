@@ -13,8 +13,8 @@ use Rattle.frames.specs.Cells.{Words}
 use Rattle.frames.specs.Frame.{sameZ, rowCount, isTable, isFrame}
 use Rattle.frames.specs.Front.{HasCount}
 use Rattle.frames.proofs.FrontLaws.{same-negative, table-short, table-other-columns, frame-parts, frame-count}
-use Rattle.refusals.specs.declared.Refusal.{Refusal}
-use Rattle.refusals.specs.declared.Refusal.the-variants.{BadFrame, TooManyCarried, BadColumns}
+use Rattle.frames.specs.declared.refusals.Refusal.{Refusal}
+use Rattle.frames.specs.declared.refusals.Refusal.the-variants.{BadFrame, TooManyCarried, BadColumns}
 use Rattle.readers.specs.declared.Viewed.{Viewed}
 use Rattle.readers.specs.declared.Viewed.the-variants.{Frame, Refused}
 use Rattle.readers.specs.Reader.{columnCount, framed, plainKnows, distanceKnows, knownBy, viewBy}

@@ -5,8 +5,8 @@ use Prim.Native.Nat.{ℕ, suc, _<_}
 use Rattle.frames.specs.Cells.{Words}
 use Rattle.frames.specs.Frame.{isFrame}
 use lib.Dec.{ltb}
-use Rattle.refusals.specs.declared.Refusal.{Refusal}
-use Rattle.refusals.specs.declared.Refusal.the-variants.{TooManyCarried, BadColumns}
+use Rattle.frames.specs.declared.refusals.Refusal.{Refusal}
+use Rattle.frames.specs.declared.refusals.Refusal.the-variants.{TooManyCarried, BadColumns}
 use Rattle.readers.specs.declared.Viewed.{Viewed}
 use Rattle.readers.specs.declared.Viewed.the-variants.{Frame, Refused}
 use Rattle.readers.specs.declared.CellWords.{CellWords}

@@ -1,3 +1,4 @@
 pub mod Reader
 pub mod Places
 pub mod Laws
+pub mod readerlaws

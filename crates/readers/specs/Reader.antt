@@ -8,8 +8,8 @@ use lib.ListN.{getD, take}
 use Rattle.frames.specs.Cells.{Cell, cell, valueWord, markWord, Rows, Words}
 use Rattle.frames.specs.Frame.{rowCount, isFrame, frameRows}
 use Rattle.tables.specs.Table.{tableOf}
-use Rattle.refusals.specs.Tests.{test, firstOf}
-use Rattle.refusals.specs.declared.Refusal.the-variants.{BadFrame, TooManyCarried, BadColumns}
+use Rattle.frames.specs.refusals.Tests.{test, firstOf}
+use Rattle.frames.specs.declared.refusals.Refusal.the-variants.{BadFrame, TooManyCarried, BadColumns}
 use Rattle.readers.specs.declared.Viewed.{Viewed}
 use Rattle.readers.specs.declared.Viewed.the-variants.{Frame, Refused}
 use Rattle.readers.specs.declared.Shown.{Shown}

@@ -1,5 +1,8 @@
+// The two readers of answer frames: definitions, laws and the calls.
 // What the two answer readers show of a frame: their definitions, laws and types. A view asks the rules once and then reads any number of places. The code is in the crate above.
-use refusals::Refusal;
+pub mod readcalls;
+
+use frames::refusals::Refusal;
 
 // What a view tells of words: the rows and columns of the frame, or why the reader refuses it.
 pub enum Viewed {

@@ -8,7 +8,7 @@ use host::HostJoin;
 use host::HostOptions;
 use host::HostRanks;
 use host::HostTook;
-use view::Found;
+use rows::view::Found;
 
 // What a call left, and the numbers of its answer; those that it does not have are 0.
 pub(crate) struct Said {
@@ -153,9 +153,9 @@ fn cell(given: &[i64]) -> [u64; 11] {
     let c = number_at(given, 0) as usize;
     let row = number_at(given, 1) as usize;
     let column = number_at(given, 2) as usize;
-    let found = view::read_cell(behind(given, 3), c, row, column);
+    let found = rows::view::read_cell(behind(given, 3), c, row, column);
     match found {
-        Found::Value(v) => [0, cells::distance(v, 0), 0, 0, 0, 0, 0, 0, 0, 0, 0],
+        Found::Value(v) => [0, rows::cells::distance(v, 0), 0, 0, 0, 0, 0, 0, 0, 0, 0],
         Found::Null => [1, 0, 0, 0, 0, 0, 0, 0, 0, 0, 0],
         Found::Nothing => [2, 0, 0, 0, 0, 0, 0, 0, 0, 0, 0],
     }

@@ -21,7 +21,7 @@ pub(crate) fn word_or(words: &[i64], k: usize, other: i64) -> i64 {
 
 // The number at place k: how far the word there is from 0, and 0 where there is none.
 pub(crate) fn number_at(words: &[i64], k: usize) -> u64 {
-    cells::distance(word_or(words, k, 0), 0)
+    rows::cells::distance(word_or(words, k, 0), 0)
 }
 
 // How many words from the front of some are n, or all where they are not so many.
@@ -68,7 +68,7 @@ fn recorded(line: &[i64], i: usize, k: usize, n: usize, other: i64) -> i64 {
 pub(crate) fn same_numbers(said: &[u64], line: &[i64], k: usize, n: usize) -> bool {
     let mut i = 0;
     while i < said.len() {
-        if said[i] != cells::distance(recorded(line, i, k, n, 0), 0) {
+        if said[i] != rows::cells::distance(recorded(line, i, k, n, 0), 0) {
             return false;
         }
         i += 1;

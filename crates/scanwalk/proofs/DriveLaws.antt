@@ -9,9 +9,9 @@ use lib.Dec.{ltb, eqb}
 use lib.ListN.{length}
 use Rattle.frames.specs.Cells.{Rows, Words, rowsOf}
 use Rattle.frames.specs.Frame.{isFrame, rowCount, frameRows, valuesIn, marksIn}
-use Rattle.options.specs.Options.{termsOf, withoutList}
-use Rattle.options.specs.declared.Options.{Options}
-use Rattle.options.proofs.TermLaws.{few-terms}
+use Rattle.order.specs.options.Options.{termsOf, withoutList}
+use Rattle.order.specs.declared.options.Options.{Options}
+use Rattle.order.proofs.options.TermLaws.{few-terms}
 use Rattle.order.specs.Requires.{RowsIn}
 use Rattle.frames.proofs.FrameLaws.{values-length, marks-length}
 use Rattle.frames.proofs.FrontLaws.{frame-few}

@@ -8,11 +8,11 @@ use lib.IntN.{pos, negsuc}
 use lib.ListN.{length, replicate}
 use Rattle.frames.specs.Cells.{Rows, Words}
 use Rattle.frames.specs.Frame.{isFrame, rowCount, frameRows}
-use Rattle.ranks.specs.Ranks.{ranksFor}
-use Rattle.options.specs.declared.Check.the-variants.{Off}
-use Rattle.refusals.specs.Refusals.{number}
-use Rattle.refusals.specs.declared.Refusal.the-variants.{BadOptions, BadFrame, NoRoom, Unsorted}
-use Rattle.options.specs.declared.Options.{Options}
+use Rattle.order.specs.ranks.Ranks.{ranksFor}
+use Rattle.order.specs.declared.options.Check.the-variants.{Off}
+use Rattle.frames.specs.refusals.Refusals.{number}
+use Rattle.frames.specs.declared.refusals.Refusal.the-variants.{BadOptions, BadFrame, NoRoom, Unsorted}
+use Rattle.order.specs.declared.options.Options.{Options}
 use Rattle.matching.specs.Match.{matchIn}
 use Rattle.matching.specs.Stretches.{lay}
 use Rattle.matching.specs.Moves.{keysSorted, Counted}

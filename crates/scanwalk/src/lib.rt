@@ -1,18 +1,18 @@
 // Scan and walk of the same two frames of one key column, for the program that compares their times. The join does not use it.
-use cursor::keys_sorted;
-use framerule::is_frame;
-use framerule::row_count;
+use matchrun::cursor::keys_sorted;
 use matchrun::scan_run;
 use matchrun::walk_run;
-use options::Check;
-use options::Terms;
+use order::options::Check;
+use order::options::Terms;
+use rows::framerule::is_frame;
+use rows::framerule::row_count;
 ghost use mathlib.Core.Path.{_≡_};
 ghost use mathlib.Core.Bool.{true, false, _&&_};
 ghost use Prim.Native.Nat.{_≤_};
 ghost use lib.ListN.{length};
 ghost use Rattle.frames.specs.Cells.{rowsOf};
 ghost use Rattle.frames.specs.Frame.{frameRows};
-ghost use Rattle.options.specs.Options.{termsOf, withoutList};
+ghost use Rattle.order.specs.options.Options.{termsOf, withoutList};
 ghost use Rattle.order.specs.Requires.{RowsIn};
 ghost use Rattle.matching.specs.Stretches.{between};
 ghost use Rattle.matching.specs.Moves.{keysSorted};

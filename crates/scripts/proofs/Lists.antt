@@ -9,7 +9,7 @@ use Rattle.frames.specs.Cells.{null, value}
 use Rattle.order.proofs.Samples.{options, carrying, distancing}
 use Rattle.lists.specs.Lists.{left, right, end, ports, turn}
 use Rattle.lists.proofs.Script.{ok, refused, wrote, wants, idle, noJoin, looks, areas, opens, call, state, dump, space, script, ports as said-ports}
-use Rattle.outcomes.specs.declared.PortState.the-variants.{Blocked, Ready, Done as PortDone}
+use Rattle.frames.specs.declared.outcomes.PortState.the-variants.{Blocked, Ready, Done as PortDone}
 
 list-1 : script
     (opens (carrying 2 (options 1 0 false (negsuc 0) true (true ∷ []) (false ∷ []))) 32 69

@@ -7,11 +7,11 @@ use Prim.Native.Nat.{ℕ, zero, suc, _≤_, _<_}
 use native.Mathlib.Omega.{arith}
 use lib.ListN.{length, getD}
 use Rattle.frames.specs.Cells.{Cell, cell, Rows}
-use Rattle.options.specs.Options.{Rule, byRule, keyRule}
+use Rattle.order.specs.options.Options.{Rule, byRule, keyRule}
 use Rattle.order.specs.Order.{next, isGreater, cmpCell, cmpFirst, cmpGroup, cmpRow, keyOf}
 use Rattle.order.proofs.OrderLaws.{IsOrder, AtMost, same-right, less-greater, greater-less, then-less, less-then, on, then, cmpCell-is, cmpFirst-is, cmpGroup-is, group-at-most}
 use Rattle.order.proofs.SortedLaws.{greater-not}
-use Rattle.options.specs.declared.Options.{Options}
+use Rattle.order.specs.declared.options.Options.{Options}
 use Rattle.order.specs.declared.Order.{Order}
 use Rattle.order.specs.declared.Order.the-variants.{Less, Equal, Greater}
 use Rattle.searching.specs.Search.{meets, find}

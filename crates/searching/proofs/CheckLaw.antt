@@ -7,10 +7,10 @@ use Prim.Native.Nat.{ℕ, _+_, _-_, _≤_, _<_}
 use native.Mathlib.Omega.{arith}
 use lib.ListN.{length, getD, take, drop, take-append-drop, length-drop}
 use Rattle.frames.specs.Cells.{Cell, Rows}
-use Rattle.options.specs.Options.{columns}
+use Rattle.order.specs.options.Options.{columns}
 use Rattle.order.specs.Order.{cmpRow, sorted}
 use Rattle.order.specs.Keyed.{firstKeyed, lastKeyed, rowAt, recall, outOfOrder}
-use Rattle.options.specs.declared.Options.{Options}
+use Rattle.order.specs.declared.options.Options.{Options}
 use Rattle.order.specs.declared.Row.{Row}
 use Rattle.order.specs.declared.Keyed.{Keyed}
 use Rattle.order.specs.declared.Keyed.the-variants.{At, Nothing}

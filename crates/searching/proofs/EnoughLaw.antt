@@ -9,13 +9,13 @@ use borrow.Author.Tests.{ltb-true, ltb-false, leb-false}
 use lib.Dec.{ltb, leb, eqb}
 use lib.ListN.{length, getD}
 use Rattle.frames.specs.Cells.{Cell, Rows}
-use Rattle.options.specs.Options.{keyRule, strategyOf}
+use Rattle.order.specs.options.Options.{keyRule, strategyOf}
 use Rattle.order.specs.Order.{cmpGroup, cmpRow, keyOf, sorted}
 use Rattle.order.proofs.OrderLaws.{AtMost, greater-less, less-then, at-most, cmpGroup-is, cmpRow-is, group-at-most}
 use Rattle.order.proofs.SortedLaws.{All, all-at, all-by, sorted-at, sorted-cut}
-use Rattle.options.specs.declared.Options.{Options}
-use Rattle.options.specs.declared.Strategy.{Strategy}
-use Rattle.options.specs.declared.Strategy.the-variants.{Backward, Forward, Nearest}
+use Rattle.order.specs.declared.options.Options.{Options}
+use Rattle.order.specs.declared.options.Strategy.{Strategy}
+use Rattle.order.specs.declared.options.Strategy.the-variants.{Backward, Forward, Nearest}
 use Rattle.searching.specs.Search.{meets}
 use Rattle.searching.specs.Reach.{narrowed, findKey, seekOf, keyNeedsMore, rowNeedsMore}
 use Rattle.searching.specs.declared.Seek.{Seek}

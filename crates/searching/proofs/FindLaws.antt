@@ -6,7 +6,7 @@ use Prim.Native.Nat.{ℕ, _+_, _*_, _/_, _≤_, _<_}
 use native.Mathlib.Numerals.{add-one}
 use lib.ListN.{length, getD}
 use Rattle.frames.specs.Cells.{Cell, cell, rowsOf, Rows, Words}
-use Rattle.options.specs.Options.{Rule}
+use Rattle.order.specs.options.Options.{Rule}
 use Rattle.order.specs.Order.{cmpCell}
 use Rattle.order.specs.Requires.{cellAt}
 use Rattle.order.proofs.RowLaws.{rows-from, row-cell}

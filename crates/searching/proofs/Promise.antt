@@ -6,13 +6,13 @@ use mathlib.Core.Logic.{_⊎_}
 use Prim.Native.Nat.{ℕ, _≤_, _<_}
 use lib.ListN.{length, getD}
 use Rattle.frames.specs.Cells.{Cell, Rows}
-use Rattle.options.specs.Options.{strategyOf}
+use Rattle.order.specs.options.Options.{strategyOf}
 use Rattle.order.specs.Order.{cmpGroup, cmpRow}
 use Rattle.order.proofs.OrderLaws.{AtMost, cmpKey}
-use Rattle.options.specs.declared.Options.{Options}
+use Rattle.order.specs.declared.options.Options.{Options}
 use Rattle.order.specs.declared.Order.the-variants.{Less, Equal, Greater}
-use Rattle.options.specs.declared.Strategy.{Strategy}
-use Rattle.options.specs.declared.Strategy.the-variants.{Backward, Forward, Nearest}
+use Rattle.order.specs.declared.options.Strategy.{Strategy}
+use Rattle.order.specs.declared.options.Strategy.the-variants.{Backward, Forward, Nearest}
 
 -- The first row that stays, row p, has t's group and a lesser key than t.
 pub record Covered (o : Options) (t : List Cell) (held : Rows) (p : ℕ) : Type 0 where

@@ -10,13 +10,13 @@ use borrow.Author.Tests.{lt-ltb, le-ltb, le-leb, lt-leb, eq-eqb, ne-eqb}
 use lib.Dec.{leb}
 use lib.ListN.{length, getD}
 use Rattle.frames.specs.Cells.{Cell, cell, Rows, Words}
-use Rattle.options.specs.Options.{byRule, strategyOf}
+use Rattle.order.specs.options.Options.{byRule, strategyOf}
 use Rattle.order.specs.Order.{keyOf}
 use Rattle.order.specs.Requires.{RowAt, RowsIn}
 use Rattle.order.proofs.RowLaws.{row-room}
-use Rattle.options.specs.declared.Options.{Options}
-use Rattle.options.specs.declared.Strategy.{Strategy}
-use Rattle.options.specs.declared.Strategy.the-variants.{Backward, Forward, Nearest}
+use Rattle.order.specs.declared.options.Options.{Options}
+use Rattle.order.specs.declared.options.Strategy.{Strategy}
+use Rattle.order.specs.declared.options.Strategy.the-variants.{Backward, Forward, Nearest}
 use Rattle.searching.specs.Search.{find}
 use Rattle.searching.specs.Reach.{Range, narrowBy, narrow, narrowed, findKey, seekOf, keyNeedsMore, rowNeedsMore, needMore, stepBack, splitAt, pruneBy}
 use Rattle.searching.specs.declared.Seek.the-variants.{AtLeast, Above}

@@ -5,7 +5,7 @@ use mathlib.Core.List.{[], _∷_}
 use lib.IntN.{negsuc}
 use Rattle.frames.specs.Cells.{Rows}
 use Rattle.order.proofs.Samples.{options, plain, row, keys}
-use Rattle.options.specs.declared.Options.{Options}
+use Rattle.order.specs.declared.options.Options.{Options}
 use Rattle.searching.specs.Search.{search, searchFor, find}
 use Rattle.searching.specs.Reach.{narrow, narrowBy, keyNeedsMore, rowNeedsMore, needMore, splitAt}
 

@@ -7,14 +7,14 @@ use Prim.Native.Nat.{ℕ, _≤_, _<_}
 use native.Mathlib.Omega.{arith}
 use lib.ListN.{length, getD}
 use Rattle.frames.specs.Cells.{Cell, Rows}
-use Rattle.options.specs.Options.{keyRule, strategyOf}
+use Rattle.order.specs.options.Options.{keyRule, strategyOf}
 use Rattle.order.specs.Order.{cmpGroup, cmpRow, keyOf, sorted}
 use Rattle.order.proofs.OrderLaws.{row-by-key}
 use Rattle.order.proofs.SortedLaws.{sorted-at}
-use Rattle.options.specs.declared.Options.{Options}
+use Rattle.order.specs.declared.options.Options.{Options}
 use Rattle.order.specs.declared.Order.the-variants.{Less}
-use Rattle.options.specs.declared.Strategy.{Strategy}
-use Rattle.options.specs.declared.Strategy.the-variants.{Backward, Forward, Nearest}
+use Rattle.order.specs.declared.options.Strategy.{Strategy}
+use Rattle.order.specs.declared.options.Strategy.the-variants.{Backward, Forward, Nearest}
 use Rattle.searching.specs.Reach.{narrowed, findKey, stepBack, splitAt}
 use Rattle.searching.specs.declared.Seek.the-variants.{AtLeast}
 use Rattle.searching.proofs.Promise.{Covered, Dropped, Split}

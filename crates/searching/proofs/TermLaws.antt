@@ -3,10 +3,10 @@ use mathlib.Core.Path.{_≡_, refl}
 use mathlib.Core.List.{List}
 use Prim.Native.Nat.{ℕ}
 use Rattle.frames.specs.Cells.{Cell, Rows, Words}
-use Rattle.options.specs.Options.{withList, withoutList}
-use Rattle.options.specs.declared.Terms.{Terms}
-use Rattle.options.specs.declared.Strategy.{Strategy}
-use Rattle.options.specs.declared.Strategy.the-variants.{Backward, Forward, Nearest}
+use Rattle.order.specs.options.Options.{withList, withoutList}
+use Rattle.order.specs.declared.options.Terms.{Terms}
+use Rattle.order.specs.declared.options.Strategy.{Strategy}
+use Rattle.order.specs.declared.options.Strategy.the-variants.{Backward, Forward, Nearest}
 use Rattle.searching.specs.Reach.{Range, keyNeedsMore}
 
 -- Whether more is needed by a key.

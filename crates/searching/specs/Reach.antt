@@ -6,15 +6,15 @@ use Prim.Native.Nat.{ℕ, zero, suc, _-_, max}
 use lib.Dec.{ltb, leb, eqb}
 use lib.ListN.{length, getD, take, drop}
 use Rattle.frames.specs.Cells.{Cell, cell, Rows}
-use Rattle.options.specs.Options.{byRule, keyRule, strategyOf, columns}
+use Rattle.order.specs.options.Options.{byRule, keyRule, strategyOf, columns}
 use Rattle.order.specs.Order.{keyOf}
 use Rattle.order.specs.Keyed.{firstKeyed, lastKeyed, rowAt, recall, outOfOrder}
-use Rattle.options.specs.declared.Options.{Options}
+use Rattle.order.specs.declared.options.Options.{Options}
 use Rattle.order.specs.declared.Row.{Row}
 use Rattle.order.specs.declared.Keyed.{Keyed}
 use Rattle.order.specs.declared.Keyed.the-variants.{At, Nothing}
-use Rattle.options.specs.declared.Strategy.{Strategy}
-use Rattle.options.specs.declared.Strategy.the-variants.{Backward, Forward, Nearest}
+use Rattle.order.specs.declared.options.Strategy.{Strategy}
+use Rattle.order.specs.declared.options.Strategy.the-variants.{Backward, Forward, Nearest}
 use Rattle.searching.specs.Search.{find}
 use Rattle.searching.specs.declared.Seek.{Seek}
 use Rattle.searching.specs.declared.Seek.the-variants.{AtLeast, Above}

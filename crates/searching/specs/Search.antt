@@ -5,7 +5,7 @@ use Prim.Native.Nat.{ℕ, zero, suc, _+_, _-_, _/_}
 use lib.Dec.{ltb}
 use lib.ListN.{getD}
 use Rattle.frames.specs.Cells.{Cell, cell, Rows}
-use Rattle.options.specs.Options.{Rule}
+use Rattle.order.specs.options.Options.{Rule}
 use Rattle.order.specs.Order.{isLess, isGreater, cmpCell}
 use Rattle.order.specs.declared.Order.{Order}
 use Rattle.searching.specs.declared.Seek.{Seek}

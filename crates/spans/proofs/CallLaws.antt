@@ -13,7 +13,7 @@ use Rattle.frames.proofs.FrameLaws.{values-length, marks-length, frame-length}
 use Rattle.frames.proofs.FrontLaws.{frame-few}
 use Rattle.tables.specs.Table.{After, leave, laid, tableOf}
 use Rattle.tables.specs.Lay.{flat, layCells}
-use Rattle.refusals.specs.declared.Refusal.the-variants.{BadFrame, BadPoints, NoRoom}
+use Rattle.frames.specs.declared.refusals.Refusal.the-variants.{BadFrame, BadPoints, NoRoom}
 use Rattle.tables.specs.declared.Written.{Written}
 use Rattle.tables.specs.declared.Written.the-variants.{Rows as Wrote, Refused}
 use Rattle.tables.proofs.LayLaws.{lay-table}

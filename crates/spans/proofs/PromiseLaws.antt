@@ -12,8 +12,8 @@ use Rattle.frames.specs.Frame.{isFrame, rowCount, frameRows, frameWords, values
 use Rattle.order.proofs.SortedLaws.{All, all-join}
 use Rattle.frames.proofs.WordLaws.{rows-length, part-behind}
 use Rattle.tables.specs.Table.{tableRows, tableOf, laid, leave}
-use Rattle.refusals.specs.declared.Refusal.{Refusal}
-use Rattle.refusals.specs.declared.Refusal.the-variants.{BadFrame, BadPoints, NoRoom}
+use Rattle.frames.specs.declared.refusals.Refusal.{Refusal}
+use Rattle.frames.specs.declared.refusals.Refusal.the-variants.{BadFrame, BadPoints, NoRoom}
 use Rattle.tables.specs.declared.Written.{Written}
 use Rattle.tables.specs.declared.Written.the-variants.{Rows as Wrote, Refused}
 use Rattle.tables.proofs.TableLaws.{Wide, table-is, table-rows, table-length, laid-take}

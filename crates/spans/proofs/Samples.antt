@@ -9,7 +9,7 @@ use Rattle.frames.specs.Frame.{isFrame, frameRows, pairsFine, isTable}
 use Rattle.order.proofs.Samples.{row, keys, frameOf}
 use Rattle.searching.specs.Search.{find, search, searchFor}
 use Rattle.tables.specs.Table.{wordsOf, tableOf, laid, After}
-use Rattle.refusals.specs.declared.Refusal.the-variants.{BadFrame, BadPoints, NoRoom}
+use Rattle.frames.specs.declared.refusals.Refusal.the-variants.{BadFrame, BadPoints, NoRoom}
 use Rattle.tables.specs.declared.Written.{Written}
 use Rattle.tables.specs.declared.Written.the-variants.{Rows as Wrote, Refused}
 use Rattle.spans.specs.Span.{covered, pairRow, pairsFrom, pairs, ascendingPoints}

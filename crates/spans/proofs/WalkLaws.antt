@@ -13,14 +13,14 @@ use lib.ListN.{length, drop, getD, set, length-append, length-map}
 use lib.Seq.{drop-drop}
 use Rattle.frames.specs.Cells.{Cell, null, value, isZero, cellOf, rowsOf, rowFrom, cell, isNull, Rows, Words}
 use Rattle.frames.specs.Frame.{frameWords}
-use Rattle.options.specs.Options.{keyRule}
+use Rattle.order.specs.options.Options.{keyRule}
 use Rattle.order.specs.Order.{cmpCell, isGreater}
 use Rattle.order.specs.Requires.{cellAt}
 use Rattle.order.proofs.RowLaws.{row-cell}
 use Rattle.searching.specs.declared.Stretch.{Stretch}
 use Rattle.tables.specs.Table.{laid, tableOf, leave}
 use Rattle.tables.specs.Lay.{flat, layCells}
-use Rattle.refusals.specs.declared.Refusal.the-variants.{BadPoints, NoRoom}
+use Rattle.frames.specs.declared.refusals.Refusal.the-variants.{BadPoints, NoRoom}
 use Rattle.tables.specs.declared.Written.the-variants.{Rows as Wrote, Refused}
 use Rattle.tables.proofs.LayLaws.{flat-append, lay-none, lay-append, lay-table}
 use Rattle.spans.specs.Span.{pairRow, pairs, ascendingPoints}

@@ -6,7 +6,7 @@ use Prim.Native.Nat.{ℕ, zero, suc, _-_}
 use lib.IntN.{ℤ}
 use lib.ListN.{length}
 use Rattle.frames.specs.Cells.{Cell, null, value, cell, Rows}
-use Rattle.options.specs.Options.{keyRule}
+use Rattle.order.specs.options.Options.{keyRule}
 use Rattle.searching.specs.Search.{find}
 use Rattle.searching.specs.declared.Seek.{Seek}
 use Rattle.searching.specs.declared.Seek.the-variants.{AtLeast, Above}

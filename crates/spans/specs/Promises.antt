@@ -6,8 +6,8 @@ use lib.ListN.{length, take, drop}
 use Rattle.frames.specs.Cells.{Words}
 use Rattle.frames.specs.Frame.{isFrame, rowCount, frameWords, isTable}
 use Rattle.tables.specs.Table.{tableRows}
-use Rattle.refusals.specs.declared.Refusal.{Refusal}
-use Rattle.refusals.specs.declared.Refusal.the-variants.{NoRoom}
+use Rattle.frames.specs.declared.refusals.Refusal.{Refusal}
+use Rattle.frames.specs.declared.refusals.Refusal.the-variants.{NoRoom}
 use Rattle.tables.specs.declared.Written.the-variants.{Rows as Wrote, Refused}
 use Rattle.spans.specs.Calls.{pairsIn, spanCall}
 use Rattle.spans.specs.declared.Bounds.{Bounds}

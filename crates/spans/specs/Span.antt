@@ -5,7 +5,7 @@ use Prim.Native.Nat.{ℕ, suc}
 use lib.IntN.{ℤ, pos}
 use lib.Signed.{leZ, ltZ}
 use Rattle.frames.specs.Cells.{Cell, null, value, cell, isNull, Rows}
-use Rattle.options.specs.Options.{keyRule}
+use Rattle.order.specs.options.Options.{keyRule}
 use Rattle.order.specs.Order.{cmpCell, isGreater}
 use Rattle.spans.specs.declared.Bounds.{Bounds}
 

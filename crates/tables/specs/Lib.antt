@@ -2,3 +2,4 @@ pub mod Options
 pub mod Table
 pub mod Lay
 pub mod Requires
+pub mod tableresults

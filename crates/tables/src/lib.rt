@@ -1,5 +1,8 @@
+// Tables, which are frames of any number of rows: writing their cells, and what a call over tables returns.
 // Tables: frames of any number of rows; how their cells are written, and what the functions over them answer.
-use refusals::Refusal;
+pub mod tableresults;
+
+use frames::refusals::Refusal;
 ghost use mathlib.Core.Path.{_≡_};
 ghost use Prim.Native.Nat.{_+_};
 ghost use lib.IntN.{pos};

@@ -13,8 +13,8 @@ use lib.ListN.{length, take, getD, length-append, length-map, List·getD-append}
 use lib.Seq.{take-at, getD-at, getD-append-add, getD-take, length-take-le}
 use Rattle.frames.specs.Cells.{Cell, null, value, cell, isNull, Rows, Words}
 use Rattle.frames.specs.Frame.{rowCount, frameWords, isFrame, frameRows, isTable}
-use Rattle.options.specs.Options.{badOptions, manyCarried, badRanked, columns}
-use Rattle.options.specs.declared.Options.{Options}
+use Rattle.order.specs.options.Options.{badOptions, manyCarried, badRanked, columns}
+use Rattle.order.specs.declared.options.Options.{Options}
 use Rattle.order.proofs.SortedLaws.{all-by}
 use Rattle.frames.proofs.BoolLaws.{and-true}
 use Rattle.frames.proofs.FrameLaws.{frame-rows, frame-wide}
@@ -22,9 +22,9 @@ use Rattle.order.specs.Listed.{lacksCode}
 use Rattle.tables.specs.Options.{unless}
 use Rattle.tables.specs.Table.{tableOf, laid}
 use Rattle.tables.proofs.TableLaws.{Wide, table-rows, table-is, laid-take}
-use Rattle.refusals.specs.declared.Refusal.{Refusal}
-use Rattle.refusals.specs.declared.Refusal.the-variants.{BadOptions, TooManyCarried, BadRanks, BadFrame, UnknownCode, BadColumns, Unsorted, Beyond, NoRoom}
-use Rattle.nulls.specs.Nulls.{anyNull}
+use Rattle.frames.specs.declared.refusals.Refusal.{Refusal}
+use Rattle.frames.specs.declared.refusals.Refusal.the-variants.{BadOptions, TooManyCarried, BadRanks, BadFrame, UnknownCode, BadColumns, Unsorted, Beyond, NoRoom}
+use Rattle.rows.specs.nulls.Nulls.{anyNull}
 use Rattle.takings.specs.Subtotals.{Subtotal, addAll, totalFor, countFor, rowOf, subtotalsOf, mostAmount, mostSales, beyondRow, beyondRows, salesIn, beyondNumber, Tells}
 use Rattle.takings.specs.Sales.{Sale, salesOf, withAmount, amountsOf, nullsOf, beyondAmounts, matched}
 use Rattle.takings.specs.Calls.{After, tableWidth, tableWords, columnsIn, anyFrame, knownColumns, rowsIn, subtotalsIn, fineSubtotals, salesBy, result, leave, addAnswer, addCall, joinAnswer, joinCall}

@@ -8,15 +8,15 @@ use lib.IntN.{pos, negsuc}
 use lib.ListN.{replicate}
 use Rattle.frames.specs.Cells.{null, value, Words, rowsOf, cellsOf}
 use Rattle.frames.specs.Frame.{isFrame, frameRows, pairsFine, isTable}
-use Rattle.ranks.specs.Ranks.{badRanks, rises, risesBehind, placed, below, listed}
-use Rattle.options.specs.Options.{badOptions}
-use Rattle.options.specs.declared.Options.{Options}
+use Rattle.order.specs.ranks.Ranks.{badRanks, rises, risesBehind, placed, below, listed}
+use Rattle.order.specs.options.Options.{badOptions}
+use Rattle.order.specs.declared.options.Options.{Options}
 use Rattle.order.specs.Order.{cmpFirst, nullIn}
 use Rattle.order.specs.Listed.{unlistedIn}
 use Rattle.order.proofs.Samples.{options, carrying, ranking, ranksBy, row, frameOf}
 use Rattle.tables.specs.Table.{wordsOf, tableOf, laid}
-use Rattle.refusals.specs.declared.Refusal.the-variants.{BadFrame, UnknownCode, BadColumns, Unsorted, Beyond, NoRoom}
-use Rattle.nulls.specs.Nulls.{anyNull}
+use Rattle.frames.specs.declared.refusals.Refusal.the-variants.{BadFrame, UnknownCode, BadColumns, Unsorted, Beyond, NoRoom}
+use Rattle.rows.specs.nulls.Nulls.{anyNull}
 use Rattle.takings.specs.Subtotals.{insert, addAll, ascending, subtotalsOf, beyondRow, beyondRows, salesIn}
 use Rattle.takings.specs.Sales.{salesOf, amountsOf, nullsOf, beyondAmounts}
 use Rattle.takings.specs.Calls.{fineSubtotals, salesBy, result, addAnswer, addCall, joinAnswer, joinCall}

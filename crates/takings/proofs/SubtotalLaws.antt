@@ -14,7 +14,7 @@ use lib.ListN.{length, getD}
 use lib.Seq.{ext-getD}
 use Rattle.frames.specs.Cells.{Cell, null}
 use Rattle.order.specs.Order.{cmpGroup, isLess, isEqual}
-use Rattle.options.specs.declared.Options.{Options}
+use Rattle.order.specs.declared.options.Options.{Options}
 use Rattle.order.specs.declared.Order.{Order}
 use Rattle.order.specs.declared.Order.the-variants.{Less, Equal, Greater}
 use Rattle.order.proofs.OrderLaws.{flip, cmpGroup-is, greater-less, less-greater, three, group-equal}

@@ -7,13 +7,13 @@ use lib.IntN.{ℤ, pos, natAbs}
 use lib.ListN.{length, getD}
 use Rattle.frames.specs.Cells.{Rows, Words}
 use Rattle.frames.specs.Frame.{rowCount, frameWords, isFrame, frameRows, isTable}
-use Rattle.options.specs.Options.{columns}
-use Rattle.options.specs.declared.Options.{Options}
+use Rattle.order.specs.options.Options.{columns}
+use Rattle.order.specs.declared.options.Options.{Options}
 use Rattle.order.specs.Listed.{lacksCode}
 use Rattle.tables.specs.Options.{unless}
 use Rattle.tables.specs.Table.{tableRows, tableOf, laid}
-use Rattle.refusals.specs.declared.Refusal.the-variants.{BadFrame, UnknownCode, BadColumns, Unsorted, Beyond, NoRoom}
-use Rattle.nulls.specs.Nulls.{anyNull}
+use Rattle.frames.specs.declared.refusals.Refusal.the-variants.{BadFrame, UnknownCode, BadColumns, Unsorted, Beyond, NoRoom}
+use Rattle.rows.specs.nulls.Nulls.{anyNull}
 use Rattle.takings.specs.Subtotals.{Subtotal, addAll, ascending, rowOf, subtotalsOf, mostSales, beyondRows, salesIn, beyondNumber}
 use Rattle.takings.specs.Sales.{Sale, salesOf, amountsOf, nullsOf, beyondAmounts}
 use Rattle.takings.specs.declared.Taken.{Taken}

@@ -8,7 +8,7 @@ use lib.IntN.{ℤ, pos}
 use lib.ListN.{take}
 use Rattle.frames.specs.Cells.{Words}
 use Rattle.frames.specs.Frame.{frameWords, isTable}
-use Rattle.options.specs.declared.Options.{Options}
+use Rattle.order.specs.declared.options.Options.{Options}
 use Rattle.takings.specs.Subtotals.{Subtotal, beyondRows, beyondNumber, Tells}
 use Rattle.takings.specs.Sales.{Sale, amountsOf, nullsOf}
 use Rattle.takings.specs.Calls.{After, tableWidth, tableWords, rowsIn, fineSubtotals, salesBy, addCall, joinCall}

@@ -7,7 +7,7 @@ use lib.IntN.{ℤ, pos, natAbs}
 use lib.ListN.{take}
 use Rattle.frames.specs.Cells.{Cell, null, value, cell, isNull, Rows}
 use Rattle.order.specs.Order.{nullGroup}
-use Rattle.options.specs.declared.Options.{Options}
+use Rattle.order.specs.declared.options.Options.{Options}
 use Rattle.takings.specs.Subtotals.{Subtotal, mostAmount}
 
 -- A matched sale: its group and its amount, or null.

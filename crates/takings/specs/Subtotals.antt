@@ -9,7 +9,7 @@ use lib.Signed.{ltZ}
 use lib.ListN.{take}
 use Rattle.frames.specs.Cells.{Cell, null, value, cell, isNull, Rows}
 use Rattle.order.specs.Order.{cmpGroup, isLess, isEqual}
-use Rattle.options.specs.declared.Options.{Options}
+use Rattle.order.specs.declared.options.Options.{Options}
 use Rattle.order.specs.declared.Order.{Order}
 use Rattle.order.specs.declared.Order.the-variants.{Less, Equal, Greater}
 

@@ -1,5 +1,5 @@
 // Takings by performance. Definitions and proofs only, so far.
-use refusals::Refusal;
+use frames::refusals::Refusal;
 
 // A table of so many rows was written, with this number of matched sales that have no amount; or nothing was.
 pub enum Taken {

@@ -5,7 +5,7 @@ use native.Mathlib.Nat.{mul-le-mul-right}
 use native.Mathlib.Omega.{arith}
 use borrow.Author.Tests.{not-true, not-false}
 use denote.Ref.{now}
-use Rattle.options.specs.Options.{withList, withoutList}
+use Rattle.order.specs.options.Options.{withList, withoutList}
 use Rattle.frames.specs.Cells.{rowFrom}
 use Rattle.order.specs.Requires.{RowAt}
 use Rattle.order.proofs.RowLaws.{row-room, one-row}

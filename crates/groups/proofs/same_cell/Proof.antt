@@ -7,7 +7,7 @@ use lib.IntN.{pos}
 use lib.ListN.{getD}
 use denote.Ref.{now}
 use Rattle.frames.proofs.Signed.{back}
-use Rattle.options.specs.Options.{keyRule}
+use Rattle.order.specs.options.Options.{keyRule}
 use Rattle.order.specs.Order.{cmpCell, isEqual}
 use Rattle.order.specs.Requires.{cellAt}
 use Rattle.order.proofs.OrderLaws.{cell-equal}

@@ -6,10 +6,10 @@ use Prim.Native.Nat.{ℕ, _<_}
 use borrow.Author.Tests.{not-true, not-false}
 use denote.Ref.{now}
 use Rattle.frames.specs.Cells.{Words, rowFrom}
-use Rattle.options.specs.Options.{withList}
+use Rattle.order.specs.options.Options.{withList}
 use Rattle.order.specs.Order.{cmpGroup, isEqual}
 use Rattle.matching.proofs.ScanLaws.{same-yes, same-no, same-nulls}
-use Rattle.stretch.proofs.StretchLaws.{same-group}
+use Rattle.groups.proofs.stretch.StretchLaws.{same-group}
 use Rattle.groups.proofs.RunLaws.{not-alike}
 use borrow.Author.Needs.{needs}
 use Rattle.groups.proofs.same_run.Statement.{statement}

@@ -5,7 +5,7 @@ use Rattle.host.proofs.rowkeeper_takings_add.Statement.{statement}
 use Rattle.host.proofs.rowkeeper_takings_add.Tie as tie
 use Rattle.host.proofs.rowkeeper_takings_add.Reads as reads
 use Rattle.host.proofs.rowkeeper_takings_add.Lts as lts
-use Rattle.takehost.proofs.add_host.Reads as add-host-reads
+use Rattle.hosttables.proofs.takehost.add_host.Reads as add-host-reads
 
 add-host-requires : tie.Need-add-host-requires
 add-host-requires c κs = search needs

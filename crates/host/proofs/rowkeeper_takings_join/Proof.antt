@@ -5,7 +5,7 @@ use Rattle.host.proofs.rowkeeper_takings_join.Statement.{statement}
 use Rattle.host.proofs.rowkeeper_takings_join.Tie as tie
 use Rattle.host.proofs.rowkeeper_takings_join.Reads as reads
 use Rattle.host.proofs.rowkeeper_takings_join.Lts as lts
-use Rattle.takehost.proofs.join_host.Reads as join-host-reads
+use Rattle.hosttables.proofs.takehost.join_host.Reads as join-host-reads
 
 join-host-requires : tie.Need-join-host-requires
 join-host-requires c κs = search needs

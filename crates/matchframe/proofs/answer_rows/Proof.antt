@@ -1,9 +1,9 @@
 use mathlib.Core.Path.{sym, _∙_}
 use denote.Ref.{now}
 use Rattle.frames.specs.Cells.{rowsOf}
-use Rattle.options.specs.Options.{withList}
-use Rattle.carrying.proofs.TermLaws.{spread-in-terms, spread-terms}
-use Rattle.carrying.proofs.LaidLaws.{frame-room, spread-in, answer-spread, answer-plain}
+use Rattle.order.specs.options.Options.{withList}
+use Rattle.matchframe.proofs.carrying.TermLaws.{spread-in-terms, spread-terms}
+use Rattle.matchframe.proofs.carrying.LaidLaws.{frame-room, spread-in, answer-spread, answer-plain}
 use borrow.Author.Needs.{needs}
 use Rattle.matchframe.proofs.answer_rows.Statement.{statement}
 use Rattle.matchframe.proofs.answer_rows.Tie as tie

@@ -2,10 +2,10 @@ use mathlib.Core.Path.{refl, sym, subst}
 use Prim.Native.Nat.{ℕ, _+_, _*_, _^_, _≤_, _<_}
 use native.Mathlib.Omega.{arith}
 use denote.Ref.{now}
-use Rattle.options.specs.Options.{withList}
+use Rattle.order.specs.options.Options.{withList}
 use Rattle.matching.specs.Requires.{AnswerRoom}
-use Rattle.carrying.proofs.LaidLaws.{frame-room, answer-whole}
-use Rattle.options.proofs.ColumnLaws.{columns-few}
+use Rattle.matchframe.proofs.carrying.LaidLaws.{frame-room, answer-whole}
+use Rattle.order.proofs.options.ColumnLaws.{columns-few}
 use borrow.Author.Needs.{needs}
 use Rattle.matchframe.proofs.match_frame.Statement.{statement}
 use Rattle.matchframe.proofs.match_frame.Tie as tie

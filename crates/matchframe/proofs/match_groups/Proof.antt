@@ -9,7 +9,7 @@ use denote.Ref.{now}
 use lib.ListN.{length}
 use Rattle.frames.specs.Cells.{Words, rowFrom, rowsOf}
 use Rattle.frames.proofs.BoolLaws.{and-true}
-use Rattle.options.specs.Options.{withList, withoutList}
+use Rattle.order.specs.options.Options.{withList, withoutList}
 use Rattle.order.proofs.RowLaws.{row-room}
 use Rattle.matching.specs.Groups.{runs, byRuns}
 use Rattle.matching.specs.Match.{matchIn}

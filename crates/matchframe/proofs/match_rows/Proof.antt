@@ -3,7 +3,7 @@ use mathlib.Core.List.{List}
 use Prim.Native.Nat.{_+_}
 use native.Mathlib.Omega.{arith}
 use denote.Ref.{now}
-use Rattle.options.specs.Options.{withList}
+use Rattle.order.specs.options.Options.{withList}
 use Rattle.matching.specs.Stretches.{between, lay}
 use Rattle.matching.specs.declared.Choice.{Choice}
 use Rattle.matching.proofs.TermLaws.{room-terms, lay-terms}

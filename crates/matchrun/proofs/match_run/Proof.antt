@@ -4,7 +4,7 @@ use mathlib.Core.Bool.{true}
 use native.Mathlib.Omega.{arith}
 use borrow.Author.Tests.{not-false}
 use denote.Ref.{now}
-use Rattle.options.specs.Options.{withoutList}
+use Rattle.order.specs.options.Options.{withoutList}
 use Rattle.matching.specs.Loops.{RunRoom}
 use Rattle.matching.specs.Moves.{keysSorted}
 use Rattle.matching.specs.Stretches.{between}

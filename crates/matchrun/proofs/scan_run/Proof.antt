@@ -5,7 +5,7 @@ use native.Mathlib.Omega.{arith}
 use denote.Ref.{now}
 use lib.ListN.{length}
 use Rattle.frames.specs.Cells.{rowFrom}
-use Rattle.options.specs.Options.{withoutList}
+use Rattle.order.specs.options.Options.{withoutList}
 use Rattle.order.proofs.RowLaws.{row-room}
 use Rattle.matching.specs.Match.{matchIn}
 use Rattle.matching.specs.Stretches.{between, lay}

@@ -3,7 +3,7 @@ use mathlib.Core.Path.{_∙_}
 use Prim.Native.Nat.{_+_}
 use native.Mathlib.Omega.{arith}
 use denote.Ref.{now}
-use Rattle.options.specs.Options.{withoutList}
+use Rattle.order.specs.options.Options.{withoutList}
 use Rattle.matching.specs.Match.{matchIn}
 use Rattle.matching.specs.Moves.{Rising, keyAt}
 use Rattle.matching.specs.Stretches.{between}

@@ -4,7 +4,7 @@ use native.Mathlib.Omega.{arith}
 use borrow.Author.Tests.{not-true, not-false}
 use denote.Ref.{now}
 use Rattle.frames.proofs.BoolLaws.{and-true}
-use Rattle.options.specs.Options.{termsOf, withoutList}
+use Rattle.order.specs.options.Options.{termsOf, withoutList}
 use Rattle.matching.specs.Stretches.{between}
 use Rattle.matching.specs.Moves.{keysSorted}
 use Rattle.scanwalk.specs.Drive.{keyOptions}

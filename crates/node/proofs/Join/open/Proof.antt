@@ -7,9 +7,9 @@ use Rattle.node.proofs.Join.open.Statement.{statement}
 use Rattle.node.proofs.Join.open.Tie as tie
 use Rattle.node.proofs.Join.open.Reads as reads
 use Rattle.node.proofs.Join.open.Lts as lts
-use Rattle.judges.proofs.judge_open.Reads as judge-open-reads
-use Rattle.keyed.proofs.no_row.Reads as no-row-reads
-use Rattle.options.proofs.terms_of.Reads as terms-of-reads
+use Rattle.callrules.proofs.judges.judge_open.Reads as judge-open-reads
+use Rattle.rows.proofs.keyed.no_row.Reads as no-row-reads
+use Rattle.order.proofs.options.terms_of.Reads as terms-of-reads
 
 terms-of-requires : tie.Need-terms-of-requires
 terms-of-requires c κs = search needs

@@ -9,9 +9,9 @@ use Rattle.node.proofs.Join.right.Statement.{statement}
 use Rattle.node.proofs.Join.right.Tie as tie
 use Rattle.node.proofs.Join.right.Reads as reads
 use Rattle.node.proofs.Join.right.Lts as lts
-use Rattle.consistency.proofs.bad_numbers.Reads as bad-numbers-reads
-use Rattle.intake.proofs.feed_right.Reads as feed-right-reads
-use Rattle.options.proofs.terms_of.Reads as terms-of-reads
+use Rattle.callrules.proofs.consistency.bad_numbers.Reads as bad-numbers-reads
+use Rattle.callrules.proofs.intake.feed_right.Reads as feed-right-reads
+use Rattle.order.proofs.options.terms_of.Reads as terms-of-reads
 
 terms-of-requires : tie.Need-terms-of-requires
 terms-of-requires c κs = search needs

@@ -3,17 +3,17 @@ use mathlib.Core.Path.{_≡_, sym, _∙_}
 use native.Mathlib.Omega.{arith}
 use lib.ListN.{length, length-map}
 use Rattle.node.proofs.Good.{good, few-told, bad-told}
-use Rattle.node.proofs.TurnCall.{queue-turns}
+use Rattle.node.proofs.TurnCallLaws.{queue-turns}
 use borrow.Author.Needs.{needs}
 use Rattle.node.proofs.Join.turn.Statement.{statement}
 use Rattle.node.proofs.Join.turn.Tie as tie
 use Rattle.node.proofs.Join.turn.Reads as reads
 use Rattle.node.proofs.Join.turn.Lts as lts
-use Rattle.consistency.proofs.bad_numbers.Reads as bad-numbers-reads
+use Rattle.callrules.proofs.consistency.bad_numbers.Reads as bad-numbers-reads
 use Rattle.node.proofs.hand.part_of.Reads as part-of-reads
 use Rattle.node.proofs.hand.turned.Reads as turned-reads
-use Rattle.options.proofs.terms_of.Reads as terms-of-reads
-use Rattle.turncall.proofs.turn_queue.Reads as turn-queue-reads
+use Rattle.order.proofs.options.terms_of.Reads as terms-of-reads
+use Rattle.node.proofs.turncall.turn_queue.Reads as turn-queue-reads
 
 terms-of-requires : tie.Need-terms-of-requires
 terms-of-requires c κs = search needs

@@ -8,8 +8,8 @@ use Rattle.node.proofs.check.bad_join.Statement.{statement}
 use Rattle.node.proofs.check.bad_join.Tie as tie
 use Rattle.node.proofs.check.bad_join.Reads as reads
 use Rattle.node.proofs.check.bad_join.Lts as lts
-use Rattle.consistency.proofs.bad_numbers.Reads as bad-numbers-reads
-use Rattle.options.proofs.terms_of.Reads as terms-of-reads
+use Rattle.callrules.proofs.consistency.bad_numbers.Reads as bad-numbers-reads
+use Rattle.order.proofs.options.terms_of.Reads as terms-of-reads
 
 terms-of-requires : tie.Need-terms-of-requires
 terms-of-requires c κs = search needs

@@ -1,1 +1,0 @@
-// A join over two books that were merged. Definitions and proofs only.

@@ -1,5 +1,0 @@
-pub mod Appended
-pub mod Apart
-pub mod Scheduled
-pub mod Loads
-pub mod Places

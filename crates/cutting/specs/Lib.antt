@@ -1,0 +1,5 @@
+pub mod boundaries
+pub mod cutcall
+pub mod cutpairs
+pub mod cutroom
+pub mod cutrows

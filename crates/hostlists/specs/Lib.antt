@@ -1,3 +1,0 @@
-pub mod HostLists
-pub mod HostTable
-pub mod HostFree

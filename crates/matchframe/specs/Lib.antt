@@ -1,0 +1,3 @@
+pub mod turnrows
+pub mod carrying
+pub mod sortedrows

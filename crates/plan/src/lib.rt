@@ -1,1 +1,0 @@
-// How large an area to lend: a schedule of the join's calls, and the figures worked out from the rows alone. Definitions and proofs only.

@@ -1,0 +1,4 @@
+pub mod framerule
+pub mod view
+pub mod nulls
+pub mod compare

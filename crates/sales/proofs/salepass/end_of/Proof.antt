@@ -1,0 +1,16 @@
+-- `salepass::end_of` meets its contract. Assumes nothing.
+use borrow.Author.Needs.{needs}
+use Rattle.sales.proofs.salepass.end_of.Statement.{statement}
+use Rattle.sales.proofs.salepass.end_of.Tie as tie
+
+add-result : tie.Need-add-result
+add-result c = search needs
+
+returns : tie.Need-returns
+returns c = rw (c .if1 .taken)
+
+returns-2 : tie.Need-returns-2
+returns-2 c = rw (c .if1 .left)
+
+pub end-of-spec : {M : Type 1} → statement M
+end-of-spec = tie.close (tie.spec add-result returns returns-2)

@@ -1,0 +1,14 @@
+pub mod salekind
+pub mod salegroup
+pub mod saleplace
+pub mod salewrite
+pub mod saleinsert
+pub mod salepass
+pub mod saleadd
+pub mod salecount
+pub mod saleorder
+pub mod salegroups
+pub mod saleweigh
+pub mod salegrow
+pub mod addrows
+pub mod addcall

@@ -1,0 +1,3 @@
+pub mod plan
+pub mod cuts
+pub mod bookjoin
