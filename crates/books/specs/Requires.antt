@@ -1,4 +1,4 @@
--- What the functions of this crate ask of what they are handed. Assumes nothing.
+-- What the functions over books require of their arguments. Assumes nothing.
 use mathlib.Core.Path.{_≡_}
 use mathlib.Core.Bool.{Bool, true, false}
 use mathlib.Core.List.{[], _∷_}

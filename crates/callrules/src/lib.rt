@@ -1,5 +1,4 @@
-// Rules of the calls over the numbers of a join: validity, refusals in checking order, accepted frames, ports.
-// What left and right frames, the end of right and opening are answered, by the numbers of a join, and what a frame that is taken leaves: definitions and laws. `bad` says whether the join meets refusal 2.
+// Rules of the calls over the numbers of a join: validity, refusals in checking order, accepted frames, ports. `bad` says whether the join meets refusal 2.
 pub mod consistency;
 pub mod intake;
 pub mod judges;

@@ -1,5 +1,4 @@
-// Groups of rows: rows of one group, runs and where they end, and whether rows are sorted.
-// Runs of equal groups, and the one right cursor that serves a frame.
+// Groups of rows: runs of equal groups and where they end, the right cursor of a frame, and whether rows are sorted.
 pub mod neighbours;
 pub mod rising;
 pub mod sortedruns;

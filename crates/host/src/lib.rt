@@ -1,4 +1,4 @@
-// The calls for hosts in C, over structs of numbers, all of 64 bits, and words that the host lends: the exported functions alone. What each does stands in hostfeed, hostmove, hostturn, bookhost, spanhost, planhost, cuthost, cutjoinhost, takehost, readhost and version.
+// The exported functions, over structs of 64-bit numbers and the words that the host passes. Each calls one function of hostjoin, hosttables or ffi.
 use ffi::version::version_now;
 use hostjoin::hostfeed::host_end_right;
 use hostjoin::hostfeed::host_left;

@@ -1,5 +1,4 @@
-// Matching the rows of a turn: pruning by them, the order check, the matches run by run, the answer frame.
-// The answer of a frame: a row for each of its rows, with the right number, what that row carries, and the distance where the join adds it.
+// Matching the rows of a turn: pruning, the order check, the matches run by run, and the answer frame.
 pub mod carrying;
 pub mod sortedrows;
 pub mod turnanswer;

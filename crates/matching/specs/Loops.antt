@@ -1,4 +1,4 @@
--- What the inner functions of this crate ask of what they are handed, and what they answer: small records. Assumes nothing.
+-- What the inner functions of matching require of their arguments, and what they return: small records. Assumes nothing.
 use mathlib.Core.Path.{_≡_}
 use mathlib.Core.Bool.{Bool, false, cond}
 use mathlib.Core.List.{List, _∷_, _++_, map}

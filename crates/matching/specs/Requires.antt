@@ -1,4 +1,4 @@
--- What the functions that leave this crate ask of what they are handed. Assumes nothing.
+-- What the public functions of matching require of their arguments. Assumes nothing.
 use Prim.Native.Nat.{ℕ, _+_, _-_, _*_, _^_, _≤_}
 use lib.ListN.{length}
 use Rattle.frames.specs.Cells.{Words}

@@ -1,5 +1,4 @@
 // Matching a run of left rows against a right run: candidates, the scan, the walk.
-// A run of left rows, matched over a right run: walked or scanned, its choices laid into the answer.
 pub mod advance;
 pub mod approach;
 pub mod candidates;

@@ -1,4 +1,4 @@
--- What the functions of this crate ask of the words that they are handed: small records, one for each kind of reader. Assumes nothing.
+-- What the functions over rows require of their arguments: small records, one for each kind of reader. Assumes nothing.
 use mathlib.Core.Path.{_≡_}
 use mathlib.Core.Bool.{true}
 use Prim.Native.Nat.{ℕ, _+_, _*_, _≤_, _<_}

@@ -1,5 +1,4 @@
-// Options, the list of ranked codes, and the order of cells, groups and rows.
-// Order: cells, groups and rows compared, sorted rows, rows with a key and the row that a side remembers: their definitions and laws. The code is in crates compare and keyed.
+// Options, the list of ranked codes, and the order of cells, groups and rows: types, definitions and laws. The code is in rows.
 pub mod options;
 pub mod ranks;
 

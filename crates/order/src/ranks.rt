@@ -1,4 +1,4 @@
-// A list of codes for one by-column, which then compares by place in the list: its definitions and laws. The code is in crate ranking.
+// A list of codes for one by-column, which then compares by place in the list: its definitions and laws. The code is in rows::ranking.
 
 // The first `count` of `codes` are the list. `rising` has their places in the order of the codes as numbers, so that a code is found by halving.
 pub struct Ranks {

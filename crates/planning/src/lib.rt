@@ -1,5 +1,4 @@
-// The lengths of the areas that a join needs: definitions, laws, and the call that computes them.
-// How large an area to lend: the figures of a schedule, worked out from the rows of two tables and the heights of their frames. Definitions and laws.
+// The lengths of the areas that a join needs, computed from two tables and the heights of their frames.
 pub mod fullplan;
 pub mod heights;
 pub mod plancall;

@@ -1,5 +1,4 @@
-// The two readers of answer frames: definitions, laws and the calls.
-// What the two answer readers show of a frame: their definitions, laws and types. A view asks the rules once and then reads any number of places. The code is in the crate above.
+// The two readers of answer frames. A view checks a frame once and then reads any number of cells.
 pub mod readcalls;
 
 use frames::refusals::Refusal;

@@ -1,4 +1,4 @@
-// Scan and walk of the same two frames of one key column, for the program that compares their times. The join does not use it.
+// Scan and walk over the same two frames of one key column, for the benchmark that compares them. The join does not use it.
 use matchrun::cursor::keys_sorted;
 use matchrun::scan_run;
 use matchrun::walk_run;

@@ -1,5 +1,4 @@
 // Tables, which are frames of any number of rows: writing their cells, and what a call over tables returns.
-// Tables: frames of any number of rows; how their cells are written, and what the functions over them answer.
 pub mod tableresults;
 
 use frames::refusals::Refusal;

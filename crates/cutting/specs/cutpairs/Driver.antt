@@ -66,7 +66,7 @@ pairsJudged o p gs l r n =
 unfoldable pub joinAnswer : Options → Words → Words → Words → ℕ → ℕ → ℕ → Written
 joinAnswer o left right boundaries l r n = thenJudged (inputJudged o left right boundaries) (pairsJudged o (tablesIn o left right) (groupsIn o boundaries) l r n)
 
--- SCOPE 19.34: the rows that are written: those of the uncut tables. That the pairs, each by its schedule, write these is `DriverWrites` in crate cuts.
+-- SCOPE 19.34: the rows that are written: those of the uncut tables. That the pairs, each by its schedule, write these is `DriverWrites` in schedules::cuts.
 abbrev pub joinedRows : Options → Pair → Rows
 joinedRows o p = answerRows o 0 (p .right) (p .left) (joined o p)
 

@@ -1,4 +1,4 @@
--- What the inner functions of this crate ask of what they are handed, and what they write. Assumes nothing.
+-- What the inner functions of carrying require of their arguments, and what they write. Assumes nothing.
 use mathlib.Core.Path.{_≡_}
 use mathlib.Core.Bool.{false, cond}
 use mathlib.Core.List.{List, [], _∷_, _++_}

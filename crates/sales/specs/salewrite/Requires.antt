@@ -1,4 +1,4 @@
--- What the functions of this crate ask of the words that they are handed. Assumes nothing.
+-- What the functions of salewrite require of their arguments. Assumes nothing.
 use Prim.Native.Nat.{ℕ, _+_, _≤_}
 use lib.ListN.{length}
 use Rattle.frames.specs.Cells.{Words}

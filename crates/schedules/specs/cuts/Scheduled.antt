@@ -1,4 +1,4 @@
--- Each pair joined by the schedule of crate plan, one after the other: what a driver for a list of boundaries writes. The statement; its proof stands in proofs/.
+-- Each pair joined by the schedule of module plan, one after the other: what a driver for a list of boundaries writes. The statement; its proof stands in proofs/.
 -- Assumes nothing.
 use mathlib.Core.Path.{_≡_}
 use mathlib.Core.List.{List, [], _∷_, _++_, map}
