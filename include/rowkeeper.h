@@ -279,56 +279,81 @@ enum { ROWKEEPER_TURNS_USED = 0 };
 enum {
     /* Not refused. */
     ROWKEEPER_ACCEPTED = 0,
-    /* Opening: by above 4, strategy above 2, tolerance below -1, Nearest without equality, check above 2, or a flag, of which
-       ranks.given and with_distance are two, that is neither 0 nor 1. There is no join then: every call refuses by 2 what is
-       returned beside the refusal, except that a run of no turns tries nothing and so refuses nothing. A merge, standing,
-       a plan and a cut: the same of their options. Spans and a cut: a flag that is neither 0 nor 1. */
+    /* The options are invalid: by above 4, strategy above 2, tolerance below -1, Nearest without equality, check above
+       2, or a flag, ranks.given and with_distance included, that is neither 0 nor 1. Spans: a bound that is neither;
+       cut: a side that is neither. Opening then returns no join: every call refuses by 2 what it returns, except a run
+       of no turns, which refuses nothing.
+       Given by open, spans, merge, standing, plan, cut, join_cut, takings_add, takings_join. */
     ROWKEEPER_BAD_OPTIONS = 1,
     /* The join is inconsistent or does not fit its areas: another layout word, options as in 1, 10 or 11, a list of ranks with
        other bytes in `rising` than opening puts there, base + held above R, queue_start + queue_words above the left area,
-       pruned + held above 2^63 - 1, an odd sequence, or a state, flag or port code that does not exist. */
+       pruned + held above 2^63 - 1, an odd sequence, or a state, flag or port code that does not exist.
+       Given by left, right, end_right, move, ports, turn, run. */
     ROWKEEPER_BAD_JOIN = 2,
-    /* An earlier turn found rows out of order and marked the join failed; every later call is refused by this number. */
+    /* An earlier turn found rows out of order and marked the join failed. A failed join can still be moved, and a run
+       of no turns refuses nothing.
+       Given by left, right, end_right, ports, turn, run. */
     ROWKEEPER_FAILED = 3,
     /* At the wrong time: a left frame if the node is not Running; a right frame or an end of right if right has ended or the node
-       is Done; a turn if the node is Done. */
+       is Done; a turn if the node is Done.
+       Given by left, right, end_right, turn, run. */
     ROWKEEPER_CLOSED = 4,
-    /* The words are not a frame of that side's columns. At a turn: those that wait are not. Spans: the points are not a frame of one
-       column, or the intervals not one of two. A merge and standing: a book is not a table of the right side's columns; a plan: a
-       table is not one of its side's columns. A table may have any number of rows. The readers: the words are no frame, of
-       whatever columns. */
+    /* The words are not a frame or table with the columns that the call expects. Left, right: a frame of that side;
+       turn, run: the frame that waits first. Spans: points of one column, intervals of two. Merge, standing: tables of
+       the right side. Plan, cut, join_cut: tables of their side, boundaries of `by` columns. Takings: a table of by + 2
+       columns, a left frame, an answer frame of the same height. The readers: a frame of any columns. A table may have
+       any number of rows.
+       Given by left, right, turn, run, spans, merge, standing, view_plain, view_distance, read_plain, read_distance,
+       plan, cut, join_cut, takings_add, takings_join. */
     ROWKEEPER_BAD_FRAME = 5,
-    /* No room: for the frame in the left area, for its rows in the right area, or for the matches, pairs, rows or notices in the
-       output. */
+    /* No room: for a frame in the left area, for its rows in the right area, for what a join holds in the areas that it
+       moves to, for a pair of join_cut in its areas, or for the answer in the output.
+       Given by left, right, move, turn, run, spans, merge, standing, cut, join_cut, takings_add, takings_join. */
     ROWKEEPER_NO_ROOM = 6,
-    /* The numbers are used up: right rows past 2^63 - 1, or a turn at sequence 2^64 - 2. */
+    /* The numbers are used up: right rows past 2^63 - 1, or a turn at sequence 2^64 - 2.
+       Given by right, turn, run. */
     ROWKEEPER_USED_UP = 7,
-    /* Check on or strict: left rows are out of order, in the frame or against an earlier one. The join is marked failed. */
+    /* Check on or strict: left rows are out of order, in the frame or against an earlier one. The join is marked failed.
+       Given by turn, run. */
     ROWKEEPER_LEFT_ORDER = 8,
-    /* Check on or strict: right rows are out of order. The join is marked failed. */
+    /* Check on or strict: right rows are out of order. The join is marked failed.
+       Given by turn, run. */
     ROWKEEPER_RIGHT_ORDER = 9,
-    /* Opening: carried above 8. There is no join then, as with 1. A merge, standing and a plan: the same of their options. The
-       readers: carried above 8, before a word is looked at. */
+    /* More than 8 carried columns: in the options, or in what a reader is given.
+       Given by open, merge, standing, view_plain, view_distance, read_plain, read_distance, plan, cut, join_cut,
+       takings_add, takings_join. */
     ROWKEEPER_TOO_MANY_CARRIED = 10,
-    /* Opening, with ranks.given 1: ranks.count is 0 or above 64, a code stands twice among the first ranks.count, or
-       ranks.column is not below by. There is no join then, as with 1. A merge, standing and a plan: the same of their options. */
+    /* With ranks.given 1: ranks.count is 0 or above 64, a code occurs twice among the first ranks.count, or
+       ranks.column is not below by.
+       Given by open, merge, standing, plan, cut, join_cut, takings_add, takings_join. */
     ROWKEEPER_BAD_RANKS = 11,
-    /* With a list of ranks: its column has a value in the frame that is not on the list. A null is no value. At a turn: in the
-       frame that waits first. A merge and standing: in a book; a plan: in a table. Comes straight after 5. */
+    /* With a list of ranks: a value of its column, in a frame, a table or the boundaries, is not on the list. A null is
+       not a value. Turn, run: in the frame that waits first.
+       Given by left, right, turn, run, merge, standing, plan, cut, join_cut, takings_add, takings_join. */
     ROWKEEPER_UNKNOWN_CODE = 12,
-    /* Standing: the place is none of the carried columns. The readers: the frame has a column count that the reader does not
-       know: the plain one knows 1 + carried, the distance reader 2 + carried as well. */
+    /* Standing: the place is not one of the carried columns. The readers: the frame has a column count that the reader
+       does not know; the plain one knows 1 + carried, the distance reader 2 + carried as well. Takings: nothing is
+       carried, or the answer frame has neither 1 + carried nor 2 + carried columns.
+       Given by standing, view_plain, view_distance, read_plain, read_distance, takings_add, takings_join. */
     ROWKEEPER_BAD_COLUMNS = 13,
-    /* A merge and standing: a book is not sorted as the options say; a plan: a table is not. */
+    /* A table is not sorted as the options say. Takings: a table of subtotals has a null, or a group that does not come
+       after the one before.
+       Given by merge, standing, plan, cut, join_cut, takings_add, takings_join. */
     ROWKEEPER_UNSORTED = 14,
-    /* Takings alone: an amount outside -1,000,000,000 to 1,000,000,000, a count below 1 or a sum of counts above 2^31, or a total
-       larger in size than its count times 1,000,000,000. */
+    /* An amount is outside -1,000,000,000 to 1,000,000,000; a count is below 1; a sum of counts, or the number of sales
+       without an amount, is above 2^31 or that number below 0; or a total is larger in size than its count times
+       1,000,000,000.
+       Given by takings_add, takings_join. */
     ROWKEEPER_BEYOND = 15,
-    /* Spans alone: a point is null, or greater than the next. */
+    /* A point is null, or greater than the next.
+       Given by spans. */
     ROWKEEPER_BAD_POINTS = 16,
-    /* A plan alone: heights that do not add up to their table's rows, or a height below 0 or above 4,096. */
+    /* Heights do not add up to the rows of their table, or a height is below 0 or above 4,096.
+       Given by plan. */
     ROWKEEPER_BAD_HEIGHTS = 17,
-    /* A cut: more than 16 boundaries, one where by is 0, one that is null in any column, or boundaries that do not ascend strictly. */
+    /* More than 16 boundaries, a boundary where by is 0, one that is null in any column, or boundaries that do not
+       ascend strictly.
+       Given by cut, join_cut. */
     ROWKEEPER_BAD_BOUNDARIES = 18,
     /* The greatest number of a refusal in this version. Later versions may have greater ones. */
     ROWKEEPER_LAST_REFUSAL = 18
@@ -651,8 +676,9 @@ rowkeeper_viewed rowkeeper_view_plain(uint64_t carried, const int64_t *frame, si
    No word is written. */
 rowkeeper_viewed rowkeeper_view_distance(uint64_t carried, const int64_t *frame, size_t frame_len);
 
-/* A cell of a frame that was viewed: `rows` and `columns` are the view's, `row` and `column` count from 0. A place outside
-   the frame reads as null (0 and 0). With the counts of a view and the words that were viewed, each place is what
+/* A cell of a frame that was viewed. Only the plain view's counts make a price safe: with the distance view's counts, or counts
+   from elsewhere, the last column can be a distance. `rows` and `columns` are the view's, `row` and `column` count from 0.
+   A place outside the frame reads as null (0 and 0). With the counts of a view and the words that were viewed, each place is what
    rowkeeper_read_plain or rowkeeper_read_distance shows of it. It looks at the two words of the place alone: with other
    counts, or after the words were changed, it reads as null whatever would lie behind the words, and otherwise gives the words that
    stand where such a frame would have them. Nothing is refused, and no word is written. */

@@ -52,7 +52,9 @@ def refusals(d):
     lines.append('enum {')
     lines += [*comment(['Not refused.'], '    '), '    ROWKEEPER_ACCEPTED = 0,']
     for each in given:
-        lines += [*comment(each.comment, '    '), f'    ROWKEEPER_{each.c} = {each.number},']
+        calls = ', '.join(call.name for call in d.calls if each.number in call.refused)
+        text = each.comment + textwrap.wrap(f'Given by {calls}.', TEXT - 4)
+        lines += [*comment(text, '    '), f'    ROWKEEPER_{each.c} = {each.number},']
     lines += [*comment(['The greatest number of a refusal in this version. Later versions may have greater ones.'], '    ')]
     return lines + [f'    ROWKEEPER_LAST_REFUSAL = {given[-1].number}', '};', '']
 
