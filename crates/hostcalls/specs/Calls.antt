@@ -25,7 +25,7 @@ use Rattle.ffi.specs.declared.convert.HostJoin.{HostJoin}
 use Rattle.ffi.specs.results.Results.{tookHost, freshHost, Made, refusedRun}
 use Rattle.ffi.specs.declared.results.HostTook.{HostTook}
 
--- Opening: options that cannot be encoded are refused as 1, others by the first of 1 and 10 that they meet; the join holds them, with everything else as in a fresh join.
+-- Opening: options that cannot be encoded are refused as 1, others by the first of 1, 10 and 11 that they meet; the join holds them, with everything else as in a fresh join.
 unfoldable pub openHost : HostOptions → HostTook
 openHost h =
     elim (decodeOptions h) [
