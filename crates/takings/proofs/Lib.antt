@@ -1,3 +1,4 @@
 pub mod Samples
 pub mod SubtotalLaws
 pub mod OrdersLaw
+pub mod PromiseLaws

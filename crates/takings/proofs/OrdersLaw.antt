@@ -42,7 +42,7 @@ module _ (o : Options) where
   row-wide : (t : Subtotal) → length (t .group) ≡ o .by → length (rowOf t) ≡ suc (suc (o .by))
   row-wide t e = length-append (t .group) (value (t .total) ∷ value (pos (t .count)) ∷ []) ∙ omega (arith, e)
 
-  rows-wide : (ts : List Subtotal) → Every (λ t. length (t .group) ≡ o .by) ts → Wide (suc (suc (o .by))) (map rowOf ts)
+  pub rows-wide : (ts : List Subtotal) → Every (λ t. length (t .group) ≡ o .by) ts → Wide (suc (suc (o .by))) (map rowOf ts)
   rows-wide [] h = tt
   rows-wide (t ∷ ts) h = (row-wide t (h .0), rows-wide ts (h .1))
 
@@ -168,7 +168,7 @@ module _ (o : Options) where
 frame-rows-wide : (c : ℕ) (f : Words) → isFrame c f ≡ true → Wide c (frameRows c f)
 frame-rows-wide c f h = all-by (λ r. length r ≡ c) (frameRows c f) (λ i l. frame-wide c f h i (rw (frame-rows c f h) at l))
 
-by-fine : (o : Options) (left answer : Words) → isFrame (columns o) left ≡ true → Every (Unit-fine o) (amountsOf (salesBy o left answer))
+pub by-fine : (o : Options) (left answer : Words) → isFrame (columns o) left ≡ true → Every (Unit-fine o) (amountsOf (salesBy o left answer))
 unfolding salesBy
 by-fine o left answer h = sales-fine o (frameRows (columns o) left) (frameRows (columnsIn answer) answer) (frame-rows-wide (columns o) left h)
 
@@ -240,24 +240,24 @@ module _ (o : Options) where
   rows-within (t ∷ ts) w s h = rw (row-within t (w .0) (s .0) (h .0)) (rows-within ts (w .1) (s .1) (h .1))
 
 -- ---- what a call that was not refused passed
-passed : (b : Bool) (r : Refusal) (x : Taken) {n : ℕ} {k : ℤ} → cond b (Refused r) x ≡ Table n k → (b ≡ false) × (x ≡ Table n k)
+pub passed : (b : Bool) (r : Refusal) (x : Taken) {n : ℕ} {k : ℤ} → cond b (Refused r) x ≡ Table n k → (b ≡ false) × (x ≡ Table n k)
 passed true r x e = ((cc), (cc))
 passed false r x e = (refl, e)
 
-not-false : (b : Bool) → not b ≡ false → b ≡ true
+pub not-false : (b : Bool) → not b ≡ false → b ≡ true
 not-false true e = refl
 not-false false e = cc
 
 module _ (o : Options) where
-  past : (x : Taken) {n : ℕ} {k : ℤ} → unless Refused o x ≡ Table n k → x ≡ Table n k
+  pub past : (x : Taken) {n : ℕ} {k : ℤ} → unless Refused o x ≡ Table n k → x ≡ Table n k
   past x e = passed (badRanked o) BadRanks x (passed (manyCarried o) TooManyCarried _ (passed (badOptions o) BadOptions _ e .1) .1) .1
 
   -- The result's rows have room, and its answer tells them.
-  record Result (ts : List Subtotal) (k : ℕ) (out : Words) (n : ℕ) (m : ℤ) : Type 0 where
-    rows : n ≡ length ts
-    number : m ≡ pos k
-    few : k ≤ mostSales
-    room : frameWords (length ts) (tableWidth o) ≤ length out
+  pub record Result (ts : List Subtotal) (k : ℕ) (out : Words) (n : ℕ) (m : ℤ) : Type 0 where
+    pub rows : n ≡ length ts
+    pub number : m ≡ pos k
+    pub few : k ≤ mostSales
+    pub room : frameWords (length ts) (tableWidth o) ≤ length out
 
   told : {n n′ : ℕ} {k k′ : ℤ} → Table n k ≡ Table n′ k′ → (n′ ≡ n) × (k′ ≡ k)
   told e = ((cc), (cc))
@@ -270,7 +270,7 @@ module _ (o : Options) where
       let t = told (b .1) in
       record { rows = t .0; number = t .1; few = ltb-false mostSales k (or-false (ltb mostSales (salesIn ts)) (ltb mostSales k) (a .0) .1); room = ltb-false (length out) (frameWords (length ts) (tableWidth o)) (b .0) }
 
-  add-told : (table : Words) (k : ℤ) (left answer out : Words) {n : ℕ} {m : ℤ} → addAnswer o table k left answer out ≡ Table n m
+  pub add-told : (table : Words) (k : ℤ) (left answer out : Words) {n : ℕ} {m : ℤ} → addAnswer o table k left answer out ≡ Table n m
       → (isFrame (columns o) left ≡ true) × (beyondAmounts (amountsOf (salesBy o left answer)) ≡ false) × Result (addAll o (subtotalsIn o table) (amountsOf (salesBy o left answer))) (natAbs k + nullsOf (salesBy o left answer)) out n m
   unfolding addAnswer
   add-told table k left answer out e =
@@ -285,7 +285,7 @@ module _ (o : Options) where
       let w = or-false (beyondRows o (rowsIn o table) || beyondNumber k) (beyondAmounts (amountsOf (salesBy o left answer))) (v .0) in
       (and-true (isTable (tableWidth o) table) (isFrame (columns o) left) (b .0) .1, w .1, result-told _ _ out (v .1))
 
-  join-told : (table : Words) (k : ℤ) (other : Words) (l : ℤ) (out : Words) {n : ℕ} {m : ℤ} → joinAnswer o table k other l out ≡ Table n m
+  pub join-told : (table : Words) (k : ℤ) (other : Words) (l : ℤ) (out : Words) {n : ℕ} {m : ℤ} → joinAnswer o table k other l out ≡ Table n m
       → Result (addAll o (subtotalsIn o table) (subtotalsIn o other)) (natAbs k + natAbs l) out n m
   unfolding joinAnswer
   join-told table k other l out e =

@@ -2,3 +2,4 @@ pub mod Subtotals
 pub mod Sales
 pub mod Calls
 pub mod Orders
+pub mod Promises
