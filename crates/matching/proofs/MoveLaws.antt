@@ -100,6 +100,11 @@ module _ (o : Options) (w end : ℕ) (vs ms : Words) where
       let f = nulls-passed ls n (c + 1) (omega arith) (λ k g t. null k (omega arith) (omega arith)) (rw z at keyed) in
       rw (z, m, walk, null c (omega arith) (omega arith)) (omega (arith, f))
 
+-- ---- no left row is left: no move is made
+pub lefts-done : (o : Options) (w to : ℕ) (vs ms : Words) (rs : Rows) → length (walkOn o (between w to to vs ms) rs) ≡ 0
+unfolding walkOn
+lefts-done o w to vs ms rs = rw (between-none w vs ms to)
+
 -- ---- left rows i..to of a stretch without a key: the left cursor alone moves
 module _ (o : Options) (w to : ℕ) (vs ms : Words) (rs : Rows) where
   pub lefts-passed : (n i : ℕ) → i + n ≤ to → ((k : ℕ) → i ≤ k → k < i + n → nullKey o (rowFrom w (k * w) vs ms) ≡ true)

@@ -22,11 +22,12 @@ use Rattle.matchrun.proofs.advance.advance.Statement.{statement}
 use Rattle.matchrun.proofs.advance.advance.Tie as tie
 
 abbrev Inv-loop : tie.InvT-loop
-Inv-loop rv at p stop end w v inclusive row₀ place₀ row place =
+Inv-loop rv at p moved stop end w v inclusive row₀ place₀ moves₀ row place moves =
     (at ≤ row) × (row ≤ end) × (place ≡ row * w + (p - at * w)) × ((k : ℕ) → at ≤ k → k < row → below inclusive (toZ w64 v) (getD rv (k * w + (p - at * w)) (pos 0)) ≡ true)
+    × (moves ≡ moved + (row - at))
 
 abbrev μ-loop : tie.MeasureT-loop
-μ-loop rv at p stop end w v inclusive row₀ place₀ row place = end - row
+μ-loop rv at p moved stop end w v inclusive row₀ place₀ moves₀ row place moves = end - row
 
 -- four rows end within the rows
 room : (c : tie.In-loop Inv-loop μ-loop) → let a = c .before .before .args in c .before .loop .row * a .w + a .w + a .w + a .w + a .w ≤ a .end * a .w
@@ -34,7 +35,7 @@ room c =
     let a = c .before .before .args in
     let row = c .before .loop .row in
     let z : (row + 3) * a .w ≡ row * a .w + a .w + a .w + a .w = omega arith in
-    omega (arith, z, row-room (row + 3) (a .end) (a .w) (omega (arith, c .loop-test .taken, c .before .before .pre .1)))
+    omega (arith, z, row-room (row + 3) (a .end) (a .w) (omega (arith, c .loop-test .taken, c .before .before .pre .1 .0)))
 
 -- as many rows as words, at most
 fits-end : (s : tie.Start Inv-loop μ-loop) → s .args .end ≤ length (now (s .args .rv))
@@ -51,7 +52,7 @@ passes s k = below (s .args .inclusive) (toZ w64 (ofZ w64 (s .args .v))) (val s 
 
 -- what stands before a row that is below v is below v
 down : (s : tie.Start Inv-loop μ-loop) (i k : ℕ) → s .args .at ≤ i → i ≤ k → k < s .args .end → passes s k ≡ true → passes s i ≡ true
-down s i k l g h e = back-down (s .args .inclusive) (value (val s i)) (value (val s k)) (value (toZ w64 (ofZ w64 (s .args .v)))) (s .pre .2 i k l g h) e
+down s i k l g h e = back-down (s .args .inclusive) (value (val s i)) (value (val s k)) (value (toZ w64 (ofZ w64 (s .args .v)))) (s .pre .1 .1 .0 i k l g h) e
 
 -- the test of the fourth row
 told : (c : tie.After-if12 Inv-loop μ-loop) (t : Bool) →
@@ -89,13 +90,13 @@ chosen c =
     let v = back (b .result) (b .ok) in
     let x : l .place + a .w ≡ (l .row + 1) * a .w + (a .p - a .at * a .w) = omega (arith, l .inv .2) in
     let y : l .place + a .w + a .w ≡ (l .row + 2) * a .w + (a .p - a .at * a .w) = omega (arith, l .inv .2) in
-    last-true-stops (passes s) (l .row) (λ i k h g t. down s i k (omega (arith, h, l .inv .0)) g (omega (arith, t, c .before .before .before .loop-test .taken, s .pre .1)))
+    last-true-stops (passes s) (l .row) (λ i k h g t. down s i k (omega (arith, h, l .inv .0)) g (omega (arith, t, c .before .before .before .loop-test .taken, s .pre .1 .0)))
     (told (c .before) false (not-true _ (c .if1 .taken)))
     (ltZ (getD (now (a .rv)) (l .place) (pos 0)) u) (ltZ (getD (now (a .rv)) (l .place + a .w) (pos 0)) u) (ltZ (getD (now (a .rv)) (l .place + a .w + a .w) (pos 0)) u)
     (b .ensures (val s (l .row)) ∙ rw (v, l .inv .2)) (b .ensures (val s (l .row + 1)) ∙ rw (v, x)) (b .ensures (val s (l .row + 2)) ∙ rw (v, y))
 
 loop-holds : tie.Need-loop-holds Inv-loop μ-loop
-loop-holds c = (omega arith, c .pre .0 .within, omega (arith, c .pre .0 .start), λ k l h. absurd (omega (arith, l, h)))
+loop-holds c = (omega arith, c .pre .0 .within, omega (arith, c .pre .0 .start), λ k l h. absurd (omega (arith, l, h)), omega arith)
 
 add-loop : tie.Need-add-loop Inv-loop μ-loop
 add-loop c = omega (arith, fits-end (c .before), c .loop .inv .1)
@@ -110,7 +111,7 @@ add-last-3 : tie.Need-add-last-3 Inv-loop μ-loop
 add-last-3 c = let r = room c in omega (arith, c .before .before .pre .0, c .before .loop .inv .2)
 
 bound-requires : tie.Need-bound-requires Inv-loop μ-loop
-bound-requires c κs = rw (toZ-ofZ (c .before .before .fits .v)) (c .before .before .pre .3 (omega (arith, c .loop-test .taken, c .before .loop .inv .0)))
+bound-requires c κs = rw (toZ-ofZ (c .before .before .fits .v)) (c .before .before .pre .1 .1 .1 .0 (omega (arith, c .loop-test .taken, c .before .loop .inv .0)))
 
 mul-if1 : tie.Need-mul-if1 Inv-loop μ-loop
 mul-if1 c = let i = c .before in let r = room i in omega (arith, i .before .before .pre .0, i .before .loop .inv .2)
@@ -124,8 +125,24 @@ stepped-requires c κs =
     let a = i .before .before .args in
     let r = room i in
     let p = i .before .before .pre .0 in
-    let m = mul-le-mul-right {m = 1} {n = a .w} (i .before .loop .row) (omega (arith, p)) in
-    (omega (arith, p, i .before .loop .inv .2), omega (arith, m, i .before .loop .inv .2), omega (arith, p))
+    (omega (arith, p, i .before .loop .inv .2), omega arith, omega (arith, p))
+
+-- how many rows are passed
+passed-is : (c : tie.After-stepped Inv-loop μ-loop) → c .stepped .result ≡ further (c .before)
+passed-is c = omega (arith, c .stepped .ensures)
+
+add-row : tie.Need-add-row Inv-loop μ-loop
+add-row c =
+    let t = c .before in
+    let i = t .before .before .before in
+    omega (arith, passed-is c, chosen t .2, fits-end (i .before .before), i .loop-test .taken, i .before .before .pre .1 .0)
+
+add-moves : tie.Need-add-moves Inv-loop μ-loop
+add-moves c =
+    let t = c .before in
+    let i = t .before .before .before in
+    let s = i .before .before in
+    omega (arith, passed-is c, chosen t .2, i .loop-test .taken, s .pre .1 .0, s .pre .1 .1 .1 .1, i .before .loop .inv .0, i .before .loop .inv .4)
 
 stepped-requires-2 : tie.Need-stepped-requires-2 Inv-loop μ-loop
 stepped-requires-2 c κs =
@@ -144,14 +161,16 @@ returns c =
     let n = further t in
     let v = toZ-ofZ (s .fits .v) in
     let m = chosen t in
-    let x : c .before .stepped .result ≡ l .row + n = omega (arith, c .before .stepped .ensures) in
+    let y = passed-is (c .before) in
+    let x : l .row + c .before .stepped .result ≡ l .row + n = omega (arith, y) in
     let e : (l .row + n) * a .w ≡ l .row * a .w + n * a .w = omega arith in
     record {
       upward = omega (arith, l .inv .0, x);
-      within = omega (arith, x, m .2, i .loop-test .taken, s .pre .1);
+      within = omega (arith, x, m .2, i .loop-test .taken, s .pre .1 .0);
       place = rw x (omega (arith, e, c .stepped2 .ensures, l .inv .2));
       before = λ k g h. rw v at (by k g (rw x at h) (decLt k (l .row)));
       stop = λ h. rw (← x, v) at (m .1);
+      counted = omega (arith, l .inv .0, l .inv .4);
     }
   where
     by : let t = c .before .before in
@@ -161,16 +180,22 @@ returns c =
     by k g h (yes e) = c .before .before .before .before .before .before .loop .inv .3 k g e
     by k g h (no e) = chosen (c .before .before) .0 k (omega (arith, e)) h
 
-add-row : tie.Need-add-row Inv-loop μ-loop
-add-row c =
+add-row-2 : tie.Need-add-row-2 Inv-loop μ-loop
+add-row-2 c =
     let i = c .before .before .before in
-    omega (arith, fits-end (i .before .before), i .loop-test .taken, i .before .before .pre .1)
+    omega (arith, fits-end (i .before .before), i .loop-test .taken, i .before .before .pre .1 .0)
 
 add-place : tie.Need-add-place Inv-loop μ-loop
 add-place c = let i = c .before .before .before in let r = room i in omega (arith, i .before .before .pre .0, i .before .loop .inv .2)
 
+add-moves-2 : tie.Need-add-moves-2 Inv-loop μ-loop
+add-moves-2 c =
+    let i = c .before .before .before in
+    let s = i .before .before in
+    omega (arith, i .loop-test .taken, s .pre .1 .0, s .pre .1 .1 .1 .1, i .before .loop .inv .0, i .before .loop .inv .4)
+
 loop-less : tie.Need-loop-less Inv-loop μ-loop
-loop-less c = let i = c .before .before .before in omega (arith, i .loop-test .taken, i .before .before .pre .1)
+loop-less c = let i = c .before .before .before in omega (arith, i .loop-test .taken, i .before .before .pre .1 .0)
 
 loop-again : tie.Need-loop-again Inv-loop μ-loop
 loop-again c =
@@ -179,7 +204,7 @@ loop-again c =
     let a = s .args in
     let l = i .before .loop in
     let e : (l .row + 4) * a .w ≡ l .row * a .w + a .w + a .w + a .w + a .w = omega arith in
-    (omega (arith, l .inv .0), omega (arith, i .loop-test .taken, s .pre .1), omega (arith, e, l .inv .2), λ k g h. by k g h (decLt k (l .row)))
+    (omega (arith, l .inv .0), omega (arith, i .loop-test .taken, s .pre .1 .0), omega (arith, e, l .inv .2), λ k g h. by k g h (decLt k (l .row)), omega (arith, l .inv .0, l .inv .4))
   where
     by : let s = c .before .before .before .before .before in
         let l = c .before .before .before .before .loop in
@@ -188,13 +213,13 @@ loop-again c =
     by k g h (no e) =
         let i = c .before .before .before in
         let l = i .before .loop in
-        down (i .before .before) k (l .row + 3) g (omega (arith, h)) (omega (arith, i .loop-test .taken, i .before .before .pre .1)) (told (c .before) true (not-false _ (c .if1 .left)))
+        down (i .before .before) k (l .row + 3) g (omega (arith, h)) (omega (arith, i .loop-test .taken, i .before .before .pre .1 .0)) (told (c .before) true (not-false _ (c .if1 .left)))
 
 rest-requires : tie.Need-rest-requires Inv-loop μ-loop
 rest-requires c κs =
     let s = c .before .before in
     let l = c .before .loop in
-    record { within = l .inv .1; values = s .pre .0 .values; start = omega (arith, l .inv .2); wide = omega (arith, l .inv .2, s .pre .0) }
+    (record { within = l .inv .1; values = s .pre .0 .values; start = omega (arith, l .inv .2); wide = omega (arith, l .inv .2, s .pre .0) }, omega (arith, s .pre .1 .1 .1 .1, l .inv .0, l .inv .1, l .inv .4))
 
 returns-2 : tie.Need-returns-2 Inv-loop μ-loop
 returns-2 c =
@@ -210,6 +235,7 @@ returns-2 c =
       place = r .place;
       before = λ k g h. by k g h (decLt k (l .row));
       stop = r .stop;
+      counted = omega (arith, r .counted, r .upward, l .inv .0, l .inv .4);
     }
   where
     by : let s = c .before .before .before in
@@ -238,10 +264,13 @@ advance-spec =
     mul-if1
     shared-slice-copy-out-if1
     stepped-requires
+    add-row
+    add-moves
     stepped-requires-2
     returns
-    add-row
+    add-row-2
     add-place
+    add-moves-2
     loop-less
     loop-again
     rest-requires

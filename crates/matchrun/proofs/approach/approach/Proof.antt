@@ -22,13 +22,14 @@ use Rattle.matchrun.proofs.approach.approach.Statement.{statement}
 use Rattle.matchrun.proofs.approach.approach.Tie as tie
 
 abbrev Inv-loop : tie.InvT-loop
-Inv-loop rv at p end w v row₀ place₀ row place =
+Inv-loop rv at p moved end w v row₀ place₀ moves₀ row place moves =
     (at ≤ row) × (row < end) × (place ≡ row * w + (p - at * w))
     × ((start : ℕ) → start ≤ at → Rising (keyed w (p - at * w) rv) start end → Behind Nearest true (keyed w (p - at * w) rv) start (value (toZ w64 v)) at
     → Behind Nearest true (keyed w (p - at * w) rv) start (value (toZ w64 v)) row)
+    × (moves ≡ moved + (row - at))
 
 abbrev μ-loop : tie.MeasureT-loop
-μ-loop rv at p end w v row₀ place₀ row place = end - row
+μ-loop rv at p moved end w v row₀ place₀ moves₀ row place moves = end - row
 
 -- four rows end within the rows
 room : (c : tie.In-loop Inv-loop μ-loop) → let a = c .before .before .args in c .before .loop .row * a .w + a .w + a .w + a .w + a .w ≤ a .end * a .w
@@ -74,7 +75,7 @@ rises : (c : tie.In-loop Inv-loop μ-loop) (i : ℕ) → i < 3 →
     NotAbove (value (val (c .before .before) (l .row + i))) (value (val (c .before .before) (l .row + i + 1)))
 rises c i h =
     let l = c .before .loop in
-    c .before .before .pre .2 (l .row + i) (l .row + i + 1) (omega (arith, l .inv .0)) (omega arith) (omega (arith, h, c .loop-test .taken))
+    c .before .before .pre .1 .1 .0 (l .row + i) (l .row + i + 1) (omega (arith, l .inv .0)) (omega arith) (omega (arith, h, c .loop-test .taken))
 
 risen : (c : tie.In-loop Inv-loop μ-loop) →
     let w = c .before .before .args .w in
@@ -122,7 +123,7 @@ further i =
     stepsOn (closes (left s) (val s n) (val s (n + 1))) (closes (left s) (val s (n + 1)) (val s (n + 2)))
 
 loop-holds : tie.Need-loop-holds Inv-loop μ-loop
-loop-holds c = (omega arith, c .pre .1, omega (arith, c .pre .0 .start), λ start l u b. b)
+loop-holds c = (omega arith, c .pre .1 .0, omega (arith, c .pre .0 .start), λ start l u b. b, omega arith)
 
 sub-loop : tie.Need-sub-loop Inv-loop μ-loop
 sub-loop c = omega (arith, c .loop .inv .1)
@@ -181,7 +182,36 @@ settled-requires c κs =
     let x = back (at-place i (k + a .w + a .w)) (e .before .before .c .given) in
     let y = back (at-place i (k + a .w)) (e .before .before .before .b .given) in
     let z = back (at-place i k) (e .before .before .before .before .a .given) in
-    (rw (y, z) (risen i .0), rw (x, y) (risen i .1), omega (arith, fits-end (i .before .before), i .loop-test .taken))
+    (rw (y, z) (risen i .0), rw (x, y) (risen i .1), omega arith)
+
+-- how many rows are passed, two at most
+passed-is : (c : tie.After-settled Inv-loop μ-loop) →
+    let i = c .before .before .before .before .before .before .before in
+    (c .settled .result ≡ further i) × (further i ≤ 2)
+passed-is c =
+    let e = c .before .before in
+    let i = e .before .before .before .before .before in
+    let s = i .before .before in
+    let a = s .args in
+    let k = i .before .loop .place in
+    let n = i .before .loop .row in
+    let p = places i in
+    let x = back (at-place i (k + a .w + a .w)) (e .before .before .c .given) in
+    let y = back (at-place i (k + a .w)) (e .before .before .before .b .given) in
+    let z = back (at-place i k) (e .before .before .before .before .a .given) in
+    let m : c .settled .result ≡ 0 + further i * 1 = rw (x, y, z, p .0, p .1, p .2) at (c .settled .ensures) in
+    (omega (arith, m), steps-few (closes (left s) (val s n) (val s (n + 1))) (closes (left s) (val s (n + 1)) (val s (n + 2))))
+
+add-row : tie.Need-add-row Inv-loop μ-loop
+add-row c =
+    let i = c .before .before .before .before .before .before .before in
+    omega (arith, passed-is c, fits-end (i .before .before), i .loop-test .taken)
+
+add-moves : tie.Need-add-moves Inv-loop μ-loop
+add-moves c =
+    let i = c .before .before .before .before .before .before .before in
+    let l = i .before .loop in
+    omega (arith, passed-is c, i .loop-test .taken, i .before .before .pre .1 .1 .1, l .inv .0, l .inv .4)
 
 settled-requires-2 : tie.Need-settled-requires-2 Inv-loop μ-loop
 settled-requires-2 c κs =
@@ -205,25 +235,30 @@ returns c =
     let p = places i in
     let v = toZ-ofZ (s .fits .v) in
     let n = further i in
-    let few = steps-few (closes (left s) (val s (l .row)) (val s (l .row + 1))) (closes (left s) (val s (l .row + 1)) (val s (l .row + 2))) in
     let f = back (at-place i (k + a .w + a .w)) (e .before .before .c .given) in
     let g = back (at-place i (k + a .w)) (e .before .before .before .b .given) in
     let h = back (at-place i k) (e .before .before .before .before .a .given) in
-    let m : c .before .settled .result ≡ l .row + n * 1 = rw (f, g, h, p .0, p .1, p .2) at (c .before .settled .ensures) in
-    let x : c .before .settled .result ≡ l .row + n = omega (arith, m) in
+    let m = passed-is (c .before) in
+    let x : l .row + c .before .settled .result ≡ l .row + n = omega (arith, m) in
     let y : c .settled2 .result ≡ k + n * a .w = rw (f, g, h, p .0, p .1, p .2) at (c .settled2 .ensures) in
     let z : (l .row + n) * a .w ≡ l .row * a .w + n * a .w = omega arith in
     let all = sym (told e) ∙ not-true (e .closes-three .result) (c .before .before .if1 .taken) in
     record {
       upward = omega (arith, x, l .inv .0);
-      there = omega (arith, x, few, i .loop-test .taken);
+      there = omega (arith, m, i .loop-test .taken);
       place = rw x (omega (arith, y, z, l .inv .2));
       behind = λ start q u b. rw (← x, v) at (steps-behind (val s) (left s) (l .row) start (a .end) u (omega (arith, q, l .inv .0)) (omega (arith, i .loop-test .taken)) (closes (left s) (val s (l .row)) (val s (l .row + 1))) (closes (left s) (val s (l .row + 1)) (val s (l .row + 2))) refl refl (l .inv .3 start q u (rw v b)));
       stopped = rw (← x, v) at (steps-stop (val s) (left s) (l .row) (a .end) (closes (left s) (val s (l .row)) (val s (l .row + 1))) (closes (left s) (val s (l .row + 1)) (val s (l .row + 2))) refl refl all);
+      counted = omega (arith, l .inv .0, l .inv .4);
     }
 
-add-row : tie.Need-add-row Inv-loop μ-loop
-add-row c = omega (arith, c .before .before .before .before .before .before .loop-test .taken)
+add-row-2 : tie.Need-add-row-2 Inv-loop μ-loop
+add-row-2 c = omega (arith, c .before .before .before .before .before .before .loop-test .taken)
+
+add-moves-2 : tie.Need-add-moves-2 Inv-loop μ-loop
+add-moves-2 c =
+    let i = c .before .before .before .before .before .before in
+    omega (arith, i .loop-test .taken, i .before .before .pre .1 .1 .1, i .before .loop .inv .0, i .before .loop .inv .4)
 
 loop-less : tie.Need-loop-less Inv-loop μ-loop
 loop-less c = omega (arith, c .before .before .before .before .before .before .loop-test .taken)
@@ -242,6 +277,7 @@ loop-again c =
       omega (arith, t),
       omega (arith, z, l .inv .2),
       λ start g u b. three-behind (val s) (left s) (l .row) start (a .end) u (omega (arith, g, l .inv .0)) (omega (arith, t)) all (l .inv .3 start g u b),
+      omega (arith, l .inv .0, l .inv .4),
     )
 
 creep-requires : tie.Need-creep-requires Inv-loop μ-loop
@@ -251,8 +287,9 @@ creep-requires c κs =
     let l = c .before .loop in
     let e : l .place - l .row * a .w ≡ a .p - a .at * a .w = omega (arith, l .inv .2) in (
       record { within = omega (arith, l .inv .1); values = s .pre .0 .values; start = omega (arith, l .inv .2); wide = omega (arith, l .inv .2, s .pre .0) },
-      l .inv .1,
-      rw e (λ i k g t h. s .pre .2 i k (omega (arith, g, l .inv .0)) t h),
+      (l .inv .1,
+      (rw e (λ i k g t h. s .pre .1 .1 .0 i k (omega (arith, g, l .inv .0)) t h),
+      omega (arith, s .pre .1 .1 .1, l .inv .0, l .inv .1, l .inv .4))),
     )
 
 returns-2 : tie.Need-returns-2 Inv-loop μ-loop
@@ -269,6 +306,7 @@ returns-2 c =
       place = r .place;
       behind = λ start g u b. r .behind start (omega (arith, g, l .inv .0)) u (rw v at (l .inv .3 start g u (rw v b)));
       stopped = r .stopped;
+      counted = omega (arith, r .counted, r .upward, l .inv .0, l .inv .4);
     }
 
 pub approach-spec : {M : Type 1} → statement M
@@ -292,9 +330,12 @@ approach-spec =
     shared-slice-copy-out-closes-three
     closes-three-requires
     settled-requires
+    add-row
+    add-moves
     settled-requires-2
     returns
-    add-row
+    add-row-2
+    add-moves-2
     loop-less
     loop-again
     creep-requires

@@ -21,13 +21,14 @@ use Rattle.matchrun.proofs.approach.creep.Statement.{statement}
 use Rattle.matchrun.proofs.approach.creep.Tie as tie
 
 abbrev Inv-loop : tie.InvT-loop
-Inv-loop rv at p end w v row₀ place₀ row place =
+Inv-loop rv at p moved end w v row₀ place₀ moves₀ row place moves =
     (at ≤ row) × (row < end) × (place ≡ row * w + (p - at * w))
     × ((start : ℕ) → start ≤ at → Rising (keyed w (p - at * w) rv) start end → Behind Nearest true (keyed w (p - at * w) rv) start (value (toZ w64 v)) at
     → Behind Nearest true (keyed w (p - at * w) rv) start (value (toZ w64 v)) row)
+    × (moves ≡ moved + (row - at))
 
 abbrev μ-loop : tie.MeasureT-loop
-μ-loop rv at p end w v row₀ place₀ row place = end - row
+μ-loop rv at p moved end w v row₀ place₀ moves₀ row place moves = end - row
 
 -- two rows end within the rows
 room : (c : tie.In-loop Inv-loop μ-loop) → let a = c .before .before .args in c .before .loop .row * a .w + a .w + a .w ≤ a .end * a .w
@@ -56,10 +57,10 @@ told c =
       z,
       l .inv .2,
     ) at (c .as-near .ensures) in
-    e (s .pre .2 (l .row) (l .row + 1) (l .inv .0) (omega arith) (omega (arith, i .loop-test .taken)))
+    e (s .pre .1 .1 .0 (l .row) (l .row + 1) (l .inv .0) (omega arith) (omega (arith, i .loop-test .taken)))
 
 loop-holds : tie.Need-loop-holds Inv-loop μ-loop
-loop-holds c = (omega arith, c .pre .1, omega (arith, c .pre .0 .start), λ start l u b. b)
+loop-holds c = (omega arith, c .pre .1 .0, omega (arith, c .pre .0 .start), λ start l u b. b, omega arith)
 
 sub-loop : tie.Need-sub-loop Inv-loop μ-loop
 sub-loop c = omega (arith, c .loop .inv .1)
@@ -93,10 +94,16 @@ returns c =
       place = l .inv .2;
       behind = λ start g u b. rw v at (l .inv .3 start g u (rw v b));
       stopped = λ h. sym (rw (v, not-true (c .before .as-near .result) (c .if1 .taken)) at (told (c .before)));
+      counted = l .inv .4;
     }
 
 add-row : tie.Need-add-row Inv-loop μ-loop
 add-row c = omega (arith, c .before .before .before .before .loop-test .taken)
+
+add-moves : tie.Need-add-moves Inv-loop μ-loop
+add-moves c =
+    let i = c .before .before .before .before in
+    omega (arith, i .loop-test .taken, i .before .before .pre .1 .1 .1, i .before .loop .inv .0, i .before .loop .inv .4)
 
 loop-less : tie.Need-loop-less Inv-loop μ-loop
 loop-less c = omega (arith, c .before .before .before .before .loop-test .taken)
@@ -114,6 +121,7 @@ loop-again c =
       h,
       omega (arith, e, l .inv .2),
       λ start g u b. moved true (keyed (a .w) (a .p - a .at * a .w) (now (a .rv))) start (a .end) u Nearest (value (toZ w64 (ofZ w64 (a .v)))) (l .row) (omega (arith, g, l .inv .0)) h (sym (rw (not-false (c .before .as-near .result) (c .if1 .left)) at (told (c .before)))) (l .inv .3 start g u b),
+      omega (arith, l .inv .0, l .inv .4),
     )
 
 returns-2 : tie.Need-returns-2 Inv-loop μ-loop
@@ -127,6 +135,7 @@ returns-2 c =
       place = l .inv .2;
       behind = λ start g u b. rw v at (l .inv .3 start g u (rw v b));
       stopped = λ (h : l .row + 1 < s .args .end). absurd (omega (arith, h, c .loop-test .left));
+      counted = l .inv .4;
     }
 
 pub creep-spec : {M : Type 1} → statement M
@@ -145,6 +154,7 @@ creep-spec =
     as-near-requires
     returns
     add-row
+    add-moves
     loop-less
     loop-again
     returns-2)
