@@ -123,7 +123,7 @@ near-up v u a b nv na ab vu e = nearer-by u b a (by (less-or K u b)) ab
     by (inr h) = nearer-below u b a na ab h
 
 -- Of keys c ≤ n ≤ k: where n does not take the place of c, nor does k.
-near-stop : (v c n k : Cell) → isNull v ≡ false → isNull c ≡ false → AtMost (cmpCell keyRule) c n → AtMost (cmpCell keyRule) n k → nearer v n c ≡ false → nearer v k c ≡ false
+pub near-stop : (v c n k : Cell) → isNull v ≡ false → isNull c ≡ false → AtMost (cmpCell keyRule) c n → AtMost (cmpCell keyRule) n k → nearer v n c ≡ false → nearer v k c ≡ false
 near-stop v c n k nv nc cn nk e = is-false (nearer v k c) (λ t. never (nearer v n c) (nearer-by v n c (by t (less-or K v n)) cn) e)
   where
     by : nearer v k c ≡ true → (cmpCell keyRule v n ≡ Less) ⊎ AtMost (cmpCell keyRule) n v → distance n v ≤ distance c v

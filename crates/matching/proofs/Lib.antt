@@ -13,5 +13,6 @@ pub mod ScanLaws
 pub mod BestLaws
 pub mod LayLaws
 pub mod CursorLaws
+pub mod MoveLaws
 pub mod RestLaws
 pub mod TermLaws

@@ -9,6 +9,7 @@ use Rattle.order.specs.Order.{cmpFirst, nullIn}
 use Rattle.order.proofs.Samples.{options, plain, row, keys}
 use Rattle.order.specs.declared.options.Options.{Options}
 use Rattle.matching.specs.Match.{fits, takesOver, choose, tolerate, matchIn, matchTable, wholeTable}
+use Rattle.matching.specs.Moves.{Move, leftOn, rightOn, walkOn, walk}
 use Rattle.matching.specs.Groups.{matchFrame, byRuns, runs, joinRun, pass, passes, used}
 use Rattle.matching.specs.declared.Choice.the-variants.{Row, Nothing}
 
@@ -48,6 +49,21 @@ pub tolerances :
     ≡ Nothing ∷ Row 0 ∷ []
 unfolding matchIn choose tolerate fits takesOver
 tolerances = refl
+
+-- The moves of a walk, one after the other: Backward rests one row after its match, Forward and Nearest at theirs, and each left row goes on from where the one before it stopped.
+pub walks :
+    walk (plain 0 true) (keys (15 ∷ 15 ∷ 30 ∷ [])) (keys (10 ∷ 20 ∷ 30 ∷ [])) ∷ walk (plain 1 true) (keys (15 ∷ 15 ∷ 30 ∷ [])) (keys (10 ∷ 20 ∷ 30 ∷ []))
+    ∷ walk (plain 2 true) (keys (15 ∷ 15 ∷ 30 ∷ [])) (keys (10 ∷ 20 ∷ 30 ∷ [])) ∷ []
+    ≡ (rightOn ∷ leftOn ∷ leftOn ∷ rightOn ∷ rightOn ∷ leftOn ∷ []) ∷ (rightOn ∷ leftOn ∷ leftOn ∷ rightOn ∷ leftOn ∷ []) ∷ (rightOn ∷ leftOn ∷ leftOn ∷ rightOn ∷ leftOn ∷ []) ∷ []
+unfolding walk walkOn
+walks = refl
+
+-- Rows without a key: on the right they are passed first, on the left they move the left cursor alone.
+pub walks-nulls :
+    walk (plain 1 true) ((null ∷ []) ∷ row (5 ∷ []) ∷ []) ((null ∷ []) ∷ (null ∷ []) ∷ row (1 ∷ []) ∷ []) ∷ walk (plain 2 true) (keys (5 ∷ [])) ((null ∷ []) ∷ []) ∷ []
+    ≡ (rightOn ∷ rightOn ∷ leftOn ∷ rightOn ∷ leftOn ∷ []) ∷ (rightOn ∷ leftOn ∷ []) ∷ []
+unfolding walk walkOn
+walks-nulls = refl
 
 -- Rows in no order: a null run is passed wherever it stands, and a null left run leaves the cursor.
 abbrev lasting : Options

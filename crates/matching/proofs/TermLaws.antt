@@ -1,6 +1,6 @@
 -- Of what looks at keys and carried cells alone, options with a list and without one are the same. Assumes nothing.
 use mathlib.Core.Path.{_≡_, refl, ap, _∙_}
-use mathlib.Core.Bool.{Bool, cond, not, _&&_}
+use mathlib.Core.Bool.{Bool, true, false, cond, not, _&&_}
 use mathlib.Core.List.{List, [], _∷_, map}
 use Prim.Native.Nat.{ℕ, suc}
 use Rattle.frames.specs.Cells.{Cell, Rows, Words}
@@ -8,10 +8,10 @@ use Rattle.order.specs.options.Options.{withList, withoutList, keyRule, strateg
 use Rattle.order.specs.declared.options.Terms.{Terms}
 use Rattle.order.specs.declared.options.Strategy.{Strategy}
 use Rattle.order.specs.declared.options.Strategy.the-variants.{Backward, Forward, Nearest}
-use Rattle.order.specs.Order.{cmpCell, isGreater, keyOf}
+use Rattle.order.specs.Order.{cmpCell, isGreater, keyOf, nullKey}
 use Rattle.order.proofs.TermLaws.{rows-terms}
 use Rattle.matching.specs.Match.{Hit, nobody, hit, fits, takesOver, meet, choose, tolerate, matchIn}
-use Rattle.matching.specs.Moves.{keysSorted}
+use Rattle.matching.specs.Moves.{keysSorted, Move, leftOn, rightOn, passesRow, goesOn, walkOn, walk}
 use Rattle.matching.specs.Answer.{answerRow, answerRows}
 use Rattle.matching.specs.Stretches.{lay}
 use Rattle.matching.specs.Loops.{RunRoom}
@@ -38,6 +38,34 @@ module _ (t : Terms) (codes : Words) (rising : List ℕ) where
   sorted-terms [] = refl
   sorted-terms (r ∷ []) = refl
   sorted-terms (r ∷ s ∷ rs) = ap (λ (b : Bool). not (isGreater (cmpCell keyRule (keyOf (withList t codes rising) r) (keyOf (withList t codes rising) s))) && b) (sorted-terms (s ∷ rs))
+
+  -- ---- the moves of a walk
+  passes-terms : (s : Strategy) (v a : Cell) (next : Rows) → passesRow (withoutList t) s v a next ≡ passesRow (withList t codes rising) s v a next
+  passes-terms Backward v a next = refl
+  passes-terms Forward v a next = refl
+  passes-terms Nearest v a [] = refl
+  passes-terms Nearest v a (b ∷ next) = refl
+
+  on-terms : (ls rs : Rows) → walkOn (withoutList t) ls rs ≡ walkOn (withList t codes rising) ls rs
+  unfolding walkOn
+  on-terms [] rs = refl
+  on-terms (x ∷ ls) [] = ap (λ (ms : List Move). leftOn ∷ ms) (on-terms ls [])
+  on-terms (x ∷ ls) (r ∷ rs) =
+      let o = withList t codes rising in
+      rw (walkOn, passes-terms (strategyOf o) (keyOf o x) (keyOf o r) rs) (same (goesOn o x (r ∷ rs)) (on-terms (x ∷ ls) rs) (on-terms ls (r ∷ rs)))
+    where
+      same : (b : Bool) {k l m n : List Move} → k ≡ l → m ≡ n → _≡_ {A = List Move} (elim b [ true ↦ rightOn ∷ k | false ↦ leftOn ∷ m ]) (elim b [ true ↦ rightOn ∷ l | false ↦ leftOn ∷ n ])
+      same true p q = ap (λ (ms : List Move). rightOn ∷ ms) p
+      same false p q = ap (λ (ms : List Move). leftOn ∷ ms) q
+
+  pub walk-terms : (ls rs : Rows) → walk (withoutList t) ls rs ≡ walk (withList t codes rising) ls rs
+  unfolding walk
+  walk-terms ls [] = on-terms ls []
+  walk-terms ls (r ∷ rs) = same (nullKey (withList t codes rising) r) (walk-terms ls rs) (on-terms ls (r ∷ rs))
+    where
+      same : (b : Bool) {k l m n : List Move} → k ≡ l → m ≡ n → _≡_ {A = List Move} (elim b [ true ↦ rightOn ∷ k | false ↦ m ]) (elim b [ true ↦ rightOn ∷ l | false ↦ n ])
+      same true p q = ap (λ (ms : List Move). rightOn ∷ ms) p
+      same false p q = q
 
   -- ---- the choice of a row
   over-terms : (s : Strategy) (x r c : List Cell) → takesOver (withoutList t) s x r c ≡ takesOver (withList t codes rising) s x r c

@@ -1,12 +1,13 @@
 -- The walk of a sorted left run over a sorted right run: when the right cursor moves on, what lies behind it and ahead of it. Assumes nothing.
 use mathlib.Core.Path.{_≡_}
 use mathlib.Core.Bool.{Bool, true, false, not, _&&_, _||_}
-use mathlib.Core.List.{[], _∷_}
-use Prim.Native.Nat.{ℕ, _+_, _-_, _*_, _≤_, _<_}
+use mathlib.Core.List.{List, [], _∷_}
+use Prim.Native.Nat.{ℕ, suc, _+_, _*_, _≤_, _<_}
 use lib.IntN.{ℤ}
+use lib.ListN.{length}
 use Rattle.frames.specs.Cells.{Cell, value, isNull, Rows, Words}
 use Rattle.order.specs.options.Options.{strategyOf, keyRule}
-use Rattle.order.specs.Order.{cmpCell, isGreater, keyOf}
+use Rattle.order.specs.Order.{cmpCell, isGreater, keyOf, nullKey}
 use Rattle.order.specs.Requires.{cellAt, RowsIn}
 use Rattle.order.specs.declared.options.Options.{Options}
 use Rattle.order.specs.declared.Order.the-variants.{Greater}
@@ -80,10 +81,55 @@ pub record WalkRoom (o : Options) (wl m : ℕ) (lv lm : Words) (from to : ℕ) (
   pub left : keysSorted o (between wl from to lv lm) ≡ true
   pub right : keysSorted o (between wr at end rv rm) ≡ true
 
--- The moves of the two cursors, one for each row that a cursor goes forward, however many rows it passes in a step: the left one over all its rows from..to, the right one from row `at` to where it has come, which is not behind row `end`. So there are at most as many moves as both runs have rows.
-pub record Counted (from to at end r : ℕ) : Type 0 where
-  pub come : ℕ
-  pub upward : at ≤ come
-  pub within : come ≤ end
-  pub moves : r ≡ (to - from) + (come - at)
-  pub most : r ≤ (to - from) + (end - at)
+-- A move takes one of the two cursors one row forward.
+pub data Move : Type 0 where
+  leftOn : Move
+  rightOn : Move
+
+-- Whether the right cursor passes a row with the key a for the left key v; `next` are the rows after it. Backward passes a row
+-- that fits, so that it rests one row after its match: at the first row that is not on v's side, or at the end. Forward passes
+-- a row that does not fit and rests at its match, or at the end. Nearest passes a row for the next one where that takes its
+-- place, and rests at its match.
+abbrev pub passesRow : Options → Strategy → Cell → Cell → Rows → Bool
+passesRow o Backward v a next = fitsKey Backward (o .«allow_eq») v a
+passesRow o Forward v a next = not (fitsKey Forward (o .«allow_eq») v a)
+passesRow o Nearest v a [] = false
+passesRow o Nearest v a (b ∷ next) = nearer v (keyOf o b) a
+
+-- Whether the right cursor, before the rows rs, moves on for the left row x. A row without a key does not move it.
+abbrev pub goesOn : Options → List Cell → Rows → Bool
+goesOn o x [] = false
+goesOn o x (r ∷ rs) = not (nullKey o x) && passesRow o (strategyOf o) (keyOf o x) (keyOf o r) rs
+
+-- The moves over left rows ls and right rows rs, one after the other, from where the cursors are: the right cursor as long as it
+-- moves on for the left row, then the left cursor to its next row, for which the right one goes on from where it rests.
+unfoldable pub walkOn : Options → Rows → Rows → List Move
+walkOn o [] rs = []
+walkOn o (x ∷ ls) [] = leftOn ∷ walkOn o ls []
+walkOn o (x ∷ ls) (r ∷ rs) = elim (goesOn o x (r ∷ rs)) [ true ↦ rightOn ∷ walkOn o (x ∷ ls) rs | false ↦ leftOn ∷ walkOn o ls (r ∷ rs) ]
+
+-- The moves of a whole walk: the right cursor first passes the rows at the front that have no key.
+unfoldable pub walk : Options → Rows → Rows → List Move
+walk o ls [] = walkOn o ls []
+walk o ls (r ∷ rs) = elim (nullKey o r) [ true ↦ rightOn ∷ walk o ls rs | false ↦ walkOn o ls (r ∷ rs) ]
+
+-- How many moves a walk makes.
+abbrev pub walkMoves : Options → Rows → Rows → ℕ
+walkMoves o ls rs = length (walk o ls rs)
+
+-- How many of these moves are the right cursor's.
+unfoldable pub rightMoves : List Move → ℕ
+rightMoves [] = 0
+rightMoves (leftOn ∷ ms) = rightMoves ms
+rightMoves (rightOn ∷ ms) = suc (rightMoves ms)
+
+-- The row at which the right cursor rests after the last left row.
+abbrev pub restsAt : Options → Rows → Rows → ℕ
+restsAt o ls rs = rightMoves (walk o ls rs)
+
+-- SCOPE 10.6: the left cursor passes each of its rows once, the right cursor never leaves its rows, and so a walk makes at most as
+-- many moves as both runs have rows, whatever the rows are.
+pub record WalkCounts (o : Options) (ls rs : Rows) : Type 0 where
+  pub moves : walkMoves o ls rs ≡ length ls + restsAt o ls rs
+  pub within : restsAt o ls rs ≤ length rs
+  pub most : walkMoves o ls rs ≤ length ls + length rs

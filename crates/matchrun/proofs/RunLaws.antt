@@ -1,6 +1,6 @@
 -- A sorted run from its first row with a key on: each row there has one, and what is left out before it changes no match. Assumes nothing.
-use mathlib.Core.Path.{_≡_}
-use mathlib.Core.Bool.{false, not, and-false}
+use mathlib.Core.Path.{_≡_, _∙_}
+use mathlib.Core.Bool.{true, false, not, and-false}
 use mathlib.Core.List.{List, _++_, map, map-append}
 use Prim.Native.Nat.{ℕ, _+_, _-_, _*_, _≤_, _<_}
 use native.Mathlib.Omega.{arith}
@@ -12,7 +12,7 @@ use Rattle.order.specs.Requires.{RowsIn}
 use Rattle.order.proofs.KeyLaws.{key-up}
 use Rattle.order.specs.declared.options.Options.{Options}
 use Rattle.matching.specs.Match.{nobody, fits, tolerate, matchIn}
-use Rattle.matching.specs.Moves.{FirstKey, keyAt, Rising}
+use Rattle.matching.specs.Moves.{FirstKey, keyAt, Rising, walkOn, walkMoves}
 use Rattle.matching.specs.Stretches.{between, lay}
 use Rattle.matching.specs.declared.Choice.{Choice}
 use Rattle.matching.specs.declared.Choice.the-variants.{Nothing}
@@ -20,7 +20,8 @@ use Rattle.matching.proofs.ScanLaws.{present}
 use Rattle.matching.proofs.ChoiceLaws.{choose-dead}
 use Rattle.matching.proofs.MayLaws.{never}
 use Rattle.matching.proofs.GroupLaws.{map-same}
-use Rattle.matching.proofs.WalkLaws.{between-length, between-cut}
+use Rattle.matching.proofs.WalkLaws.{between-none, between-length, between-cut}
+use Rattle.matching.proofs.MoveLaws.{left-alone, nulls-passed, lefts-passed}
 use Rattle.matching.proofs.BestLaws.{key-at, none-null}
 use Rattle.matching.proofs.LayLaws.{lay-append}
 use Rattle.matching.proofs.RestLaws.{all-between}
@@ -59,6 +60,27 @@ module _ (o : Options) (w from to : ℕ) (vs ms : Words) (rows : RowsIn o w to v
   right-cut first x =
       cut o x w from to vs ms first r to (q .start) (q .within) (omega arith)
       (λ k l h t. never (fits o x (rowFrom w (k * w) vs ms)) t (right-dead x k l h)) (λ k l h. absurd (omega (arith, l, h)))
+
+  -- ---- the moves over rows that begin with those that have no key
+  null-at : (k : ℕ) → from ≤ k → k < r → nullKey o (rowFrom w (k * w) vs ms) ≡ true
+  null-at k l h = rw (key-at o w to vs ms rows k (omega (arith, h, q .within))) (q .before vs k l h)
+
+  -- As right rows, these are passed first;
+  pub rights-moved : (ls : Rows) → walkMoves o ls (between w from to vs ms) ≡ (r - from) + length (walkOn o ls (between w r to vs ms))
+  rights-moved ls =
+      let z : from + (r - from) ≡ r = omega (arith, q .start) in
+      rw z at (nulls-passed o w to vs ms ls (r - from) from (omega (arith, q .start, q .within)) (λ k l h. null-at k l (omega (arith, h, q .start)))
+      (rw z (λ h. rw (key-at o w to vs ms rows r h) (q .keyed vs h))))
+
+  -- where there are no others, the left cursor then moves alone;
+  pub rights-alone : r ≡ to → (ls : Rows) → walkMoves o ls (between w from to vs ms) ≡ (to - from) + length ls
+  rights-alone e ls = rights-moved ls ∙ rw (e, between-none w vs ms to, left-alone o ls)
+
+  -- as left rows, they move the left cursor alone.
+  pub lefts-moved : (rs : Rows) → length (walkOn o (between w from to vs ms) rs) ≡ (r - from) + length (walkOn o (between w r to vs ms) rs)
+  lefts-moved rs =
+      let z : from + (r - from) ≡ r = omega (arith, q .start) in
+      rw z at (lefts-passed o w to vs ms rs (r - from) from (omega (arith, q .start, q .within)) (λ k l h. null-at k l (omega (arith, h, q .start))))
 
 -- ---- rows from..mid are laid, then mid..to
 module _ (m w : ℕ) (vs ms : Words) (f g : List Cell → Choice) (from mid to : ℕ) (l : from ≤ mid) (h : mid ≤ to) where

@@ -8,9 +8,10 @@ ghost use lib.Signed.{ltZ};
 ghost use Rattle.matching.specs.Moves.{Rising};
 ghost use Rattle.matchrun.specs.advance.Below.{keyed, below, lastTrue, HasNext, AtPlace, Skipped};
 
-// A row of a run, and the place of its key.
+// Where the right cursor has come to: how many rows it has passed, each of them one move, and the
+// place of the key that it is at.
 pub struct Position {
-    pub row: usize,
+    pub moved: usize,
     pub place: usize,
 }
 
@@ -45,25 +46,26 @@ fn is_below(a: i64, v: i64, inclusive: bool) -> bool
     a < v
 }
 
-// The first row of at..end whose key is not below v, nor at it where that counts too, looked for row by row; the key of row `at` is at place p.
+// The way from row `at` to the first row of at..end whose key is not below v, nor at it where that
+// counts too, row by row; the key of row `at` is at place p.
 fn rest(rv: &[i64], at: usize, p: usize, end: usize, w: usize, v: i64, inclusive: bool) -> Position
     requires { ⌜ AtPlace w end (now rv) at p ⌝ }
     ensures { λ r. ⌜ Skipped w (p - at * w) at end (now (rv .entry)) (below inclusive v) r ⌝ }
 {
-    let mut row = at;
+    let mut moved = 0;
     let mut place = p;
-    while row < end {
+    while at + moved < end {
         if !is_below(rv[place], v, inclusive) {
             return Position {
-                row: row,
+                moved: moved,
                 place: place,
             };
         }
-        row += 1;
+        moved += 1;
         place += w;
     }
     Position {
-        row: row,
+        moved: moved,
         place: place,
     }
 }
@@ -79,7 +81,10 @@ fn bound(v: i64, inclusive: bool) -> i64
     v
 }
 
-// The first row of at..end whose key is not below v, nor at it where that counts too, four rows at a time up to row `stop`; the key of row `at` is at place p. Of four rows the last is asked first: where its key is below v, all four are passed, and else the row is chosen among them.
+// The way from row `at` to the first row of at..end whose key is not below v, nor at it where that
+// counts too, four rows at a time up to row `stop`; the key of row `at` is at place p. The last of
+// four rows is tested first: where its key is below v, all four are passed, which are four moves,
+// and else the row is chosen among them, with one move for each row before it.
 pub fn advance(
     rv: &[i64],
     at: usize,
@@ -90,22 +95,32 @@ pub fn advance(
     v: i64,
     inclusive: bool,
 ) -> Position
-    requires { ⌜ AtPlace w end (now rv) at p × (stop ≤ end) × Rising (keyed w (p - at * w) (now rv)) at end × (at + 3 < stop → HasNext v) ⌝ }
+    requires { ⌜ AtPlace w end (now rv) at p ⌝ }
+    requires { ⌜ stop ≤ end ⌝ }
+    requires { ⌜ Rising (keyed w (p - at * w) (now rv)) at end ⌝ }
+    requires { ⌜ (at + 3 < stop → HasNext v) ⌝ }
     ensures { λ r. ⌜ Skipped w (p - at * w) at end (now (rv .entry)) (below inclusive v) r ⌝ }
 {
-    let mut row = at;
+    let mut moved = 0;
     let mut place = p;
-    while row + 3 < stop {
+    while at + moved + 3 < stop {
         let last = place + w + w + w;
         let u = bound(v, inclusive);
         if !(rv[last] < u) {
+            moved += stepped(rv, place, w, u, 0, 1);
             return Position {
-                row: stepped(rv, place, w, u, row, 1),
+                moved: moved,
                 place: stepped(rv, place, w, u, place, w),
             };
         }
-        row += 4;
+        moved += 4;
         place = last + w;
     }
-    rest(rv, row, place, end, w, v, inclusive)
+    let on = rest(rv, at + moved, place, end, w, v, inclusive);
+    let more = on.moved;
+    moved += more;
+    Position {
+        moved: moved,
+        place: on.place,
+    }
 }

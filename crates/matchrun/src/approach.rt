@@ -18,26 +18,29 @@ fn as_near(v: i64, b: i64, a: i64) -> bool
     distance(b, v) <= distance(a, v)
 }
 
-// The row of at..end at which the cursor rests for v, looked for row by row: it moves on while the next key is as near as its own, or nearer.
+// The way from row `at` to the row of at..end at which the cursor rests for v, row by row: it moves
+// on while the next key is as near as its own, or nearer.
 fn creep(rv: &[i64], at: usize, p: usize, end: usize, w: usize, v: i64) -> Position
-    requires { ⌜ AtPlace w end (now rv) at p × (at < end) × Rising (keyed w (p - at * w) (now rv)) at end ⌝ }
+    requires { ⌜ AtPlace w end (now rv) at p ⌝ }
+    requires { ⌜ at < end ⌝ }
+    requires { ⌜ Rising (keyed w (p - at * w) (now rv)) at end ⌝ }
     ensures { λ r. ⌜ Approached w (p - at * w) at end (now (rv .entry)) v r ⌝ }
 {
-    let mut row = at;
+    let mut moved = 0;
     let mut place = p;
-    while 1 < end - row {
+    while at + moved + 1 < end {
         let next = place + w;
         if !as_near(v, rv[next], rv[place]) {
             return Position {
-                row: row,
+                moved: moved,
                 place: place,
             };
         }
-        row += 1;
+        moved += 1;
         place = next;
     }
     Position {
-        row: row,
+        moved: moved,
         place: place,
     }
 }
@@ -79,14 +82,18 @@ fn closes_three(v: i64, a: i64, b: i64, c: i64, d: i64) -> bool
     y <= distance(a, v)
 }
 
-// The row of at..end at which the cursor rests for v, three rows at a time: where it does not move on over all three, the row is chosen among them.
+// The way from row `at` to the row of at..end at which the cursor rests for v, three rows at a time,
+// which are three moves: where it does not move on over all three, the row is chosen among them,
+// with one move for each row before it.
 fn approach(rv: &[i64], at: usize, p: usize, end: usize, w: usize, v: i64) -> Position
-    requires { ⌜ AtPlace w end (now rv) at p × (at < end) × Rising (keyed w (p - at * w) (now rv)) at end ⌝ }
+    requires { ⌜ AtPlace w end (now rv) at p ⌝ }
+    requires { ⌜ at < end ⌝ }
+    requires { ⌜ Rising (keyed w (p - at * w) (now rv)) at end ⌝ }
     ensures { λ r. ⌜ Approached w (p - at * w) at end (now (rv .entry)) v r ⌝ }
 {
-    let mut row = at;
+    let mut moved = 0;
     let mut place = p;
-    while 3 < end - row {
+    while at + moved + 3 < end {
         let q = place + w;
         let r = q + w;
         let s = r + w;
@@ -94,18 +101,26 @@ fn approach(rv: &[i64], at: usize, p: usize, end: usize, w: usize, v: i64) -> Po
         let b = rv[q];
         let c = rv[r];
         if !closes_three(v, a, b, c, rv[s]) {
+            moved += settled(v, a, b, c, 0, 1);
             return Position {
-                row: settled(v, a, b, c, row, 1),
+                moved: moved,
                 place: settled(v, a, b, c, place, w),
             };
         }
-        row += 3;
+        moved += 3;
         place = s;
     }
-    creep(rv, row, place, end, w, v)
+    let on = creep(rv, at + moved, place, end, w, v);
+    let more = on.moved;
+    moved += more;
+    Position {
+        moved: moved,
+        place: on.place,
+    }
 }
 
-// The row of at..end at which the cursor rests for v: looked for row by row where the right rows are few, since three together are then never there.
+// The way from row `at` to the row of at..end at which the cursor rests for v: row by row where the
+// right rows are few, since three together are then never there.
 pub fn come_near(
     rv: &[i64],
     at: usize,
@@ -115,7 +130,9 @@ pub fn come_near(
     v: i64,
     few: bool,
 ) -> Position
-    requires { ⌜ AtPlace w end (now rv) at p × (at < end) × Rising (keyed w (p - at * w) (now rv)) at end ⌝ }
+    requires { ⌜ AtPlace w end (now rv) at p ⌝ }
+    requires { ⌜ at < end ⌝ }
+    requires { ⌜ Rising (keyed w (p - at * w) (now rv)) at end ⌝ }
     ensures { λ r. ⌜ Approached w (p - at * w) at end (now (rv .entry)) v r ⌝ }
 {
     if few {

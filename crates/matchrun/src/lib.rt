@@ -31,7 +31,7 @@ ghost use Rattle.order.specs.options.Options.{withoutList};
 ghost use Rattle.matching.specs.Match.{matchIn};
 ghost use Rattle.matching.specs.Stretches.{between, lay};
 ghost use Rattle.matching.specs.Loops.{RunRoom};
-ghost use Rattle.matching.specs.Moves.{WalkRoom, Counted};
+ghost use Rattle.matching.specs.Moves.{WalkRoom, walkMoves};
 ghost use Rattle.matchrun.specs.walk.Keyed.{KeysRoom, Walked};
 
 // Left rows from..to, each matched by a scan over right rows at..end, into an answer of m cells.
@@ -109,17 +109,21 @@ pub fn walk_run(
     out: &mut [i64],
 ) -> usize
     requires { ⌜ WalkRoom (withoutList o) wl m (now lv) (now lm) from to wr (now rv) (now rm) at end number (now out) ⌝ }
-    ensures { λ r. ⌜ Counted from to at end r × (now (out .exit) ≡ lay m from (map (matchIn (withoutList o) (number + at) (between wr at end (now (rv .entry)) (now (rm .entry)))) (between wl from to (now (lv .entry)) (now (lm .entry)))) (now (out .entry))) ⌝ }
+    ensures { λ r.
+        let lefts = between wl from to (now (lv .entry)) (now (lm .entry)) in
+        let rights = between wr at end (now (rv .entry)) (now (rm .entry)) in
+        ⌜ r ≡ walkMoves (withoutList o) lefts rights ⌝ }
+    ensures { λ _. ⌜ now (out .exit) ≡ lay m from (map (matchIn (withoutList o) (number + at) (between wr at end (now (rv .entry)) (now (rm .entry)))) (between wl from to (now (lv .entry)) (now (lm .entry)))) (now (out .entry)) ⌝ }
 {
     let start = first_key(rm, at, end, wr, o);
     if start == end {
         put_nothing(out, m, from, to);
-        return to - from;
+        return (to - from) + (end - at);
     }
     let first = first_key(lm, from, to, wl, o);
     put_nothing(out, m, from, first);
-    let come = walk_keys(lv, m, wl, first, to, rv, wr, start, end, number, o, out);
-    (to - from) + (come - at)
+    let moves = walk_keys(lv, m, wl, first, to, rv, wr, start, end, number, o, out);
+    (first - from) + (start - at) + moves
 }
 
 // As many right rows as one left row looks at one by one: with more, the candidates are found sooner.

@@ -9,7 +9,7 @@ ghost use Rattle.order.specs.options.Options.{withoutList, strategyOf};
 ghost use Rattle.order.specs.declared.options.Strategy.the-variants.{Nearest};
 ghost use Rattle.matchrun.specs.walk.Keyed.{KeysRoom, Walked};
 
-// Left rows from..to, each matched to the nearest right row of at..end, of which there is one: the one at which the cursor rests. Where the cursor has come to.
+// Left rows from..to, each matched to the nearest right row of at..end, of which there is one: the one at which the cursor rests. How many moves the cursors made.
 pub fn nearest(
     lv: &[i64],
     m: usize,
@@ -33,15 +33,19 @@ pub fn nearest(
     let mut place = at * wr + by;
     let mut i = from;
     let mut p = from * wl + by;
+    let mut moves = 0;
     while i < to {
         let v = lv[p];
         let c = come_near(rv, row, place, end, wr, v, few);
-        row = c.row;
+        let moved = c.moved;
+        row += moved;
         place = c.place;
+        moves += moved;
         let choice = near_row(rv, place, v, o.tolerance, number + row);
         put(out, m, i, choice);
         i += 1;
         p += wl;
+        moves += 1;
     }
-    row
+    moves
 }

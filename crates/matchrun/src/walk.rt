@@ -90,7 +90,7 @@ fn choice_fore(
     near_row(rv, k, v, tolerance, number + c)
 }
 
-// Left rows from..to, each matched to the last right row of at..end on its side: the one before the cursor. Where the cursor has come to.
+// Left rows from..to, each matched to the last right row of at..end on its side: the one before the cursor. How many moves the cursors made.
 pub fn backward(
     lv: &[i64],
     m: usize,
@@ -114,20 +114,24 @@ pub fn backward(
     let mut place = at * wr + by;
     let mut i = from;
     let mut p = from * wl + by;
+    let mut moves = 0;
     while i < to {
         let v = lv[p];
         let c = advance(rv, row, place, stop, end, wr, v, o.allow_eq);
-        row = c.row;
+        let moved = c.moved;
+        row += moved;
         place = c.place;
+        moves += moved;
         let choice = choice_back(rv, at, row, place, wr, v, o.tolerance, number);
         put(out, m, i, choice);
         i += 1;
         p += wl;
+        moves += 1;
     }
-    row
+    moves
 }
 
-// Left rows from..to, each matched to the first right row of at..end on its side: the one at the cursor. Where the cursor has come to.
+// Left rows from..to, each matched to the first right row of at..end on its side: the one at the cursor. How many moves the cursors made.
 pub fn forward(
     lv: &[i64],
     m: usize,
@@ -151,15 +155,19 @@ pub fn forward(
     let mut place = at * wr + by;
     let mut i = from;
     let mut p = from * wl + by;
+    let mut moves = 0;
     while i < to {
         let v = lv[p];
         let c = advance(rv, row, place, stop, end, wr, v, !o.allow_eq);
-        row = c.row;
+        let moved = c.moved;
+        row += moved;
         place = c.place;
+        moves += moved;
         let choice = choice_fore(rv, row, end, place, v, o.tolerance, number);
         put(out, m, i, choice);
         i += 1;
         p += wl;
+        moves += 1;
     }
-    row
+    moves
 }

@@ -19,9 +19,9 @@ use Rattle.frames.proofs.WordLaws.{rows-length}
 use Rattle.matching.specs.Match.{matchIn}
 use Rattle.matching.specs.Stretches.{between, lay}
 use Rattle.matching.specs.Loops.{RunRoom}
-use Rattle.matching.specs.Moves.{keysSorted, Counted}
+use Rattle.matching.specs.Moves.{keysSorted, walkMoves}
 use Rattle.matching.proofs.WalkLaws.{between-all}
-use Rattle.matching.proofs.TermLaws.{sorted-terms, lay-terms}
+use Rattle.matching.proofs.TermLaws.{sorted-terms, walk-terms, lay-terms}
 use Rattle.scanwalk.specs.Drive.{keyOptions, judged, unsorted, refusalOf, Drives, PartsIn}
 use Rattle.scanwalk.specs.declared.Driven.{Driven}
 
@@ -85,9 +85,12 @@ module _ (s n : ℕ) (lv lm : Words) (m : ℕ) (rv rm out : Words) where
   unwalked false e f = let z : _≡_ {A = ℕ} 0 1 = cc in absurd (omega arith)
   unwalked true e f = rw (sym sorts ∙ f) (record { answer = refl; words = refl; moves = refl })
 
-  pub walks : (walked : Bool) → walked ≡ true → both ≡ true → (k : ℕ) (out′ : Words) → Counted 0 n 0 m k → Laid out′ → Drives walked s ls rs (unsorted walked s ls rs) out (record { refusal = 0; moves = k }) out′
+  moved : walkMoves plain (between 1 0 n lv lm) (between 1 0 m rv rm) ≡ walkMoves (keyOptions s) ls rs
+  moved = rw (between-all 1 lv lm n, between-all 1 rv rm m, walk-terms (termsOf (keyOptions s)) (keyOptions s .ranks .codes) (keyOptions s .ranks .rising) ls rs)
+
+  pub walks : (walked : Bool) → walked ≡ true → both ≡ true → (k : ℕ) (out′ : Words) → k ≡ walkMoves plain (between 1 0 n lv lm) (between 1 0 m rv rm) → Laid out′ → Drives walked s ls rs (unsorted walked s ls rs) out (record { refusal = 0; moves = k }) out′
   walks false e f k out′ c l = let z : _≡_ {A = ℕ} 0 1 = cc in absurd (omega arith)
-  walks true e f k out′ c l = rw (sym sorts ∙ f) (record { answer = refl; words = laid out′ l; moves = rw (rows-length 1 n lv lm, rows-length 1 m rv rm) c })
+  walks true e f k out′ c l = rw (sym sorts ∙ f) (record { answer = refl; words = laid out′ l; moves = c ∙ moved })
 
 -- ---- the frames
 module _ (walked : Bool) (s : ℕ) (left right out : Words) where

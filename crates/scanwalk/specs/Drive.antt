@@ -15,7 +15,7 @@ use Rattle.frames.specs.declared.refusals.Refusal.the-variants.{BadOptions, Bad
 use Rattle.order.specs.declared.options.Options.{Options}
 use Rattle.matching.specs.Match.{matchIn}
 use Rattle.matching.specs.Stretches.{lay}
-use Rattle.matching.specs.Moves.{keysSorted, Counted}
+use Rattle.matching.specs.Moves.{keysSorted, walkMoves}
 use Rattle.scanwalk.specs.declared.Driven.{Driven}
 
 -- No by-columns and no list of ranks, equal keys match, any distance will do.
@@ -49,16 +49,16 @@ unsorted walked s ls rs = cond (not walked || (keysSorted (keyOptions s) ls && k
 abbrev pub refusalOf : Bool → ℕ → Words → Words → ℕ → ℕ
 refusalOf walked s left right room = cond (eqb (judged s left right room) 0) (unsorted walked s (frameRows 1 left) (frameRows 1 right)) (judged s left right room)
 
--- A walk counts the moves of its cursors over n and m rows; what does not walk has none.
-abbrev pub Moved : Bool → ℕ → ℕ → ℕ → Type 0
-Moved true n m k = Counted 0 n 0 m k
-Moved false n m k = k ≡ 0
+-- How many moves the cursors of a call make: those of the walk. A scan has no cursors, and a refused call moves none.
+abbrev pub movesOf : Bool → ℕ → Rows → Rows → ℕ
+movesOf true s ls rs = walkMoves (keyOptions s) ls rs
+movesOf false s ls rs = 0
 
 -- What is answered and left, where the refusal is the one given: the choices of all left rows are laid into the output behind its first two words, which stay; where it is refused all words stay.
 pub record Drives (walked : Bool) (s : ℕ) (ls rs : Rows) (refusal : ℕ) (out : Words) (r : Driven) (out′ : Words) : Type 0 where
   pub answer : r .refusal ≡ refusal
   pub words : out′ ≡ cond (eqb refusal 0) (lay (length ls) 0 (map (matchIn (keyOptions s) 0 rs) ls) out) out
-  pub moves : Moved (walked && eqb refusal 0) (length ls) (length rs) (r .moves)
+  pub moves : r .moves ≡ movesOf (walked && eqb refusal 0) s ls rs
 
 -- The parts of two frames of n and m rows, and room for n choices.
 pub record PartsIn (n : ℕ) (lv lm : Words) (m : ℕ) (rv rm out : Words) : Type 0 where

@@ -18,7 +18,7 @@ ghost use Rattle.matching.specs.Stretches.{between};
 ghost use Rattle.matching.specs.Moves.{keysSorted};
 ghost use Rattle.scanwalk.specs.Drive.{keyOptions, judged, unsorted, refusalOf, Drives, PartsIn};
 
-// What a call answers: 0 or the refusal's number, and how often the cursors of a walk moved.
+// What a call answers: 0 or the refusal's number, and how many moves the cursors of a walk made.
 #[repr(C)]
 pub struct Driven {
     pub refusal: u64,
@@ -100,7 +100,11 @@ fn drive(
     out: &mut [i64],
 ) -> Driven
     requires { ⌜ PartsIn n (now lv) (now lm) m (now rv) (now rm) (now out) ⌝ }
-    ensures { λ r. ⌜ Drives walked strategy (rowsOf 1 n (now (lv .entry)) (now (lm .entry))) (rowsOf 1 m (now (rv .entry)) (now (rm .entry))) (unsorted walked strategy (rowsOf 1 n (now (lv .entry)) (now (lm .entry))) (rowsOf 1 m (now (rv .entry)) (now (rm .entry)))) (now (out .entry)) r (now (out .exit)) ⌝ }
+    ensures { λ r.
+        let ls = rowsOf 1 n (now (lv .entry)) (now (lm .entry)) in
+        let rs = rowsOf 1 m (now (rv .entry)) (now (rm .entry)) in
+        let answers = Drives walked strategy ls rs (unsorted walked strategy ls rs) in
+        ⌜ answers (now (out .entry)) r (now (out .exit)) ⌝ }
 {
     let o = key_options(strategy);
     if !walked {
@@ -125,7 +129,12 @@ fn drive(
 
 // The same of two frames, any words, into any output.
 fn call(walked: bool, strategy: u8, left: &[i64], right: &[i64], out: &mut [i64]) -> Driven
-    ensures { λ r. ⌜ Drives walked strategy (frameRows 1 (now (left .entry))) (frameRows 1 (now (right .entry))) (refusalOf walked strategy (now (left .entry)) (now (right .entry)) (length (now (out .entry)))) (now (out .entry)) r (now (out .exit)) ⌝ }
+    ensures { λ r.
+        let ls = now (left .entry) in
+        let rs = now (right .entry) in
+        let refusal = refusalOf walked strategy ls rs (length (now (out .entry))) in
+        let answers = Drives walked strategy (frameRows 1 ls) (frameRows 1 rs) refusal in
+        ⌜ answers (now (out .entry)) r (now (out .exit)) ⌝ }
 {
     let refusal = judge(strategy, left, right, out.len());
     if refusal != 0 {
@@ -159,7 +168,12 @@ pub extern "C" fn scanwalk_scan(
     right: &[i64],
     out: &mut [i64],
 ) -> Driven
-    ensures { λ r. ⌜ Drives false strategy (frameRows 1 (now (left .entry))) (frameRows 1 (now (right .entry))) (refusalOf false strategy (now (left .entry)) (now (right .entry)) (length (now (out .entry)))) (now (out .entry)) r (now (out .exit)) ⌝ }
+    ensures { λ r.
+        let ls = now (left .entry) in
+        let rs = now (right .entry) in
+        let refusal = refusalOf false strategy ls rs (length (now (out .entry))) in
+        let answers = Drives false strategy (frameRows 1 ls) (frameRows 1 rs) refusal in
+        ⌜ answers (now (out .entry)) r (now (out .exit)) ⌝ }
 {
     call(false, strategy, left, right, out)
 }
@@ -172,7 +186,12 @@ pub extern "C" fn scanwalk_walk(
     right: &[i64],
     out: &mut [i64],
 ) -> Driven
-    ensures { λ r. ⌜ Drives true strategy (frameRows 1 (now (left .entry))) (frameRows 1 (now (right .entry))) (refusalOf true strategy (now (left .entry)) (now (right .entry)) (length (now (out .entry)))) (now (out .entry)) r (now (out .exit)) ⌝ }
+    ensures { λ r.
+        let ls = now (left .entry) in
+        let rs = now (right .entry) in
+        let refusal = refusalOf true strategy ls rs (length (now (out .entry))) in
+        let answers = Drives true strategy (frameRows 1 ls) (frameRows 1 rs) refusal in
+        ⌜ answers (now (out .entry)) r (now (out .exit)) ⌝ }
 {
     call(true, strategy, left, right, out)
 }

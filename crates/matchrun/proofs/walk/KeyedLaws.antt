@@ -7,6 +7,7 @@ use native.Mathlib.Omega.{arith}
 use native.Mathlib.Decide.{decLt}
 use lib.Dec.{ltb}
 use lib.IntN.{ℤ, pos, natAbs, _-ℤ_}
+use lib.ListN.{length}
 use lib.Signed.{leZ}
 use Rattle.frames.specs.Cells.{Cell, value, Words, rowFrom}
 use Rattle.order.specs.options.Options.{strategyOf, keyRule}
@@ -16,22 +17,24 @@ use Rattle.order.specs.declared.Order.{Order}
 use Rattle.order.specs.declared.Order.the-variants.{Less, Equal, Greater}
 use Rattle.order.specs.declared.options.Strategy.{Strategy}
 use Rattle.order.specs.declared.options.Strategy.the-variants.{Backward, Forward, Nearest}
-use Rattle.matching.specs.Match.{nobody, onSide, fits, choose, tolerate, matchIn}
-use Rattle.matching.specs.Moves.{keyAt, NotAbove, Rising, fitsKey, Behind, Stopped, CursorAt}
+use Rattle.matching.specs.Match.{nobody, onSide, nearer, fits, choose, tolerate, matchIn}
+use Rattle.matching.specs.Moves.{keyAt, NotAbove, Rising, fitsKey, Behind, Stopped, CursorAt, passesRow, goesOn, walkOn}
 use Rattle.matching.specs.Stretches.{between, hitAt}
 use Rattle.matching.specs.declared.Choice.{Choice}
 use Rattle.matching.specs.declared.Choice.the-variants.{Nothing}
 use Rattle.matching.proofs.ChoiceLaws.{choose-dead}
 use Rattle.matching.proofs.MayLaws.{never, is-false}
 use Rattle.matching.proofs.BestLaws.{key-at, none-far, row-near}
-use Rattle.matching.proofs.CursorLaws.{back-up, back-down}
+use Rattle.matching.proofs.WalkLaws.{between-none, between-more}
+use Rattle.matching.proofs.CursorLaws.{back-up, back-down, near-stop}
+use Rattle.matching.proofs.MoveLaws.{row-walked}
 use Rattle.matching.proofs.RestLaws.{all-between, rest-hit}
 use Rattle.matchrun.specs.advance.Below.{valueAt, keyed, below}
 use Rattle.matchrun.specs.choices.Choices.{unlessFar}
 use Rattle.matchrun.specs.walk.Keyed.{Marked}
 
 -- Forward's side is where Backward's is not, with equality the other way.
-fore-not : (eq : Bool) (z : Order) → onSide Forward eq z ≡ not (onSide Backward (not eq) z)
+pub fore-not : (eq : Bool) (z : Order) → onSide Forward eq z ≡ not (onSide Backward (not eq) z)
 fore-not true Less = refl
 fore-not true Equal = refl
 fore-not true Greater = refl
@@ -134,6 +137,53 @@ module _ (o : Options) (w at end : ℕ) (vs ms : Words) (marked : Marked o w at 
   pub near-rests : strategyOf o ≡ Nearest → (c : ℕ) → at ≤ c → c < end → Behind Nearest true (keyed w (o .by) vs) at (value v) c → Stopped Nearest true (keyed w (o .by) vs) end (value v) c
       → unlessFar (o .tolerance) v (val c) (first + c) ≡ matchIn o (first + at) (between w at end vs ms) x
   near-rests told c l h b st = rests-at Nearest told c l h b st refl
+
+-- ---- the moves for left row i, by which the right cursor comes from row c to row d
+module _ (o : Options) (wl from to : ℕ) (lv lm : Words) (ml : Marked o wl from to lv lm) (w at end : ℕ) (vs ms : Words) (mr : Marked o w at end vs ms) where
+  -- Whether it passes row k.
+  abbrev passes : ℕ → ℕ → Bool
+  passes i k = passesRow o (strategyOf o) (keyed wl (o .by) lv i) (keyed w (o .by) vs k) (between w (k + 1) end vs ms)
+
+  pub row-counted : (i : ℕ) → from ≤ i → i < to → (c d : ℕ) → at ≤ c → c ≤ d → d ≤ end → ((k : ℕ) → c ≤ k → k < d → passes i k ≡ true) → (d < end → passes i d ≡ false)
+      → length (walkOn o (between wl i to lv lm) (between w c end vs ms)) ≡ (d - c) + 1 + length (walkOn o (between wl (i + 1) to lv lm) (between w d end vs ms))
+  row-counted i l h c d g t m on stop =
+      rw (between-more wl lv lm i to h)
+      (row-walked o w end vs ms (rowFrom wl (i * wl) lv lm) (between wl (i + 1) to lv lm) c d t m (λ k p q. goes true k (omega arith) (omega arith) (on k p q)) (rests (decLt d end)))
+    where
+      goes : (b : Bool) (k : ℕ) → at ≤ k → k < end → passes i k ≡ b → goesOn o (rowFrom wl (i * wl) lv lm) (between w k end vs ms) ≡ b
+      goes b k p q e = rw (between-more w vs ms k end q, key-at o wl to lv lm (ml .rows) i h, ml .keys i l h, key-at o w end vs ms (mr .rows) k q, mr .keys k p q) e
+
+      rests : Dec (d < end) → goesOn o (rowFrom wl (i * wl) lv lm) (between w d end vs ms) ≡ false
+      rests (yes q) = goes false d (omega arith) q (stop q)
+      rests (no q) = let z : d ≡ end = omega arith in rw (z, between-none w vs ms end)
+
+  -- Nearest passes row k for a next one that takes its place.
+  near-next : (v a : Cell) (k : ℕ) → at ≤ k → k + 1 < end → passesRow o Nearest v a (between w (k + 1) end vs ms) ≡ nearer v (keyed w (o .by) vs (k + 1)) a
+  near-next v a k l h = rw (between-more w vs ms (k + 1) end h, key-at o w end vs ms (mr .rows) (k + 1) h, mr .keys (k + 1) (omega arith) h)
+
+  pub near-counted : strategyOf o ≡ Nearest → Rising (keyed w (o .by) vs) at end → (i : ℕ) → from ≤ i → i < to → (c d : ℕ) → at ≤ c → c ≤ d → d < end
+      → Behind Nearest true (keyed w (o .by) vs) c (keyed wl (o .by) lv i) d → Stopped Nearest true (keyed w (o .by) vs) end (keyed wl (o .by) lv i) d
+      → length (walkOn o (between wl i to lv lm) (between w c end vs ms)) ≡ (d - c) + 1 + length (walkOn o (between wl (i + 1) to lv lm) (between w d end vs ms))
+  near-counted told up i l h c d g t m behind stopped = row-counted i l h c d g t (omega arith) (λ k p q. rw told (on k p q)) (λ q. rw told (stops (decLt (d + 1) end)))
+    where
+      v : Cell
+      v = keyed wl (o .by) lv i
+
+      key : ℕ → Cell
+      key k = keyed w (o .by) vs k
+
+      -- were it to stop before row d, row d would not take the place of what it stopped at
+      by : (b : Bool) (k : ℕ) → c ≤ k → k < d → nearer v (key (k + 1)) (key k) ≡ b → nearer v (key (k + 1)) (key k) ≡ true
+      by true k p q e = e
+      by false k p q e =
+          absurd (never (nearer v (key d) (key k)) (behind k p q) (near-stop v (key k) (key (k + 1)) (key d) refl refl (up k (k + 1) (omega arith) (omega arith) (omega arith)) (up (k + 1) d (omega arith) (omega arith) m) e))
+
+      on : (k : ℕ) → c ≤ k → k < d → passesRow o Nearest v (key k) (between w (k + 1) end vs ms) ≡ true
+      on k p q = near-next v (key k) k (omega arith) (omega arith) ∙ by (nearer v (key (k + 1)) (key k)) k p q refl
+
+      stops : Dec (d + 1 < end) → passesRow o Nearest v (key d) (between w (d + 1) end vs ms) ≡ false
+      stops (yes q) = near-next v (key d) d (omega arith) q ∙ stopped q
+      stops (no q) = let z : d + 1 ≡ end = omega arith in rw (z, between-none w vs ms end)
 
 -- Where a row begins that is not the first.
 pub row-before : (n w : ℕ) → 0 < n → n * w ≡ (n - 1) * w + w

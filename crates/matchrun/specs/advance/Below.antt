@@ -39,10 +39,9 @@ pub record AtPlace (w end : ℕ) (vs : Words) (at p : ℕ) : Type 0 where
   pub start : at * w ≤ p
   pub wide : p < at * w + w
 
--- Row r is the first of at..end whose key does not pass the test, or all do and r is `end`.
+-- The cursor moved on from row `at` to the first row of at..end whose key does not pass the test, or to `end` where all do: one move for each row before it.
 pub record Skipped (w by at end : ℕ) (vs : Words) (test : ℤ → Bool) (r : Position) : Type 0 where
-  pub upward : at ≤ r .row
-  pub within : r .row ≤ end
-  pub place : r .place ≡ r .row * w + by
-  pub before : (k : ℕ) → at ≤ k → k < r .row → test (valueAt w by vs k) ≡ true
-  pub stop : r .row < end → test (valueAt w by vs (r .row)) ≡ false
+  pub within : at + r .moved ≤ end
+  pub place : r .place ≡ (at + r .moved) * w + by
+  pub before : (k : ℕ) → at ≤ k → k < at + r .moved → test (valueAt w by vs k) ≡ true
+  pub stop : at + r .moved < end → test (valueAt w by vs (at + r .moved)) ≡ false

@@ -18,10 +18,9 @@ closes v a b = nearer (value v) (value b) (value a)
 abbrev pub stepsOn : Bool → Bool → ℕ
 stepsOn a b = cond a (cond b 2 1) 0
 
--- The cursor moved on for Nearest from row `at` to row r, one of the rows up to `end`, and rests there for v.
+-- The cursor moved on for Nearest from row `at` to one of the rows up to `end`, one move for each row before that, and rests there for v.
 pub record Approached (w by at end : ℕ) (vs : Words) (v : ℤ) (r : Position) : Type 0 where
-  pub upward : at ≤ r .row
-  pub there : r .row < end
-  pub place : r .place ≡ r .row * w + by
-  pub behind : (start : ℕ) → start ≤ at → Rising (keyed w by vs) start end → Behind Nearest true (keyed w by vs) start (value v) at → Behind Nearest true (keyed w by vs) start (value v) (r .row)
-  pub stopped : Stopped Nearest true (keyed w by vs) end (value v) (r .row)
+  pub there : at + r .moved < end
+  pub place : r .place ≡ (at + r .moved) * w + by
+  pub behind : (start : ℕ) → start ≤ at → Rising (keyed w by vs) start end → Behind Nearest true (keyed w by vs) start (value v) at → Behind Nearest true (keyed w by vs) start (value v) (at + r .moved)
+  pub stopped : Stopped Nearest true (keyed w by vs) end (value v) (at + r .moved)

@@ -7,7 +7,7 @@ use Rattle.frames.specs.Cells.{Words}
 use Rattle.order.specs.Requires.{RowsIn}
 use Rattle.order.specs.declared.options.Options.{Options}
 use Rattle.matching.specs.Match.{matchIn}
-use Rattle.matching.specs.Moves.{Rising, keyAt}
+use Rattle.matching.specs.Moves.{Rising, keyAt, walkOn}
 use Rattle.matching.specs.Stretches.{between, lay}
 use Rattle.matchrun.specs.advance.Below.{keyed}
 
@@ -31,9 +31,9 @@ pub record Marked (o : Options) (w from to : ℕ) (vs ms : Words) : Type 0 where
   pub rows : RowsIn o w to vs ms
   pub keys : (k : ℕ) → from ≤ k → k < to → keyAt o w vs ms k ≡ keyed w (o .by) vs k
 
--- The right cursor has come to row r; whatever the marks are by which each row has a key, the choices are those of the scan.
+-- Whatever the marks are by which each row has a key: r moves were made, one for each row that a cursor passed, and the choices are those of the scan.
 pub record Walked (o : Options) (wl m : ℕ) (lv : Words) (from to wr : ℕ) (rv : Words) (at end number : ℕ) (out : Words) (r : ℕ) (out' : Words) : Type 0 where
-  pub upward : at ≤ r
-  pub within : r ≤ end
+  pub counted : (lm rm : Words) → Marked o wl from to lv lm → Marked o wr at end rv rm
+      → r ≡ length (walkOn o (between wl from to lv lm) (between wr at end rv rm))
   pub laid : (lm rm : Words) → Marked o wl from to lv lm → Marked o wr at end rv rm
       → out' ≡ lay m from (map (matchIn o (number + at) (between wr at end rv rm)) (between wl from to lv lm)) out

@@ -68,7 +68,7 @@ returns-3 c =
     let k = b .before .before .before in
     let a = k .before .args in
     let e = c .before .walk-run .ensures in
-    walks (a .strategy) (a .n) (now (a .lv)) (now (a .lm)) (a .m) (now (a .rv)) (now (a .rm)) (now (a .out)) (a .walked) (not-false (a .walked) (b .before .before .if1 .left)) (both b) _ _ (e .0) (rw (k .key-options .ensures) at (e .1))
+    walks (a .strategy) (a .n) (now (a .lv)) (now (a .lm)) (a .m) (now (a .rv)) (now (a .rm)) (now (a .out)) (a .walked) (not-false (a .walked) (b .before .before .if1 .left)) (both b) _ _ (rw (k .key-options .ensures) at (e .0)) (rw (k .key-options .ensures) at (e .1))
 
 pub drive-spec : {M : Type 1} → statement M
 drive-spec =

@@ -1,7 +1,7 @@
 use mathlib.Core.Path.{_≡_, refl, sym, _∙_}
 use mathlib.Core.Bool.{true, not}
 use mathlib.Core.List.{map}
-use Prim.Native.Nat.{ℕ, _+_, _-_, _*_, _≤_, _<_}
+use Prim.Native.Nat.{ℕ, _+_, _-_, _*_, _^_, _≤_, _<_}
 use native.Mathlib.Nat.{mul-le-mul-right}
 use native.Mathlib.Omega.{arith}
 use denote.Ref.{now}
@@ -9,33 +9,39 @@ use lib.IntN.{ℤ, pos}
 use lib.ListN.{length, getD}
 use mir.Syntax.{w64}
 use mir.Val.{toZ, ofZ}
-use Rattle.frames.specs.Cells.{Words, rowFrom}
+use Rattle.frames.specs.Cells.{value, Words, rowFrom}
 use Rattle.frames.proofs.Signed.{back}
-use Rattle.order.specs.options.Options.{withoutList}
+use Rattle.order.specs.options.Options.{withoutList, keyRule}
+use Rattle.order.specs.Order.{cmpCell}
 use Rattle.order.proofs.RowLaws.{row-room}
 use Rattle.matching.specs.Match.{matchIn}
 use Rattle.matching.specs.Loops.{Small}
+use Rattle.matching.specs.Moves.{walkOn}
 use Rattle.matching.specs.Stretches.{between, lay}
 use Rattle.matching.specs.declared.Choice.the-variants.{Nothing}
 use Rattle.matching.proofs.BestLaws.{key-at}
+use Rattle.matching.proofs.MoveLaws.{lefts-done}
 use Rattle.matching.proofs.LayLaws.{lay-more, lay-done}
 use Rattle.matchrun.specs.advance.Below.{valueAt, keyed, below, HasNext, Skipped}
 use Rattle.matchrun.specs.choices.Choices.{unlessFar}
 use Rattle.matchrun.specs.walk.Keyed.{Marked}
-use Rattle.matchrun.proofs.walk.KeyedLaws.{Reached, reached-here, below-later, below-on, fore-choice}
+use Rattle.matchrun.proofs.walk.KeyedLaws.{row-counted, Reached, reached-here, below-later, below-on, fore-not, fore-choice}
 use Rattle.matchrun.proofs.walk.forward.Statement.{statement}
 use Rattle.matchrun.proofs.walk.forward.Tie as tie
 
 abbrev Inv-loop : tie.InvT-loop
-Inv-loop lv m wl from to rv wr at end number o out₀ by stop row₀ place₀ i₀ p₀ out row place i p =
+Inv-loop lv m wl from to rv wr at end number o out₀ by stop row₀ place₀ i₀ p₀ moves₀ out row place i p moves =
     (from ≤ i) × (i ≤ to) × (length out ≡ length out₀) × (at ≤ row) × (row ≤ end) × (place ≡ row * wr + o .by) × (p ≡ i * wl + o .by)
     × ((u : ℤ) → Reached (keyed wl (o .by) lv) from i u → (k : ℕ) → at ≤ k → k < row → below (not (o .«allow_eq»)) u (valueAt wr (o .by) rv k) ≡ true)
     × ((lm rm : Words) → Marked (withoutList o) wl from to lv lm → Marked (withoutList o) wr at end rv rm
     → lay m from (map (matchIn (withoutList o) (number + at) (between wr at end rv rm)) (between wl from to lv lm)) out₀
     ≡ lay m i (map (matchIn (withoutList o) (number + at) (between wr at end rv rm)) (between wl i to lv lm)) out)
+    × (moves ≡ (i - from) + (row - at))
+    × ((lm rm : Words) → Marked (withoutList o) wl from to lv lm → Marked (withoutList o) wr at end rv rm
+    → length (walkOn (withoutList o) (between wl from to lv lm) (between wr at end rv rm)) ≡ moves + length (walkOn (withoutList o) (between wl i to lv lm) (between wr row end rv rm)))
 
 abbrev μ-loop : tie.MeasureT-loop
-μ-loop lv m wl from to rv wr at end number o out₀ by stop row₀ place₀ i₀ p₀ out row place i p = to - i
+μ-loop lv m wl from to rv wr at end number o out₀ by stop row₀ place₀ i₀ p₀ moves₀ out row place i p moves = to - i
 
 -- row i ends within the left rows
 room : (c : tie.In-loop Inv-loop μ-loop) → let a = c .before .before .before .args in c .before .loop .i * a .wl + a .wl ≤ a .to * a .wl
@@ -45,7 +51,10 @@ room c = let a = c .before .before .before .args in row-room (c .before .loop .i
 abbrev left : tie.In-loop Inv-loop μ-loop → ℤ
 left c = let a = c .before .before .before .args in valueAt (a .wl) (a .o .by) (now (a .lv)) (c .before .loop .i)
 
--- where the cursor has come to
+-- the row that the cursor has come to, and how
+abbrev come : tie.After-advance Inv-loop μ-loop → ℕ
+come c = c .before .before .before .before .loop .row + c .advance .result .moved
+
 came : (c : tie.After-advance Inv-loop μ-loop) →
     let a = c .before .before .before .before .before .before .args in
     let l = c .before .before .before .before .loop in
@@ -59,20 +68,20 @@ came c =
 -- all that it has passed is below the key of row i
 passed : (c : tie.After-advance Inv-loop μ-loop) →
     let a = c .before .before .before .before .before .before .args in
-    (k : ℕ) → a .at ≤ k → k < c .advance .result .row → below (not (a .o .«allow_eq»)) (left (c .before .before .before)) (valueAt (a .wr) (a .o .by) (now (a .rv)) k) ≡ true
+    (k : ℕ) → a .at ≤ k → k < come c → below (not (a .o .«allow_eq»)) (left (c .before .before .before)) (valueAt (a .wr) (a .o .by) (now (a .rv)) k) ≡ true
 passed c =
     let s = c .before .before .before .before .before .before in
     let a = s .args in
     let l = c .before .before .before .before .loop in
     let v = left (c .before .before .before) in
     let here = reached-here (keyed (a .wl) (a .o .by) (now (a .lv))) (a .from) (a .to) (s .pre .0 .left-rising) (l .i) (c .before .before .before .loop-test .taken) v refl in
-    below-on (not (a .o .«allow_eq»)) (valueAt (a .wr) (a .o .by) (now (a .rv))) (a .at) v (l .row) (c .advance .result .row) (l .inv .7 v here) (came c .before)
+    below-on (not (a .o .«allow_eq»)) (valueAt (a .wr) (a .o .by) (now (a .rv))) (a .at) v (l .row) (come c) (l .inv .7 v here) (came c .before)
 
 -- what `choice_fore` says of it
 told : (c : tie.After-choice-fore Inv-loop μ-loop) →
     let d = c .before .before in
     let a = d .before .before .before .before .before .before .args in
-    let n = d .advance .result .row in
+    let n = come d in
     Small (c .choice-fore .result) × (n ≡ a .end → c .choice-fore .result ≡ Nothing)
     × (n < a .end → c .choice-fore .result ≡ unlessFar (a .o .tolerance) (left (d .before .before .before)) (valueAt (a .wr) (a .o .by) (now (a .rv)) n) (a .number + n))
 told c =
@@ -93,9 +102,9 @@ choice c lm rm ml mr =
     let s = i .before .before .before in
     let a = s .args in
     let l = i .before .loop in
-    let n = d .advance .result .row in
+    let n = come d in
     let g = came d in
-    let h : a .at ≤ n = omega (arith, l .inv .3, g .upward) in
+    let h : a .at ≤ n = omega (arith, l .inv .3) in
     let ex = key-at (withoutList (a .o)) (a .wl) (a .to) (now (a .lv)) lm (ml .rows) (l .i) (i .loop-test .taken) ∙ ml .keys (l .i) (l .inv .0) (i .loop-test .taken) in
     fore-choice (withoutList (a .o)) (a .wr) (a .at) (a .end) (now (a .rv)) rm mr (s .pre .0 .right-rising) (a .number) (rowFrom (a .wl) (l .i * a .wl) (now (a .lv)) lm) (left i) ex
     (not (a .o .«allow_eq»)) n h (passed d) (g .stop) (s .pre .1) refl (g .within) (c .choice-fore .result) (told c .1) (told c .2)
@@ -105,6 +114,14 @@ starts : (s : tie.Start Inv-loop μ-loop) → let a = s .args in (a .from * a .w
 starts s =
     let a = s .args in
     (mul-le-mul-right {m = a .from} {n = a .to} (a .wl) (s .pre .0 .upward), mul-le-mul-right {m = a .at} {n = a .end} (a .wr) (s .pre .0 .run))
+
+-- as many moves as both runs have rows are a word
+few-moves : (s : tie.Start Inv-loop μ-loop) → s .args .to + s .args .end < 2 ^ 63 + 2 ^ 63
+few-moves s =
+    let a = s .args in
+    let p = s .pre .0 in
+    let m = mul-le-mul-right {m = 1} {n = a .wl} (a .to) (omega (arith, p .left-wide)) in
+    omega (arith, m, p .left-values, p .numbers, s .good .0)
 
 fours-to-requires : tie.Need-fours-to-requires Inv-loop μ-loop
 fours-to-requires c κs = let p = c .pre .0 in (p .left-wide, p .left-values, p .upward, p .run, p .left-rising)
@@ -124,7 +141,7 @@ add-p c = let p = c .before .pre .0 in omega (arith, starts (c .before) .0, p .l
 loop-holds : tie.Need-loop-holds Inv-loop μ-loop
 loop-holds c =
     let p = c .before .pre .0 in
-    (omega arith, p .upward, refl, omega arith, p .run, refl, refl, λ u r k l h. absurd (omega (arith, l, h)), λ lm rm ml mr. refl)
+    (omega arith, p .upward, refl, omega arith, p .run, refl, refl, λ u r k l h. absurd (omega (arith, l, h)), λ lm rm ml mr. refl, omega arith, λ lm rm ml mr. omega arith)
 
 mul-v : tie.Need-mul-v Inv-loop μ-loop
 mul-v c = let r = room c in let p = c .before .before .before .pre .0 in omega (arith, p .left-wide, p .left-values, c .before .loop .inv .6)
@@ -148,17 +165,26 @@ advance-requires c κs =
     let l = i .before .loop in
     let e : l .place - l .row * a .wr ≡ a .o .by = omega (arith, l .inv .5) in (
       record { within = l .inv .4; values = p .right-values; start = omega (arith, l .inv .5); wide = omega (arith, l .inv .5, p .right-wide) },
-      i .before .before .fours-to .ensures .0,
-      rw e (λ i k g t h. p .right-rising i k (omega (arith, g, l .inv .3)) t h),
-      λ h. has-next (c .before) (omega (arith, h, l .inv .3)),
+      (i .before .before .fours-to .ensures .0,
+      (rw e (λ i k g t h. p .right-rising i k (omega (arith, g, l .inv .3)) t h),
+      λ h. has-next (c .before) (omega (arith, h, l .inv .3)))),
     )
+
+add-row : tie.Need-add-row Inv-loop μ-loop
+add-row c = omega (arith, came c .within, c .before .before .before .before .before .before .pre .0 .numbers)
+
+add-moves : tie.Need-add-moves Inv-loop μ-loop
+add-moves c =
+    let i = c .before .before .before in
+    let l = i .before .loop in
+    omega (arith, few-moves (i .before .before .before), i .loop-test .taken, came c .within, l .inv .0, l .inv .3, l .inv .9)
 
 choice-fore-requires : tie.Need-choice-fore-requires Inv-loop μ-loop
 choice-fore-requires c κs =
     let d = c .before in
     let s = d .before .before .before .before .before .before in
     let a = s .args in
-    let n = d .advance .result .row in
+    let n = come d in
     let g = came d in
     let p = s .pre .0 in
     (g .within, λ h. omega (arith, g .place, row-room n (a .end) (a .wr) h, p .right-values, p .right-wide), omega (arith, g .within, p .numbers))
@@ -180,6 +206,14 @@ add-p-2 c =
     let p = i .before .before .before .pre .0 in
     omega (arith, p .left-wide, p .left-values, i .before .loop .inv .6)
 
+add-moves-2 : tie.Need-add-moves-2 Inv-loop μ-loop
+add-moves-2 c =
+    let d = c .before .before .before .before .before in
+    let i = d .before .before .before in
+    let l = i .before .loop in
+    let g = came d in
+    omega (arith, few-moves (i .before .before .before), i .loop-test .taken, g .within, l .inv .0, l .inv .3, l .inv .9)
+
 loop-less : tie.Need-loop-less Inv-loop μ-loop
 loop-less c = omega (arith, c .before .before .before .before .before .before .before .before .loop-test .taken)
 
@@ -193,12 +227,12 @@ loop-again c =
     let l = i .before .loop in
     let t = i .loop-test .taken in
     let g = came d in
-    let n = d .advance .result .row in
+    let n = come d in
     let z : (l .i + 1) * a .wl ≡ l .i * a .wl + a .wl = omega arith in (
       omega (arith, l .inv .0),
       omega (arith, t),
       c .before .put .kept .0 ∙ l .inv .2,
-      omega (arith, l .inv .3, g .upward),
+      omega (arith, l .inv .3),
       g .within,
       g .place,
       omega (arith, z, l .inv .6),
@@ -206,6 +240,11 @@ loop-again c =
       λ lm rm ml mr.
           let f = matchIn (withoutList (a .o)) (a .number + a .at) (between (a .wr) (a .at) (a .end) (now (a .rv)) rm) in
           l .inv .8 lm rm ml mr ∙ lay-more (a .m) f (a .wl) (now (a .lv)) lm (l .i) (a .to) (l .out) t ∙ rw (c .before .put .ensures, choice e lm rm ml mr),
+      omega (arith, g .within, l .inv .0, l .inv .3, l .inv .9),
+      λ lm rm ml mr.
+          let k = row-counted (withoutList (a .o)) (a .wl) (a .from) (a .to) (now (a .lv)) lm ml (a .wr) (a .at) (a .end) (now (a .rv)) rm mr
+              (l .i) (l .inv .0) t (l .row) n (l .inv .3) (omega arith) (g .within) (λ k p q. rw (s .pre .1, fore-not (a .o .«allow_eq») (cmpCell keyRule (keyed (a .wr) (a .o .by) (now (a .rv)) k) (value (left i))), g .before k p q)) (λ q. rw (s .pre .1, fore-not (a .o .«allow_eq») (cmpCell keyRule (keyed (a .wr) (a .o .by) (now (a .rv)) n) (value (left i))), g .stop q)) in
+          omega (arith, k, l .inv .10 lm rm ml mr),
     )
 
 same-length : tie.Need-same-length Inv-loop μ-loop
@@ -217,8 +256,9 @@ returns c =
     let a = c .before .before .before .args in
     let e : l .i ≡ a .to = omega (arith, c .loop-test .left, l .inv .1) in
     record {
-      upward = l .inv .3;
-      within = l .inv .4;
+      counted = λ lm rm ml mr.
+          let z = lefts-done (withoutList (a .o)) (a .wl) (a .to) (now (a .lv)) lm (between (a .wr) (l .row) (a .end) (now (a .rv)) rm) in
+          sym (l .inv .10 lm rm ml mr ∙ rw (e, z) (omega arith));
       laid = λ lm rm ml mr.
           let f = matchIn (withoutList (a .o)) (a .number + a .at) (between (a .wr) (a .at) (a .end) (now (a .rv)) rm) in
           sym (l .inv .8 lm rm ml mr ∙ rw e (lay-done (a .m) f (a .wl) (now (a .lv)) lm (a .to) (l .out)));
@@ -239,10 +279,13 @@ forward-spec =
     mul-v
     shared-slice-copy-out-v
     advance-requires
+    add-row
+    add-moves
     choice-fore-requires
     put-requires
     add-i
     add-p-2
+    add-moves-2
     loop-less
     loop-again
     same-length
