@@ -229,6 +229,23 @@ def shared():
         linked(new, ['-Wl,--whole-archive', archive, '-Wl,--no-whole-archive'])])
 
 
+def exported():
+    """The names of the calls, as the header declares them."""
+    with open(os.path.join(DIST, 'rowkeeper.h'), encoding='utf-8') as file:
+        return re.findall(r'(?m)^[a-z][a-z0-9_]* (rowkeeper_[a-z_]+)\(', file.read())
+
+
+def wasm():
+    """The path of the library as WebAssembly, without imports, from the C file by clang and its linker."""
+    judge_text('rowkeeper.c')
+    code = os.path.join(DIST, 'rowkeeper.c')
+    words = ['--target=wasm32', '-nostdlib', '-ffreestanding', '-O2', '-mbulk-memory', '-Wl,--no-entry', '-Wl,--stack-first',
+             '-Wl,--export=__heap_base', *[f'-Wl,--export={name}' for name in exported()]]
+    clang = os.environ.get('CLANG', 'clang')
+    return make(os.path.join(BUILD, 'rowkeeper.wasm'), f'{" ".join(words)} {file_sum(code)}',
+                lambda new: [[clang, *words, code, '-o', new]])
+
+
 def crate_archive(crate):
     """The path of another crate's archive, by the Rattle kit: for programs that measure what is inside the library."""
     total = source_sum(crate)
