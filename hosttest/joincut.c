@@ -7,7 +7,6 @@
  *
  *     joincut SEED CALLS     prints how often each answer and each case was met; status 1 at the first fault
  */
-#include <sys/mman.h>
 
 #include "groups.h"
 
@@ -414,11 +413,7 @@ int main(int argc, char **argv) {
     }
     lend_init(&groups_lend, TABLE_WORDS);
     lend_init(&out_lend, OUT_WORDS);
-    closed_areas = mmap(NULL, AREA_WORDS * sizeof(int64_t), PROT_NONE, MAP_PRIVATE | MAP_ANONYMOUS, -1, 0);
-    if (closed_areas == MAP_FAILED) {
-        fprintf(stderr, "joincut: no memory\n");
-        return 2;
-    }
+    closed_areas = lend_closed(AREA_WORDS);
     while (made < calls) {
         attempt a = any_attempt();
         try_call(&a);

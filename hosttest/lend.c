@@ -4,8 +4,13 @@
 #include <stdio.h>
 #include <stdlib.h>
 #include <string.h>
+
+#if defined(_WIN32)
+#include <windows.h>
+#else
 #include <sys/mman.h>
 #include <unistd.h>
+#endif
 
 #if defined(__SANITIZE_ADDRESS__)
 #include <sanitizer/asan_interface.h>
@@ -18,14 +23,50 @@
 #define GUARDS 16
 #define GUARD ((int64_t)0x5a5ac3c30f0f9696)
 
+#if defined(_WIN32)
+/* The size of a page. */
+static size_t page_size(void) {
+    SYSTEM_INFO info;
+    GetSystemInfo(&info);
+    return info.dwPageSize;
+}
+
+/* Pages that cannot be touched, or null. */
+static char *closed_pages(size_t bytes) { return VirtualAlloc(NULL, bytes, MEM_RESERVE, PAGE_NOACCESS); }
+
+/* Opens pages for reading and writing; whether that was possible. */
+static int open_pages(char *at, size_t bytes) { return VirtualAlloc(at, bytes, MEM_COMMIT, PAGE_READWRITE) != NULL; }
+#else
+/* The size of a page. */
+static size_t page_size(void) { return (size_t)sysconf(_SC_PAGESIZE); }
+
+/* Pages that cannot be touched, or null. */
+static char *closed_pages(size_t bytes) {
+    char *all = mmap(NULL, bytes, PROT_NONE, MAP_PRIVATE | MAP_ANONYMOUS, -1, 0);
+    return all == MAP_FAILED ? NULL : all;
+}
+
+/* Opens pages for reading and writing; whether that was possible. */
+static int open_pages(char *at, size_t bytes) { return mprotect(at, bytes, PROT_READ | PROT_WRITE) == 0; }
+#endif
+
+/* Ends the program. */
+static void no_memory(void) {
+    fprintf(stderr, "hosttest: no memory\n");
+    exit(2);
+}
+
+int64_t *lend_closed(size_t words) {
+    char *all = closed_pages(words * sizeof(int64_t));
+    if (all == NULL) no_memory();
+    return (int64_t *)(void *)all;
+}
+
 void lend_init(lend *a, size_t most) {
-    size_t page = (size_t)sysconf(_SC_PAGESIZE);
+    size_t page = page_size();
     size_t inner = ((most + 2 * GUARDS) * sizeof(int64_t) + page - 1) / page * page;
-    char *all = mmap(NULL, inner + 2 * page, PROT_NONE, MAP_PRIVATE | MAP_ANONYMOUS, -1, 0);
-    if (all == MAP_FAILED || mprotect(all + page, inner, PROT_READ | PROT_WRITE) != 0) {
-        fprintf(stderr, "hostile: no memory\n");
-        exit(2);
-    }
+    char *all = closed_pages(inner + 2 * page);
+    if (all == NULL || !open_pages(all + page, inner)) no_memory();
     a->pages = (int64_t *)(void *)(all + page);
     a->room = inner / sizeof(int64_t);
     a->at = a->pages;

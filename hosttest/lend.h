@@ -19,6 +19,9 @@ typedef struct lend {
     size_t len;     /* its length */
 } lend;
 
+/* Pages for this many words that cannot be touched at all; ends the program if there are none. */
+int64_t *lend_closed(size_t words);
+
 /* Makes the pages for slices of at most so many words; ends the program where there are none. */
 void lend_init(lend *a, size_t most);
 

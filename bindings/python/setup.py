@@ -19,8 +19,8 @@ sys.path.insert(0, HERE)
 from rowkeeper import library  # noqa: E402 (the package is in this folder)
 
 # What the shared object is made of and by, as the repository has it.
-NEEDED = ('dist/SOURCE', 'dist/rowkeeper.h', 'dist/rowkeeper.s', 'interface/rowkeeper.txt', 'tools/parts/__init__.py', 'tools/parts/library.py',
-          'tools/parts/sources.py', 'LICENSE', 'NOTICE')
+NEEDED = ('dist/SOURCE', 'dist/rowkeeper.c', 'dist/rowkeeper.h', 'dist/rowkeeper.s', 'interface/rowkeeper.txt', 'tools/parts/__init__.py',
+          'tools/parts/library.py', 'tools/parts/sources.py', 'LICENSE', 'NOTICE')
 
 
 class Build(build_py):

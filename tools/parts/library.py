@@ -1,12 +1,18 @@
 """The library as files that hosts link or load: made from dist/ by the C compiler, into build/, when they are missing or dist/ is
 another one. Everything that needs the library asks here.
 
-A file in build/ appears whole, under its own name, by a rename: two runs at the same time do no harm. Beside it a file with the
-ending .from holds the sum of what it was made of; if that is another one, it is made anew. No time of a file counts."""
+On x86-64 Linux they are made from the assembly text, elsewhere and where ROWKEEPER_FROM is c from the C file. If build/ cannot be
+written, they are made in the user's cache folder.
+
+A file in build/ appears whole, under its own name, by a rename, after it is on the disk: two runs at the same time do no harm, and
+neither does a machine that stops. Beside it a file with the ending .from holds the sum of what it was made of and its own sum. Each
+use compares both; a file that does not have them is made anew. No time of a file counts."""
 import contextlib
 import hashlib
 import os
+import platform
 import re
+import shlex
 import shutil
 import signal
 import subprocess
@@ -15,7 +21,27 @@ import tempfile
 from .sources import ROOT, Missing, file_sum, source_sum
 
 DIST, BUILD = os.path.join(ROOT, 'dist'), os.path.join(ROOT, 'build')
-TEXT, SOURCE = os.path.join(DIST, 'rowkeeper.s'), os.path.join(DIST, 'SOURCE')
+SOURCE = os.path.join(DIST, 'SOURCE')
+# The texts of the library in dist/, by the names of their sums in dist/SOURCE.
+SUMS = {'text': 'rowkeeper.s', 'c': 'rowkeeper.c'}
+
+
+def has_assembly():
+    """Whether the assembly text is for this machine."""
+    return (platform.system(), platform.machine()) == ('Linux', 'x86_64')
+
+
+def text_name():
+    """The text that the library is made from: the assembly where it is for this machine, unless ROWKEEPER_FROM asks for the C file."""
+    wanted = os.environ.get('ROWKEEPER_FROM', '')
+    if wanted not in ('', 'c'):
+        raise Missing(f"ROWKEEPER_FROM is '{wanted}': leave it out, or set it to c for the C file")
+    return 'rowkeeper.s' if has_assembly() and not wanted else 'rowkeeper.c'
+
+
+def text():
+    """The path of that text."""
+    return os.path.join(DIST, text_name())
 
 
 def soname():
@@ -50,10 +76,15 @@ def output_of(command, what):
 
 
 def compiler():
-    """The command of a C compiler."""
-    for name in (os.environ.get('CC'), 'cc', 'gcc', 'clang'):
-        if name and shutil.which(name):
-            return name
+    """The command of a C compiler, as words: CC, which may have arguments, or the first that is on the path."""
+    named = shlex.split(os.environ.get('CC', ''))
+    if named:
+        if shutil.which(named[0]):
+            return named
+        raise Missing(f'the library cannot be made: there is no {named[0]} on the path (CC names it)')
+    for name in ('cc', 'gcc', 'clang'):
+        if shutil.which(name):
+            return [name]
     raise Missing('the library cannot be made: there is no C compiler (cc) on the path')
 
 
@@ -66,14 +97,15 @@ def said_of_source():
         raise Missing('dist/SOURCE cannot be read: run tools/dist') from None
 
 
-def judge_text():
-    """Stops if the text in dist/ is not the one that dist/SOURCE names."""
+def judge_text(name):
+    """Stops if a text in dist/ is not the one that dist/SOURCE names."""
+    label = next(label for label, each in SUMS.items() if each == name)
     try:
-        if said_of_source().get('text') == file_sum(TEXT):
+        if said_of_source().get(label) == file_sum(os.path.join(DIST, name)):
             return
     except OSError as error:
-        raise Missing(f'dist/rowkeeper.s: {error.strerror}') from None
-    raise Missing('dist/rowkeeper.s was altered: it is not the text that dist/SOURCE names; git checkout dist, or run tools/dist')
+        raise Missing(f'dist/{name}: {error.strerror}') from None
+    raise Missing(f'dist/{name} was altered: it is not the text that dist/SOURCE names; git checkout dist, or run tools/dist')
 
 
 def stale():
@@ -84,34 +116,68 @@ def stale():
 
 
 def is_from(path, total):
-    """Whether a file is there and was made of this."""
+    """Whether a file is there, was made of this, and has the bytes that it was made with."""
     try:
         with open(f'{path}.from', encoding='utf-8') as file:
-            return file.read() == total and os.path.exists(path)
+            return file.read() == f'{total} {file_sum(path)}'
     except OSError:
         return False
 
 
-def make(path, total, commands):
-    """Makes a file unless it is made of this already: the commands, over a new name for it, then the rename."""
-    if is_from(path, total):
-        return path
+def on_disk(path):
+    """Waits until a file or a folder is on the disk."""
+    number = os.open(path, os.O_RDONLY)
     try:
-        os.makedirs(os.path.dirname(path), exist_ok=True)
-        folder = tempfile.mkdtemp(dir=os.path.dirname(path))
-    except OSError as error:
-        raise Missing(f'the library cannot be made: {os.path.dirname(path)}: {error.strerror}') from None
+        os.fsync(number)
+    finally:
+        os.close(number)
+
+
+def cache():
+    """The user's cache folder for this library, made if needed; nobody else may own it."""
+    base = os.environ.get('XDG_CACHE_HOME') or os.path.join(os.path.expanduser('~'), '.cache')
+    folder = os.path.join(base, 'rowkeeper')
+    os.makedirs(folder, mode=0o700, exist_ok=True)
+    if hasattr(os, 'getuid') and os.stat(folder).st_uid != os.getuid():
+        raise PermissionError(1, 'it belongs to another user', folder)
+    return folder
+
+
+def make_at(path, total, commands):
+    """Makes a file: the commands, over a new name for it, then the rename."""
+    os.makedirs(os.path.dirname(path), exist_ok=True)
+    folder = tempfile.mkdtemp(dir=os.path.dirname(path))
     try:
         new = os.path.join(folder, os.path.basename(path))
         for command in commands(new):
             output_of(command, 'the library cannot be made')
         with open(f'{new}.from', 'w', encoding='utf-8') as file:
-            file.write(total)
-        os.replace(new, path)
-        os.replace(f'{new}.from', f'{path}.from')
+            file.write(f'{total} {file_sum(new)}')
+        for each in (new, f'{new}.from'):
+            on_disk(each)
+        for ending in ('', '.from'):
+            os.replace(new + ending, path + ending)
+        on_disk(os.path.dirname(path))
     finally:
         shutil.rmtree(folder, ignore_errors=True)
     return path
+
+
+def make(path, total, commands):
+    """The path of a file below build/, which is made unless it is there whole and made of this. If build/ cannot be written, the file is
+    below the user's cache folder, under the sum of what it is made of."""
+    if is_from(path, total):
+        return path
+    try:
+        return make_at(path, total, commands)
+    except OSError as error:
+        reason = f'{os.path.dirname(path)}: {error.strerror}'
+    try:
+        kept = os.path.join(cache(), hashlib.sha256(total.encode()).hexdigest()[:16], os.path.basename(path))
+        return kept if is_from(kept, total) else make_at(kept, total, commands)
+    except OSError as error:
+        raise Missing(f'the library cannot be made: {reason}; and in the cache, {error.filename}: {error.strerror}; '
+                      'run make once as the owner of this folder') from None
 
 
 def named_archive():
@@ -124,8 +190,18 @@ def named_archive():
 
 def dist_sum():
     """What a file made from dist/ is made of."""
-    judge_text()
-    return f'{soname()} {file_sum(TEXT)}'
+    judge_text(text_name())
+    return f'{soname()} {file_sum(text())}'
+
+
+def below_build(name):
+    """The path of a file that is made from dist/: that of the C file has a folder of its own where the assembly is the usual one."""
+    return os.path.join(BUILD, 'c', name) if has_assembly() and text_name() == 'rowkeeper.c' else os.path.join(BUILD, name)
+
+
+def compiled():
+    """The text, and how it is compiled."""
+    return [text()] if text_name() == 'rowkeeper.s' else ['-O2', '-fPIC', text()]
 
 
 def static():
@@ -133,24 +209,41 @@ def static():
     archive = named_archive()
     if archive:
         return archive
-    command = compiler()
-    return make(os.path.join(BUILD, 'librowkeeper.a'), dist_sum(), lambda new: [
-        [command, '-c', TEXT, '-o', f'{new}.o'], [os.environ.get('AR', 'ar'), 'rcs', new, f'{new}.o']])
+    return make(below_build('librowkeeper.a'), dist_sum(), lambda new: [
+        [*compiler(), '-c', *compiled(), '-o', f'{new}.o'], [os.environ.get('AR', 'ar'), 'rcs', new, f'{new}.o']])
 
 
-def linked(command, new, parts):
-    """The command that links the shared object."""
-    return [command, '-shared', '-o', new, f'-Wl,-soname,{soname()}', '-Wl,-z,defs', *parts]
+def linked(new, parts):
+    """The command that links the shared object. Its name inside, and that nothing may be undefined, are words of Linux' linkers."""
+    words = [f'-Wl,-soname,{soname()}', '-Wl,-z,defs'] if platform.system() == 'Linux' else []
+    return [*compiler(), '-shared', '-o', new, *words, *parts]
 
 
 def shared():
     """The path of the shared object, for programs that load it and for the linker."""
-    archive, command = named_archive(), compiler()
+    archive = named_archive()
     if not archive:
-        return make(os.path.join(BUILD, soname()), dist_sum(), lambda new: [linked(command, new, [TEXT])])
+        return make(below_build(soname()), dist_sum(), lambda new: [linked(new, compiled())])
     name = hashlib.sha256(archive.encode()).hexdigest()[:12]
     return make(os.path.join(BUILD, 'other', name, soname()), f'{soname()} {file_sum(archive)}', lambda new: [
-        linked(command, new, ['-Wl,--whole-archive', archive, '-Wl,--no-whole-archive'])])
+        linked(new, ['-Wl,--whole-archive', archive, '-Wl,--no-whole-archive'])])
+
+
+def exported():
+    """The names of the calls, as the header declares them."""
+    with open(os.path.join(DIST, 'rowkeeper.h'), encoding='utf-8') as file:
+        return re.findall(r'(?m)^[a-z][a-z0-9_]* (rowkeeper_[a-z_]+)\(', file.read())
+
+
+def wasm():
+    """The path of the library as WebAssembly, without imports, from the C file by clang and its linker."""
+    judge_text('rowkeeper.c')
+    code = os.path.join(DIST, 'rowkeeper.c')
+    words = ['--target=wasm32', '-nostdlib', '-ffreestanding', '-O2', '-mbulk-memory', '-Wl,--no-entry', '-Wl,--stack-first',
+             '-Wl,--export=__heap_base', *[f'-Wl,--export={name}' for name in exported()]]
+    clang = os.environ.get('CLANG', 'clang')
+    return make(os.path.join(BUILD, 'rowkeeper.wasm'), f'{" ".join(words)} {file_sum(code)}',
+                lambda new: [[clang, *words, code, '-o', new]])
 
 
 def crate_archive(crate):

@@ -85,13 +85,14 @@ bare_path() {
 # Compiles C sources with the address and undefined-behaviour sanitizers, links them with the library, and prints the program's
 # path: where it goes, then the sources. Status 2 with one line if it cannot be built here, 1 if it does not build.
 build_c() {
-  local out=$1 compiler=${CC:-cc} archive
+  local out=$1 archive compiler
   shift
-  need "$compiler" python3
+  read -ra compiler <<<"${CC:-cc}"
+  need "${compiler[0]}" python3
   archive=$("$root/tools/library") || exit 2
   mkdir -p "$(dirname "$out")"
   # shellcheck disable=SC2086
-  "$compiler" -std=c99 -D_GNU_SOURCE -O1 -g -Wall -Wextra -Werror -fsanitize=address,undefined -fno-sanitize-recover=all \
+  "${compiler[@]}" -std=c99 -D_GNU_SOURCE -O1 -g -Wall -Wextra -Werror -fsanitize=address,undefined -fno-sanitize-recover=all \
     -I"$root/include" "$@" "$archive" ${LDLIBS:-} -o "$out" || exit 1
   echo "$out"
 }

@@ -10,7 +10,7 @@ from .interface import CALLS, SONAME, VERSION, VERSION_NUMBER
 HERE = os.path.dirname(os.path.realpath(__file__))
 # The repository, if this package is in it; or what an unpacked source archive has of it.
 ROOT = next((each for each in (os.path.dirname(os.path.dirname(os.path.dirname(HERE))), os.path.join(os.path.dirname(HERE), 'library'))
-             if os.path.exists(os.path.join(each, 'dist', 'rowkeeper.s')) and os.path.exists(os.path.join(each, 'tools', 'parts', 'library.py'))), None)
+             if os.path.exists(os.path.join(each, 'dist', 'SOURCE')) and os.path.exists(os.path.join(each, 'tools', 'parts', 'library.py'))), None)
 
 
 def below(*names):
