@@ -16,8 +16,8 @@ from .asof_join import judge_options
 from .columns import Column
 from .dataframes import column_of, keys_of, listed_of, modules, put_together, suffixed, whole_tolerance
 from .join import Refused
-from .pairs import append, cut_apart, join_pair, places, rows_between, seen
-from .tables import Table, cut, merge, words_of
+from .pairs import append, cut_apart, join_pair, places, rows_between, seen, table_words
+from .tables import Table, cut, merge
 
 try:
     import distributed
@@ -158,7 +158,7 @@ def join_tables(left, right, by=0, strategy='backward', allow_exact_matches=True
     client = client_of(client)
     order = {'by': by, 'descending': descending, 'nulls_last': nulls_last, 'ranks': ranks}
     options = {'strategy': strategy, 'allow_exact_matches': allow_exact_matches, 'tolerance': tolerance, **order}
-    left, right = (seen(words_of(each)) for each in (left, right))
+    left, right = table_words(left, 'left'), table_words(right, 'right')
     with told():
         if boundaries is None:
             count = parts_for(client, parts)
