@@ -59,7 +59,7 @@ def told():
     try:
         yield
     except (OSError, *LOST) as error:
-        if isinstance(error, OSError) and error.errno is not None:  # of a file, on a worker
+        if isinstance(error, Lost) or isinstance(error, OSError) and error.errno is not None:  # told already, or of a file on a worker
             raise
         raise lost('the cluster did not finish', error) from None
 
@@ -105,19 +105,21 @@ def too_long(timeout):
                 '(timeout= sets the limit)')
 
 
-def ended(tasks, timeout):
-    """Waits until all tasks have ended, well or not. Lost if none does for so many seconds: dask itself may wait for ever."""
+def ended(client, tasks, timeout):
+    """Waits until all tasks have ended, well or not. Lost if none does for so many seconds: dask itself may wait for ever. It waits as
+    the client that is current, which need not be the one of the tasks."""
     waiting = set(tasks)
-    while waiting:
-        try:
-            waiting = distributed.wait(waiting, timeout=timeout, return_when='FIRST_COMPLETED').not_done
-        except distributed.TimeoutError:
-            raise too_long(timeout) from None
+    with client.as_current():
+        while waiting:
+            try:
+                waiting = distributed.wait(waiting, timeout=timeout, return_when='FIRST_COMPLETED').not_done
+            except distributed.TimeoutError:
+                raise too_long(timeout) from None
 
 
-def results(tasks, timeout):
+def results(client, tasks, timeout):
     """What tasks give, in their order."""
-    ended(tasks, timeout)
+    ended(client, tasks, timeout)
     try:
         return [task.result(timeout=timeout) for task in tasks]
     except distributed.TimeoutError:
@@ -180,7 +182,7 @@ def sent_pairs(client, pairs, options, timeout):
 def answer_of(task, client, timeout):
     """The answer of a pair; None if its words were lost with a worker."""
     try:
-        return results([task], timeout)[0]
+        return results(client, [task], timeout)[0]
     except distributed.CancelledError:
         if client.status != 'running':
             raise
@@ -331,12 +333,12 @@ class Side:
 
     def ask(self, function, *words):
         """A function of each piece on the workers."""
-        return results([submit(self.client, function.__name__, function, piece, *words) for piece in self.pieces], self.timeout)
+        return results(self.client, [submit(self.client, function.__name__, function, piece, *words) for piece in self.pieces], self.timeout)
 
     def look(self):
         """Looks at all pieces. From here on each is checked whenever it is read: it must be as it was looked at."""
         tasks = [submit(self.client, 'looked', looked, c.VERSION, piece, self.keys, self.name) for piece in self.pieces]
-        self.looks = results(tasks, self.timeout)
+        self.looks = results(self.client, tasks, self.timeout)
         self.pieces = [submit(self.client, 'checked', checked, piece, look.mark, called)
                        for piece, look, called in zip(self.pieces, self.looks, self.called)]
         self.rows = sum(look.rows for look in self.looks)
@@ -488,7 +490,7 @@ def gathered(client, sides, plan, count, timeout):
     (lefts, left_rows), (rights, right_rows) = (side.cut(plan.kinds, plan.order, boundaries) for side in sides)
     tasks = [submit(client, 'pair', joined, c.VERSION, *pair, plan, sum(left_rows[:part]), sum(right_rows[:part]))
              for part, pair in enumerate(zip(lefts, rights))]
-    ended(tasks, timeout)
+    ended(client, tasks, timeout)
     for task in tasks:
         if task.status != 'finished':
             task.result()
