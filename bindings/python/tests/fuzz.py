@@ -61,6 +61,9 @@ def dressed_pair(r, left, right):
     kinds = fitting([cell for cell in (*left, *right) if cell is not None])
     kind = r.choice(kinds)
     other = r.choice([each for each in kinds if each[0] in 'iu']) if kind[0] in 'iu' else kind
+    if numpy and kind == 'u8' and r.random() < 0.8:
+        left, right = ([cell if cell is None else cell + 2**63 - 2 for cell in cells] for cells in (left, right))
+        other = kind
     return dressed(r, left, kind), dressed(r, right, other)
 
 

@@ -122,11 +122,10 @@ class Altered(unittest.TestCase):
 
     def test_outputs(self):
         """Outputs of a turn and of a run: what the call has written is there when it returns, whatever stood there meanwhile."""
-        wanted = self.joined().turn().matches.rows()
-        self.assertEqual(wanted, [(0, 0), (1, 0), (2, 1)])
+        wanted = self.joined().turn().matches
+        self.assertEqual(wanted.rows(), [(0, 0), (1, 0), (2, 1)])
         output = array('q', bytes(8 * 64))
-        for name, call in (('rowkeeper_turn', lambda: self.joined().turn(output).matches.rows()),
-                           ('rowkeeper_run', lambda: self.joined().run(None, output).turns[0].matches.rows())):
+        for name, call in (('rowkeeper_turn', lambda: self.joined().turn(output)), ('rowkeeper_run', lambda: self.joined().run(None, output))):
             real = getattr(library(), name)
 
             def during(*words):
@@ -136,8 +135,8 @@ class Altered(unittest.TestCase):
                 output[:] = array('q', [FAR]) * len(output)
                 return answer
             with self.subTest(name), mock.patch.object(library(), name, during):
-                self.assertEqual(call(), wanted)
-            self.assertEqual((output[0], output[14:].tolist()), (3, [FAR] * 50))
+                call()
+            self.assertEqual(output.tolist(), [*wanted.words, *[FAR] * 50])
 
     def test_own_words(self):
         """What a call wrote to words of its own cannot be altered."""
@@ -336,8 +335,31 @@ class Copies(unittest.TestCase):
                 plan(array('q', words), keys(1))
             self.assertEqual(refused.exception.number, BAD_FRAME)
 
+    def test_told_sequence(self):
+        """The number of a turn's frame is the one that the library answers, not one that was read before or after the call."""
+        join = Join()
+        join.end_right()
+        real = {name: getattr(join._library, name) for name in ('rowkeeper_turn', 'rowkeeper_run')}
+
+        def turn(*words):
+            """A turn whose answer has another number."""
+            answer = real['rowkeeper_turn'](*words)
+            answer.sequence = 40
+            return answer
+
+        def run(*words):
+            """A run that leaves another number."""
+            answer = real['rowkeeper_run'](*words)
+            answer.join.sequence += 40
+            return answer
+        with mock.patch.multiple(join._library, rowkeeper_turn=turn, rowkeeper_run=run):
+            join.left(keys(1))
+            self.assertEqual(join.turn().sequence, 40)
+            join.left(keys(1))
+            self.assertEqual([each.sequence for each in join.run().turns], [42])
+
     def test_sequence(self):
-        """Threads that share a join are told different numbers of frames, those of the library."""
+        """Threads that share a join are told different numbers of frames."""
         join, turns, frames = Join(check='off'), [], 2000
         join.end_right()
         lock = threading.Lock()
