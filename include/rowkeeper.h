@@ -64,7 +64,8 @@
  * A join is a value: every call takes one and returns the next. Go on with the join that the last call returned, and with
  * the areas as that call left them (free words may be altered: see AREAS). A join and its two areas contain no pointer: they
  * can be copied, or kept in a file and read back later, by another process. Nothing in them is trusted: every call checks
- * the join that comes in, and any words whatever in joins, areas and frames are safe. Words that encode no join are refused.
+ * the join that comes in, and any words whatever in joins, areas and frames are safe, as long as they stay what they are while
+ * the call runs (see POINTERS). Words that encode no join are refused.
  *
  * The first word of a join says its layout: the order and the meaning of all its words, and of those of its areas. It is
  * ROWKEEPER_LAYOUT in every join that this library returns. Promised from version to version: a saved join is read by every
@@ -174,6 +175,10 @@
  * - A pointer must be aligned to 8 bytes and lead to as many words as its length says. If the length is 0, any pointer will
  *   do, also null: nothing is read or written through it.
  * - What a call may write (a pointer that is not const) must not overlap anything else that the same call is given.
+ * - Nobody alters what a call is given, const or not, until the call returns: no other thread, no signal handler, no other
+ *   process that maps the same file. A call reads words again that it has checked. Every promise of this header about any
+ *   words is about words that do not change during the call; if they do, a call may read and write anywhere. Memory that
+ *   others can write must be copied first.
  * - All memory stays the host's. No call keeps a pointer: what is lent is the host's again when the call returns.
  * - A call never allocates, blocks, prints, exits, unwinds, sets errno or touches memory outside what it is lent.
  * - There is no global state: calls on different joins with different areas may run at the same time on any threads. One

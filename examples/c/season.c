@@ -14,17 +14,21 @@
  * The program can be killed at any moment and started again: it goes on where it stopped. After each call it keeps the
  * join, both areas and its place in the season in STATE, by writing a new file, syncing it and renaming it. Matches are
  * written and synced before the state that counts them, and what the state does not count is cut off when the program
- * starts again: so no match is lost and none is written twice. A state that was tampered with can give wrong matches, but
- * nothing worse: the library judges the join anew in every call.
+ * starts again: so no match is lost and none is written twice. A lock on STATE.lock, held until the program ends, keeps a
+ * second run from the same files. A state in which a byte was altered is refused by its checksum. A checksum is no seal: who
+ * writes a whole state with a checksum that fits can have wrong matches, but nothing worse, since the library judges the
+ * join anew in every call.
  */
 #include <errno.h>
 #include <fcntl.h>
 #include <inttypes.h>
 #include <libgen.h>
 #include <stdarg.h>
+#include <stddef.h>
 #include <stdio.h>
 #include <stdlib.h>
 #include <string.h>
+#include <sys/file.h>
 #include <sys/stat.h>
 #include <unistd.h>
 
@@ -36,6 +40,8 @@ enum { BY = 1, CARRIED = 1, COLUMNS = BY + 1, NOTICE_COLUMNS = COLUMNS + CARRIED
 enum { FRAME_ROWS = 8 };
 enum { FRAME_WORDS = 2 + 2 * FRAME_ROWS * NOTICE_COLUMNS, LEFT_WORDS = 2 + 2 * FRAME_ROWS * COLUMNS };
 enum { OUT_WORDS = 2 + 2 * FRAME_ROWS * MATCH_COLUMNS };
+/* The longest line of a season, in bytes, its end included. */
+enum { LINE_BYTES = 200 };
 
 /* A notice or a sale; a sale has no price. */
 typedef struct row {
@@ -51,6 +57,7 @@ typedef struct table {
 /* What is kept between calls, and written to STATE as it stands, followed by the words of the left and right areas. */
 typedef struct kept {
     uint64_t mark;          /* says that a file is such a state */
+    uint64_t checksum;      /* over all bytes of the file behind this word */
     uint64_t season;        /* a sum over the season's rows: a state goes on with its own season only */
     uint64_t notices, sales; /* rows that were handed in and accepted */
     uint64_t answered;      /* sales whose matches are written */
@@ -58,13 +65,13 @@ typedef struct kept {
     rowkeeper_join join;
 } kept;
 
-static const uint64_t MARK = 0x334e4f5341455300u;
+static const uint64_t MARK = 0x344e4f5341455300u;
 
 /* All that the program has. */
 typedef struct till {
     const char *state_name;
     char *new_name, *folder_name;
-    int matches;
+    int lock, matches;
     table notices, sales;
     kept kept;
     int64_t left[LEFT_WORDS];
@@ -92,32 +99,42 @@ static void add_row(table *t, row r) {
     t->rows[t->count++] = r;
 }
 
+/* Reads the next number of a line that strtok has begun; whether there is one, whole and of 64 bits. */
+static int next_number(int64_t *number) {
+    char *word = strtok(NULL, " \t\r"), *end;
+    if (word == NULL) return 0;
+    errno = 0;
+    *number = strtoll(word, &end, 10);
+    return errno == 0 && *end == '\0';
+}
+
 /* Reads a line of the season into its table; whether it is one. */
 static int read_line(till *t, char *line) {
     row r = {0, 0, 0};
-    char more;
+    char *word;
+    int notice;
     line[strcspn(line, "#\n")] = '\0';
-    if (line[strspn(line, " \t\r")] == '\0') return 1;
-    if (sscanf(line, " notice %" SCNd64 " %" SCNd64 " %" SCNd64 " %c", &r.performance, &r.minute, &r.pence, &more) == 3) {
-        add_row(&t->notices, r);
-        return 1;
-    }
-    if (sscanf(line, " sale %" SCNd64 " %" SCNd64 " %c", &r.performance, &r.minute, &more) == 2) {
-        add_row(&t->sales, r);
-        return 1;
-    }
-    return 0;
+    word = strtok(line, " \t\r");
+    if (word == NULL) return 1;
+    notice = strcmp(word, "notice") == 0;
+    if (!notice && strcmp(word, "sale") != 0) return 0;
+    if (!next_number(&r.performance) || !next_number(&r.minute) || (notice && !next_number(&r.pence))) return 0;
+    if (strtok(NULL, " \t\r") != NULL) return 0;
+    add_row(notice ? &t->notices : &t->sales, r);
+    return 1;
 }
 
-/* Reads the season. */
+/* Reads the season. A line that does not fit is refused: the rest of it would be read as another. */
 static void read_season(till *t, const char *name) {
-    char line[200];
+    char line[LINE_BYTES + 1];
     size_t number = 0;
     FILE *file = fopen(name, "r");
     if (file == NULL) die("%s: %s", name, strerror(errno));
     while (fgets(line, sizeof line, file) != NULL) {
         number++;
-        if (!read_line(t, line)) die("%s: line %zu is neither a notice nor a sale", name, number);
+        if (strchr(line, '\n') == NULL && !feof(file))
+            die("%s: line %zu is longer than %d bytes, or has a zero byte", name, number, LINE_BYTES);
+        if (!read_line(t, line)) die("%s: line %zu is neither a notice nor a sale of numbers of 64 bits", name, number);
     }
     if (ferror(file)) die("%s: %s", name, strerror(errno));
     fclose(file);
@@ -148,10 +165,25 @@ static void write_all(int file, const void *from, size_t size, const char *name)
     }
 }
 
+/* A sum over bytes, beside what was summed before: one altered byte always gives another (FNV-1a). */
+static uint64_t sum_bytes(const void *from, size_t size, uint64_t sum) {
+    const unsigned char *at = from;
+    while (size-- > 0) sum = (sum ^ *at++) * 0x100000001b3u;
+    return sum;
+}
+
+/* The checksum of the state as it would be written now. */
+static uint64_t checksum(const till *t) {
+    uint64_t sum = sum_bytes(&t->kept.season, sizeof t->kept - offsetof(kept, season), 0xcbf29ce484222325u);
+    sum = sum_bytes(t->left, sizeof t->left, sum);
+    return sum_bytes(t->right, t->right_words * sizeof *t->right, sum);
+}
+
 /* Keeps everything in STATE: a new file is written, synced and renamed, then its folder is synced. */
-static void keep(const till *t) {
+static void keep(till *t) {
     int file = open(t->new_name, O_WRONLY | O_CREAT | O_TRUNC, 0644), folder;
     if (file < 0) die("%s: %s", t->new_name, strerror(errno));
+    t->kept.checksum = checksum(t);
     write_all(file, &t->kept, sizeof t->kept, t->new_name);
     write_all(file, t->left, sizeof t->left, t->new_name);
     write_all(file, t->right, t->right_words * sizeof *t->right, t->new_name);
@@ -193,9 +225,28 @@ static void resume(till *t) {
         (right > 0 && fread(t->right, right, 1, file) != 1) || fgetc(file) != EOF || t->kept.mark != MARK)
         die("%s is no state of this program", t->state_name);
     fclose(file);
+    if (t->kept.checksum != checksum(t)) die("%s was altered: its checksum is another", t->state_name);
     if (t->kept.season != season || t->kept.notices > t->notices.count || t->kept.sales > t->sales.count ||
         t->kept.answered > t->kept.sales)
         die("%s is the state of another season", t->state_name);
+}
+
+/* A name with something behind it. */
+static char *name_with(const char *name, const char *end) {
+    char *out = malloc(strlen(name) + strlen(end) + 1);
+    if (out == NULL) die("no memory");
+    strcpy(out, name);
+    return strcat(out, end);
+}
+
+/* Takes the lock that keeps other runs from the state and the matches; it ends with the program, however that ends. */
+static void take_lock(till *t) {
+    char *name = name_with(t->state_name, ".lock");
+    t->lock = open(name, O_RDWR | O_CREAT, 0644);
+    if (t->lock < 0) die("%s: %s", name, strerror(errno));
+    if (flock(t->lock, LOCK_EX | LOCK_NB) != 0)
+        die(errno == EWOULDBLOCK ? "%s: another run works on this state" : "%s: cannot be locked", name);
+    free(name);
 }
 
 /* Opens MATCHES and cuts off what the state does not count. */
@@ -300,14 +351,6 @@ static int step(till *t) {
     }
 }
 
-/* A name with something behind it. */
-static char *name_with(const char *name, const char *end) {
-    char *out = malloc(strlen(name) + strlen(end) + 1);
-    if (out == NULL) die("no memory");
-    strcpy(out, name);
-    return strcat(out, end);
-}
-
 /* Gives the till its names and areas. */
 static void lay_out(till *t, const char *state_name) {
     char *copy = name_with(state_name, "");
@@ -326,11 +369,13 @@ int main(int argc, char **argv) {
     if (argc != 4) die("wants three files: the season, the state, the matches");
     read_season(&t, argv[1]);
     lay_out(&t, argv[2]);
+    take_lock(&t);
     resume(&t);
     open_matches(&t, argv[3]);
     while (step(&t)) keep(&t);
     printf("%zu notices, %zu sales, %" PRIu64 " answered\n", t.notices.count, t.sales.count, t.kept.answered);
     close(t.matches);
+    close(t.lock);
     free(t.right);
     free(t.new_name);
     free(t.folder_name);

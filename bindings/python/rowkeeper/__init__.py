@@ -9,6 +9,7 @@ and dask are used if they are there; `merge_asof` needs pandas, and `cluster` da
 from .asof_join import AsOf, asof
 from .columns import Column
 from .dataframes import merge_asof
+from .guard import Interrupted
 from .interface import (DONE, FLUSH, IDLE, PORT_BLOCKED, PORT_DONE, PORT_READY, REFUSALS, REFUSED, RUNNING, STRATEGIES,
                         TURNS_USED, VERSION, WANTS_RIGHT, WROTE)
 from .join import Join, Matches, Ports, Refused, Run, Turn
@@ -17,6 +18,6 @@ from .tables import Answers, Plan, Spans, Standing, Table, cut, join_cut, merge,
 from .takings import Takings
 
 __version__ = VERSION
-__all__ = ['Answers', 'AsOf', 'Column', 'DONE', 'FLUSH', 'IDLE', 'Join', 'Matches', 'NoLibrary', 'PORT_BLOCKED', 'PORT_DONE', 'PORT_READY', 'Plan',
+__all__ = ['Answers', 'AsOf', 'Column', 'DONE', 'FLUSH', 'IDLE', 'Interrupted', 'Join', 'Matches', 'NoLibrary', 'PORT_BLOCKED', 'PORT_DONE', 'PORT_READY', 'Plan',
            'Ports', 'REFUSALS', 'REFUSED', 'RUNNING', 'Refused', 'Run', 'STRATEGIES', 'Spans', 'Standing', 'TURNS_USED', 'Table', 'Takings', 'Turn',
            'VERSION', 'WANTS_RIGHT', 'WROTE', 'asof', 'cut', 'join_cut', 'merge', 'merge_asof', 'plan', 'spans', 'standing']

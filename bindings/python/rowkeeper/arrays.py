@@ -53,7 +53,7 @@ def shifted(array):
 
 def is_high(array):
     """Whether an array has numbers above those of 64 bits with a sign."""
-    return array.dtype == numpy.uint64 and array.size and int(array.max()) >= 2**63
+    return array.dtype.kind == 'u' and array.dtype.itemsize == 8 and array.size and int(array.max()) >= 2**63
 
 
 def time_of(array):
@@ -68,7 +68,7 @@ def alike(columns, names):
     for (array, _), name in zip(found[1:], names[1:]):
         if time_of(first) != time_of(array):
             raise ValueError(f'{names[0]} has the dtype {first.dtype} and {name} {array.dtype}: times of one kind and unit are wanted')
-        if high and first.dtype != array.dtype:
+        if high and first.dtype.newbyteorder('=') != array.dtype.newbyteorder('='):
             raise ValueError(f'{names[0]} and {name}: one has numbers above 64 bits with a sign, and the other has a sign')
     return [((shifted if high else whole)(array), valid) for array, valid in found]
 

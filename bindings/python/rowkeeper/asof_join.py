@@ -5,7 +5,7 @@ import functools
 from . import interface as c
 from .columns import listed, same_length
 from .join import Join, Refused
-from .lent import lent
+from .lent import in_place
 
 
 AsOf = collections.namedtuple('AsOf', 'rows distances')
@@ -70,9 +70,9 @@ def hand_in_right(join, address, length):
 
 def matched(join, lefts, rights, found):
     """Makes all calls of a join over the frames of two tables: a left frame when none waits, a right frame when a turn
-    wants one. The words that frames come in, and the output, are lent for all calls at once."""
-    with lent(lefts.words, 'frames') as (left, _), lent(rights.words, 'frames') as (right, _), \
-            lent(found.output, 'the output', write=True) as output:
+    wants one. The words that frames come in, and the output, are this function's own, and lent for all calls at once."""
+    with in_place(lefts.words, 'frames') as (left, _), in_place(rights.words, 'frames') as (right, _), \
+            in_place(found.output, 'the output', write=True) as output:
         while True:
             answer = join.turn_at(*output)
             if answer == c.WROTE:

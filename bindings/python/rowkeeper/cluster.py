@@ -4,7 +4,8 @@ and the parts come back in order. `merge_asof` joins dask's DataFrames or lists 
 Proved are the places of the cuts, for any boundaries in order, each worker's join, and that the parts appended are the answers of the
 uncut tables. Not proved are dask, the network, and the Python of this module, which hands words from one proved call to the next: it
 searches no table and compares no rows itself. A part depends on its rows and the options alone, so dask may compute it twice, or anew
-when a worker is lost: no row is lost or doubled by that."""
+when a worker is lost: no row is lost or doubled by that. What is read anew is compared with what was read first (pieces.py): a file that
+was changed meanwhile is one error, also when a part is computed anew later."""
 import collections
 import contextlib
 import os
@@ -16,8 +17,9 @@ from .asof_join import judge_options
 from .columns import Column
 from .dataframes import column_of, keys_of, listed_of, modules, put_together, suffixed, whole_tolerance
 from .join import Refused
-from .pairs import append, cut_apart, join_pair, places, rows_between, seen
-from .tables import Table, cut, merge, words_of
+from .pairs import append, cut_apart, join_pair, places, rows_between, seen, table_words
+from .pieces import checked, marked, read_file
+from .tables import Table, cut, merge
 
 try:
     import distributed
@@ -29,14 +31,17 @@ except ImportError as error:
 SAMPLE, PARTS_A_THREAD = 64, 2
 # How often words that were lost with a worker are sent, at most.
 ATTEMPTS = 3
+# The seconds for which a join waits while no task of it ends, if nothing is said.
+TIMEOUT = 600
 # What dask raises where workers or the scheduler are lost, beside an OSError that has no number of the system.
 LOST = (distributed.scheduler.KilledWorker, distributed.comm.CommClosedError, distributed.CancelledError, distributed.TimeoutError)
 
 # What workers must know: the names of both sides' keys, what the compared columns hold, the order and the other options of the join,
 # which columns come out, their names, the name of the column with the right rows' numbers or None, and both sides without rows.
 Plan = collections.namedtuple('Plan', 'keys kinds order options places names right_row empties')
-Looked = collections.namedtuple('Looked', 'rows empty texts')
-Looked.__doc__ = 'How many rows a piece has, the piece without them, and for each by-column its texts, or None if it has none.'
+Looked = collections.namedtuple('Looked', 'mark rows empty texts')
+Looked.__doc__ = """The Mark of a piece, how many rows it has, the piece without them, and for each by-column its texts, or None if it has
+none."""
 
 
 class Lost(ConnectionError):
@@ -54,7 +59,7 @@ def told():
     try:
         yield
     except (OSError, *LOST) as error:
-        if isinstance(error, OSError) and error.errno is not None:  # of a file, on a worker
+        if isinstance(error, Lost) or isinstance(error, OSError) and error.errno is not None:  # told already, or of a file on a worker
             raise
         raise lost('the cluster did not finish', error) from None
 
@@ -85,6 +90,40 @@ def parts_for(client, parts):
     if not hasattr(parts, '__index__') or parts < 1:
         raise ValueError(f'parts {parts!r} is no number from 1 on')
     return int(parts)
+
+
+def seconds_of(timeout):
+    """A time limit in seconds, or None for none."""
+    if timeout is None or not isinstance(timeout, bool) and isinstance(timeout, (int, float)) and timeout > 0:
+        return timeout
+    raise ValueError(f'timeout {timeout!r} is no number of seconds above 0, and not None')
+
+
+def too_long(timeout):
+    """The error about a cluster that stands still."""
+    return Lost(f'the cluster did not finish: no task of the join ended in {timeout} seconds; workers are lost, or stand still, or need longer '
+                '(timeout= sets the limit)')
+
+
+def ended(client, tasks, timeout):
+    """Waits until all tasks have ended, well or not. Lost if none does for so many seconds: dask itself may wait for ever. It waits as
+    the client that is current, which need not be the one of the tasks."""
+    waiting = set(tasks)
+    with client.as_current():
+        while waiting:
+            try:
+                waiting = distributed.wait(waiting, timeout=timeout, return_when='FIRST_COMPLETED').not_done
+            except distributed.TimeoutError:
+                raise too_long(timeout) from None
+
+
+def results(client, tasks, timeout):
+    """What tasks give, in their order."""
+    ended(client, tasks, timeout)
+    try:
+        return [task.result(timeout=timeout) for task in tasks]
+    except distributed.TimeoutError:
+        raise too_long(timeout) from None
 
 
 def submit(client, name, function, *words):
@@ -128,52 +167,61 @@ def pair_of_words(version, left, right, options, right_before):
     return join_pair(seen(left), seen(right), right_before=right_before, **options).tobytes()
 
 
-def answers_of(client, pairs, options):
-    """The answers of all pairs. Words are sent to the workers as bytes; those that are lost with a worker are sent again."""
-    answers, wanted = [None] * len(pairs), range(len(pairs))
-    for attempt in range(1, ATTEMPTS + 1):
-        sent = client.scatter([bytes(each) for number in wanted for each in pairs[number][:2]], hash=False)
-        tasks = {number: submit(client, 'pair', pair_of_words, c.VERSION, *sent[2 * place:2 * place + 2], options,
-                                pairs[number].right_before) for place, number in enumerate(wanted)}
-        for number, task in tasks.items():
-            try:
-                answers[number] = task.result()
-            except distributed.CancelledError:
-                if attempt == ATTEMPTS or client.status != 'running':
-                    raise
+def sent_pairs(client, pairs, options, timeout):
+    """A task for each pair, whose words are sent to the workers as bytes. None if a worker was lost while they were sent."""
+    try:
+        words = client.scatter([bytes(each) for pair in pairs for each in pair[:2]], hash=False, timeout=timeout or 'inf')
+    except (OSError, *LOST):
+        if client.status != 'running':
+            raise
+        return None
+    return [submit(client, 'pair', pair_of_words, c.VERSION, *words[2 * place:2 * place + 2], options, pair.right_before)
+            for place, pair in enumerate(pairs)]
+
+
+def answer_of(task, client, timeout):
+    """The answer of a pair; None if its words were lost with a worker."""
+    try:
+        return results(client, [task], timeout)[0]
+    except distributed.CancelledError:
+        if client.status != 'running':
+            raise
+        return None
+
+
+def answers_of(client, pairs, options, timeout):
+    """The answers of all pairs. Words that are lost with a worker, while they are sent or later, are sent again."""
+    answers, wanted = [None] * len(pairs), list(range(len(pairs)))
+    for _ in range(ATTEMPTS):
+        tasks = sent_pairs(client, [pairs[number] for number in wanted], options, timeout)
+        for number, task in zip(wanted, tasks or []):
+            answers[number] = answer_of(task, client, timeout)
         wanted = [number for number in wanted if answers[number] is None]
         if not wanted:
             return answers
-    return answers
+    raise Lost(f'the cluster did not finish: the words of {len(wanted)} pairs were lost with their workers {ATTEMPTS} times')
 
 
 def join_tables(left, right, by=0, strategy='backward', allow_exact_matches=True, tolerance=None, descending=(), nulls_last=(),
-                ranks=None, client=None, parts=None, boundaries=None):
+                ranks=None, client=None, parts=None, boundaries=None, timeout=TIMEOUT):
     """For each row of the left table the number of its right row, or -1, joined on the workers of a dask client: an array of 64-bit
     numbers. Tables are a Table, a list of columns or words, of `by` by-columns and the key, sorted as the options say, which are
     those of a Join. They are cut into at most so many parts, two for each thread of the workers if nothing is said, or at these
     boundaries, as `rowkeeper.cut` takes them, any number. A row with a null key or by-value matches nothing.
 
-    ValueError and Refused say what is wrong with the tables or options; Lost that the cluster did not finish."""
-    client = client_of(client)
+    ValueError and Refused say what is wrong with the tables or options; Lost that the cluster did not finish, also if no task of the join
+    ends for `timeout` seconds."""
+    client, timeout = client_of(client), seconds_of(timeout)
     order = {'by': by, 'descending': descending, 'nulls_last': nulls_last, 'ranks': ranks}
     options = {'strategy': strategy, 'allow_exact_matches': allow_exact_matches, 'tolerance': tolerance, **order}
-    left, right = (seen(words_of(each)) for each in (left, right))
+    left, right = table_words(left, 'left'), table_words(right, 'right')
     with told():
         if boundaries is None:
             count = parts_for(client, parts)
             step = max(1, (left[0] + right[0]) // (SAMPLE * count))
             boundaries = boundaries_of([sampled(each, step) for each in (left, right)], count, order)
         pairs = cut_apart(left, right, boundaries, **order)
-        return append(answers_of(client, pairs, options))
-
-
-def read_file(read, path):
-    """A worker's reading of a file: by the function that was handed in, else by pandas."""
-    if read is not None:
-        return read(path)
-    pandas = modules()[1]
-    return pandas.read_parquet(path) if path.endswith('.parquet') else pandas.read_csv(path)
+        return append(answers_of(client, pairs, options, timeout))
 
 
 def texts_of(series, side, pandas):
@@ -187,12 +235,12 @@ def texts_of(series, side, pandas):
 
 
 def looked(version, piece, keys, side):
-    """A worker's look at a piece: Looked."""
+    """A worker's look at a Piece: Looked."""
     same_version(version)
-    pandas = modules()[1]
-    column_of(piece, keys.on, side)
-    columns = [column_of(piece, name, side) for name in keys.by]
-    return Looked(len(piece), piece.iloc[:0], [texts_of(each, side, pandas) for each in columns] if len(piece) else [])
+    frame, pandas = piece.frame, modules()[1]
+    column_of(frame, keys.on, side)
+    columns = [column_of(frame, name, side) for name in keys.by]
+    return Looked(piece.mark, len(frame), frame.iloc[:0], [texts_of(each, side, pandas) for each in columns] if len(frame) else [])
 
 
 def kind_of(series, called, pandas):
@@ -272,25 +320,27 @@ def joined(version, lefts, rights, plan, left_before, right_before):
 class Side:
     """One table on the cluster: its pieces, which are the files or the partitions, in their order, and what they are called."""
 
-    def __init__(self, client, table, keys, name, read):
-        self.client, self.keys, self.name = client, keys, name
+    def __init__(self, client, table, keys, name, read, timeout):
+        self.client, self.keys, self.name, self.timeout = client, keys, name, timeout
         if isinstance(table, (list, tuple)) and table:
             self.called = [os.fspath(path) for path in table]
             self.pieces = [submit(client, 'read', read_file, read, path) for path in self.called]
         elif hasattr(table, 'to_delayed') and hasattr(table, 'npartitions'):
             self.called = [f'partition {number}' for number in range(table.npartitions)]
-            self.pieces = client.compute(table.to_delayed())
+            self.pieces = [submit(client, 'mark', marked, part) for part in client.compute(table.to_delayed())]
         else:
             raise ValueError(f'{name} is a {type(table).__name__}: a DataFrame of dask or a list of files is wanted')
 
     def ask(self, function, *words):
         """A function of each piece on the workers."""
-        return self.client.gather([submit(self.client, function.__name__, function, piece, *words) for piece in self.pieces])
+        return results(self.client, [submit(self.client, function.__name__, function, piece, *words) for piece in self.pieces], self.timeout)
 
     def look(self):
-        """Looks at all pieces."""
+        """Looks at all pieces. From here on each is checked whenever it is read: it must be as it was looked at."""
         tasks = [submit(self.client, 'looked', looked, c.VERSION, piece, self.keys, self.name) for piece in self.pieces]
-        self.looks = self.client.gather(tasks)
+        self.looks = results(self.client, tasks, self.timeout)
+        self.pieces = [submit(self.client, 'checked', checked, piece, look.mark, called)
+                       for piece, look, called in zip(self.pieces, self.looks, self.called)]
         self.rows = sum(look.rows for look in self.looks)
         self.empty = next((look.empty for look in self.looks if look.rows), self.looks[0].empty)
 
@@ -394,7 +444,7 @@ def whole_kind(kind, numpy):
 
 def merge_asof(left, right, on=None, left_on=None, right_on=None, by=None, left_by=None, right_by=None, suffixes=('_x', '_y'),
                tolerance=None, allow_exact_matches=True, direction='backward', ranks=None, descending=(), nulls_last=(), client=None,
-               parts=None, read=None, right_row=None):
+               parts=None, read=None, right_row=None, timeout=TIMEOUT):
     """The as-of join of two tables on the workers of a dask client, with the names of `rowkeeper.merge_asof`: a DataFrame of dask, whose
     partitions are the parts in order, each on the worker that joined it. Rows come in the left table's order, numbered from 0.
 
@@ -406,19 +456,21 @@ def merge_asof(left, right, on=None, left_on=None, right_on=None, by=None, left_
     and takes the other for a value.
 
     `parts` is how many pairs are made at most, two for each thread of the workers if nothing is said; a group is never cut.
-    `right_row` names a column for the right row's number in the whole right table, or -1.
+    `right_row` names a column for the right row's number in the whole right table, or -1. `timeout` is for how many seconds the join
+    waits while no task of it ends; None waits for ever.
 
-    ValueError says in one line what is wrong with the tables or options; Lost that the cluster did not finish. Neither returns a
-    part of the result."""
+    ValueError says in one line what is wrong with the tables or options, or that a file or partition was changed while it was joined;
+    Lost that the cluster did not finish. Neither returns a part of the result. The result is computed by dask: where a part of it is
+    lost with a worker later, its files are read again, and if one was changed, computing the result raises that ValueError."""
     numpy, pandas, _ = modules()
     judge_options(direction, allow_exact_matches, None)
     keys = keys_of(on, left_on, False, by, left_by, 'left'), keys_of(on, right_on, False, by, right_by, 'right')
     if len(keys[0].by) != len(keys[1].by):
         raise ValueError(f'left_by has {len(keys[0].by)} columns and right_by has {len(keys[1].by)}')
     client, listed = client_of(client), listed_of(ranks, keys[0].by, pandas)
-    count = parts_for(client, parts)
+    count, timeout = parts_for(client, parts), seconds_of(timeout)
     with told():
-        sides = [Side(client, table, each, name, read) for table, each, name in zip((left, right), keys, ('left', 'right'))]
+        sides = [Side(client, table, each, name, read, timeout) for table, each, name in zip((left, right), keys, ('left', 'right'))]
         for side in sides:
             side.look()
         kinds, codes = kinds_of(sides, listed, pandas)
@@ -427,10 +479,10 @@ def merge_asof(left, right, on=None, left_on=None, right_on=None, by=None, left_
         options = {'strategy': direction, 'allow_exact_matches': allow_exact_matches, 'tolerance': tolerance}
         kept, names = outcome(sides, suffixes, right_row)
         plan = Plan(keys, kinds, order, options, kept, names, right_row, [side.empty for side in sides])
-        return gathered(client, sides, plan, count)
+        return gathered(client, sides, plan, count, timeout)
 
 
-def gathered(client, sides, plan, count):
+def gathered(client, sides, plan, count, timeout):
     """Judges both tables, cuts them, has the pairs joined, and waits for all of them: the result, in partitions."""
     step = max(1, sum(side.rows for side in sides) // (SAMPLE * count))
     samples = [side.judge(plan.kinds, plan.order, step) for side in sides]
@@ -438,7 +490,7 @@ def gathered(client, sides, plan, count):
     (lefts, left_rows), (rights, right_rows) = (side.cut(plan.kinds, plan.order, boundaries) for side in sides)
     tasks = [submit(client, 'pair', joined, c.VERSION, *pair, plan, sum(left_rows[:part]), sum(right_rows[:part]))
              for part, pair in enumerate(zip(lefts, rights))]
-    distributed.wait(tasks)
+    ended(client, tasks, timeout)
     for task in tasks:
         if task.status != 'finished':
             task.result()

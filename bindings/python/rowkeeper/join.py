@@ -2,10 +2,10 @@
 import collections
 import ctypes
 import struct
-import threading
 
 from . import interface as c
-from .lent import WORD, Area, lent
+from .guard import Guard
+from .lent import WORD, Area, Output, in_place, lent
 from .library import library
 
 # The bytes of a saved join before its areas: its own words, and the lengths of the two.
@@ -145,6 +145,12 @@ class Join:
     protocol of 64-bit numbers. Of one by-column `ranks` may say in which order its codes come, if that is not the order of
     numbers: a pair, the by-column from 0 and its codes, at most 64.
 
+    Frames are copied before a call and outputs are written after it, so other threads may alter them meanwhile; threads that share
+    a join wait for one another. A call that is interrupted, by Ctrl-C or by an exception of a signal's handler, may leave a join
+    that no longer goes with its areas: every later call of it raises Interrupted, and the host goes on from a saved state. The same
+    is raised, at once, if a signal's handler calls or saves the join in the middle of a call: set a flag there, and save between
+    two calls. Whether the call that was interrupted had been made is not known in either case.
+
     >>> from array import array
     >>> join = Join(carried=1)
     >>> join.right(array('q', [3, 2,  10, 1800,  20, 0,  30, 2500,  1, 1,  1, 0,  1, 1]))
@@ -181,43 +187,42 @@ class Join:
         """Takes the parts of a join for its own."""
         self._words, self._left, self._right = words, left, right
         self._areas = left.lent() + right.lent()
-        self._library, self._lock = library(), threading.Lock()
+        self._library, self._guard = library(), Guard()
 
-    def _took(self, took):
+    def _keep(self, answer):
         """Goes on with the join that a call handed back, refused or not."""
-        self._words = took.join
-        expect(took.refusal)
+        self._words = answer.join
+
+    def _made(self, call, *words, turns=()):
+        """The answer of a call over the join and its areas."""
+        return self._guard.made(lambda: call(self._words, *turns, *self._areas, *words), self._keep)
 
     def left(self, frame):
-        """Hands in a left frame, which then waits. Its words are copied: the host may alter them afterwards."""
+        """Hands in a left frame, which then waits. Its words are copied: the host may alter them at any time."""
         with lent(frame, 'the left frame') as words:
             self.left_at(*words)
 
     def left_at(self, address, length):
-        """Hands in a left frame by its place. Whoever calls it has it lent."""
-        with self._lock:
-            self._took(self._library.rowkeeper_left(self._words, *self._areas, address, length))
+        """Hands in a left frame by its place. Nobody alters, frees or moves it while the call runs."""
+        expect(self._made(self._library.rowkeeper_left, address, length).refusal)
 
     def right(self, frame):
-        """Hands in a right frame, whose rows are then held. Its words are copied: the host may alter them afterwards."""
+        """Hands in a right frame, whose rows are then held. Its words are copied: the host may alter them at any time."""
         with lent(frame, 'the right frame') as words:
             self.right_at(*words)
 
     def right_at(self, address, length):
-        """Hands in a right frame by its place. Whoever calls it has it lent."""
-        with self._lock:
-            self._took(self._library.rowkeeper_right(self._words, *self._areas, address, length))
+        """Hands in a right frame by its place. Nobody alters, frees or moves it while the call runs."""
+        expect(self._made(self._library.rowkeeper_right, address, length).refusal)
 
     def end_right(self):
         """Ends right: no right frame comes any more."""
-        with self._lock:
-            self._took(self._library.rowkeeper_end_right(self._words, *self._areas))
+        expect(self._made(self._library.rowkeeper_end_right).refusal)
 
     def ports(self, left, right, send):
         """A port call: what the ports say comes in, what they are told comes back. This is also how left ends."""
-        with self._lock:
-            ported = self._library.rowkeeper_ports(self._words, *self._areas, *map(number_or_bad, (left, right, send)))
-            self._took(ported)
+        ported = self._made(self._library.rowkeeper_ports, *map(number_or_bad, (left, right, send)))
+        expect(ported.refusal)
         return Ports(ported.left, ported.right, ported.send)
 
     @property
@@ -234,36 +239,65 @@ class Join:
         """The words of an output that is enough for any turn."""
         return 2 + 2 * c.MOST_ROWS * self.answer_columns
 
+    def _turned(self, address, length):
+        """What the library answers to a turn over an output by its place."""
+        turned = self._made(self._library.rowkeeper_turn, address, length)
+        expect(turned.refusal)
+        return turned
+
     def turn_at(self, address, length):
-        """A turn's answer alone, over an output by its place. Whoever calls it has it lent."""
-        with self._lock:
-            turned = self._library.rowkeeper_turn(self._words, *self._areas, address, length)
-            self._took(turned)
-        return turned.answer
+        """A turn's answer alone, over an output by its place. Nobody alters, frees or moves it while the call runs."""
+        return self._turned(address, length).answer
+
+    def _turned_into(self, output):
+        """What the library answers to a turn. If it wrote, the matches are copied to the output: the call itself never sees memory
+        that a caller can alter. An output that is longer than any turn needs is lent in part."""
+        with in_place(output, 'the output', write=True) as (address, length):
+            own = Output(min(length, self.output_words()))
+            turned = self._turned(*own.lent())
+            if turned.answer == c.WROTE:
+                own.copy_to(address, len(Matches(own.words()).words))
+        return turned
 
     def turn_into(self, output):
         """A turn's answer alone; if it wrote, the matches are in the output."""
-        with lent(output, 'the output', write=True) as words:
-            return self.turn_at(*words)
+        return self._turned_into(output).answer
 
     def turn(self, output=None):
-        """A turn: the matches of the frame that has waited longest, written to the output, or to a new one."""
-        output, sequence = Area(self.output_words()).words() if output is None else output, self._words.sequence
-        answer = self.turn_into(output)
-        if answer != c.WROTE:
-            return Turn(answer, None, None)
-        return Turn(answer, sequence, Matches(memoryview(output).cast('B').cast('q'), self.tells_distance))
+        """A turn: the matches of the frame that has waited longest, written to the output, or to a new one, which cannot be altered."""
+        if output is None:
+            own = Output(self.output_words())
+            output, turned = own.words(), self._turned(*own.lent())
+        else:
+            turned = self._turned_into(output)
+        if turned.answer != c.WROTE:
+            return Turn(turned.answer, None, None)
+        return Turn(turned.answer, turned.sequence, Matches(memoryview(output).cast('B').cast('q'), self.tells_distance))
+
+    def _run_words(self):
+        """The words of an output that is enough for any number of turns. A join that says that more waits than its area has words for
+        is refused."""
+        return min(self._words.queue_words, self._left.length) * self.answer_columns
+
+    def _ran(self, turns, length=None):
+        """What the library answers to a run, and the output that it wrote: of so many words, or of as many as are enough."""
+        most = 2**64 - 1 if turns is None else min(max(turns, 0), 2**64 - 1)
+        with self._guard.lock:
+            own = Output(self._run_words() if length is None else min(length, self._run_words()))
+            return self._made(self._library.rowkeeper_run, *own.lent(), turns=(most,)), own
 
     def run(self, turns=None, output=None):
         """A run: so many turns at most, or as many as can be, each writing behind the one before; the first that does not write
         ends it. A turn that is refused is told and not raised: what the turns before it wrote stands."""
         if output is None:
-            output = Area(self._words.queue_words * self.answer_columns).words()
-        first, most = self._words.sequence, 2**64 - 1 if turns is None else min(max(turns, 0), 2**64 - 1)
-        with self._lock, lent(output, 'the output', write=True) as words:
-            ran = self._library.rowkeeper_run(self._words, most, *self._areas, *words)
-            self._words = ran.join
+            ran, own = self._ran(turns)
+            output = own.words()
+        else:
+            with in_place(output, 'the output', write=True) as (address, length):
+                ran, own = self._ran(turns, length)
+                own.copy_to(address, ran.words)
         refusal = Refused(ran.refusal) if ran.stop == c.REFUSED else None
+        first = ran.join.sequence - 2 * ran.turns
         return Run(ran.stop, refusal, self._turns(memoryview(output).cast('B').cast('q'), first, ran.turns))
 
     def _turns(self, words, first, count):
@@ -278,26 +312,41 @@ class Join:
     def grow(self, left_words=0, right_rows=0):
         """Makes areas larger, the left one to so many words at least, the right one to so many rows; what waits and what is
         held stays, and no later answer is another one, save that frames find more room. Nothing is done if they are as
-        large."""
-        width = 2 * (self._words.options.by + 1 + self._words.options.carried)
-        if left_words <= self._left.length and right_rows * width <= self._right.length:
-            return
-        left, right = Area(max(left_words, self._left.length)), Area(max(right_rows * width, self._right.length))
-        with self._lock:
-            took = self._library.rowkeeper_move(self._words, *self._areas, *left.lent(), *right.lent())
-            expect(took.refusal)
-            self._words, self._left, self._right, self._areas = took.join, left, right, left.lent() + right.lent()
+        large. A join that says it has more columns than there can be is refused by 2 before memory is asked for."""
+        with self._guard.lock:
+            self._guard.judge()
+            options = self._words.options
+            if options.by > c.MOST_BY or options.carried > c.MOST_CARRIED:
+                raise Refused(c.BAD_JOIN)
+            lengths = max(left_words, self._left.length), max(right_rows * 2 * (options.by + 1 + options.carried), self._right.length)
+            if lengths == (self._left.length, self._right.length):
+                return
+            left, right = map(Area, lengths)
+
+            def keep(took):
+                """Goes on in the new areas, if the join was moved to them."""
+                if not took.refusal:
+                    self._words, self._left, self._right, self._areas = took.join, left, right, left.lent() + right.lent()
+            took = self._guard.made(
+                lambda: self._library.rowkeeper_move(self._words, *self._areas, *left.lent(), *right.lent()), keep)
+        expect(took.refusal)
 
     def state(self):
-        """All that the join is, as bytes for a file: its words, the first of which says their layout, and its areas."""
-        with self._lock:
+        """All that the join is, as bytes for a file: its words, the first of which says their layout, and its areas. Interrupted if a
+        call has not come to its end."""
+        with self._guard.lock:
+            self._guard.judge()
             lengths = LENGTHS.pack(self._left.length, self._right.length)
             return bytes(self._words) + lengths + self._left.bytes + self._right.bytes
+
+    def __reduce__(self):
+        """The join by its state: a copy, a deep copy and an unpickled join have areas of their own."""
+        return type(self).from_state, (self.state(),)
 
     @classmethod
     def from_state(cls, saved):
         """The join that `state` gave. Bytes that are none are a ValueError; a join of another layout is refused by 2.
-        Whatever else they say, every call judges them."""
+        Whatever else they say, every call judges them, and none asks for more memory than the areas of a real join take."""
         saved = bytes(saved)
         if len(saved) < JOIN_BYTES + LENGTHS.size:
             raise ValueError(f'{len(saved)} bytes are no saved join')

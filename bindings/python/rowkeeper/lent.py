@@ -1,4 +1,7 @@
-"""Words that a call is lent: where they are and how many, held for as long as the call takes."""
+"""Words that a call is lent: where they are and how many, and that nobody alters them while the call runs.
+
+The library reads words again that it has judged, and ctypes lets other threads run during a call. So a call never gets memory that a
+caller can still write: `kept` copies it first, and what a call writes goes to an Output, from which it is copied back."""
 import contextlib
 import ctypes
 import mmap
@@ -34,9 +37,9 @@ def judge(buffer, what):
 
 
 @contextlib.contextmanager
-def lent(owner, what, write=False):
-    """The words of anything with the buffer protocol: their address and how many. As long as they are lent, the owner neither
-    frees nor moves them."""
+def in_place(owner, what, write=False):
+    """The words of anything with the buffer protocol, where they are: their address and how many. Until the block ends, the owner
+    neither frees nor moves them. Only memory that no caller can write may go to the library from here."""
     buffer = Buffer()
     try:
         get(owner, ctypes.byref(buffer), FORMAT_IN_ONE_PIECE | (WRITABLE if write else 0))
@@ -49,6 +52,23 @@ def lent(owner, what, write=False):
         release(ctypes.byref(buffer))
 
 
+def kept(owner, what):
+    """The words of anything with the buffer protocol as a view that nobody can alter: of the same memory if it is that of a bytes
+    object, which Python never alters, else of a copy. A read-only view of other memory is copied too, since its owner can write."""
+    if type(owner) is memoryview and type(owner.obj) is bytes:
+        with in_place(owner, what):
+            return owner
+    with in_place(owner, what) as (address, length):
+        return memoryview(ctypes.string_at(address, WORD * length) if length else b'').cast('q')
+
+
+@contextlib.contextmanager
+def lent(owner, what):
+    """The words of anything with the buffer protocol for a call that reads them, as `kept` has them: their address and how many."""
+    with in_place(kept(owner, what), what) as words:
+        yield words
+
+
 def untouched(words):
     """So many words, one at least, for a call that measures them and neither reads nor writes one. They are fresh pages of the system,
     which take addresses and no memory as long as nobody touches them; an Area would fill all its words with 0. All of them can be read,
@@ -57,7 +77,7 @@ def untouched(words):
 
 
 class Area:
-    """Words that a join owns. They stay where they are as long as the area is there."""
+    """Words that a join owns and that no caller sees. They stay where they are as long as the area is there."""
 
     def __init__(self, words):
         self.bytes = bytearray(WORD * words)
@@ -69,6 +89,23 @@ class Area:
         """Where they are, and how many."""
         return self.address, self.length
 
+
+class Output:
+    """Words for calls to write, 0 before. They are those of a bytes object that nobody else has before the last of these calls has
+    returned: no Python code can alter them, then or later, and a further call that reads them needs no copy."""
+
+    def __init__(self, words):
+        self.bytes, self.length = bytes(WORD * words), words
+
+    def lent(self):
+        """Where they are, and how many."""
+        return (ctypes.cast(c_char_p(self.bytes), c_void_p).value if self.length else None), self.length
+
     def words(self):
         """A view of the words."""
         return memoryview(self.bytes).cast('q')
+
+    def copy_to(self, address, words):
+        """Copies so many of the first words to another place."""
+        if words:
+            ctypes.memmove(address, self.bytes, WORD * words)

@@ -8,7 +8,7 @@ from array import array
 from . import asof_join
 from . import interface as c
 from .join import Join
-from .lent import lent
+from .lent import Output, in_place
 from .tables import Table, cut, words_of
 
 # The boundaries that one call cuts at, at most.
@@ -23,6 +23,11 @@ def seen(words):
     return memoryview(words).cast('B').cast('q')
 
 
+def table_words(table, what):
+    """The words of a table as nobody alters them any more: of a Table, of a list of columns, or any words, bytes too."""
+    return words_of(table if isinstance(table, (list, tuple, Table)) else seen(table), what)
+
+
 def rows_between(words, first, end):
     """The words of a table's rows from one to before another."""
     cells, width = words[0] * words[1], words[1]
@@ -35,7 +40,7 @@ def rows_between(words, first, end):
 def places(table, boundaries, **options):
     """Where a table is cut for any number of boundaries, a Table of groups or what `cut` takes as one. A call takes 16; each further
     call begins with the last boundary of the one before, so that it is the library that finds them in order."""
-    boundaries = seen(words_of(boundaries))
+    boundaries = table_words(boundaries, 'boundaries')
     count, found = boundaries[0], []
     for first in range(0, max(1, count - 1), MOST_BOUNDARIES - 1):
         some = rows_between(boundaries, first, min(count, first + MOST_BOUNDARIES))
@@ -47,7 +52,7 @@ def cut_apart(left, right, boundaries, by=None, descending=(), nulls_last=(), ra
     """The pairs of two sorted tables at these boundaries, one more than there are boundaries, empty parts included. Tables are those
     of `rowkeeper.cut`, and so are the errors: both tables are judged to be sorted."""
     order = {'by': by, 'descending': descending, 'nulls_last': nulls_last, 'ranks': ranks}
-    tables, ends = [seen(words_of(each)) for each in (left, right)], []
+    tables, ends = [table_words(left, 'left'), table_words(right, 'right')], []
     for words, side in zip(tables, ('left', 'right')):
         ends.append([0, *places(words, boundaries, side=side, **order), words[0]])
     return [Pair(rows_between(tables[0], *lefts), rows_between(tables[1], *rights), rights[0])
@@ -55,8 +60,8 @@ def cut_apart(left, right, boundaries, by=None, descending=(), nulls_last=(), ra
 
 
 def hand_in(join, frame):
-    """Hands in a right frame, in a larger area if there is no room."""
-    with lent(frame, 'the right frame') as words:
+    """Hands in a right frame that no caller has, in a larger area if there is no room."""
+    with in_place(frame, 'the right frame') as words:
         asof_join.hand_in_right(join, *words)
 
 
@@ -64,15 +69,15 @@ def join_pair(left, right, by=0, strategy='backward', allow_exact_matches=True, 
               ranks=None, right_before=0):
     """For each row of the left table the number of its right row, or -1, by the streaming calls of a Join that checks the order of
     both tables: an array of 64-bit numbers. `right_before` is added to each number. What the right table carries is not looked at."""
-    lefts, rights = (Table._seen(words_of(each)) for each in (left, right))
+    lefts, rights = (Table._seen(table_words(*each)) for each in ((left, 'left'), (right, 'right')))
     join = Join(by=by, strategy=strategy, allow_exact_matches=allow_exact_matches, tolerance=tolerance, check='strict',
                 descending=descending, nulls_last=nulls_last, carried=max(0, rights.columns - by - 1), ranks=ranks)
-    output = array('q', bytes(8 * join.output_words()))
+    output = Output(join.output_words())
     frames, more, found = lefts.frames(), rights.frames(), []
     while True:
-        answer = join.turn_into(output)
+        answer = join.turn_at(*output.lent())
         if answer == c.WROTE:
-            found.append(asof_join.tools().numbers_of(output, right_before))
+            found.append(asof_join.tools().numbers_of(output.words(), right_before))
         elif answer == c.IDLE:
             frame = next(frames, None)
             if frame is None:

@@ -7,7 +7,7 @@ from . import asof_join
 from . import interface as c
 from .columns import Column
 from .join import Refused, expect, number_or_bad, options
-from .lent import WORD, Area, lent, untouched
+from .lent import Output, in_place, kept, lent, untouched
 from .library import library
 
 # The pairs that the output of one call of spans has room for: those of 16 intervals with any points of a frame.
@@ -36,7 +36,7 @@ no match or the distance is above 2^63 - 1, or None where they are not told."""
 class Table:
     """A table of whole numbers in the library's words. It is made from columns, the by-columns in order, the key and what is carried:
     anything with the buffer protocol of whole numbers, an array of numpy, or a Column, which can have nulls. Times of numpy are taken as
-    the whole numbers that they are stored as.
+    the whole numbers that they are stored as. Its words cannot be altered, so a call that is handed a Table copies nothing.
 
     >>> table = Table([array('q', [10, 20]), Column(array('q', [1800, 0]), b'\\1\\0')])
     >>> list(table.words), table.rows()
@@ -51,16 +51,16 @@ class Table:
         for name, (values, _) in zip(names, found):
             if len(values) != len(found[0][0]):
                 raise ValueError(f'{name} has {len(values)} rows, and column 0 has {len(found[0][0])}')
-        self._see(tools.table_words(found))
+        self._see(tools.table_words(found).tobytes())
 
     def _see(self, words):
-        """Takes words that are a table for its own."""
+        """Takes the words of a table, which nobody alters, for its own."""
         self.words = memoryview(words).cast('B').cast('q')
         self.columns = self.words[1]
 
     @classmethod
     def _seen(cls, words):
-        """A table in words that the library wrote."""
+        """A table in words that the library wrote, or that were kept."""
         table = cls.__new__(cls)
         table._see(words)
         return table
@@ -92,16 +92,17 @@ class Table:
             yield frame
 
 
-def words_of(table):
-    """The words of a table: those of a Table, of a list of columns, or any with the buffer protocol."""
+def words_of(table, what='table'):
+    """The words of a table: those of a Table, of a list of columns, or any with the buffer protocol, which are copied. Nobody alters
+    them any more, so what is judged here and what the library judges is the same."""
     if isinstance(table, (list, tuple)):
         table = Table(table)
-    return table.words if isinstance(table, Table) else table
+    return kept(table.words if isinstance(table, Table) else table, what)
 
 
 def width_of(words):
     """How many columns the words of a table say that it has; 0 where they are too few to say it."""
-    return memoryview(words).cast('B').cast('q')[1] if memoryview(words).nbytes >= 2 * WORD else 0
+    return words[1] if len(words) >= 2 else 0
 
 
 def judged_options(words, by, descending, nulls_last, carried, ranks, **how):
@@ -124,10 +125,10 @@ def merge(house, festival, by=0, descending=(), nulls_last=(), carried=None, ran
     >>> merge([array('q', [10, 30]), array('q', [1800, 2500])], [array('q', [20]), array('q', [2200])]).rows()
     [(10, 1800), (20, 2200), (30, 2500)]
     """
-    house, festival = words_of(house), words_of(festival)
+    house, festival = words_of(house, 'house'), words_of(festival, 'festival')
     with lent(house, 'house') as one, lent(festival, 'festival') as other:
         given = judged_options(house, by, descending, nulls_last, carried, ranks)
-        output = Area(max(0, one[1] + other[1] - 2))
+        output = Output(max(0, one[1] + other[1] - 2))
         expect(library().rowkeeper_merge(given, *one, *other, *output.lent()).refusal)
     return Table._seen(output.words())
 
@@ -143,11 +144,11 @@ def standing(book, withdrawn, by=0, descending=(), nulls_last=(), carried=None, 
     >>> list(map(int, found.stands)), list(map(int, found.last))
     ([0, 1, 0], [1, -1, 2])
     """
-    book = words_of(book)
+    book = words_of(book, 'book')
     with lent(book, 'book') as words:
         given = judged_options(book, by, descending, nulls_last, carried, ranks)
         width = min(given.by, c.MOST_BY) + 1 + min(given.carried, c.MOST_CARRIED)
-        output = Area(2 + 4 * (words[1] // (2 * width)))
+        output = Output(2 + 4 * (words[1] // (2 * width)))
         written = library().rowkeeper_standing(given, *words, number_or_bad(withdrawn), *output.lent())
         expect(written.refusal)
     return Standing(*asof_join.tools().notices_of(output.words()[:2 + 4 * written.rows]))
@@ -172,11 +173,11 @@ def cut(table, boundaries, side='left', by=None, descending=(), nulls_last=(), c
     """
     if side not in SIDES:
         raise ValueError(f'side {side!r} is none of {", ".join(SIDES)}')
-    table, boundaries = words_of(table), words_of(boundaries)
+    table, boundaries = words_of(table), words_of(boundaries, 'boundaries')
     with lent(table, 'table') as rows, lent(boundaries, 'boundaries') as groups:
         by = width_of(boundaries) if by is None else by
         given = judged_options(table, by, descending, nulls_last, 0 if side == 'left' and carried is None else carried, ranks)
-        output = Area(max(2, 2 + (groups[1] - 2) // max(1, min(by, c.MOST_BY))))
+        output = Output(max(2, 2 + (groups[1] - 2) // max(1, min(by, c.MOST_BY))))
         written = library().rowkeeper_cut(given, SIDES.index(side), *rows, *groups, *output.lent())
         expect(written.refusal)
     return output.words()[2:2 + written.rows].tolist()
@@ -204,7 +205,7 @@ def joined_into(output, given, one, other, groups, left_words, right_words):
     right_words = other[1] if right_words is None else right_words
     if min(left_words, right_words) < 0:
         raise ValueError(f'areas of {left_words} and {right_words} words: none has fewer than 0')
-    with lent(untouched(max(left_words, right_words)), 'areas') as (area, _):
+    with in_place(untouched(max(left_words, right_words)), 'areas') as (area, _):
         return library().rowkeeper_join_cut(given, *one, *other, *groups, area, left_words, area, right_words, *output.lent())
 
 
@@ -227,24 +228,25 @@ def join_cut(left, right, boundaries=None, by=None, strategy='backward', allow_e
     >>> [list(map(int, each)) for each in (found.rows, found.carried[0].values, found.distances)]
     [[-1, 0, 1, -1], [0, 1800, 2200, 0], [-1, 5, 4, -1]]
     """
-    left, right = words_of(left), words_of(right)
+    left, right = words_of(left, 'left'), words_of(right, 'right')
     with lent(left, 'left') as one, lent(right, 'right') as other:
-        boundaries = no_boundaries(by, left) if boundaries is None else words_of(boundaries)
+        boundaries = no_boundaries(by, left) if boundaries is None else words_of(boundaries, 'boundaries')
         with lent(boundaries, 'boundaries') as groups:
             by = width_of(boundaries) if by is None else by
             given = judged_options(right, by, descending, nulls_last, carried, ranks, strategy=strategy,
                                    allow_exact_matches=allow_exact_matches, tolerance=tolerance, distance=distance)
             width = 1 + min(given.carried, c.MOST_CARRIED) + given.with_distance
-            output = Area(2 + 2 * width * (one[1] // (2 * (min(given.by, c.MOST_BY) + 1))))
+            output = Output(2 + 2 * width * (one[1] // (2 * (min(given.by, c.MOST_BY) + 1))))
             written = joined_into(output, given, one, other, groups, left_words, right_words)
             expect(written.refusal)
     return answers_of(output.words()[:2 + 2 * written.rows * width], distance)
 
 
 def heights_of(heights, words):
-    """Heights as words: those that are given, or full frames of all rows and one of those that are left."""
+    """Heights as words: those that are given, or full frames of all rows and one of those that are left. Words that say they are more
+    rows than there is room for are no table, and are refused."""
     if heights is None:
-        rows = memoryview(words).cast('B').cast('q')[0] if memoryview(words).nbytes >= WORD else 0
+        rows = min(words[0], len(words) // 2) if len(words) else 0
         heights = [c.MOST_ROWS] * (rows // c.MOST_ROWS) + [rows % c.MOST_ROWS] * (rows % c.MOST_ROWS > 0)
     return array('q', heights) if isinstance(heights, (list, tuple)) else heights
 
@@ -259,7 +261,7 @@ def plan(left, right, left_heights=None, right_heights=None, by=0, strategy='bac
     >>> plan([array('q', [5, 15, 20, 25])], [array('q', [10, 20, 20, 30, 40])], [2, 2], [2, 2, 1])
     Plan(rows=4, turns=4, rights=2)
     """
-    left, right = words_of(left), words_of(right)
+    left, right = words_of(left, 'left'), words_of(right, 'right')
     left_heights, right_heights = heights_of(left_heights, left), heights_of(right_heights, right)
     with lent(left, 'left') as one, lent(right, 'right') as other:
         with lent(left_heights, 'left_heights') as these, lent(right_heights, 'right_heights') as those:
@@ -277,15 +279,15 @@ class Covering:
         self.tools, self.bounds, self.flags = asof_join.tools(), bounds, flags
         self.frames = [(first, self.tools.table_words([(points[first:first + c.MOST_ROWS], None)]))
                        for first in range(0, len(points), c.MOST_ROWS)]
-        self.output = Area(2 + 4 * PAIRS)
+        self.output = Output(2 + 4 * PAIRS)
 
     def pairs(self, first, height):
         """The pairs of so many intervals from one on, by the intervals. Refused by 6 if there are too many."""
         part = [(values[first:first + height], None if valid is None else valid[first:first + height]) for values, valid in self.bounds]
         found = []
-        with lent(self.tools.table_words(part), 'intervals') as intervals:
+        with in_place(self.tools.table_words(part), 'intervals') as intervals:
             for start, frame in self.frames:
-                with lent(frame, 'points') as points:
+                with in_place(frame, 'points') as points:
                     written = library().rowkeeper_spans(*points, *intervals, *self.flags, *self.output.lent())
                 expect(written.refusal)
                 if written.rows:

@@ -1,6 +1,7 @@
 """The join on the workers of a cluster, in processes on the loopback address, against the uncut join; with workers that are killed, that
 are slow, and a scheduler that is lost. Not among the tests that are found by name, since it needs dask: `check` runs it."""
 import functools
+import itertools
 import os
 import random
 import signal
@@ -10,20 +11,24 @@ import tempfile
 import threading
 import time
 import unittest
+from unittest import mock
 
 import dask
 import numpy
 import pandas
 from dask import dataframe
 from distributed import Client, LocalCluster, WorkerPlugin
+from distributed.comm import CommClosedError
 
 import rowkeeper
-from rowkeeper import Refused, cluster, pairs
+from rowkeeper import Refused, cluster, pairs, pieces
 from rowkeeper.interface import BAD_BOUNDARIES, UNSORTED
 
 from .test_pairs import Tables, words
 
 TABLES, FRAMES, COMMANDS = 150, 20, 12
+# The joins during which workers are killed at random; tools/soak has more of them.
+KILLED = int(os.environ.get('ROWKEEPER_KILLED', '10'))
 # Where the module is found by processes of their own.
 MODULE = os.path.dirname(os.path.dirname(rowkeeper.__file__))
 
@@ -349,6 +354,142 @@ class Faults(OnCluster):
         self.same(found, left, right, by)
         self.assertGreater(time.monotonic() - begun, 0.5)
         later.join()
+
+
+class Changed(OnCluster):
+    """Files and partitions that are others when they are read again: one clear error, never a wrong match."""
+
+    def test_marks(self):
+        """A piece has another mark if a cell, a null, a type, a name or the number of its rows is another; the same if nothing is."""
+        frame = pandas.DataFrame({'k': [1, 2, 3], 'price': [1.5, None, 2.5], 'text': ['a', None, 'c'], 'when': pandas.to_datetime(['2026-01-05'] * 3)})
+        frame['nullable'], frame['kind'] = pandas.array([1, None, 3], dtype='Int64'), pandas.Categorical(['x', 'y', 'x'])
+        frame['zoned'] = frame['when'].dt.tz_localize('Europe/Paris')
+        piece = pieces.marked(frame)
+        pandas.testing.assert_frame_equal(pieces.checked(pieces.marked(frame.copy()), piece.mark, 'it'), frame)
+        others = [frame.iloc[:2], frame.iloc[[0, 2, 1]], frame.rename(columns={'k': 'q'}), frame.assign(k=frame['k'].astype('int32')),
+                  frame.assign(k=[1, 2, 4]), frame.assign(price=[1.5, 0.0, 2.5]), frame.assign(text=['a', '', 'c']), frame.assign(text=['a', None, 'd']),
+                  frame.assign(nullable=pandas.array([1, 0, 3], dtype='Int64')), frame.assign(kind=pandas.Categorical(['x', 'x', 'x'], categories=['x', 'y'])),
+                  frame.assign(when=frame['when'] + pandas.Timedelta(1)), frame.assign(zoned=frame['zoned'] + pandas.Timedelta(1))]
+        for number, other in enumerate(others):
+            with self.subTest(number), self.assertRaisesRegex(ValueError, '^it was changed while it was joined: it had 3 rows and [^\n]+; join it again$'):
+                pieces.checked(pieces.marked(other), piece.mark, 'it')
+
+    def test_written_while_read(self):
+        """A file that is written to while a worker reads it."""
+        path = self.files('some', tables_of(random.Random(50), 5, 5, 2)[0], [])[0]
+
+        def grown(name):
+            """Reads a file, to which a row is written meanwhile."""
+            found = pandas.read_csv(name)
+            with open(name, 'a') as file:
+                file.write('1,1,1\n')
+            return found
+        with self.assertRaisesRegex(ValueError, r'some-0\.csv was changed while it was read'):
+            pieces.read_file(grown, path)
+
+    def test_read_again(self):
+        """A file that gives other rows when it is read again, since the worker that had it was killed in the middle of the join."""
+        left, right, by = tables_of(random.Random(51), 600, 600, 20)
+        paths = self.files('left', left, [200]), self.files('right', right, [300])
+        with started(1) as local, Client(local, set_as_default=False) as client:
+            client.register_worker_plugin(Kills('pair', self.path('killed')))
+            with self.assertRaisesRegex(ValueError, r'^.*/(left|right)-[01]\.csv was changed while it was joined: it had [^\n]+$'):
+                cluster.merge_asof(*paths, on='k', by=by, client=client, parts=4, read=functools.partial(shrinking, self.folder))
+
+    def test_after_it_returned(self):
+        """A file that is exported anew when the join has returned, and workers that are lost before the result is computed."""
+        left, right, by = tables_of(random.Random(52), 600, 600, 20)
+        paths = self.files('left', left, [200]), self.files('right', right, [300])
+        with started(1) as local, Client(local, set_as_default=False) as client:
+            result = cluster.merge_asof(*paths, on='k', by=by, client=client, parts=4)
+            right.iloc[5:300].to_csv(paths[1][0], index=False)
+            os.kill(next(iter(client.run(os.getpid).values())), signal.SIGKILL)
+            with self.assertRaisesRegex(ValueError, r'^.*/right-0\.csv was changed while it was joined: it had 300 rows'):
+                client.compute(result).result(timeout=60)
+
+
+def shrinking(folder, path):
+    """A reading that gives a row fewer each time after the first."""
+    seen = os.path.join(folder, os.path.basename(path) + '.read')
+    rows = pandas.read_csv(path)
+    try:
+        os.close(os.open(seen, os.O_CREAT | os.O_EXCL))
+        return rows
+    except FileExistsError:
+        return rows.iloc[1:]
+
+
+class Limits(OnCluster):
+    """A cluster that does not get on."""
+
+    def test_time_limit(self):
+        """No task that ends in time is one clear error, in this time."""
+        for timeout in (0, -1, 'soon', True):
+            with self.assertRaisesRegex(ValueError, '^timeout .* is no number of seconds above 0, and not None$'):
+                cluster.merge_asof(['a'], ['b'], on='k', by='g', client=self.client, timeout=timeout)
+        begun = time.monotonic()
+        with started(1) as local, Client(local, set_as_default=False) as client:
+            with self.assertRaisesRegex(cluster.Lost, r'^the cluster did not finish: no task of the join ended in 1\.5 seconds; [^\n]+$'):
+                cluster.merge_asof(['a'], ['b'], on='k', by='g', client=client, read=sleeping, timeout=1.5)
+            self.assertLess(time.monotonic() - begun, 30)
+
+    def test_lost_while_sent(self):
+        """Workers that are lost while words are sent to them count as an attempt: the words are sent again, twice at most."""
+        case = Tables(random.Random(53), most=200)
+        left, right, boundaries = case.words()
+        real = self.client.scatter
+        for lost in (1, 2, 3):
+            said = itertools.chain([CommClosedError('in <TCP ConnectionPool.scatter>')] * lost, itertools.repeat(None))
+
+            def sending(*words, **more):
+                """Sends words, once enough workers were lost."""
+                error = next(said)
+                if error is not None:
+                    raise error
+                return real(*words, **more)
+            with mock.patch.object(self.client, 'scatter', sending):
+                join = functools.partial(cluster.join_tables, left, right, client=self.client, boundaries=boundaries, **case.options)
+                if lost < 3:
+                    self.assertEqual(join(), pairs.join_pair(left, right, **case.options))
+                else:
+                    self.assertRaisesRegex(cluster.Lost, '^the cluster did not finish: the words of [0-9]+ pairs were lost .* 3 times$', join)
+
+
+class Killed(OnCluster):
+    """Workers that are killed at random moments."""
+
+    def killed(self, client, r, join):
+        """Makes a join while one or two of the workers are killed; what it gives, or None if the cluster did not finish."""
+        timers = []
+        for pid in r.sample(sorted(client.run(os.getpid).values()), r.choice((1, 1, 2))):
+            timers.append(threading.Timer(r.uniform(0, 1.2), os.kill, (pid, signal.SIGKILL)))
+            timers[-1].start()
+        try:
+            return join()
+        except cluster.Lost as error:
+            self.assertNotIn('\n', str(error))
+            return None
+        finally:
+            for each in timers:
+                each.join()
+
+    def test_at_random(self):
+        """Joins of files and of words, each right or one clear error."""
+        r, finished = random.Random(54), 0
+        with started(3) as local, Client(local, set_as_default=False) as client:
+            for number in range(KILLED):
+                client.wait_for_workers(3, timeout=60)
+                left, right, by = tables_of(r, 3000, 3000, 50)
+                one, other = (words(each[['g0', 'k']].values.tolist(), 2) for each in (left, right))
+                paths = self.files(f'left-{number}', left, [900, 2000]), self.files(f'right-{number}', right, [10, 1500])
+                tables = functools.partial(cluster.join_tables, one, other, by=1, client=client, timeout=30)
+                files = functools.partial(cluster.merge_asof, *paths, on='k', by=by, client=client, parts=6, right_row='row', timeout=30)
+                found = self.killed(client, r, tables if number % 2 else lambda: client.compute(files()).result(timeout=60)['row'])
+                if found is not None:
+                    self.assertEqual(list(found), list(uncut(left, right, by)))
+                    finished += 1
+        print(f'workers killed at random: {KILLED} joins, {finished} right, {KILLED - finished} told as lost')
+        self.assertGreater(finished, KILLED // 2)
 
 
 def killing(path):

@@ -328,7 +328,7 @@ class Lent(unittest.TestCase):
     def test_held_while_lent(self):
         """A buffer cannot be resized, and so not be moved, while it is lent; afterwards it can."""
         words = keys(1, 2)
-        with lent.lent(words, 'words') as (address, length):
+        with lent.in_place(words, 'words') as (address, length):
             self.assertEqual((address, length), words.buffer_info())
             self.assertRaises(BufferError, words.append, 1)
         words.append(1)
