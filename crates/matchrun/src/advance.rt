@@ -1,18 +1,19 @@
 // How the right cursor moves on over keys that do not fall: past those below a left key, four rows at a time.
 ghost use mathlib.Core.Path.{_≡_};
 ghost use mathlib.Core.Bool.{cond};
-ghost use Prim.Native.Nat.{_+_, _-_, _*_, _≤_, _<_};
+ghost use Prim.Native.Nat.{_+_, _-_, _*_, _^_, _≤_, _<_};
 ghost use lib.IntN.{ℤ, pos};
 ghost use lib.ListN.{length, getD};
 ghost use lib.Signed.{ltZ};
 ghost use Rattle.matching.specs.Moves.{Rising};
 ghost use Rattle.matchrun.specs.advance.Below.{keyed, below, lastTrue, HasNext, AtPlace, Skipped};
 
-// Where the right cursor has come to: how many rows it has passed, each of them one move, and the
-// place of the key that it is at.
+// A row of a run, the place of its key, and how many moves the cursors have made when the right one is there: each takes a
+// cursor one row forward. A step over several rows makes as many moves.
 pub struct Position {
-    pub moved: usize,
+    pub row: usize,
     pub place: usize,
+    pub moves: usize,
 }
 
 // `yes` where the key a is below u, else `no`: a choice between two numbers, not a jump.
@@ -46,27 +47,41 @@ fn is_below(a: i64, v: i64, inclusive: bool) -> bool
     a < v
 }
 
-// The way from row `at` to the first row of at..end whose key is not below v, nor at it where that
-// counts too, row by row; the key of row `at` is at place p.
-fn rest(rv: &[i64], at: usize, p: usize, end: usize, w: usize, v: i64, inclusive: bool) -> Position
+// The first row of at..end whose key is not below v, nor at it where that counts too, looked for row by row; the key of row `at`
+// is at place p. Each row that is passed is one more of the `moved` moves made before.
+fn rest(
+    rv: &[i64],
+    at: usize,
+    p: usize,
+    moved: usize,
+    end: usize,
+    w: usize,
+    v: i64,
+    inclusive: bool,
+) -> Position
     requires { ⌜ AtPlace w end (now rv) at p ⌝ }
-    ensures { λ r. ⌜ Skipped w (p - at * w) at end (now (rv .entry)) (below inclusive v) r ⌝ }
+    requires { ⌜ moved + (end - at) < 2 ^ 64 ⌝ }
+    ensures { λ r. ⌜ Skipped w (p - at * w) at end (now (rv .entry)) (below inclusive v) moved r ⌝ }
 {
-    let mut moved = 0;
+    let mut row = at;
     let mut place = p;
-    while at + moved < end {
+    let mut moves = moved;
+    while row < end {
         if !is_below(rv[place], v, inclusive) {
             return Position {
-                moved: moved,
+                row: row,
                 place: place,
+                moves: moves,
             };
         }
-        moved += 1;
+        row += 1;
         place += w;
+        moves += 1;
     }
     Position {
-        moved: moved,
+        row: row,
         place: place,
+        moves: moves,
     }
 }
 
@@ -81,14 +96,14 @@ fn bound(v: i64, inclusive: bool) -> i64
     v
 }
 
-// The way from row `at` to the first row of at..end whose key is not below v, nor at it where that
-// counts too, four rows at a time up to row `stop`; the key of row `at` is at place p. The last of
-// four rows is tested first: where its key is below v, all four are passed, which are four moves,
-// and else the row is chosen among them, with one move for each row before it.
+// The first row of at..end whose key is not below v, nor at it where that counts too, four rows at a time up to row `stop`; the
+// key of row `at` is at place p. The last of four rows is tested first: where its key is below v, all four are passed, in four
+// moves, and else the row is chosen among them, with as many moves as rows are passed.
 pub fn advance(
     rv: &[i64],
     at: usize,
     p: usize,
+    moved: usize,
     stop: usize,
     end: usize,
     w: usize,
@@ -99,28 +114,28 @@ pub fn advance(
     requires { ⌜ stop ≤ end ⌝ }
     requires { ⌜ Rising (keyed w (p - at * w) (now rv)) at end ⌝ }
     requires { ⌜ (at + 3 < stop → HasNext v) ⌝ }
-    ensures { λ r. ⌜ Skipped w (p - at * w) at end (now (rv .entry)) (below inclusive v) r ⌝ }
+    requires { ⌜ moved + (end - at) < 2 ^ 64 ⌝ }
+    ensures { λ r. ⌜ Skipped w (p - at * w) at end (now (rv .entry)) (below inclusive v) moved r ⌝ }
 {
-    let mut moved = 0;
+    let mut row = at;
     let mut place = p;
-    while at + moved + 3 < stop {
+    let mut moves = moved;
+    while row + 3 < stop {
         let last = place + w + w + w;
         let u = bound(v, inclusive);
         if !(rv[last] < u) {
-            moved += stepped(rv, place, w, u, 0, 1);
+            let passed = stepped(rv, place, w, u, 0, 1);
+            row += passed;
+            moves += passed;
             return Position {
-                moved: moved,
+                row: row,
                 place: stepped(rv, place, w, u, place, w),
+                moves: moves,
             };
         }
-        moved += 4;
+        row += 4;
         place = last + w;
+        moves += 4;
     }
-    let on = rest(rv, at + moved, place, end, w, v, inclusive);
-    let more = on.moved;
-    moved += more;
-    Position {
-        moved: moved,
-        place: on.place,
-    }
+    rest(rv, row, place, moves, end, w, v, inclusive)
 }

@@ -18,30 +18,44 @@ fn as_near(v: i64, b: i64, a: i64) -> bool
     distance(b, v) <= distance(a, v)
 }
 
-// The way from row `at` to the row of at..end at which the cursor rests for v, row by row: it moves
-// on while the next key is as near as its own, or nearer.
-fn creep(rv: &[i64], at: usize, p: usize, end: usize, w: usize, v: i64) -> Position
+// The row of at..end at which the cursor rests for v, looked for row by row: it moves on while the
+// next key is as near as its own, or nearer. Each row that is passed is one more of the `moved`
+// moves made before.
+fn creep(
+    rv: &[i64],
+    at: usize,
+    p: usize,
+    moved: usize,
+    end: usize,
+    w: usize,
+    v: i64,
+) -> Position
     requires { ⌜ AtPlace w end (now rv) at p ⌝ }
     requires { ⌜ at < end ⌝ }
     requires { ⌜ Rising (keyed w (p - at * w) (now rv)) at end ⌝ }
-    ensures { λ r. ⌜ Approached w (p - at * w) at end (now (rv .entry)) v r ⌝ }
+    requires { ⌜ moved + (end - at) < 2 ^ 64 ⌝ }
+    ensures { λ r. ⌜ Approached w (p - at * w) at end (now (rv .entry)) v moved r ⌝ }
 {
-    let mut moved = 0;
+    let mut row = at;
     let mut place = p;
-    while at + moved + 1 < end {
+    let mut moves = moved;
+    while 1 < end - row {
         let next = place + w;
         if !as_near(v, rv[next], rv[place]) {
             return Position {
-                moved: moved,
+                row: row,
                 place: place,
+                moves: moves,
             };
         }
-        moved += 1;
+        row += 1;
         place = next;
+        moves += 1;
     }
     Position {
-        moved: moved,
+        row: row,
         place: place,
+        moves: moves,
     }
 }
 
@@ -82,18 +96,28 @@ fn closes_three(v: i64, a: i64, b: i64, c: i64, d: i64) -> bool
     y <= distance(a, v)
 }
 
-// The way from row `at` to the row of at..end at which the cursor rests for v, three rows at a time,
-// which are three moves: where it does not move on over all three, the row is chosen among them,
-// with one move for each row before it.
-fn approach(rv: &[i64], at: usize, p: usize, end: usize, w: usize, v: i64) -> Position
+// The row of at..end at which the cursor rests for v, three rows at a time, in three moves: where
+// it does not move on over all three, the row is chosen among them, with as many moves as rows are
+// passed.
+fn approach(
+    rv: &[i64],
+    at: usize,
+    p: usize,
+    moved: usize,
+    end: usize,
+    w: usize,
+    v: i64,
+) -> Position
     requires { ⌜ AtPlace w end (now rv) at p ⌝ }
     requires { ⌜ at < end ⌝ }
     requires { ⌜ Rising (keyed w (p - at * w) (now rv)) at end ⌝ }
-    ensures { λ r. ⌜ Approached w (p - at * w) at end (now (rv .entry)) v r ⌝ }
+    requires { ⌜ moved + (end - at) < 2 ^ 64 ⌝ }
+    ensures { λ r. ⌜ Approached w (p - at * w) at end (now (rv .entry)) v moved r ⌝ }
 {
-    let mut moved = 0;
+    let mut row = at;
     let mut place = p;
-    while at + moved + 3 < end {
+    let mut moves = moved;
+    while 3 < end - row {
         let q = place + w;
         let r = q + w;
         let s = r + w;
@@ -101,30 +125,28 @@ fn approach(rv: &[i64], at: usize, p: usize, end: usize, w: usize, v: i64) -> Po
         let b = rv[q];
         let c = rv[r];
         if !closes_three(v, a, b, c, rv[s]) {
-            moved += settled(v, a, b, c, 0, 1);
+            let passed = settled(v, a, b, c, 0, 1);
+            row += passed;
+            moves += passed;
             return Position {
-                moved: moved,
+                row: row,
                 place: settled(v, a, b, c, place, w),
+                moves: moves,
             };
         }
-        moved += 3;
+        row += 3;
         place = s;
+        moves += 3;
     }
-    let on = creep(rv, at + moved, place, end, w, v);
-    let more = on.moved;
-    moved += more;
-    Position {
-        moved: moved,
-        place: on.place,
-    }
+    creep(rv, row, place, moves, end, w, v)
 }
 
-// The way from row `at` to the row of at..end at which the cursor rests for v: row by row where the
-// right rows are few, since three together are then never there.
+// The row of at..end at which the cursor rests for v: looked for row by row where the right rows are few, since three together are then never there.
 pub fn come_near(
     rv: &[i64],
     at: usize,
     p: usize,
+    moved: usize,
     end: usize,
     w: usize,
     v: i64,
@@ -133,10 +155,11 @@ pub fn come_near(
     requires { ⌜ AtPlace w end (now rv) at p ⌝ }
     requires { ⌜ at < end ⌝ }
     requires { ⌜ Rising (keyed w (p - at * w) (now rv)) at end ⌝ }
-    ensures { λ r. ⌜ Approached w (p - at * w) at end (now (rv .entry)) v r ⌝ }
+    requires { ⌜ moved + (end - at) < 2 ^ 64 ⌝ }
+    ensures { λ r. ⌜ Approached w (p - at * w) at end (now (rv .entry)) v moved r ⌝ }
 {
     if few {
-        return creep(rv, at, p, end, w, v);
+        return creep(rv, at, p, moved, end, w, v);
     }
-    approach(rv, at, p, end, w, v)
+    approach(rv, at, p, moved, end, w, v)
 }

@@ -36,11 +36,10 @@ pub fn nearest(
     let mut moves = 0;
     while i < to {
         let v = lv[p];
-        let c = come_near(rv, row, place, end, wr, v, few);
-        let moved = c.moved;
-        row += moved;
+        let c = come_near(rv, row, place, moves, end, wr, v, few);
+        row = c.row;
         place = c.place;
-        moves += moved;
+        moves = c.moves;
         let choice = near_row(rv, place, v, o.tolerance, number + row);
         put(out, m, i, choice);
         i += 1;

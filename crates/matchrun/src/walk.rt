@@ -117,11 +117,10 @@ pub fn backward(
     let mut moves = 0;
     while i < to {
         let v = lv[p];
-        let c = advance(rv, row, place, stop, end, wr, v, o.allow_eq);
-        let moved = c.moved;
-        row += moved;
+        let c = advance(rv, row, place, moves, stop, end, wr, v, o.allow_eq);
+        row = c.row;
         place = c.place;
-        moves += moved;
+        moves = c.moves;
         let choice = choice_back(rv, at, row, place, wr, v, o.tolerance, number);
         put(out, m, i, choice);
         i += 1;
@@ -158,11 +157,10 @@ pub fn forward(
     let mut moves = 0;
     while i < to {
         let v = lv[p];
-        let c = advance(rv, row, place, stop, end, wr, v, !o.allow_eq);
-        let moved = c.moved;
-        row += moved;
+        let c = advance(rv, row, place, moves, stop, end, wr, v, !o.allow_eq);
+        row = c.row;
         place = c.place;
-        moves += moved;
+        moves = c.moves;
         let choice = choice_fore(rv, row, end, place, v, o.tolerance, number);
         put(out, m, i, choice);
         i += 1;

@@ -1,7 +1,7 @@
 -- Which keys are below a left key, and where the right cursor comes to over keys that do not fall. Assumes nothing.
 use mathlib.Core.Path.{_≡_}
 use mathlib.Core.Bool.{Bool, true, false, cond}
-use Prim.Native.Nat.{ℕ, _+_, _*_, _≤_, _<_}
+use Prim.Native.Nat.{ℕ, _+_, _-_, _*_, _≤_, _<_}
 use lib.IntN.{ℤ, pos}
 use lib.ListN.{length, getD}
 use lib.Signed.{ltZ}
@@ -39,9 +39,11 @@ pub record AtPlace (w end : ℕ) (vs : Words) (at p : ℕ) : Type 0 where
   pub start : at * w ≤ p
   pub wide : p < at * w + w
 
--- The cursor moved on from row `at` to the first row of at..end whose key does not pass the test, or to `end` where all do: one move for each row before it.
-pub record Skipped (w by at end : ℕ) (vs : Words) (test : ℤ → Bool) (r : Position) : Type 0 where
-  pub within : at + r .moved ≤ end
-  pub place : r .place ≡ (at + r .moved) * w + by
-  pub before : (k : ℕ) → at ≤ k → k < at + r .moved → test (valueAt w by vs k) ≡ true
-  pub stop : at + r .moved < end → test (valueAt w by vs (at + r .moved)) ≡ false
+-- Row r is the first of at..end whose key does not pass the test, or all do and r is `end`. To the moves that were made before, one is added for each row from `at` to r.
+pub record Skipped (w by at end : ℕ) (vs : Words) (test : ℤ → Bool) (moved : ℕ) (r : Position) : Type 0 where
+  pub upward : at ≤ r .row
+  pub within : r .row ≤ end
+  pub place : r .place ≡ r .row * w + by
+  pub before : (k : ℕ) → at ≤ k → k < r .row → test (valueAt w by vs k) ≡ true
+  pub stop : r .row < end → test (valueAt w by vs (r .row)) ≡ false
+  pub counted : r .moves ≡ moved + (r .row - at)

@@ -1,7 +1,7 @@
 -- Where the right cursor comes to for Nearest over keys that do not fall. Assumes nothing.
 use mathlib.Core.Path.{_≡_}
 use mathlib.Core.Bool.{Bool, true, cond}
-use Prim.Native.Nat.{ℕ, _+_, _*_, _≤_, _<_}
+use Prim.Native.Nat.{ℕ, _+_, _-_, _*_, _≤_, _<_}
 use lib.IntN.{ℤ}
 use Rattle.frames.specs.Cells.{value, Words}
 use Rattle.order.specs.declared.options.Strategy.the-variants.{Nearest}
@@ -18,9 +18,11 @@ closes v a b = nearer (value v) (value b) (value a)
 abbrev pub stepsOn : Bool → Bool → ℕ
 stepsOn a b = cond a (cond b 2 1) 0
 
--- The cursor moved on for Nearest from row `at` to one of the rows up to `end`, one move for each row before that, and rests there for v.
-pub record Approached (w by at end : ℕ) (vs : Words) (v : ℤ) (r : Position) : Type 0 where
-  pub there : at + r .moved < end
-  pub place : r .place ≡ (at + r .moved) * w + by
-  pub behind : (start : ℕ) → start ≤ at → Rising (keyed w by vs) start end → Behind Nearest true (keyed w by vs) start (value v) at → Behind Nearest true (keyed w by vs) start (value v) (at + r .moved)
-  pub stopped : Stopped Nearest true (keyed w by vs) end (value v) (at + r .moved)
+-- The cursor moved on for Nearest from row `at` to row r, one of the rows up to `end`, and rests there for v. To the moves that were made before, one is added for each row from `at` to r.
+pub record Approached (w by at end : ℕ) (vs : Words) (v : ℤ) (moved : ℕ) (r : Position) : Type 0 where
+  pub upward : at ≤ r .row
+  pub there : r .row < end
+  pub place : r .place ≡ r .row * w + by
+  pub behind : (start : ℕ) → start ≤ at → Rising (keyed w by vs) start end → Behind Nearest true (keyed w by vs) start (value v) at → Behind Nearest true (keyed w by vs) start (value v) (r .row)
+  pub stopped : Stopped Nearest true (keyed w by vs) end (value v) (r .row)
+  pub counted : r .moves ≡ moved + (r .row - at)

@@ -22,29 +22,26 @@ use Rattle.matchrun.proofs.approach.approach.Statement.{statement}
 use Rattle.matchrun.proofs.approach.approach.Tie as tie
 
 abbrev Inv-loop : tie.InvT-loop
-Inv-loop rv at p end w v moved₀ place₀ moved place =
-    (at + moved < end) × (place ≡ (at + moved) * w + (p - at * w))
+Inv-loop rv at p moved end w v row₀ place₀ moves₀ row place moves =
+    (at ≤ row) × (row < end) × (place ≡ row * w + (p - at * w))
     × ((start : ℕ) → start ≤ at → Rising (keyed w (p - at * w) rv) start end → Behind Nearest true (keyed w (p - at * w) rv) start (value (toZ w64 v)) at
-    → Behind Nearest true (keyed w (p - at * w) rv) start (value (toZ w64 v)) (at + moved))
+    → Behind Nearest true (keyed w (p - at * w) rv) start (value (toZ w64 v)) row)
+    × (moves ≡ moved + (row - at))
 
 abbrev μ-loop : tie.MeasureT-loop
-μ-loop rv at p end w v moved₀ place₀ moved place = end - (at + moved)
-
--- the row that the cursor has come to
-abbrev row : tie.At-loop Inv-loop μ-loop → ℕ
-row c = c .before .args .at + c .loop .moved
+μ-loop rv at p moved end w v row₀ place₀ moves₀ row place moves = end - row
 
 -- four rows end within the rows
-room : (c : tie.In-loop Inv-loop μ-loop) → let a = c .before .before .args in row (c .before) * a .w + a .w + a .w + a .w + a .w ≤ a .end * a .w
+room : (c : tie.In-loop Inv-loop μ-loop) → let a = c .before .before .args in c .before .loop .row * a .w + a .w + a .w + a .w + a .w ≤ a .end * a .w
 room c =
     let a = c .before .before .args in
-    let n = row (c .before) in
-    let z : (n + 3) * a .w ≡ n * a .w + a .w + a .w + a .w = omega arith in
-    omega (arith, z, row-room (n + 3) (a .end) (a .w) (omega (arith, c .loop-test .taken)))
+    let row = c .before .loop .row in
+    let z : (row + 3) * a .w ≡ row * a .w + a .w + a .w + a .w = omega arith in
+    omega (arith, z, row-room (row + 3) (a .end) (a .w) (omega (arith, c .loop-test .taken)))
 
 -- the last of them has a place
 within : (c : tie.In-loop Inv-loop μ-loop) → let a = c .before .before .args in c .before .loop .place + a .w + a .w + a .w < length (now (a .rv))
-within c = let r = room c in omega (arith, c .before .before .pre .0, c .before .loop .inv .1)
+within c = let r = room c in omega (arith, c .before .before .pre .0, c .before .loop .inv .2)
 
 -- as many rows as words, at most
 fits-end : (s : tie.Start Inv-loop μ-loop) → s .args .end ≤ length (now (s .args .rv))
@@ -62,36 +59,34 @@ at-place c k = getD (now (c .before .before .args .rv)) k (pos 0)
 places : (c : tie.In-loop Inv-loop μ-loop) →
     let s = c .before .before in
     let l = c .before .loop in
-    let n = row (c .before) in
-    (at-place c (l .place) ≡ val s n) × (at-place c (l .place + s .args .w) ≡ val s (n + 1)) × (at-place c (l .place + s .args .w + s .args .w) ≡ val s (n + 2))
-    × (at-place c (l .place + s .args .w + s .args .w + s .args .w) ≡ val s (n + 3))
+    (at-place c (l .place) ≡ val s (l .row)) × (at-place c (l .place + s .args .w) ≡ val s (l .row + 1)) × (at-place c (l .place + s .args .w + s .args .w) ≡ val s (l .row + 2))
+    × (at-place c (l .place + s .args .w + s .args .w + s .args .w) ≡ val s (l .row + 3))
 places c =
     let a = c .before .before .args in
     let l = c .before .loop in
-    let n = row (c .before) in
-    let x : l .place + a .w ≡ (n + 1) * a .w + (a .p - a .at * a .w) = omega (arith, l .inv .1) in
-    let y : l .place + a .w + a .w ≡ (n + 2) * a .w + (a .p - a .at * a .w) = omega (arith, l .inv .1) in
-    let z : l .place + a .w + a .w + a .w ≡ (n + 3) * a .w + (a .p - a .at * a .w) = omega (arith, l .inv .1) in
-    (rw (l .inv .1), rw x, rw y, rw z)
+    let x : l .place + a .w ≡ (l .row + 1) * a .w + (a .p - a .at * a .w) = omega (arith, l .inv .2) in
+    let y : l .place + a .w + a .w ≡ (l .row + 2) * a .w + (a .p - a .at * a .w) = omega (arith, l .inv .2) in
+    let z : l .place + a .w + a .w + a .w ≡ (l .row + 3) * a .w + (a .p - a .at * a .w) = omega (arith, l .inv .2) in
+    (rw (l .inv .2), rw x, rw y, rw z)
 
 -- the keys do not fall
 rises : (c : tie.In-loop Inv-loop μ-loop) (i : ℕ) → i < 3 →
-    let n = row (c .before) in
-    NotAbove (value (val (c .before .before) (n + i))) (value (val (c .before .before) (n + i + 1)))
+    let l = c .before .loop in
+    NotAbove (value (val (c .before .before) (l .row + i))) (value (val (c .before .before) (l .row + i + 1)))
 rises c i h =
-    let n = row (c .before) in
-    c .before .before .pre .1 .1 (n + i) (n + i + 1) (omega arith) (omega arith) (omega (arith, h, c .loop-test .taken))
+    let l = c .before .loop in
+    c .before .before .pre .1 .1 .0 (l .row + i) (l .row + i + 1) (omega (arith, l .inv .0)) (omega arith) (omega (arith, h, c .loop-test .taken))
 
 risen : (c : tie.In-loop Inv-loop μ-loop) →
     let w = c .before .before .args .w in
     let k = c .before .loop .place in
     NotAbove (value (at-place c k)) (value (at-place c (k + w))) × NotAbove (value (at-place c (k + w))) (value (at-place c (k + w + w))) × NotAbove (value (at-place c (k + w + w))) (value (at-place c (k + w + w + w)))
 risen c =
-    let n = row (c .before) in
+    let l = c .before .loop in
     let p = places c in
-    let a : n + 0 ≡ n = omega arith in
-    let b : n + 1 + 1 ≡ n + 2 = omega arith in
-    let d : n + 2 + 1 ≡ n + 3 = omega arith in
+    let a : l .row + 0 ≡ l .row = omega arith in
+    let b : l .row + 1 + 1 ≡ l .row + 2 = omega arith in
+    let d : l .row + 2 + 1 ≡ l .row + 3 = omega arith in
     (rw (p .0, p .1) (rw a at (rises c 0 (omega arith))), rw (p .1, p .2) (rw b at (rises c 1 (omega arith))), rw (p .2, p .3) (rw d at (rises c 2 (omega arith))))
 
 -- the left key
@@ -102,7 +97,7 @@ left s = toZ w64 (ofZ w64 (s .args .v))
 told : (c : tie.After-closes-three Inv-loop μ-loop) →
     let i = c .before .before .before .before .before in
     let s = i .before .before in
-    let n = row (i .before) in
+    let n = i .before .loop .row in
     c .closes-three .result ≡ (closes (left s) (val s n) (val s (n + 1)) && (closes (left s) (val s (n + 1)) (val s (n + 2)) && closes (left s) (val s (n + 2)) (val s (n + 3))))
 told c =
     let i = c .before .before .before .before .before in
@@ -124,17 +119,14 @@ told c =
 abbrev further : tie.In-loop Inv-loop μ-loop → ℕ
 further i =
     let s = i .before .before in
-    let n = row (i .before) in
+    let n = i .before .loop .row in
     stepsOn (closes (left s) (val s n) (val s (n + 1))) (closes (left s) (val s (n + 1)) (val s (n + 2)))
 
 loop-holds : tie.Need-loop-holds Inv-loop μ-loop
-loop-holds c = let z : c .args .at + 0 ≡ c .args .at = omega arith in (omega (arith, c .pre .1 .0), omega (arith, c .pre .0 .start), λ start l u b. rw z b)
+loop-holds c = (omega arith, c .pre .1 .0, omega (arith, c .pre .0 .start), λ start l u b. b, omega arith)
 
-add-loop : tie.Need-add-loop Inv-loop μ-loop
-add-loop c = omega (arith, c .loop .inv .0)
-
-add-loop-2 : tie.Need-add-loop-2 Inv-loop μ-loop
-add-loop-2 c = omega (arith, fits-end (c .before), c .loop .inv .0)
+sub-loop : tie.Need-sub-loop Inv-loop μ-loop
+sub-loop c = omega (arith, c .loop .inv .1)
 
 add-q : tie.Need-add-q Inv-loop μ-loop
 add-q c = omega (arith, within c)
@@ -192,7 +184,7 @@ settled-requires c κs =
     let z = back (at-place i k) (e .before .before .before .before .a .given) in
     (rw (y, z) (risen i .0), rw (x, y) (risen i .1), omega arith)
 
--- how many rows are passed before the one that is chosen, two at most
+-- how many rows are passed, two at most
 passed-is : (c : tie.After-settled Inv-loop μ-loop) →
     let i = c .before .before .before .before .before .before .before in
     (c .settled .result ≡ further i) × (further i ≤ 2)
@@ -202,7 +194,7 @@ passed-is c =
     let s = i .before .before in
     let a = s .args in
     let k = i .before .loop .place in
-    let n = row (i .before) in
+    let n = i .before .loop .row in
     let p = places i in
     let x = back (at-place i (k + a .w + a .w)) (e .before .before .c .given) in
     let y = back (at-place i (k + a .w)) (e .before .before .before .b .given) in
@@ -210,10 +202,16 @@ passed-is c =
     let m : c .settled .result ≡ 0 + further i * 1 = rw (x, y, z, p .0, p .1, p .2) at (c .settled .ensures) in
     (omega (arith, m), steps-few (closes (left s) (val s n) (val s (n + 1))) (closes (left s) (val s (n + 1)) (val s (n + 2))))
 
-add-moved : tie.Need-add-moved Inv-loop μ-loop
-add-moved c =
+add-row : tie.Need-add-row Inv-loop μ-loop
+add-row c =
     let i = c .before .before .before .before .before .before .before in
-    omega (arith, passed-is c, i .loop-test .taken)
+    omega (arith, passed-is c, fits-end (i .before .before), i .loop-test .taken)
+
+add-moves : tie.Need-add-moves Inv-loop μ-loop
+add-moves c =
+    let i = c .before .before .before .before .before .before .before in
+    let l = i .before .loop in
+    omega (arith, passed-is c, i .loop-test .taken, i .before .before .pre .1 .1 .1, l .inv .0, l .inv .4)
 
 settled-requires-2 : tie.Need-settled-requires-2 Inv-loop μ-loop
 settled-requires-2 c κs =
@@ -236,24 +234,31 @@ returns c =
     let k = l .place in
     let p = places i in
     let v = toZ-ofZ (s .fits .v) in
-    let n = row (i .before) in
+    let n = further i in
     let f = back (at-place i (k + a .w + a .w)) (e .before .before .c .given) in
     let g = back (at-place i (k + a .w)) (e .before .before .before .b .given) in
     let h = back (at-place i k) (e .before .before .before .before .a .given) in
     let m = passed-is (c .before) in
-    let x : a .at + (l .moved + c .before .settled .result) ≡ n + further i = omega (arith, m) in
-    let y : c .settled2 .result ≡ k + further i * a .w = rw (f, g, h, p .0, p .1, p .2) at (c .settled2 .ensures) in
-    let z : (n + further i) * a .w ≡ n * a .w + further i * a .w = omega arith in
+    let x : l .row + c .before .settled .result ≡ l .row + n = omega (arith, m) in
+    let y : c .settled2 .result ≡ k + n * a .w = rw (f, g, h, p .0, p .1, p .2) at (c .settled2 .ensures) in
+    let z : (l .row + n) * a .w ≡ l .row * a .w + n * a .w = omega arith in
     let all = sym (told e) ∙ not-true (e .closes-three .result) (c .before .before .if1 .taken) in
     record {
+      upward = omega (arith, x, l .inv .0);
       there = omega (arith, m, i .loop-test .taken);
-      place = rw x (omega (arith, y, z, l .inv .1));
-      behind = λ start q u b. rw (← x, v) at (steps-behind (val s) (left s) n start (a .end) u (omega (arith, q)) (omega (arith, i .loop-test .taken)) (closes (left s) (val s n) (val s (n + 1))) (closes (left s) (val s (n + 1)) (val s (n + 2))) refl refl (l .inv .2 start q u (rw v b)));
-      stopped = rw (← x, v) at (steps-stop (val s) (left s) n (a .end) (closes (left s) (val s n) (val s (n + 1))) (closes (left s) (val s (n + 1)) (val s (n + 2))) refl refl all);
+      place = rw x (omega (arith, y, z, l .inv .2));
+      behind = λ start q u b. rw (← x, v) at (steps-behind (val s) (left s) (l .row) start (a .end) u (omega (arith, q, l .inv .0)) (omega (arith, i .loop-test .taken)) (closes (left s) (val s (l .row)) (val s (l .row + 1))) (closes (left s) (val s (l .row + 1)) (val s (l .row + 2))) refl refl (l .inv .3 start q u (rw v b)));
+      stopped = rw (← x, v) at (steps-stop (val s) (left s) (l .row) (a .end) (closes (left s) (val s (l .row)) (val s (l .row + 1))) (closes (left s) (val s (l .row + 1)) (val s (l .row + 2))) refl refl all);
+      counted = omega (arith, l .inv .0, l .inv .4);
     }
 
-add-moved-2 : tie.Need-add-moved-2 Inv-loop μ-loop
-add-moved-2 c = omega (arith, c .before .before .before .before .before .before .loop-test .taken)
+add-row-2 : tie.Need-add-row-2 Inv-loop μ-loop
+add-row-2 c = omega (arith, c .before .before .before .before .before .before .loop-test .taken)
+
+add-moves-2 : tie.Need-add-moves-2 Inv-loop μ-loop
+add-moves-2 c =
+    let i = c .before .before .before .before .before .before in
+    omega (arith, i .loop-test .taken, i .before .before .pre .1 .1 .1, i .before .loop .inv .0, i .before .loop .inv .4)
 
 loop-less : tie.Need-loop-less Inv-loop μ-loop
 loop-less c = omega (arith, c .before .before .before .before .before .before .loop-test .taken)
@@ -266,47 +271,42 @@ loop-again c =
     let a = s .args in
     let l = i .before .loop in
     let t = i .loop-test .taken in
-    let n = row (i .before) in
-    let z : (n + 3) * a .w ≡ n * a .w + a .w + a .w + a .w = omega arith in
-    let x : a .at + (l .moved + 3) ≡ n + 3 = omega arith in
+    let z : (l .row + 3) * a .w ≡ l .row * a .w + a .w + a .w + a .w = omega arith in
     let all = sym (told e) ∙ not-false (e .closes-three .result) (c .if1 .left) in (
+      omega (arith, l .inv .0),
       omega (arith, t),
-      rw x (omega (arith, z, l .inv .1)),
-      λ start g u b. rw x (three-behind (val s) (left s) n start (a .end) u (omega (arith, g)) (omega (arith, t)) all (l .inv .2 start g u b)),
+      omega (arith, z, l .inv .2),
+      λ start g u b. three-behind (val s) (left s) (l .row) start (a .end) u (omega (arith, g, l .inv .0)) (omega (arith, t)) all (l .inv .3 start g u b),
+      omega (arith, l .inv .0, l .inv .4),
     )
-
-add-creep : tie.Need-add-creep Inv-loop μ-loop
-add-creep c = omega (arith, c .before .loop .inv .0)
 
 creep-requires : tie.Need-creep-requires Inv-loop μ-loop
 creep-requires c κs =
     let s = c .before .before in
     let a = s .args in
     let l = c .before .loop in
-    let e : l .place - row (c .before) * a .w ≡ a .p - a .at * a .w = omega (arith, l .inv .1) in (
-      record { within = omega (arith, l .inv .0); values = s .pre .0 .values; start = omega (arith, l .inv .1); wide = omega (arith, l .inv .1, s .pre .0) },
-      (l .inv .0,
-      rw e (λ i k g t h. s .pre .1 .1 i k (omega (arith, g)) t h)),
+    let e : l .place - l .row * a .w ≡ a .p - a .at * a .w = omega (arith, l .inv .2) in (
+      record { within = omega (arith, l .inv .1); values = s .pre .0 .values; start = omega (arith, l .inv .2); wide = omega (arith, l .inv .2, s .pre .0) },
+      (l .inv .1,
+      (rw e (λ i k g t h. s .pre .1 .1 .0 i k (omega (arith, g, l .inv .0)) t h),
+      omega (arith, s .pre .1 .1 .1, l .inv .0, l .inv .1, l .inv .4))),
     )
-
-add-moved-3 : tie.Need-add-moved-3 Inv-loop μ-loop
-add-moved-3 c = omega (arith, c .creep .ensures .there)
 
 returns-2 : tie.Need-returns-2 Inv-loop μ-loop
 returns-2 c =
     let s = c .before .before .before in
     let a = s .args in
     let l = c .before .before .loop in
-    let n = row (c .before .before) in
-    let e : l .place - n * a .w ≡ a .p - a .at * a .w = omega (arith, l .inv .1) in
+    let e : l .place - l .row * a .w ≡ a .p - a .at * a .w = omega (arith, l .inv .2) in
     let v = toZ-ofZ (s .fits .v) in
     let r = rw (e, v) at (c .creep .ensures) in
-    let x : a .at + (l .moved + c .creep .result .moved) ≡ n + c .creep .result .moved = omega arith in
     record {
-      there = rw x (r .there);
-      place = rw x (r .place);
-      behind = λ start g u b. rw x (r .behind start (omega (arith, g)) u (rw v at (l .inv .2 start g u (rw v b))));
-      stopped = rw x (r .stopped);
+      upward = omega (arith, l .inv .0, r .upward);
+      there = r .there;
+      place = r .place;
+      behind = λ start g u b. r .behind start (omega (arith, g, l .inv .0)) u (rw v at (l .inv .3 start g u (rw v b)));
+      stopped = r .stopped;
+      counted = omega (arith, r .counted, r .upward, l .inv .0, l .inv .4);
     }
 
 pub approach-spec : {M : Type 1} → statement M
@@ -316,8 +316,7 @@ approach-spec =
     Inv-loop
     μ-loop
     loop-holds
-    add-loop
-    add-loop-2
+    sub-loop
     add-q
     add-r
     add-s
@@ -331,13 +330,13 @@ approach-spec =
     shared-slice-copy-out-closes-three
     closes-three-requires
     settled-requires
-    add-moved
+    add-row
+    add-moves
     settled-requires-2
     returns
-    add-moved-2
+    add-row-2
+    add-moves-2
     loop-less
     loop-again
-    add-creep
     creep-requires
-    add-moved-3
     returns-2)

@@ -21,71 +21,64 @@ use Rattle.matchrun.proofs.approach.creep.Statement.{statement}
 use Rattle.matchrun.proofs.approach.creep.Tie as tie
 
 abbrev Inv-loop : tie.InvT-loop
-Inv-loop rv at p end w v moved₀ place₀ moved place =
-    (at + moved < end) × (place ≡ (at + moved) * w + (p - at * w))
+Inv-loop rv at p moved end w v row₀ place₀ moves₀ row place moves =
+    (at ≤ row) × (row < end) × (place ≡ row * w + (p - at * w))
     × ((start : ℕ) → start ≤ at → Rising (keyed w (p - at * w) rv) start end → Behind Nearest true (keyed w (p - at * w) rv) start (value (toZ w64 v)) at
-    → Behind Nearest true (keyed w (p - at * w) rv) start (value (toZ w64 v)) (at + moved))
+    → Behind Nearest true (keyed w (p - at * w) rv) start (value (toZ w64 v)) row)
+    × (moves ≡ moved + (row - at))
 
 abbrev μ-loop : tie.MeasureT-loop
-μ-loop rv at p end w v moved₀ place₀ moved place = end - (at + moved)
-
--- the row that the cursor has come to
-abbrev row : tie.At-loop Inv-loop μ-loop → ℕ
-row c = c .before .args .at + c .loop .moved
+μ-loop rv at p moved end w v row₀ place₀ moves₀ row place moves = end - row
 
 -- two rows end within the rows
-room : (c : tie.In-loop Inv-loop μ-loop) → let a = c .before .before .args in row (c .before) * a .w + a .w + a .w ≤ a .end * a .w
+room : (c : tie.In-loop Inv-loop μ-loop) → let a = c .before .before .args in c .before .loop .row * a .w + a .w + a .w ≤ a .end * a .w
 room c =
     let a = c .before .before .args in
-    let n = row (c .before) in
-    let z : (n + 1) * a .w ≡ n * a .w + a .w = omega arith in
-    omega (arith, z, row-room (n + 1) (a .end) (a .w) (omega (arith, c .loop-test .taken)))
+    let row = c .before .loop .row in
+    let z : (row + 1) * a .w ≡ row * a .w + a .w = omega arith in
+    omega (arith, z, row-room (row + 1) (a .end) (a .w) (omega (arith, c .loop-test .taken)))
 
 -- what the test says of the two rows
 told : (c : tie.After-as-near Inv-loop μ-loop) →
     let s = c .before .before .before .before .before in
     let a = s .args in
-    let n = row (c .before .before .before .before) in
+    let row = c .before .before .before .before .loop .row in
     let key = keyed (a .w) (a .p - a .at * a .w) (now (a .rv)) in
-    c .as-near .result ≡ nearer (value (toZ w64 (ofZ w64 (a .v)))) (key (n + 1)) (key n)
+    c .as-near .result ≡ nearer (value (toZ w64 (ofZ w64 (a .v)))) (key (row + 1)) (key row)
 told c =
     let i = c .before .before .before in
     let s = i .before .before in
     let a = s .args in
     let l = i .before .loop in
-    let n = row (i .before) in
-    let z : l .place + a .w ≡ (n + 1) * a .w + (a .p - a .at * a .w) = omega (arith, l .inv .1) in
+    let z : l .place + a .w ≡ (l .row + 1) * a .w + (a .p - a .at * a .w) = omega (arith, l .inv .2) in
     let e = rw (
       back (getD (now (a .rv)) (l .place + a .w) (pos 0)) (c .before .before .as-near-arg .given),
       back (getD (now (a .rv)) (l .place) (pos 0)) (c .before .as-near-arg2 .given),
       z,
-      l .inv .1,
+      l .inv .2,
     ) at (c .as-near .ensures) in
-    e (s .pre .1 .1 n (n + 1) (omega arith) (omega arith) (omega (arith, i .loop-test .taken)))
+    e (s .pre .1 .1 .0 (l .row) (l .row + 1) (l .inv .0) (omega arith) (omega (arith, i .loop-test .taken)))
 
 loop-holds : tie.Need-loop-holds Inv-loop μ-loop
-loop-holds c = let z : c .args .at + 0 ≡ c .args .at = omega arith in (omega (arith, c .pre .1 .0), omega (arith, c .pre .0 .start), λ start l u b. rw z b)
+loop-holds c = (omega arith, c .pre .1 .0, omega (arith, c .pre .0 .start), λ start l u b. b, omega arith)
 
-add-loop : tie.Need-add-loop Inv-loop μ-loop
-add-loop c = omega (arith, c .loop .inv .0)
-
-add-loop-2 : tie.Need-add-loop-2 Inv-loop μ-loop
-add-loop-2 c = omega (arith, c .loop .inv .0)
+sub-loop : tie.Need-sub-loop Inv-loop μ-loop
+sub-loop c = omega (arith, c .loop .inv .1)
 
 add-next : tie.Need-add-next Inv-loop μ-loop
-add-next c = let r = room c in omega (arith, c .before .before .pre .0, c .before .loop .inv .1)
+add-next c = let r = room c in omega (arith, c .before .before .pre .0, c .before .loop .inv .2)
 
 mul-as-near : tie.Need-mul-as-near Inv-loop μ-loop
-mul-as-near c = let r = room c in omega (arith, c .before .before .pre .0, c .before .loop .inv .1)
+mul-as-near c = let r = room c in omega (arith, c .before .before .pre .0, c .before .loop .inv .2)
 
 shared-slice-copy-out-as-near : tie.Need-shared-slice-copy-out-as-near Inv-loop μ-loop
-shared-slice-copy-out-as-near c = let r = room c in omega (arith, c .before .before .pre .0, c .before .loop .inv .1)
+shared-slice-copy-out-as-near c = let r = room c in omega (arith, c .before .before .pre .0, c .before .loop .inv .2)
 
 mul-as-near-2 : tie.Need-mul-as-near-2 Inv-loop μ-loop
-mul-as-near-2 c = let i = c .before in let r = room i in omega (arith, i .before .before .pre .0, i .before .loop .inv .1)
+mul-as-near-2 c = let i = c .before in let r = room i in omega (arith, i .before .before .pre .0, i .before .loop .inv .2)
 
 shared-slice-copy-out-as-near-2 : tie.Need-shared-slice-copy-out-as-near-2 Inv-loop μ-loop
-shared-slice-copy-out-as-near-2 c = let i = c .before in let r = room i in omega (arith, i .before .before .pre .0, i .before .loop .inv .1)
+shared-slice-copy-out-as-near-2 c = let i = c .before in let r = room i in omega (arith, i .before .before .pre .0, i .before .loop .inv .2)
 
 as-near-requires : tie.Need-as-near-requires Inv-loop μ-loop
 as-near-requires c κs = tt
@@ -96,14 +89,21 @@ returns c =
     let l = c .before .before .before .before .before .loop in
     let v = toZ-ofZ (s .fits .v) in
     record {
-      there = l .inv .0;
-      place = l .inv .1;
-      behind = λ start g u b. rw v at (l .inv .2 start g u (rw v b));
+      upward = l .inv .0;
+      there = l .inv .1;
+      place = l .inv .2;
+      behind = λ start g u b. rw v at (l .inv .3 start g u (rw v b));
       stopped = λ h. sym (rw (v, not-true (c .before .as-near .result) (c .if1 .taken)) at (told (c .before)));
+      counted = l .inv .4;
     }
 
-add-moved : tie.Need-add-moved Inv-loop μ-loop
-add-moved c = omega (arith, c .before .before .before .before .loop-test .taken)
+add-row : tie.Need-add-row Inv-loop μ-loop
+add-row c = omega (arith, c .before .before .before .before .loop-test .taken)
+
+add-moves : tie.Need-add-moves Inv-loop μ-loop
+add-moves c =
+    let i = c .before .before .before .before in
+    omega (arith, i .loop-test .taken, i .before .before .pre .1 .1 .1, i .before .loop .inv .0, i .before .loop .inv .4)
 
 loop-less : tie.Need-loop-less Inv-loop μ-loop
 loop-less c = omega (arith, c .before .before .before .before .loop-test .taken)
@@ -115,13 +115,13 @@ loop-again c =
     let a = s .args in
     let l = i .before .loop in
     let t = i .loop-test .taken in
-    let n = row (i .before) in
-    let e : (n + 1) * a .w ≡ n * a .w + a .w = omega arith in
-    let h : n + 1 < a .end = omega (arith, t) in
-    let x : a .at + (l .moved + 1) ≡ n + 1 = omega arith in (
-      rw x h,
-      rw x (omega (arith, e, l .inv .1)),
-      λ start g u b. rw x (moved true (keyed (a .w) (a .p - a .at * a .w) (now (a .rv))) start (a .end) u Nearest (value (toZ w64 (ofZ w64 (a .v)))) n (omega (arith, g)) h (sym (rw (not-false (c .before .as-near .result) (c .if1 .left)) at (told (c .before)))) (l .inv .2 start g u b)),
+    let e : (l .row + 1) * a .w ≡ l .row * a .w + a .w = omega arith in
+    let h : l .row + 1 < a .end = omega (arith, t) in (
+      omega (arith, l .inv .0),
+      h,
+      omega (arith, e, l .inv .2),
+      λ start g u b. moved true (keyed (a .w) (a .p - a .at * a .w) (now (a .rv))) start (a .end) u Nearest (value (toZ w64 (ofZ w64 (a .v)))) (l .row) (omega (arith, g, l .inv .0)) h (sym (rw (not-false (c .before .as-near .result) (c .if1 .left)) at (told (c .before)))) (l .inv .3 start g u b),
+      omega (arith, l .inv .0, l .inv .4),
     )
 
 returns-2 : tie.Need-returns-2 Inv-loop μ-loop
@@ -130,10 +130,12 @@ returns-2 c =
     let l = c .before .loop in
     let v = toZ-ofZ (s .fits .v) in
     record {
-      there = l .inv .0;
-      place = l .inv .1;
-      behind = λ start g u b. rw v at (l .inv .2 start g u (rw v b));
-      stopped = λ (h : row (c .before) + 1 < s .args .end). absurd (omega (arith, h, c .loop-test .left));
+      upward = l .inv .0;
+      there = l .inv .1;
+      place = l .inv .2;
+      behind = λ start g u b. rw v at (l .inv .3 start g u (rw v b));
+      stopped = λ (h : l .row + 1 < s .args .end). absurd (omega (arith, h, c .loop-test .left));
+      counted = l .inv .4;
     }
 
 pub creep-spec : {M : Type 1} → statement M
@@ -143,8 +145,7 @@ creep-spec =
     Inv-loop
     μ-loop
     loop-holds
-    add-loop
-    add-loop-2
+    sub-loop
     add-next
     mul-as-near
     shared-slice-copy-out-as-near
@@ -152,7 +153,8 @@ creep-spec =
     shared-slice-copy-out-as-near-2
     as-near-requires
     returns
-    add-moved
+    add-row
+    add-moves
     loop-less
     loop-again
     returns-2)

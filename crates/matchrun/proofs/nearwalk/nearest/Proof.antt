@@ -1,7 +1,7 @@
 use mathlib.Core.Path.{_≡_, refl, sym, _∙_}
 use mathlib.Core.Bool.{true}
 use mathlib.Core.List.{map}
-use Prim.Native.Nat.{ℕ, _+_, _-_, _*_, _^_, _≤_, _<_}
+use Prim.Native.Nat.{_+_, _-_, _*_, _^_, _≤_, _<_}
 use native.Mathlib.Nat.{mul-le-mul-right}
 use native.Mathlib.Omega.{arith}
 use denote.Ref.{now}
@@ -50,14 +50,11 @@ room c = let a = c .before .before .args in row-room (c .before .loop .i) (a .to
 abbrev left : tie.In-loop Inv-loop μ-loop → ℤ
 left c = let a = c .before .before .args in valueAt (a .wl) (a .o .by) (now (a .lv)) (c .before .loop .i)
 
--- the row that the cursor has come to, and how
-abbrev come : tie.After-come-near Inv-loop μ-loop → ℕ
-come c = c .before .before .before .loop .row + c .come-near .result .moved
-
+-- where the cursor has come to
 came : (c : tie.After-come-near Inv-loop μ-loop) →
     let i = c .before .before in
     let a = i .before .before .args in
-    Approached (a .wr) (a .o .by) (i .before .loop .row) (a .end) (now (a .rv)) (left i) (c .come-near .result)
+    Approached (a .wr) (a .o .by) (i .before .loop .row) (a .end) (now (a .rv)) (left i) (i .before .loop .moves) (c .come-near .result)
 came c =
     let i = c .before .before in
     let a = i .before .before .args in
@@ -69,7 +66,7 @@ came c =
 passed : (c : tie.After-come-near Inv-loop μ-loop) →
     let i = c .before .before in
     let a = i .before .before .args in
-    Behind Nearest true (keyed (a .wr) (a .o .by) (now (a .rv))) (a .at) (value (left i)) (come c)
+    Behind Nearest true (keyed (a .wr) (a .o .by) (now (a .rv))) (a .at) (value (left i)) (c .come-near .result .row)
 passed c =
     let i = c .before .before in
     let s = i .before .before in
@@ -83,7 +80,7 @@ told : (c : tie.After-near-row Inv-loop μ-loop) →
     let d = c .before .before in
     let i = d .before .before in
     let a = i .before .before .args in
-    let n = come d in
+    let n = d .come-near .result .row in
     Small (c .near-row .result) × (c .near-row .result ≡ unlessFar (a .o .tolerance) (left i) (valueAt (a .wr) (a .o .by) (now (a .rv)) n) (a .number + n))
 told c =
     let d = c .before .before in
@@ -104,9 +101,9 @@ choice c lm rm ml mr =
     let s = i .before .before in
     let a = s .args in
     let l = i .before .loop in
-    let n = come d in
+    let n = d .come-near .result .row in
     let g = came d in
-    let h : a .at ≤ n = omega (arith, l .inv .3) in
+    let h : a .at ≤ n = omega (arith, l .inv .3, g .upward) in
     let ex = key-at (withoutList (a .o)) (a .wl) (a .to) (now (a .lv)) lm (ml .rows) (l .i) (i .loop-test .taken) ∙ ml .keys (l .i) (l .inv .0) (i .loop-test .taken) in
     told c .1
     ∙ near-rests (withoutList (a .o)) (a .wr) (a .at) (a .end) (now (a .rv)) rm mr (s .pre .0 .right-rising) (a .number) (rowFrom (a .wl) (l .i * a .wl) (now (a .lv)) lm) (left i) ex
@@ -162,17 +159,9 @@ come-near-requires c κs =
     let e : l .place - l .row * a .wr ≡ a .o .by = omega (arith, l .inv .5) in (
       record { within = omega (arith, l .inv .4); values = p .right-values; start = omega (arith, l .inv .5); wide = omega (arith, l .inv .5, p .right-wide) },
       (l .inv .4,
-      rw e (λ i k g t h. p .right-rising i k (omega (arith, g, l .inv .3)) t h)),
+      (rw e (λ i k g t h. p .right-rising i k (omega (arith, g, l .inv .3)) t h),
+      omega (arith, few-moves s, i .loop-test .taken, l .inv .0, l .inv .3, l .inv .4, l .inv .9))),
     )
-
-add-row : tie.Need-add-row Inv-loop μ-loop
-add-row c = omega (arith, came c .there, c .before .before .before .before .pre .0 .numbers)
-
-add-moves : tie.Need-add-moves Inv-loop μ-loop
-add-moves c =
-    let i = c .before .before in
-    let l = i .before .loop in
-    omega (arith, few-moves (i .before .before), i .loop-test .taken, came c .there, l .inv .0, l .inv .3, l .inv .9)
 
 add-near-row : tie.Need-add-near-row Inv-loop μ-loop
 add-near-row c = omega (arith, came c .there, c .before .before .before .before .pre .0 .numbers)
@@ -184,7 +173,7 @@ near-row-requires c κs =
     let a = s .args in
     let g = came d in
     let p = s .pre .0 in
-    (omega (arith, g .place, row-room (come d) (a .end) (a .wr) (g .there), p .right-values, p .right-wide), omega (arith, g .there, p .numbers))
+    (omega (arith, g .place, row-room (d .come-near .result .row) (a .end) (a .wr) (g .there), p .right-values, p .right-wide), omega (arith, g .there, p .numbers))
 
 put-requires : tie.Need-put-requires Inv-loop μ-loop
 put-requires c κs =
@@ -203,13 +192,13 @@ add-p-2 c =
     let p = i .before .before .pre .0 in
     omega (arith, p .left-wide, p .left-values, i .before .loop .inv .6)
 
-add-moves-2 : tie.Need-add-moves-2 Inv-loop μ-loop
-add-moves-2 c =
+add-moves : tie.Need-add-moves Inv-loop μ-loop
+add-moves c =
     let d = c .before .before .before .before .before in
     let i = d .before .before in
     let l = i .before .loop in
     let g = came d in
-    omega (arith, few-moves (i .before .before), i .loop-test .taken, g .there, l .inv .0, l .inv .3, l .inv .9)
+    omega (arith, few-moves (i .before .before), i .loop-test .taken, g .counted, g .upward, g .there, l .inv .0, l .inv .3, l .inv .9)
 
 loop-less : tie.Need-loop-less Inv-loop μ-loop
 loop-less c = omega (arith, c .before .before .before .before .before .before .before .loop-test .taken)
@@ -224,12 +213,12 @@ loop-again c =
     let l = i .before .loop in
     let t = i .loop-test .taken in
     let g = came d in
-    let n = come d in
+    let n = d .come-near .result .row in
     let z : (l .i + 1) * a .wl ≡ l .i * a .wl + a .wl = omega arith in (
       omega (arith, l .inv .0),
       omega (arith, t),
       c .before .put .kept .0 ∙ l .inv .2,
-      omega (arith, l .inv .3),
+      omega (arith, l .inv .3, g .upward),
       g .there,
       g .place,
       omega (arith, z, l .inv .6),
@@ -237,12 +226,12 @@ loop-again c =
       λ lm rm ml mr.
           let f = matchIn (withoutList (a .o)) (a .number + a .at) (between (a .wr) (a .at) (a .end) (now (a .rv)) rm) in
           l .inv .8 lm rm ml mr ∙ lay-more (a .m) f (a .wl) (now (a .lv)) lm (l .i) (a .to) (l .out) t ∙ rw (c .before .put .ensures, choice e lm rm ml mr),
-      omega (arith, g .there, l .inv .0, l .inv .3, l .inv .9),
+      omega (arith, g .counted, g .upward, l .inv .0, l .inv .3, l .inv .9),
       λ lm rm ml mr.
           let b = g .behind (l .row) (omega arith) (λ i k p q h. s .pre .0 .right-rising i k (omega (arith, p, l .inv .3)) q h) (λ k p q. absurd (omega (arith, p, q))) in
           let k = near-counted (withoutList (a .o)) (a .wl) (a .from) (a .to) (now (a .lv)) lm ml (a .wr) (a .at) (a .end) (now (a .rv)) rm mr
-              (s .pre .1) (s .pre .0 .right-rising) (l .i) (l .inv .0) t (l .row) n (l .inv .3) (omega arith) (g .there) b (g .stopped) in
-          omega (arith, k, l .inv .10 lm rm ml mr),
+              (s .pre .1) (s .pre .0 .right-rising) (l .i) (l .inv .0) t (l .row) n (l .inv .3) (g .upward) (g .there) b (g .stopped) in
+          omega (arith, k, g .counted, l .inv .10 lm rm ml mr),
     )
 
 same-length : tie.Need-same-length Inv-loop μ-loop
@@ -277,14 +266,12 @@ nearest-spec =
     mul-v
     shared-slice-copy-out-v
     come-near-requires
-    add-row
-    add-moves
     add-near-row
     near-row-requires
     put-requires
     add-i
     add-p-2
-    add-moves-2
+    add-moves
     loop-less
     loop-again
     same-length

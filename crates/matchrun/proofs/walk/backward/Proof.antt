@@ -50,14 +50,11 @@ room c = let a = c .before .before .before .args in row-room (c .before .loop .i
 abbrev left : tie.In-loop Inv-loop μ-loop → ℤ
 left c = let a = c .before .before .before .args in valueAt (a .wl) (a .o .by) (now (a .lv)) (c .before .loop .i)
 
--- the row that the cursor has come to, and how
-abbrev come : tie.After-advance Inv-loop μ-loop → ℕ
-come c = c .before .before .before .loop .row + c .advance .result .moved
-
+-- where the cursor has come to
 came : (c : tie.After-advance Inv-loop μ-loop) →
     let a = c .before .before .before .before .before .args in
     let l = c .before .before .before .loop in
-    Skipped (a .wr) (a .o .by) (l .row) (a .end) (now (a .rv)) (below (a .o .«allow_eq») (left (c .before .before))) (c .advance .result)
+    Skipped (a .wr) (a .o .by) (l .row) (a .end) (now (a .rv)) (below (a .o .«allow_eq») (left (c .before .before))) (l .moves) (c .advance .result)
 came c =
     let a = c .before .before .before .before .before .args in
     let l = c .before .before .before .loop in
@@ -67,29 +64,29 @@ came c =
 -- all that it has passed is below the key of row i
 passed : (c : tie.After-advance Inv-loop μ-loop) →
     let a = c .before .before .before .before .before .args in
-    (k : ℕ) → a .at ≤ k → k < come c → below (a .o .«allow_eq») (left (c .before .before)) (valueAt (a .wr) (a .o .by) (now (a .rv)) k) ≡ true
+    (k : ℕ) → a .at ≤ k → k < c .advance .result .row → below (a .o .«allow_eq») (left (c .before .before)) (valueAt (a .wr) (a .o .by) (now (a .rv)) k) ≡ true
 passed c =
     let s = c .before .before .before .before .before in
     let a = s .args in
     let l = c .before .before .before .loop in
     let v = left (c .before .before) in
     let here = reached-here (keyed (a .wl) (a .o .by) (now (a .lv))) (a .from) (a .to) (s .pre .0 .left-rising) (l .i) (c .before .before .loop-test .taken) v refl in
-    below-on (a .o .«allow_eq») (valueAt (a .wr) (a .o .by) (now (a .rv))) (a .at) v (l .row) (come c) (l .inv .7 v here) (came c .before)
+    below-on (a .o .«allow_eq») (valueAt (a .wr) (a .o .by) (now (a .rv))) (a .at) v (l .row) (c .advance .result .row) (l .inv .7 v here) (came c .before)
 
 -- the place of the key of the row before it
 before-place : (c : tie.After-advance Inv-loop μ-loop) →
     let a = c .before .before .before .before .before .args in
-    let n = come c in
+    let n = c .advance .result .row in
     a .at < n → c .advance .result .place - a .wr ≡ (n - 1) * a .wr + a .o .by
 before-place c h =
     let a = c .before .before .before .before .before .args in
-    omega (arith, came c .place, row-before (come c) (a .wr) (omega (arith, h)))
+    omega (arith, came c .place, row-before (c .advance .result .row) (a .wr) (omega (arith, h)))
 
 -- what `choice_back` says of it
 told : (c : tie.After-choice-back Inv-loop μ-loop) →
     let d = c .before .before in
     let a = d .before .before .before .before .before .args in
-    let n = come d in
+    let n = d .advance .result .row in
     Small (c .choice-back .result) × (n ≡ a .at → c .choice-back .result ≡ Nothing)
     × (a .at < n → c .choice-back .result ≡ unlessFar (a .o .tolerance) (left (d .before .before)) (getD (now (a .rv)) (d .advance .result .place - a .wr) (pos 0)) (a .number + (n - 1)))
 told c =
@@ -109,9 +106,9 @@ choice c lm rm ml mr =
     let s = i .before .before .before in
     let a = s .args in
     let l = i .before .loop in
-    let n = come d in
+    let n = d .advance .result .row in
     let g = came d in
-    let h : a .at ≤ n = omega (arith, l .inv .3) in
+    let h : a .at ≤ n = omega (arith, l .inv .3, g .upward) in
     let ex = key-at (withoutList (a .o)) (a .wl) (a .to) (now (a .lv)) lm (ml .rows) (l .i) (i .loop-test .taken) ∙ ml .keys (l .i) (l .inv .0) (i .loop-test .taken) in
     back-choice (withoutList (a .o)) (a .wr) (a .at) (a .end) (now (a .rv)) rm mr (s .pre .0 .right-rising) (a .number) (rowFrom (a .wl) (l .i * a .wl) (now (a .lv)) lm) (left i) ex
     (a .o .«allow_eq») n h (passed d) (g .stop) (s .pre .1) refl (g .within) (c .choice-back .result) (told c .1) (λ t. told c .2 t ∙ rw (before-place d t))
@@ -173,27 +170,19 @@ advance-requires c κs =
       record { within = l .inv .4; values = p .right-values; start = omega (arith, l .inv .5); wide = omega (arith, l .inv .5, p .right-wide) },
       (c .before .before .before .fours-to .ensures .0,
       (rw e (λ i k g t h. p .right-rising i k (omega (arith, g, l .inv .3)) t h),
-      λ h. has-next c (omega (arith, h, l .inv .3)))),
+      (λ h. has-next c (omega (arith, h, l .inv .3)),
+      omega (arith, few-moves s, c .before .loop-test .taken, l .inv .0, l .inv .3, l .inv .4, l .inv .9)))),
     )
-
-add-row : tie.Need-add-row Inv-loop μ-loop
-add-row c = omega (arith, came c .within, c .before .before .before .before .before .pre .0 .numbers)
-
-add-moves : tie.Need-add-moves Inv-loop μ-loop
-add-moves c =
-    let i = c .before .before in
-    let l = i .before .loop in
-    omega (arith, few-moves (i .before .before .before), i .loop-test .taken, came c .within, l .inv .0, l .inv .3, l .inv .9)
 
 choice-back-requires : tie.Need-choice-back-requires Inv-loop μ-loop
 choice-back-requires c κs =
     let d = c .before in
     let s = d .before .before .before .before .before in
     let a = s .args in
-    let n = come d in
+    let n = d .advance .result .row in
     let g = came d in
     let p = s .pre .0 in (
-      omega (arith, d .before .before .before .loop .inv .3),
+      omega (arith, d .before .before .before .loop .inv .3, g .upward),
       λ h. omega (arith, g .place, row-before n (a .wr) (omega (arith, h))),
       λ h. rw (before-place d h) (omega (arith, row-room (n - 1) (a .end) (a .wr) (omega (arith, h, g .within)), p .right-values, p .right-wide)),
       omega (arith, g .within, p .numbers),
@@ -215,13 +204,13 @@ add-p-2 c =
     let p = i .before .before .before .pre .0 in
     omega (arith, p .left-wide, p .left-values, i .before .loop .inv .6)
 
-add-moves-2 : tie.Need-add-moves-2 Inv-loop μ-loop
-add-moves-2 c =
+add-moves : tie.Need-add-moves Inv-loop μ-loop
+add-moves c =
     let d = c .before .before .before .before .before in
     let i = d .before .before in
     let l = i .before .loop in
     let g = came d in
-    omega (arith, few-moves (i .before .before .before), i .loop-test .taken, g .within, l .inv .0, l .inv .3, l .inv .9)
+    omega (arith, few-moves (i .before .before .before), i .loop-test .taken, g .counted, g .upward, g .within, l .inv .0, l .inv .3, l .inv .9)
 
 loop-less : tie.Need-loop-less Inv-loop μ-loop
 loop-less c = omega (arith, c .before .before .before .before .before .before .before .loop-test .taken)
@@ -236,12 +225,12 @@ loop-again c =
     let l = i .before .loop in
     let t = i .loop-test .taken in
     let g = came d in
-    let n = come d in
+    let n = d .advance .result .row in
     let z : (l .i + 1) * a .wl ≡ l .i * a .wl + a .wl = omega arith in (
       omega (arith, l .inv .0),
       omega (arith, t),
       c .before .put .kept .0 ∙ l .inv .2,
-      omega (arith, l .inv .3),
+      omega (arith, l .inv .3, g .upward),
       g .within,
       g .place,
       omega (arith, z, l .inv .6),
@@ -249,11 +238,11 @@ loop-again c =
       λ lm rm ml mr.
           let f = matchIn (withoutList (a .o)) (a .number + a .at) (between (a .wr) (a .at) (a .end) (now (a .rv)) rm) in
           l .inv .8 lm rm ml mr ∙ lay-more (a .m) f (a .wl) (now (a .lv)) lm (l .i) (a .to) (l .out) t ∙ rw (c .before .put .ensures, choice e lm rm ml mr),
-      omega (arith, g .within, l .inv .0, l .inv .3, l .inv .9),
+      omega (arith, g .counted, g .upward, l .inv .0, l .inv .3, l .inv .9),
       λ lm rm ml mr.
           let k = row-counted (withoutList (a .o)) (a .wl) (a .from) (a .to) (now (a .lv)) lm ml (a .wr) (a .at) (a .end) (now (a .rv)) rm mr
-              (l .i) (l .inv .0) t (l .row) n (l .inv .3) (omega arith) (g .within) (λ k p q. rw (s .pre .1) (g .before k p q)) (λ q. rw (s .pre .1) (g .stop q)) in
-          omega (arith, k, l .inv .10 lm rm ml mr),
+              (l .i) (l .inv .0) t (l .row) n (l .inv .3) (g .upward) (g .within) (λ k p q. rw (s .pre .1) (g .before k p q)) (λ q. rw (s .pre .1) (g .stop q)) in
+          omega (arith, k, g .counted, l .inv .10 lm rm ml mr),
     )
 
 same-length : tie.Need-same-length Inv-loop μ-loop
@@ -288,13 +277,11 @@ backward-spec =
     mul-v
     shared-slice-copy-out-v
     advance-requires
-    add-row
-    add-moves
     choice-back-requires
     put-requires
     add-i
     add-p-2
-    add-moves-2
+    add-moves
     loop-less
     loop-again
     same-length
