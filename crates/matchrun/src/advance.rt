@@ -8,8 +8,8 @@ ghost use lib.Signed.{ltZ};
 ghost use Rattle.matching.specs.Moves.{Rising};
 ghost use Rattle.matchrun.specs.advance.Below.{keyed, below, lastTrue, HasNext, AtPlace, Skipped};
 
-// A row of a run, the place of its key, and how many moves the cursors have made when the right one is there: each takes a
-// cursor one row forward. A step over several rows makes as many moves.
+// A row of a run, the place of its key, and how many moves the cursors have made when the right one
+// is there: each takes a cursor one row forward, and a step over several rows is as many moves.
 pub struct Position {
     pub row: usize,
     pub place: usize,
@@ -47,8 +47,9 @@ fn is_below(a: i64, v: i64, inclusive: bool) -> bool
     a < v
 }
 
-// The first row of at..end whose key is not below v, nor at it where that counts too, looked for row by row; the key of row `at`
-// is at place p. Each row that is passed is one more of the `moved` moves made before.
+// The first row of at..end whose key is not below v, nor at it where that counts too, looked for
+// row by row; the key of row `at` is at place p. Each row that is passed is one move more than the
+// `moved` moves made before.
 fn rest(
     rv: &[i64],
     at: usize,
@@ -96,9 +97,10 @@ fn bound(v: i64, inclusive: bool) -> i64
     v
 }
 
-// The first row of at..end whose key is not below v, nor at it where that counts too, four rows at a time up to row `stop`; the
-// key of row `at` is at place p. The last of four rows is tested first: where its key is below v, all four are passed, in four
-// moves, and else the row is chosen among them, with as many moves as rows are passed.
+// The first row of at..end whose key is not below v, nor at it where that counts too, four rows at a
+// time up to row `stop`; the key of row `at` is at place p. The last of four rows is tested first:
+// where its key is below v, all four are passed, in four moves, and else the row is chosen among
+// them, with as many moves as rows are passed.
 pub fn advance(
     rv: &[i64],
     at: usize,

@@ -19,17 +19,9 @@ fn as_near(v: i64, b: i64, a: i64) -> bool
 }
 
 // The row of at..end at which the cursor rests for v, looked for row by row: it moves on while the
-// next key is as near as its own, or nearer. Each row that is passed is one more of the `moved`
-// moves made before.
-fn creep(
-    rv: &[i64],
-    at: usize,
-    p: usize,
-    moved: usize,
-    end: usize,
-    w: usize,
-    v: i64,
-) -> Position
+// next key is as near as its own, or nearer. Each row that is passed is one move
+// more than the `moved` moves made before.
+fn creep(rv: &[i64], at: usize, p: usize, moved: usize, end: usize, w: usize, v: i64) -> Position
     requires { ⌜ AtPlace w end (now rv) at p ⌝ }
     requires { ⌜ at < end ⌝ }
     requires { ⌜ Rising (keyed w (p - at * w) (now rv)) at end ⌝ }
@@ -99,15 +91,7 @@ fn closes_three(v: i64, a: i64, b: i64, c: i64, d: i64) -> bool
 // The row of at..end at which the cursor rests for v, three rows at a time, in three moves: where
 // it does not move on over all three, the row is chosen among them, with as many moves as rows are
 // passed.
-fn approach(
-    rv: &[i64],
-    at: usize,
-    p: usize,
-    moved: usize,
-    end: usize,
-    w: usize,
-    v: i64,
-) -> Position
+fn approach(rv: &[i64], at: usize, p: usize, moved: usize, end: usize, w: usize, v: i64) -> Position
     requires { ⌜ AtPlace w end (now rv) at p ⌝ }
     requires { ⌜ at < end ⌝ }
     requires { ⌜ Rising (keyed w (p - at * w) (now rv)) at end ⌝ }

@@ -107,8 +107,14 @@ fn part_of(
 {
     let s = strategy_of(o);
     match s {
+        // Backward "selects the last row in the right DataFrame whose 'on' key is less than or
+        // equal to the left's key."
         Strategy::Backward => backward_part(rv, rm, at, end, w, f, l, o),
+        // Forward "selects the first row in the right DataFrame whose 'on' key is greater than or
+        // equal to the left's key."
         Strategy::Forward => forward_part(rv, rm, at, end, w, f, l, o),
+        // Nearest "selects the last row in the right DataFrame whose value is nearest to the left's
+        // key."
         Strategy::Nearest => {
             if f < l {
                 return Part { from: at, to: end };

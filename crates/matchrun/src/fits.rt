@@ -22,16 +22,22 @@ fn on_side(s: Strategy, eq: bool, c: Order) -> bool
     ensures { λ r. ⌜ r ≡ onSide s eq c ⌝ }
 {
     match s {
+        // Backward "selects the last row in the right DataFrame whose 'on' key is less than or
+        // equal to the left's key."
         Strategy::Backward => match c {
             Order::Less => true,
             Order::Equal => eq,
             Order::Greater => false,
         },
+        // Forward "selects the first row in the right DataFrame whose 'on' key is greater than or
+        // equal to the left's key."
         Strategy::Forward => match c {
             Order::Less => false,
             Order::Equal => eq,
             Order::Greater => true,
         },
+        // Nearest "selects the last row in the right DataFrame whose value is nearest to the left's
+        // key."
         Strategy::Nearest => true,
     }
 }
@@ -70,8 +76,14 @@ pub fn takes_over(s: Strategy, v: i64, a: i64, b: i64) -> bool
     ensures { λ r. ⌜ TakesOver s v a b r ⌝ }
 {
     match s {
+        // Backward "selects the last row in the right DataFrame whose 'on' key is less than or
+        // equal to the left's key."
         Strategy::Backward => true,
+        // Forward "selects the first row in the right DataFrame whose 'on' key is greater than or
+        // equal to the left's key."
         Strategy::Forward => false,
+        // Nearest "selects the last row in the right DataFrame whose value is nearest to the left's
+        // key."
         Strategy::Nearest => nearer_key(v, a, b),
     }
 }

@@ -82,16 +82,19 @@ fn walk_keys(
 {
     let s = strategy_of(o);
     match s {
-        // Backward selects the last row in the right DataFrame whose 'on' key is less than or equal to the left's key.
+        // Backward "selects the last row in the right DataFrame whose 'on' key is less than or
+        // equal to the left's key."
         Strategy::Backward => backward(lv, m, wl, from, to, rv, wr, at, end, number, o, out),
-        // Forward selects the first row in the right DataFrame whose 'on' key is greater than or equal to the left's key.
+        // Forward "selects the first row in the right DataFrame whose 'on' key is greater than or
+        // equal to the left's key."
         Strategy::Forward => forward(lv, m, wl, from, to, rv, wr, at, end, number, o, out),
-        // Nearest selects the last row in the right DataFrame whose value is nearest to the left's key.
+        // Nearest "selects the last row in the right DataFrame whose value is nearest to the left's
+        // key."
         Strategy::Nearest => nearest(lv, m, wl, from, to, rv, wr, at, end, number, o, out),
     }
 }
 
-// Left rows from..to, each matched at the right cursor, which walks right rows at..end, into an answer of m cells. How often the cursors moved.
+// Left rows from..to, each matched at the right cursor, which walks right rows at..end, into an answer of m cells. How many moves the cursors made: each takes one of them one row forward.
 pub fn walk_run(
     lv: &[i64],
     lm: &[i64],
@@ -140,7 +143,14 @@ pub fn is_short(from: usize, to: usize, at: usize, end: usize) -> bool
     false
 }
 
-// Left rows from..to, each matched over right rows at..end, into an answer of m cells. Where they are sorted by key, the right run is cut to its candidates first, and walked where those are sorted too; else it is scanned.
+// Left rows from..to, each matched over right rows at..end, into an answer of m cells. Where they
+// are sorted by key, the right run is cut to its candidates first, and walked where those are
+// sorted too; else it is scanned. A caller scans a run of one left row over few right rows though
+// both are sorted (`is_short`). In these two cases the code does less work than the request
+// describes, which walks every two sorted runs and scans the whole right run where one is not
+// sorted. Nothing that is written differs: the contract is the same for all ways. The bound on the
+// moves is of the two cursors of a walk, not of the passes that look for candidates or test
+// whether a run is sorted.
 pub fn match_run(
     lv: &[i64],
     lm: &[i64],

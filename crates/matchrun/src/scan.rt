@@ -79,11 +79,14 @@ fn choose_row(rv: &[i64], rm: &[i64], from: usize, to: usize, w: usize, v: i64, 
 {
     let s = strategy_of(o);
     match s {
-        // Backward "selects the last row in the right DataFrame whose 'on' key is less than or equal to the left's key."
+        // Backward "selects the last row in the right DataFrame whose 'on' key is less than or
+        // equal to the left's key."
         Strategy::Backward => best_row(rv, rm, from, to, w, v, Strategy::Backward, o),
-        // Forward "selects the first row in the right DataFrame whose 'on' key is greater than or equal to the left's key."
+        // Forward "selects the first row in the right DataFrame whose 'on' key is greater than or
+        // equal to the left's key."
         Strategy::Forward => best_row(rv, rm, from, to, w, v, Strategy::Forward, o),
-        // Nearest "selects the last row in the right DataFrame whose value is nearest to the left's key."
+        // Nearest "selects the last row in the right DataFrame whose value is nearest to the left's
+        // key."
         Strategy::Nearest => best_row(rv, rm, from, to, w, v, Strategy::Nearest, o),
     }
 }

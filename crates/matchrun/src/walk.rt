@@ -110,8 +110,9 @@ pub fn backward(
 {
     let by = o.by;
     let stop = fours_to(lv, wl, by, from, to, at, end);
+    let start = at * wr + by;
     let mut row = at;
-    let mut place = at * wr + by;
+    let mut place = start;
     let mut i = from;
     let mut p = from * wl + by;
     let mut moves = 0;

@@ -287,9 +287,13 @@ creep-requires c κs =
     let l = c .before .loop in
     let e : l .place - l .row * a .w ≡ a .p - a .at * a .w = omega (arith, l .inv .2) in (
       record { within = omega (arith, l .inv .1); values = s .pre .0 .values; start = omega (arith, l .inv .2); wide = omega (arith, l .inv .2, s .pre .0) },
-      (l .inv .1,
-      (rw e (λ i k g t h. s .pre .1 .1 .0 i k (omega (arith, g, l .inv .0)) t h),
-      omega (arith, s .pre .1 .1 .1, l .inv .0, l .inv .1, l .inv .4))),
+      (
+        l .inv .1,
+        (
+          rw e (λ i k g t h. s .pre .1 .1 .0 i k (omega (arith, g, l .inv .0)) t h),
+          omega (arith, s .pre .1 .1 .1, l .inv .0, l .inv .1, l .inv .4),
+        ),
+      ),
     )
 
 returns-2 : tie.Need-returns-2 Inv-loop μ-loop

@@ -158,9 +158,13 @@ come-near-requires c κs =
     let l = i .before .loop in
     let e : l .place - l .row * a .wr ≡ a .o .by = omega (arith, l .inv .5) in (
       record { within = omega (arith, l .inv .4); values = p .right-values; start = omega (arith, l .inv .5); wide = omega (arith, l .inv .5, p .right-wide) },
-      (l .inv .4,
-      (rw e (λ i k g t h. p .right-rising i k (omega (arith, g, l .inv .3)) t h),
-      omega (arith, few-moves s, i .loop-test .taken, l .inv .0, l .inv .3, l .inv .4, l .inv .9))),
+      (
+        l .inv .4,
+        (
+          rw e (λ i k g t h. p .right-rising i k (omega (arith, g, l .inv .3)) t h),
+          omega (arith, few-moves s, i .loop-test .taken, l .inv .0, l .inv .3, l .inv .4, l .inv .9),
+        ),
+      ),
     )
 
 add-near-row : tie.Need-add-near-row Inv-loop μ-loop
@@ -230,7 +234,7 @@ loop-again c =
       λ lm rm ml mr.
           let b = g .behind (l .row) (omega arith) (λ i k p q h. s .pre .0 .right-rising i k (omega (arith, p, l .inv .3)) q h) (λ k p q. absurd (omega (arith, p, q))) in
           let k = near-counted (withoutList (a .o)) (a .wl) (a .from) (a .to) (now (a .lv)) lm ml (a .wr) (a .at) (a .end) (now (a .rv)) rm mr
-              (s .pre .1) (s .pre .0 .right-rising) (l .i) (l .inv .0) t (l .row) n (l .inv .3) (g .upward) (g .there) b (g .stopped) in
+          (s .pre .1) (s .pre .0 .right-rising) (l .i) (l .inv .0) t (l .row) n (l .inv .3) (g .upward) (g .there) b (g .stopped) in
           omega (arith, k, g .counted, l .inv .10 lm rm ml mr),
     )
 

@@ -29,7 +29,7 @@ use Rattle.matchrun.proofs.walk.backward.Statement.{statement}
 use Rattle.matchrun.proofs.walk.backward.Tie as tie
 
 abbrev Inv-loop : tie.InvT-loop
-Inv-loop lv m wl from to rv wr at end number o out₀ by stop row₀ place₀ i₀ p₀ moves₀ out row place i p moves =
+Inv-loop lv m wl from to rv wr at end number o out₀ by stop start row₀ place₀ i₀ p₀ moves₀ out row place i p moves =
     (from ≤ i) × (i ≤ to) × (length out ≡ length out₀) × (at ≤ row) × (row ≤ end) × (place ≡ row * wr + o .by) × (p ≡ i * wl + o .by)
     × ((u : ℤ) → Reached (keyed wl (o .by) lv) from i u → (k : ℕ) → at ≤ k → k < row → below (o .«allow_eq») u (valueAt wr (o .by) rv k) ≡ true)
     × ((lm rm : Words) → Marked (withoutList o) wl from to lv lm → Marked (withoutList o) wr at end rv rm
@@ -40,7 +40,7 @@ Inv-loop lv m wl from to rv wr at end number o out₀ by stop row₀ place₀ i�
     → length (walkOn (withoutList o) (between wl from to lv lm) (between wr at end rv rm)) ≡ moves + length (walkOn (withoutList o) (between wl i to lv lm) (between wr row end rv rm)))
 
 abbrev μ-loop : tie.MeasureT-loop
-μ-loop lv m wl from to rv wr at end number o out₀ by stop row₀ place₀ i₀ p₀ moves₀ out row place i p moves = to - i
+μ-loop lv m wl from to rv wr at end number o out₀ by stop start row₀ place₀ i₀ p₀ moves₀ out row place i p moves = to - i
 
 -- row i ends within the left rows
 room : (c : tie.In-loop Inv-loop μ-loop) → let a = c .before .before .before .args in c .before .loop .i * a .wl + a .wl ≤ a .to * a .wl
@@ -130,11 +130,11 @@ few-moves s =
 fours-to-requires : tie.Need-fours-to-requires Inv-loop μ-loop
 fours-to-requires c κs = let p = c .pre .0 in (p .left-wide, p .left-values, p .upward, p .run, p .left-rising)
 
-mul-place : tie.Need-mul-place Inv-loop μ-loop
-mul-place c = let p = c .before .pre .0 in omega (arith, starts (c .before) .1, p .right-values)
+mul-start : tie.Need-mul-start Inv-loop μ-loop
+mul-start c = let p = c .before .pre .0 in omega (arith, starts (c .before) .1, p .right-values)
 
-add-place : tie.Need-add-place Inv-loop μ-loop
-add-place c = let p = c .before .pre .0 in omega (arith, starts (c .before) .1, p .right-values, p .few)
+add-start : tie.Need-add-start Inv-loop μ-loop
+add-start c = let p = c .before .pre .0 in omega (arith, starts (c .before) .1, p .right-values, p .few)
 
 mul-p : tie.Need-mul-p Inv-loop μ-loop
 mul-p c = let p = c .before .pre .0 in omega (arith, starts (c .before) .0, p .left-values)
@@ -168,10 +168,16 @@ advance-requires c κs =
     let l = c .before .before .loop in
     let e : l .place - l .row * a .wr ≡ a .o .by = omega (arith, l .inv .5) in (
       record { within = l .inv .4; values = p .right-values; start = omega (arith, l .inv .5); wide = omega (arith, l .inv .5, p .right-wide) },
-      (c .before .before .before .fours-to .ensures .0,
-      (rw e (λ i k g t h. p .right-rising i k (omega (arith, g, l .inv .3)) t h),
-      (λ h. has-next c (omega (arith, h, l .inv .3)),
-      omega (arith, few-moves s, c .before .loop-test .taken, l .inv .0, l .inv .3, l .inv .4, l .inv .9)))),
+      (
+        c .before .before .before .fours-to .ensures .0,
+        (
+          rw e (λ i k g t h. p .right-rising i k (omega (arith, g, l .inv .3)) t h),
+          (
+            λ h. has-next c (omega (arith, h, l .inv .3)),
+            omega (arith, few-moves s, c .before .loop-test .taken, l .inv .0, l .inv .3, l .inv .4, l .inv .9),
+          ),
+        ),
+      ),
     )
 
 choice-back-requires : tie.Need-choice-back-requires Inv-loop μ-loop
@@ -241,7 +247,7 @@ loop-again c =
       omega (arith, g .counted, g .upward, l .inv .0, l .inv .3, l .inv .9),
       λ lm rm ml mr.
           let k = row-counted (withoutList (a .o)) (a .wl) (a .from) (a .to) (now (a .lv)) lm ml (a .wr) (a .at) (a .end) (now (a .rv)) rm mr
-              (l .i) (l .inv .0) t (l .row) n (l .inv .3) (g .upward) (g .within) (λ k p q. rw (s .pre .1) (g .before k p q)) (λ q. rw (s .pre .1) (g .stop q)) in
+          (l .i) (l .inv .0) t (l .row) n (l .inv .3) (g .upward) (g .within) (λ k p q. rw (s .pre .1) (g .before k p q)) (λ q. rw (s .pre .1) (g .stop q)) in
           omega (arith, k, g .counted, l .inv .10 lm rm ml mr),
     )
 
@@ -269,8 +275,8 @@ backward-spec =
     Inv-loop
     μ-loop
     fours-to-requires
-    mul-place
-    add-place
+    mul-start
+    add-start
     mul-p
     add-p
     loop-holds

@@ -162,10 +162,16 @@ advance-requires c κs =
     let l = i .before .loop in
     let e : l .place - l .row * a .wr ≡ a .o .by = omega (arith, l .inv .5) in (
       record { within = l .inv .4; values = p .right-values; start = omega (arith, l .inv .5); wide = omega (arith, l .inv .5, p .right-wide) },
-      (i .before .before .fours-to .ensures .0,
-      (rw e (λ i k g t h. p .right-rising i k (omega (arith, g, l .inv .3)) t h),
-      (λ h. has-next (c .before) (omega (arith, h, l .inv .3)),
-      omega (arith, few-moves s, i .loop-test .taken, l .inv .0, l .inv .3, l .inv .4, l .inv .9)))),
+      (
+        i .before .before .fours-to .ensures .0,
+        (
+          rw e (λ i k g t h. p .right-rising i k (omega (arith, g, l .inv .3)) t h),
+          (
+            λ h. has-next (c .before) (omega (arith, h, l .inv .3)),
+            omega (arith, few-moves s, i .loop-test .taken, l .inv .0, l .inv .3, l .inv .4, l .inv .9),
+          ),
+        ),
+      ),
     )
 
 choice-fore-requires : tie.Need-choice-fore-requires Inv-loop μ-loop
@@ -232,7 +238,7 @@ loop-again c =
       omega (arith, g .counted, g .upward, l .inv .0, l .inv .3, l .inv .9),
       λ lm rm ml mr.
           let k = row-counted (withoutList (a .o)) (a .wl) (a .from) (a .to) (now (a .lv)) lm ml (a .wr) (a .at) (a .end) (now (a .rv)) rm mr
-              (l .i) (l .inv .0) t (l .row) n (l .inv .3) (g .upward) (g .within) (λ k p q. rw (s .pre .1, fore-not (a .o .«allow_eq») (cmpCell keyRule (keyed (a .wr) (a .o .by) (now (a .rv)) k) (value (left i))), g .before k p q)) (λ q. rw (s .pre .1, fore-not (a .o .«allow_eq») (cmpCell keyRule (keyed (a .wr) (a .o .by) (now (a .rv)) n) (value (left i))), g .stop q)) in
+          (l .i) (l .inv .0) t (l .row) n (l .inv .3) (g .upward) (g .within) (λ k p q. rw (s .pre .1, fore-not (a .o .«allow_eq») (cmpCell keyRule (keyed (a .wr) (a .o .by) (now (a .rv)) k) (value (left i))), g .before k p q)) (λ q. rw (s .pre .1, fore-not (a .o .«allow_eq») (cmpCell keyRule (keyed (a .wr) (a .o .by) (now (a .rv)) n) (value (left i))), g .stop q)) in
           omega (arith, k, g .counted, l .inv .10 lm rm ml mr),
     )
 
