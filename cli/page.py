@@ -241,15 +241,15 @@ WHEN SOMETHING IS WRONG
 THE LIBRARY
   The library that does the join is compiled from proved source. An installed
   command has it beside it. In the repository the first run makes it from dist/
-  with the C compiler (cc, or what CC names), which takes some seconds: on 64-bit
-  x86 Linux from assembly, elsewhere from the C file. Each run compares it with
-  its checksum and makes it anew if it was altered. If the repository cannot be
-  written, the library is kept in the user's cache folder.
+  with the C compiler (cc, or what CC names), which takes some seconds: on
+  64-bit x86 Linux from assembly, elsewhere from the C file. Each run compares
+  it with its checksum and makes it anew if it was altered. If the repository
+  cannot be written, the library is kept in the user's cache folder.
   --version            print the version, and nothing else
   ROWKEEPER_ARCHIVE    in the environment: the path of another archive of the
                        library, to be used in the repository in its place
-  ROWKEEPER_FROM=c     in the environment: the library from the C file, on 64-bit
-                       x86 Linux too
+  ROWKEEPER_FROM=c     in the environment: the library from the C file, on
+                       64-bit x86 Linux too
 '''
 
 
