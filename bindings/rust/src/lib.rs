@@ -20,6 +20,8 @@
 //! join's; frames are made by [`Frame`], so they keep the frame rule; what a turn wrote is seen through [`Matches`], so
 //! nothing else of the output is. Calls that are refused say why by a [`Refusal`] and change nothing, save that
 //! [`Refusal::LeftOrder`] and [`Refusal::RightOrder`] mark the join failed. After [`Refusal::NoRoom`] the areas can grow.
+//! Nothing is copied to keep words from being altered during a call: the borrow of a `&[i64]` or `&mut [i64]` lasts until the
+//! call returns, so safe code on no thread can write to it meanwhile.
 //!
 //! ```
 //! use rowkeeper::{Frame, Join, Options, Turn};
