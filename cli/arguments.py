@@ -6,6 +6,7 @@ import csv
 from rowkeeper.interface import MOST_BY, MOST_CARRIED, MOST_RANKS, MOST_ROWS, STRATEGIES, VERSION
 
 from .cells import MOST, number
+from .dates import ORDERS, Zone
 from .input import DASH, known_encoding
 from .kinds import Tolerance, listed_codes
 from .page import PAGE, SHORT
@@ -110,6 +111,8 @@ def add_common(command):
     command.add_argument('--sort', action='store_true')
     command.add_argument('--separator', type=separator, action=Once, metavar='SIGN')
     command.add_argument('--encoding', action=Once, metavar='NAME')
+    command.add_argument('--dates', choices=ORDERS, action=Once)
+    command.add_argument('--zone', type=Zone, action=Once, metavar='NAME')
     command.add_argument('-o', '--output', action=Once, metavar='FILE')
 
 

@@ -49,6 +49,7 @@ class Input:
 
     def __init__(self, path, encoding='utf-8', streamed=False):
         self.path, self.decoder, self.encoding, self.lines = (STANDARD if path == DASH else path), None, encoding, 0
+        self.streamed = streamed
         self.file = self.opened(path)
         try:
             self.begin(streamed)

@@ -3,6 +3,7 @@ temporary files, so that the second reading need not look at these cells again."
 from array import array
 
 from .cells import Text, parted
+from .dates import Unsettled
 from .input import put, temporary
 from .kinds import Turned
 from .problem import Disorder
@@ -50,7 +51,7 @@ class Judged:
     def keep(self, block, columns):
         """Keeps the numbers of a block: texts by the order in which they are met."""
         nulls = []
-        pairs = [parted(kind.numbers(column) if isinstance(kind, Text) else column) for kind, column in zip(self.source.kinds.all(), columns)]
+        pairs = [parted(kind.numbers(column) if isinstance(kind, Text) else column) for kind, column in zip(self.source.kinds_here(), columns)]
         for values, marks in pairs + [self.source.read_beside(block, cells) for cells in block.beside]:
             nulls.append(marks is not None)
             put(self.kept, values.tobytes() + (marks.tobytes() if marks is not None else b''))
@@ -112,10 +113,13 @@ def read_all(tables, progress):
 
 
 def judge(tables, kinds, progress):
-    """Reads both tables to their ends and judges them. If a by-column turns out to be text, both are read again."""
+    """Reads both tables to their ends and judges them. If a by-column turns out to be text, or a date column
+    to need a look at all its cells, both are read again."""
     while True:
         try:
             return read_all(tables, progress)
+        except Unsettled as unsettled:
+            unsettled.source.look_through(unsettled.column)
         except Turned as turned:
             kinds.turn(turned)
             if turned.after_numbers:

@@ -48,8 +48,26 @@ WHAT COMES OUT
 
 WHAT GOES IN
   The --on column holds whole numbers (64 bits, minus sign allowed) or dates and
-  times: 2026-01-05, 2026-01-05 19:30, 2026-01-05T19:30:05.123456; with a zone
-  behind the time (Z, +01:00) in all cells or in none. A date is its midnight.
+  times as tills write them: 2026-01-05 19:30, 2026/1/5, 05.01.2026 19:30:05,
+  1/5/2026 7:30 PM, 2026-01-05T19:30:05.123456; with a zone behind the time (Z,
+  +01:00, +0100) in all cells or in none. A column has one form, which its first
+  cell shows; each file may have its own. With dots the day comes first. With
+  slashes it is never guessed: a date such as 13/1/2026 settles it for the whole
+  column and a line says so, else say --dates. A date alone is its midnight, and
+  24:00 is the next one. What is finer than microseconds is refused.
+  --dates ORDER        dmy or mdy: day or month first in dates as 1/5/2026; ymd:
+                       only dates with the year first; excel: numbers are
+                       Excel's dates, as 46027.8125
+  --on DATE+TIME       a date and a time of day in two columns, as --on
+                       sold_date+sold_time; where one is empty the time is not
+                       known
+  --zone NAME          times that name no zone are local ones of this place, as
+                       Europe/Berlin. In the hour that the end of summer time
+                       repeats, times are the first until they fall, then the
+                       second: in a sorted file for each performance, with
+                       --sort in the order of the file. Where they do not fall
+                       nothing tells which is meant, and the run ends. It needs
+                       Python 3.9
   --by columns hold any text. If all cells of one are whole numbers, in both
   files, they are compared as numbers (7 is 007), else as text, letter by letter
   (7 is not 007, and 10 comes before 7). Blanks around a cell do not count.
@@ -176,8 +194,9 @@ WHICH PERFORMANCES A PASS COVERS
   --exclude-from       a performance at the first time itself is not covered
   --exclude-to         a performance at the last time itself is not covered
 
-  The three columns hold whole numbers, or all of them dates and times; a date
-  is its midnight, also in --to. A pass without one of its times covers nothing,
+  The three columns hold whole numbers, or all of them dates and times. A date
+  alone in --to is that whole day, to its end; with --exclude-to the day is not
+  covered. Elsewhere a date is its midnight. A pass without one of its times covers nothing,
   and so does one whose last time is before its first. Every performance has its
   time, and they are sorted by it; or say --sort, and they come out in their own
   order all the same. Passes are in any order. It takes the options on files and

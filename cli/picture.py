@@ -6,7 +6,7 @@ import io
 import re
 from html import escape
 
-from .cells import Time
+from .dates import Time
 from .join import Pricing
 from .problem import Problem, at, quoted, say
 from .sink import sink
@@ -69,17 +69,17 @@ class Season:
     def take_sales(self, source, priced):
         """The sales with the prices that they were given."""
         for cells in list(csv.reader(io.StringIO(priced, newline=''), delimiter=source.separator))[1:]:
-            *by, key = (cells[place] for place in source.places)
+            *by, key = (source.cell(cells, column) for column in range(len(source.names)))
             price = price_of(cells[-1], source.path, None, 'price')
-            self.group(source.names, by)[2].append((self.kinds.all()[-1].value(key), price, cells[-1].strip()))
+            self.group(source.names, by)[2].append((source.kinds_here()[-1].value(key), price, cells[-1].strip()))
 
     def notices_of(self, source, name):
         """The notices that have a key and a price, each with its by-cells."""
         source.again()
-        places = [*source.places, source.place(name)]
         for block in iter(source.records.block, None):
-            for row, (*by, key, cell) in enumerate(zip(*block.columns(places, source.width))):
-                price, key = price_of(cell, source.path, block.line(row), name), self.kinds.all()[-1].value(key)
+            prices, = block.columns([source.place(name)], source.width)
+            for row, (*by, key, cell) in enumerate(zip(*source.cells(block)[0], prices)):
+                price, key = price_of(cell, source.path, block.line(row), name), source.kinds_here()[-1].value(key)
                 if price is not None and key is not None:
                     yield by, (key, price, cell.strip())
 

@@ -3,6 +3,7 @@ import codecs
 import contextlib
 import sys
 
+from .dates import Dates
 from .input import Input
 from .judged import Judged, judge
 from .kinds import Kinds
@@ -23,13 +24,14 @@ class Run:
         stack.callback(self.progress.clear)
         order = Order(args.left[:-1], args.left[-1], args.descending, args.nulls_last, args.rank)
         self.kinds = Kinds(order, tolerance, may_be_text=not streamed, keys=keys)
+        self.dates = Dates(args.dates, args.zone)
 
     def source(self, path, names, ordered=True, also=()):
         """One of the tables, with its header read. One that is not `ordered` may have its rows in any order; `also` are
         columns that it has besides."""
         opened = self.stack.enter_context(contextlib.closing(Input(path, self.args.encoding, self.streamed)))
         check = ordered and self.args.check and not self.args.sort
-        self.sources.append(Source(opened, names, self.kinds, check, self.args.separator, also))
+        self.sources.append(Source(opened, names, self.kinds, check, self.args.separator, also, self.dates))
         return self.sources[-1]
 
     def show(self, stage):
