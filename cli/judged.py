@@ -1,8 +1,9 @@
 """Both tables read to their ends and judged, before anything is written. The numbers of their compared columns are kept in
 temporary files, so that the second reading need not look at these cells again."""
 from array import array
+from itertools import compress
 
-from .cells import Text, parted
+from .cells import WHOLE, Text, parted
 from .dates import Unsettled
 from .input import put, temporary
 from .kinds import Turned
@@ -94,9 +95,28 @@ class Judged:
             yield Later(self.source.records, place, how, height) if later else self.source.records.exactly(*how), columns
             place += how[0] + how[1]
 
+    def groups(self, by):
+        """For each block the set of its by-values, as the library has them; rows with a null are left out."""
+        for _, columns in self.pairs(later=True):
+            values, marks = zip(*columns[:by])
+            if any(each is not None for each in marks):
+                known = [all(row) for row in zip(*(each for each in marks if each is not None))]
+                yield set(compress(zip(*values), known))
+            elif all(each[0] == each[-1] for each in values) and self.source.check:
+                yield {tuple(each[0] for each in values)}
+            else:
+                yield set(zip(*values))
+
     def close(self):
         """Gives the temporary file back."""
         self.kept.close()
+
+
+def note_texts(kinds):
+    """Notes each by-column that is text because of one cell, though it has whole numbers too."""
+    for column, why in kinds.why.items():
+        if any(WHOLE.fullmatch(text) for text in kinds.by[column].known):
+            kinds.notes.append(f'{kinds.order.columns[column]} is compared as text, because of {why}')
 
 
 def read_all(tables, progress):
@@ -117,10 +137,10 @@ def judge(tables, kinds, progress):
     to need a look at all its cells, both are read again."""
     while True:
         try:
-            return read_all(tables, progress)
+            read_all(tables, progress)
+            note_texts(kinds)
+            return
         except Unsettled as unsettled:
             unsettled.source.look_through(unsettled.column)
         except Turned as turned:
             kinds.turn(turned)
-            if turned.after_numbers:
-                kinds.notes.append(f'{kinds.order.columns[turned.column]} is compared as text, because of {turned.why}')

@@ -12,9 +12,9 @@ Tolerance = collections.namedtuple('Tolerance', 'count timed said')
 class Turned(Exception):
     """A by-column of whole numbers has a cell that is none: the column is text."""
 
-    def __init__(self, column, path, line, cell, after_numbers):
+    def __init__(self, column, path, line, cell):
         super().__init__(column)
-        self.column, self.after_numbers = column, after_numbers
+        self.column = column
         self.why = f'{quoted(cell)} in {at(path, line)}'
 
 
@@ -38,6 +38,8 @@ class Kinds:
     def __init__(self, order, tolerance=None, may_be_text=True, keys=1):
         self.order, self.tolerance, self.may_be_text, self.keys = order, tolerance, may_be_text, keys
         self.key, self.begun, self.sample, self.why, self.notes = None, None, None, {}, []
+        # The columns that both files have and that are not compared, where no groups are named.
+        self.shared = []
         self.by = [Whole() for _ in order.descending]
         if order.ranks is not None and any(isinstance(code, str) for code in order.ranks[1]):
             self.by[order.ranks[0]] = Text(order.ranks[1])
@@ -53,6 +55,15 @@ class Kinds:
         self.why[turned.column] = turned.why
         if self.order.ranks is not None and isinstance(self.by[self.order.ranks[0]], Text):
             self.by[self.order.ranks[0]].meet(self.order.ranks[1])
+
+    def share(self, headers):
+        """Notes the columns that both files have and that are not compared, unless groups are named."""
+        compared = {part for names in headers for part in names.compared()}
+        self.shared = [] if self.by else [name for name in headers[0].header if name and name in headers[1].header and name not in compared]
+        if self.shared:
+            many = len(self.shared) > 1
+            self.notes.append(f'{" and ".join(self.shared[:5])} {"are" if many else "is"} in both files and {"were" if many else "was"} not '
+                              f'compared: add --by {self.shared[0]} if a sale and its notice must be equal there')
 
     def turns(self, column):
         """Whether a by-column of whole numbers may become one of text: one with a list of numbers may not."""

@@ -76,7 +76,9 @@ WHAT GOES IN
   no sale. All other columns are carried along as they are.
   Both files must be sorted: by the --by columns in turn, then by the --on
   column; ascending, empty cells first. Or say --sort. Blank lines are passed
-  and not counted. A line can have 16 MB. Memory goes by the notices that lie
+  and not counted, and so are lines of separators alone, a first line as sep=;
+  and up to 20 lines above the header. A line can have 16 MB, and a row that
+  runs over lines 10,000 of them. Memory goes by the notices that lie
   between two sales of one performance (about 50 bytes each), and by the
   different texts of the --by columns, not by the length of the files.
   -                    as a file's name: standard input
@@ -87,6 +89,8 @@ WHAT GOES IN
                        UTF-8. A file that begins with a byte order mark (UTF-8
                        or UTF-16) says it itself. What comes out is UTF-8, with
                        a mark if the first has one or is in another encoding
+  --left-encoding NAME   the encoding of the first file alone
+  --right-encoding NAME  that of the second alone
 
 WHICH NOTICE
   --on COLUMN          the column that is compared, as the minute of the sale
@@ -196,11 +200,12 @@ WHICH PERFORMANCES A PASS COVERS
 
   The three columns hold whole numbers, or all of them dates and times. A date
   alone in --to is that whole day, to its end; with --exclude-to the day is not
-  covered. Elsewhere a date is its midnight. A pass without one of its times covers nothing,
-  and so does one whose last time is before its first. Every performance has its
-  time, and they are sorted by it; or say --sort, and they come out in their own
-  order all the same. Passes are in any order. It takes the options on files and
-  -o. Memory goes by the performances, and by the rows of some passes at once.
+  covered. Elsewhere a date is its midnight. A pass without one of its times
+  covers nothing, and so does one whose last time is before its first. Every
+  performance has its time, and they are sorted by it; or say --sort, and they
+  come out in their own order all the same. Passes are in any order. It takes
+  the options on files and -o. Memory goes by the performances, and by the rows
+  of some passes at once.
 
 WHAT WAS TAKEN
   rowkeeper takings SALES.csv NOTICES.csv --on minute --by performance \\

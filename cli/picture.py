@@ -183,4 +183,4 @@ def picture(args):
                 raise Problem(f'there are {rows:,} {what}, and a picture has room for {MOST_DRAWN:,}')
         found = drawn(Season(pricing, kept.getvalue().decode('utf-8-sig')), pricing.sales.names[-1])
         stack.enter_context(target).write(found.encode('utf-8'))
-    say(pricing.priced.said())
+    say(pricing.said)

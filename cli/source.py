@@ -2,6 +2,7 @@
 import contextlib
 import copy
 import csv
+import re
 
 from .cells import Text, Whole
 from .dates import DAY_FIRST, Dates, DayOrMonth, Repeated, Time, Times, Unsettled
@@ -12,6 +13,12 @@ from .times import UNITS
 
 # A fall of local times that the end of summer time explains.
 HOUR = UNITS['h']
+
+# How many lines may stand above the header, and how many names a message shows.
+TITLES, MOST_SHOWN = 20, 40
+
+# A first line with which Excel names the separator.
+EXCEL_SIGN = re.compile('"?sep=(.)"?')
 
 # The separators that are tried where none is named, and what messages call them.
 SEPARATORS, SAID = (',', ';', '\t'), {',': 'commas', ';': 'semicolons', '\t': 'tabs'}
@@ -45,17 +52,45 @@ class Source:
         self.restart()
 
     def read_header(self, separator):
-        """The first record by this separator: the names, its line, where it ends and the line behind it; None if there is none."""
-        taken, line = [], 1
+        """The first record by this separator that names all columns that are wanted, among the first lines, else the first: the names, its
+        line, where it ends and the line behind it; and the record behind it, or None."""
+        taken, line, found = [], 1, None
         try:
             for cells in csv.reader(self.records.lines(taken), strict=True, delimiter=separator):
-                if cells:
-                    return [name.strip() for name in cells], line, taken[-1][1], len(taken) + 1
+                names = [name.strip() for name in cells]
+                if cells and (found is None or self.has_all(names)):
+                    found = names, line, taken[-1][1], len(taken) + 1
+                if found and (self.has_all(found[0]) or len(taken) > TITLES):
+                    return found
                 line = len(taken) + 1
-        except csv.Error as error:
-            raise Problem(f'{at(self.path, line)}: the line cannot be read as CSV: {plainly(error)}') from None
-        raise Problem(f'{at(self.path, 1)}: the file is empty: the first line must name the columns')
+        except (csv.Error, Problem) as error:
+            if found is None:
+                raise error if isinstance(error, Problem) else \
+                    Problem(f'{at(self.path, line)}: the line cannot be read as CSV: {plainly(error)}') from None
+        if found is None:
+            raise Problem(f'{at(self.path, 1)}: the file is empty: the first line must name the columns')
+        return found
 
+    def has_all(self, header):
+        """Whether a header has all columns that are wanted."""
+        return self.wanted(header) <= set(header)
+
+    def first_line(self):
+        """The first line, without its end."""
+        with contextlib.suppress(Problem):
+            return next(self.records.lines([]), '').strip()
+        return ''
+
+    def fit(self, separator):
+        """Makes the header as long as the first row where one of them has separators more at its end."""
+        with contextlib.suppress(csv.Error, Problem):
+            reader = csv.reader(self.records.lines([]), strict=True, delimiter=separator)
+            first = next((cells for cells in reader if cells and reader.line_num >= self.header_end), None)
+            more = len(first) - len(self.header) if first else 0
+            if more > 0 and not ''.join(first[-more:]).strip():
+                self.header += [''] * more
+            elif more < 0 and not ''.join(self.header[more:]):
+                self.header = self.header[:more]
     @staticmethod
     def parts(name, header):
         """The two columns of a key that is named as two with a plus sign between them, if the header has these and not the whole; else
@@ -68,26 +103,42 @@ class Source:
         keys = [part for name in self.names[len(self.kinds.by):] for part in self.parts(name, header)]
         return {*self.names[:len(self.kinds.by)], *keys, *self.also} - {None}
 
+    def compared(self):
+        """The names of the compared columns, each of a key that is in two."""
+        return [self.header[place] for place in [*self.places, *self.clocks.values()]]
+
     def find_header(self, separators):
-        """Reads the header by the first separator with which it has all columns that are wanted, or by the first of all."""
+        """Reads the header by the first separator with which it has all columns that are wanted, or by the first of all. A first line as
+        sep=; names the separator, as Excel writes it."""
+        named_sign = EXCEL_SIGN.fullmatch(self.first_line())
+        separators = [named_sign.group(1)] if named_sign and len(separators) > 1 else separators
         for separator in separators:
             with contextlib.suppress(Problem):
                 found = self.read_header(separator)
-                if self.wanted(found[0]) <= set(found[0]):
+                if self.has_all(found[0]):
                     break
         else:
             found, separator = self.read_header(separators[0]), separators[0]
         if separator != separators[0]:
             self.kinds.notes.append(f'{named(self.path)}: columns are separated by {SAID[separator]}')
         self.header, self.header_line, self.header_size, self.header_end = found
+        if self.header_line > (2 if named_sign else 1) and self.first_line():
+            self.kinds.notes.append(f'{named(self.path)}: the columns are named in line {self.header_line}, and the lines above it are passed')
+        if not self.input.streamed:
+            self.fit(separator)
         self.records.separator = self.separator = separator
+        self.records.hollow = separator * (len(self.header) - 1) or None
+        self.find_places()
+        self.records.pass_over(self.header_size, self.header_end)
+
+    def find_places(self):
+        """Finds where the compared columns stand."""
         self.places, self.clocks = [], {}
         for column, name in enumerate(self.names):
             date, clock = self.parts(name, self.header) if column >= len(self.kinds.by) else (name, None)
             self.places.append(self.place(date))
             if clock is not None:
                 self.clocks[column] = self.place(clock)
-        self.records.pass_over(self.header_size, self.header_end)
 
     def place(self, name):
         """Where a column stands."""
@@ -95,7 +146,10 @@ class Source:
             return self.header.index(name)
         if name in self.header:
             raise Problem(f'{at(self.path, self.header_line, name)}: {self.header.count(name)} columns have this name')
-        there = ', '.join(each if each.isprintable() else quoted(each) for each in self.header)
+        there = ', '.join(each if each.isprintable() else quoted(each) for each in self.header[:MOST_SHOWN])
+        there += f' and {len(self.header) - MOST_SHOWN:,} more' if len(self.header) > MOST_SHOWN else ''
+        if ',' in name and {each.strip() for each in name.split(',')} <= set(self.header):
+            there += f'; several columns are said one by one, as {" ".join("--by " + each.strip() for each in name.split(","))}'
         raise Problem(f'{at(self.path, self.header_line, name)}: there is no such column; the columns are {there}')
 
     def next(self):
@@ -217,7 +271,7 @@ class Source:
         before, cells_before, line_before = self.last, self.last_cells, self.last_line
         for row in range(block.height):
             cells, line = block.cells(row), block.line(row)
-            values = self.judge(line, cells, row or self.rows)
+            values = self.judge(line, cells)
             if self.check and before is not None:
                 self.compare((before, cells_before, line_before), (values, cells, line))
             before, cells_before, line_before = values, cells, line
@@ -227,7 +281,7 @@ class Source:
         if len(cells) != len(self.header):
             raise Problem(f'{at(self.path, line)}: columns: {len(cells)}, but the header names {len(self.header)}')
 
-    def judge(self, line, cells, before):
+    def judge(self, line, cells):
         """The values of a row; stops where a cell has none."""
         self.judge_width(line, cells)
         found = []
@@ -237,7 +291,7 @@ class Source:
                 found.append(self.value(column, cell, line, found))
             except ValueError as why:
                 if self.kinds.turns(column):
-                    raise Turned(column, self.path, line, cell, bool(before)) from None
+                    raise Turned(column, self.path, line, cell) from None
                 reader = self.readers[column - len(self.kinds.by)] if column >= len(self.kinds.by) else None
                 said = self.kinds.not_of(column, why, cell, reader and reader.sample)
                 raise Problem(f'{at(self.path, line, name)}: {said}') from None
@@ -274,8 +328,10 @@ class Source:
         elif isinstance(self.kinds.key, Time) and not self.kinds.key.zoned and column == len(self.kinds.by) and row[0][column] is not None and \
                 before[0][column] - row[0][column] < HOUR:
             note = ' (if the clocks were put back here, name the zone, as --zone Europe/Berlin)'
+        shared = self.kinds.shared
+        group = f'; or name the columns that make a group with --by, as --by {shared[0]}: both files have {", ".join(shared[:5])}' if shared else ''
         raise Disorder(f'{at(self.path, row[2], self.names[column])}: out of order: {here} comes after {there} of line {before[2]}{note}; '
-                      f'rows must be sorted by {self.kinds.order.said(self.names)}, or add --sort')
+                      f'rows must be sorted by {self.kinds.order.said(self.names)}{group}{"; " if group else ", "}or add --sort')
 
     def turned(self):
         """The first cell in a by-column of whole numbers that makes it text, as Turned; None if there is none. Nothing else is judged."""
@@ -286,7 +342,7 @@ class Source:
                 for column, cells in zip(turning, block.columns([self.places[column] for column in turning], self.width)):
                     row = not_whole(cells)
                     if row is not None:
-                        return Turned(column, self.path, block.line(row), cells[row], True)
+                        return Turned(column, self.path, block.line(row), cells[row])
         except (Problem, ValueError):
             pass
         return None

@@ -12,6 +12,7 @@ from .books import put
 from .build import told
 from .cells import Text
 from .feed import Feed
+from .groups import Missing
 from .joined import Join, expected
 from .pricing import ROWS, Matching, counted, free
 from .problem import Problem, at, say
@@ -137,6 +138,8 @@ class Adding(Run):
         for name in (TOTAL, SALES):
             self.names.append(free(name, self.names, PREFIX))
         self.of_sales, self.of_notices = (self.source(*each) for each in ((args.sales, args.left), (args.notices, args.right)))
+        self.kinds.share((self.of_sales, self.of_notices))
+        self.missing = Missing(self.kinds.order)
         self.of_notices.beside, self.of_notices.read_beside = [self.of_notices.place(args.amount)], self.amount
         self.subtotals = [Subtotal(self.source(path, args.left[:-1], ordered=False, also=self.names), self.names, self.amounts)
                           for path in args.add]
@@ -203,7 +206,7 @@ class Adding(Run):
                 takings.add(part.words, join.output[:2 + 2 * height * width])
             sums.take(takings)
             self.count(part, marks)
-        Matching(join, Feed(sales), Feed(notices), Nothing(), found).run(self.show('adding'))
+        Matching(join, Feed(sales), Feed(notices), Nothing(), found, missing=self.missing).run(self.show('adding'))
         for _ in notices:
             pass
 
@@ -235,7 +238,7 @@ class Adding(Run):
             (tables[0].pairs(later=True), self.priced(tables[1]))
         self.add_all(sums, *pairs)
         own = sums.whole().unpriced
-        said = counted(self.sales, self.matched, self.line(tables[0]))
+        said = counted(self.sales, self.matched, self.line(tables[0])) + self.missing.said(tables[1], self.kinds)
         for each in before:
             sums.take(each)
         takings = sums.whole()

@@ -61,7 +61,7 @@ class Till(Case):
         run = apart(command.split(), cwd=ROOT)
         self.assertEqual((run.status, run.out), (0, self.read(os.path.join(SEASON, 'till_priced.csv'))))
         self.assertEqual(run.err, 'rowkeeper: examples/season/till.csv: columns are separated by semicolons\n'
-                         'rowkeeper: 5 of 7 sales have a notice; 2 have none, the first in line 7\n')
+                         'rowkeeper: 5 of 7 sales have a notice; 2 have none, the first in line 7; 1 group has no notice at all: performance Macbeth\n')
 
 
 class Help(Case):
@@ -206,8 +206,8 @@ class Tables(Case):
 
     def test_no_notices(self):
         """Every sale comes out without a notice."""
-        self.assertEqual(self.priced('performance,minute\n,\n1,5\n', 'performance,minute\n', *ON),
-                         'performance,minute,notice_row,notice_minute\n,,,\n1,5,,\n')
+        self.assertEqual(self.priced('performance,minute\n,5\n1,5\n', 'performance,minute\n', *ON),
+                         'performance,minute,notice_row,notice_minute\n,5,,\n1,5,,\n')
 
     def test_names_that_are_taken(self):
         """Columns of the same name are told apart."""

@@ -196,7 +196,7 @@ class Forms(Case):
         empty, three = self.file('empty.csv', 't\n'), self.file('three.csv', 't\n3\n')
         for paths, counted in (((none, empty), '0 of 0 passes cover a performance'), ((none, three), '0 of 0 passes cover a performance'),
                                ((one, empty), '0 of 1 pass covers a performance; 1 covers none, it is in line 2'),
-                               ((self.file('nulls.csv', 'a,z\n,\n'), three), '0 of 1 pass covers a performance; 1 covers none, it is in line 2')):
+                               ((self.file('nulls.csv', 'a,z\n ,\n'), three), '0 of 1 pass covers a performance; 1 covers none, it is in line 2')):
             for more in ([], ['--sort']):
                 run = within(['passes', *paths, *COLUMNS, *more])
                 self.assertEqual((run.status, run.out, run.err), (0, 'a,z,t\n', f'rowkeeper: 0 rows: {counted}\n'))
