@@ -16,7 +16,7 @@ WORKBOOK = 'this is a workbook, not CSV: save it as "CSV UTF-8" and give that fi
 NO_TEXT = ((b'PK\x03\x04', WORKBOOK), (b'\xd0\xcf\x11\xe0', WORKBOOK), (b'\x1f\x8b', 'the file is compressed: unpack it first, as with gunzip'))
 
 # The encodings that are proposed for text that is not UTF-8, and the letters that tell which reads as text.
-PROPOSED, LETTERS = ('cp1252', 'cp850', 'mac_roman'), 'äöüßàâáåãæçéèêëíìîïñóòôõøœúùûýÿ'
+PROPOSED, LETTERS = ('cp1252', 'cp850'), 'äöüßàâáåãæçéèêëíìîïñóòôõøœúùûýÿ'
 
 # The bytes that are copied or converted at once.
 PIECE = 1 << 18

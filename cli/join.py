@@ -24,6 +24,7 @@ class Pricing(Run):
         self.connection = args.cluster and stack.enter_context(connected(args.cluster))
         self.sales, self.notices = (self.source(*each) for each in ((args.sales, args.left), (args.notices, args.right)))
         self.kinds.share((self.sales, self.notices))
+        self.priced = None
         self.missing, self.table = None if args.stream else Missing(self.kinds.order), None
         self.layout = Layout(self.sales, self.notices, args.columns, args.prefix or PREFIX, args.distance)
         self.target = target or sink(args.output, [args.sales, args.notices], whole=args.fail_unmatched and not args.stream)
@@ -72,10 +73,20 @@ class Pricing(Run):
         while self.args.check and next(pairs[1], None):
             pass
 
+    def stream(self):
+        """Streams; a fault is told with how many rows were already written."""
+        try:
+            self.by_streaming()
+        except Problem as problem:
+            rows = self.priced.sales if self.priced is not None and self.args.output is None else 0
+            if rows:
+                raise Problem(f'{problem}; {rows:,} row{" was" if rows == 1 else "s were"} already written: do not use them', problem.status) from None
+            raise
+
     def run(self):
         """Does it all."""
         if self.args.stream:
-            self.by_streaming()
+            self.stream()
         elif self.args.sort:
             sales, self.table = self.judged()
             self.by_sorting(sales, self.table)

@@ -23,6 +23,13 @@ MOST_PANELS, MOST_DRAWN = 40, 50000
 MARKS = 7
 SPANS = [UNITS['m'] * count for count in (1, 5, 15, 60, 180, 360, 720)] + [UNITS['d'] * count for count in (1, 2, 7, 14, 28, 91, 182, 365, 3650)]
 
+# The characters of a price: longer ones are beyond what can be told apart in a picture.
+LONGEST_PRICE = 15
+
+# What XML has no place for, and what is drawn for it.
+REPLACED = '\ufffd'
+NOT_XML = re.compile('[^\t\n\r\x20-\ud7ff\ue000-\ufffd\U00010000-\U0010ffff]')
+
 PRICE = re.compile(r'[+-]?[0-9]+(?:[.,][0-9]+)?')
 
 
@@ -45,6 +52,8 @@ def price_of(cell, path, line, name):
     text = cell.strip()
     if text and not PRICE.fullmatch(text):
         raise Problem(f'{at(path, line, name)}: {quoted(cell)} is not a price, as 1800 or 12.50')
+    if len(text) > LONGEST_PRICE:
+        raise Problem(f'{at(path, line, name)}: {quoted(cell)} is too long a price to be drawn: it can have {LONGEST_PRICE} characters')
     return float(text.replace(',', '.')) if text else None
 
 
@@ -90,7 +99,8 @@ class Season:
 
 def text(left, top, words, more=''):
     """A line of text."""
-    return f'<text x="{left}" y="{top}" {more}>{escape(words)}</text>'
+    words = escape(NOT_XML.sub(REPLACED, words))
+    return f'<text x="{left}" y="{top}" {more}>{words}</text>'
 
 
 def steps(notices, x, y, colour):

@@ -78,7 +78,7 @@ class Source:
     def first_line(self):
         """The first line, without its end."""
         with contextlib.suppress(Problem):
-            return next(self.records.lines([]), '').strip()
+            return next(self.records.lines([]), '').rstrip('\r\n')
         return ''
 
     def fit(self, separator):

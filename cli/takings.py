@@ -15,10 +15,10 @@ from .feed import Feed
 from .groups import Missing
 from .joined import Join, expected
 from .pricing import ROWS, Matching, counted, free
-from .problem import Problem, at, say
+from .problem import BAD_USAGE, Problem, at, say
 from .records import written
 from .run import Run
-from .sink import sink
+from .sink import same_file, sink
 from .sorting import Side, turned
 
 # The columns behind the by-columns, and what stands in front of one whose name a by-column has.
@@ -141,6 +141,9 @@ class Adding(Run):
         self.kinds.share((self.of_sales, self.of_notices))
         self.missing = Missing(self.kinds.order)
         self.of_notices.beside, self.of_notices.read_beside = [self.of_notices.place(args.amount)], self.amount
+        for place, path in enumerate(args.add):
+            if any(same_file(path, other) for other in args.add[:place]):
+                raise Problem(f'--add: {at(path)} is named twice, and would be added twice', BAD_USAGE)
         self.subtotals = [Subtotal(self.source(path, args.left[:-1], ordered=False, also=self.names), self.names, self.amounts)
                           for path in args.add]
         self.target = sink(args.output, [args.sales, args.notices, *args.add])

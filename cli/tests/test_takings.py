@@ -138,6 +138,12 @@ class RandomTakings(Case):
 class Files(Case):
     """Files of every form."""
 
+    def test_added_twice(self):
+        """A file that --add names twice, by whichever name, is refused."""
+        path, day = self.file('s.csv', 'p,m\n'), self.file('day.csv', 'p,total,sales\n1,5,1\n,,0\n')
+        self.refused(within(['takings', path, path, '--on', 'm', '--by', 'p', '--amount', 'm', '--add', day, '--add',
+                             os.path.join(self.folder, '.', 'day.csv')]), 'is named twice, and would be added twice', 2)
+
     def test_season(self):
         """The season's takings are those of examples/season, also by a pipe, sorted first, and as two halves."""
         words, wanted = ['--on', 'minute', '--by', 'performance', '--amount', 'price'], self.read(os.path.join(SEASON, 'takings.csv'))

@@ -39,8 +39,8 @@ class Encodings(Case):
 
     def test_proposed(self):
         """The message names the encoding in which the line reads as text, and the option of that side."""
-        for name in ('cp1252', 'cp850', 'mac_roman'):
-            for text in ('Brückner', 'Così fan tutte', 'Grün', 'Käthchen', 'Molière'):
+        for name in ('cp1252', 'cp850'):
+            for text in ('Brückner', 'Grün', 'Käthchen', 'Così fan tutte', 'Molière'):
                 self.assertEqual(proposed(f'{text},5\n'.encode(name)), (name, f'{text},5'))
         self.assertIsNone(proposed(b'\x01\xfe\x02'))
         self.refused(self.join(self.SALES.encode('cp1252'), self.NOTICES), "s.csv, line 2: byte 4 of the line is not UTF-8 text; in cp1252 it reads "
@@ -138,8 +138,9 @@ class Changes(Case):
     def test_header(self):
         """Names that are exchanged are noticed by the header's sum, whatever the file's time says."""
         change = 'import os; old = os.stat(sys.argv[3]); file.write(b"p,m,tare"); file.flush(); os.utime(sys.argv[3], ns=(old.st_atime_ns, old.st_mtime_ns))'
-        status, out, err, sales = self.changed(change)
-        self.assertEqual((status, out, err), (1, '', f'rowkeeper: {sales}: the file was changed while it was read\n'))
+        out = os.path.join(self.folder, 'o.csv')
+        status, _, err, sales = self.changed(change, '-o', out)
+        self.assertEqual((status, err, os.path.exists(out)), (1, f'rowkeeper: {sales}: the file was changed while it was read\n', False))
 
 
 class Limits(Case):
