@@ -9,7 +9,7 @@ from .cells import MOST, number
 from .dates import ORDERS, Zone
 from .input import DASH, known_encoding
 from .kinds import Tolerance, listed_codes
-from .page import PAGE, SHORT
+from .page import PAGE, SHORT, page_of
 from .problem import BAD_USAGE, Problem, quoted
 from .times import microseconds
 
@@ -31,8 +31,9 @@ class Parser(argparse.ArgumentParser):
         raise Problem(f'{message}; rowkeeper --help tells more', BAD_USAGE)
 
     def format_help(self):
-        """The page."""
-        return PAGE
+        """The page, or what it says of one command."""
+        _, _, command = self.prog.partition(' ')
+        return page_of(command, {option for action in self._actions for option in action.option_strings}) if command else PAGE
 
     def format_usage(self):
         """The two lines of usage."""
@@ -110,6 +111,7 @@ def add_common(command):
     command.add_argument('--dates', choices=ORDERS, action=Once)
     command.add_argument('--zone', type=Zone, action=Once, metavar='NAME')
     command.add_argument('-o', '--output', action=Once, metavar='FILE')
+    command.add_argument('--quiet', action='store_true')
 
 
 def add_groups(command):
@@ -329,7 +331,7 @@ def judge(args):
 
 def parse(words):
     """The arguments, judged. `--help` prints the page and ends the program."""
-    args = parser().parse_args(words)
+    args = parser().parse_args([*words[1:], '--help'] if words[:1] == ['help'] else words)
     if args.command is None:
         raise Problem('say what to do: rowkeeper join SALES.csv NOTICES.csv --on COLUMN; rowkeeper --help tells more',
                       BAD_USAGE)

@@ -1,6 +1,8 @@
 """The help pages: what `--help` prints, and the same text as a man page.
 
 python3 -m cli.page   prints the man page"""
+import re
+
 from rowkeeper.interface import VERSION
 
 SHORT = '''usage: rowkeeper join SALES.csv NOTICES.csv --on KEY [--by COLUMN] [options]
@@ -144,6 +146,7 @@ WHERE IT GOES
                        columns must fit into memory (16 bytes a cell). Does not
                        go with --stream, --sort, --no-check, --explain or
                        --distance
+  --quiet              say nothing where all goes well
   --explain            tell at the end what was done: options, rows, frames,
                        turns, memory
 
@@ -256,11 +259,17 @@ HOW MUCH MEMORY TO LEND
   It takes the options on columns, files, sorting and -o, and --strategy and
   --no-exact. Both files must be sorted, or say --sort. Memory goes by the rows.
 
-WHEN SOMETHING IS WRONG
-  One line says what, with file, line and column, and the status is 1 for the
-  files, 2 for the command line, 3 for the library (or for dask, where --cluster
-  finds none), 4 for --fail-unmatched.
-  Lines are counted as an editor counts them: the header is line 1.
+EXIT STATUS
+  If something is wrong one line says what, with file, line and column. Lines
+  are counted as an editor counts them: the header is line 1.
+  0    all went well
+  1    something is wrong with the files
+  2    something is wrong with the command line
+  3    there is no library, or no dask where --cluster wants it
+  4    a sale has no notice, with --fail-unmatched
+  130  ended by Ctrl-C
+  141  whoever read standard output has gone
+  143  ended by SIGTERM; 129 by SIGHUP
 
 THE LIBRARY
   The library that does the join is compiled from proved source, for 64-bit x86
@@ -271,6 +280,47 @@ THE LIBRARY
   ROWKEEPER_ARCHIVE    in the environment: the path of another archive of the
                        library, to be used in the repository in its place
 '''
+
+
+# The sections of each command's own help, before those that commands share.
+OWN = {'join': ('WHAT COMES OUT',), 'picture': ('A PICTURE',), 'merge': ('TWO BOOKS AS ONE',), 'standing': ('WHICH NOTICES STAND',),
+       'passes': ('WHICH PERFORMANCES A PASS COVERS',), 'takings': ('WHAT WAS TAKEN',), 'plan': ('HOW MUCH MEMORY TO LEND',)}
+SHARED = ('WHAT GOES IN', 'WHICH NOTICE', 'HOW THE FILES ARE SORTED', 'WHERE IT GOES', 'EXIT STATUS')
+
+# An entry of the page that tells an option, and a line that goes on with it.
+ENTRY, GOES_ON = re.compile('  (--?[a-z][a-z-]*)'), ' ' * 20
+
+
+def sections():
+    """The page's sections, by their headings; what stands before the first has none."""
+    found, heading = {'': []}, ''
+    for line in PAGE.splitlines():
+        if line and line == line.upper() and not line.startswith(' '):
+            heading = line
+            found[heading] = []
+        else:
+            found[heading].append(line)
+    return found
+
+
+def with_options(lines, options):
+    """The lines of a section, without the entries of options that a command does not have."""
+    kept, keeps = [], True
+    for line in lines:
+        entry = ENTRY.match(line)
+        keeps = entry.group(1) in options if entry else keeps or not line.startswith(GOES_ON)
+        kept += [line] if keeps else []
+    return kept
+
+
+def page_of(command, options):
+    """What the page says of one command: its own section and its options in the others."""
+    found = sections()
+    usage = re.search(f'rowkeeper {command} [^\\n]*(?:\\n {{10,}}[^\\n]*)*', SHORT).group()
+    lines = [f'usage: {usage}', *(found[''][1:] if command == 'join' else [''])]
+    for heading in OWN[command] + SHARED:
+        lines += [heading, *with_options(found[heading], options)]
+    return '\n'.join(lines).rstrip('\n') + '\n\nrowkeeper --help is the whole page.\n'
 
 
 def roff(line):

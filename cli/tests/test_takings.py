@@ -59,7 +59,7 @@ class RandomTakings(Case):
             if sort:
                 r.shuffle(tables.sales)
                 r.shuffle(notices)
-            paths = self.file('s.csv', text([*tables.by, 'm'], tables.sales)), self.file('n.csv', text([*tables.by, 'm', 'price'], notices))
+            paths = self.file('s.csv', text([*tables.by, 'm', 'seat'], [(*row, 'A') for row in tables.sales])), self.file('n.csv', text([*tables.by, 'm', 'price'], notices))
             words = [word for word in tables.words() if word not in ('--check', '--no-check')]
             flags = [[name in names for name in tables.by] for names in (tables.descending, tables.nulls_last)]
             lists = [tables.rank[1] if tables.rank and name == tables.rank[0] else None for name in tables.by]

@@ -10,6 +10,7 @@ import zipfile
 from unittest import mock
 
 from .. import input as reading
+from .. import sink as sinking
 from ..input import proposed, read_at, temporary
 from ..problem import Problem
 from .command import PROGRAM, Case, apart, within
@@ -185,6 +186,11 @@ class Limits(Case):
         done.set()
         watcher.join()
         self.assertEqual((run.status, seen, stat.S_IMODE(os.stat(out).st_mode)), (0, {0o600}, 0o600), run.err)
+        os.chmod(out, 0o644)
+        first, fchmod = [], os.fchmod
+        with mock.patch.object(sinking.os, 'fchmod', lambda file, mode: (first.append(stat.S_IMODE(os.fstat(file).st_mode)), fchmod(file, mode))):
+            self.assertEqual(within(['join', long, long, '--on', 'm', '-o', out]).status, 0)
+        self.assertEqual(first, [0o600])
 
     def test_rows_without_end(self):
         """A quote that is never closed is told by its line, and does not fill the memory."""
