@@ -6,9 +6,10 @@ import csv
 from rowkeeper.interface import MOST_BY, MOST_CARRIED, MOST_RANKS, MOST_ROWS, STRATEGIES, VERSION
 
 from .cells import MOST, number
+from .dates import ORDERS, Zone
 from .input import DASH, known_encoding
 from .kinds import Tolerance, listed_codes
-from .page import PAGE, SHORT
+from .page import PAGE, SHORT, page_of
 from .problem import BAD_USAGE, Problem, quoted
 from .times import microseconds
 
@@ -30,8 +31,9 @@ class Parser(argparse.ArgumentParser):
         raise Problem(f'{message}; rowkeeper --help tells more', BAD_USAGE)
 
     def format_help(self):
-        """The page."""
-        return PAGE
+        """The page, or what it says of one command."""
+        _, _, command = self.prog.partition(' ')
+        return page_of(command, {option for action in self._actions for option in action.option_strings}) if command else PAGE
 
     def format_usage(self):
         """The two lines of usage."""
@@ -71,14 +73,10 @@ def tolerance(text):
 
 
 def ranks(text):
-    """The column of --rank and its codes in order."""
-    name, sign, codes = text.rpartition('=')
-    if not sign:
+    """What --rank says: it is cut at the sign behind the name of a by-column, once these are known."""
+    if '=' not in text:
         raise argparse.ArgumentTypeError(f'must be COLUMN=CODES, as band=30,10,20, not {quoted(text)}')
-    codes = split(codes)
-    if '' in codes or not codes:
-        raise argparse.ArgumentTypeError('there is an empty code')
-    return name, listed_codes(codes)
+    return text
 
 
 def names(text):
@@ -110,7 +108,10 @@ def add_common(command):
     command.add_argument('--sort', action='store_true')
     command.add_argument('--separator', type=separator, action=Once, metavar='SIGN')
     command.add_argument('--encoding', action=Once, metavar='NAME')
+    command.add_argument('--dates', choices=ORDERS, action=Once)
+    command.add_argument('--zone', type=Zone, action=Once, metavar='NAME')
     command.add_argument('-o', '--output', action=Once, metavar='FILE')
+    command.add_argument('--quiet', action='store_true')
 
 
 def add_groups(command):
@@ -128,6 +129,12 @@ def add_files(command):
         command.add_argument(option, action=Once, metavar='COLUMN')
     for option in ('--left-by', '--right-by'):
         command.add_argument(option, action='append', default=[], metavar='COLUMN')
+
+
+def add_encodings(command):
+    """The encoding of each of two files."""
+    for option in ('--left-encoding', '--right-encoding'):
+        command.add_argument(option, action=Once, metavar='NAME')
 
 
 def add_check(command):
@@ -220,11 +227,11 @@ def parser():
     top = Parser(prog='rowkeeper', allow_abbrev=False)
     top.add_argument('--version', action='version', version=f'rowkeeper {VERSION}')
     commands = top.add_subparsers(dest='command', metavar='COMMAND', parser_class=Parser)
-    for name, adds in (('join', (add_files, add_check, add_strategy, add_join, add_groups)),
-                       ('picture', (add_files, add_check, add_picture, add_groups)), ('merge', (add_merge, add_groups)),
-                       ('standing', (add_standing, add_groups)), ('passes', (add_passes,)),
-                       ('plan', (add_files, add_strategy, add_plan, add_groups)),
-                       ('takings', (add_files, add_strategy, add_takings, add_groups))):
+    for name, adds in (('join', (add_files, add_encodings, add_check, add_strategy, add_join, add_groups)),
+                       ('picture', (add_files, add_encodings, add_check, add_picture, add_groups)), ('merge', (add_merge, add_encodings, add_groups)),
+                       ('standing', (add_standing, add_groups)), ('passes', (add_passes, add_encodings)),
+                       ('plan', (add_files, add_encodings, add_strategy, add_plan, add_groups)),
+                       ('takings', (add_files, add_encodings, add_strategy, add_takings, add_groups))):
         command = commands.add_parser(name, allow_abbrev=False)
         for add in (*adds, add_common):
             add(command)
@@ -263,14 +270,23 @@ def judge_columns(args):
 
 def judge_rank(args):
     """Stops at a list of codes that cannot be taken."""
-    name, codes = args.rank
+    cuts = [(args.rank[:place], args.rank[place + 1:]) for place, sign in enumerate(args.rank) if sign == '=']
+    name, codes = next((cut for cut in reversed(cuts) if cut[0] in args.left[:-1]), cuts[0])
     if name not in args.left[:-1]:
-        raise Problem(f'--rank: {name} is not a --by column', BAD_USAGE)
+        raise Problem(f'--rank: {name if name.isprintable() else quoted(name)} is not a --by column', BAD_USAGE)
+    try:
+        codes = split(codes)
+    except argparse.ArgumentTypeError as why:
+        raise Problem(f'--rank: {why}', BAD_USAGE) from None
+    if '' in codes or not codes:
+        raise Problem('--rank: there is an empty code', BAD_USAGE)
+    codes = listed_codes(codes)
+    args.rank = name, codes
     if len(codes) > MOST_RANKS:
         raise Problem(f'--rank: {len(codes)} codes, but there can be {MOST_RANKS} at most', BAD_USAGE)
     twice = next((each for each in codes if codes.count(each) > 1), None)
     if twice is not None:
-        raise Problem(f'--rank: code {twice} is named twice', BAD_USAGE)
+        raise Problem(f'--rank: code {twice if str(twice).isprintable() else quoted(twice)} is named twice', BAD_USAGE)
 
 
 def judge_sales(args):
@@ -308,12 +324,14 @@ def judge(args):
     files += args.add if 'add' in args else []
     if files.count(DASH) > 1:
         raise Problem(f'-: standard input can be one of the {"two files, not both" if len(files) == 2 else "files, not more"}', BAD_USAGE)
-    args.encoding = known_encoding('utf-8' if args.encoding is None else args.encoding)
+    for option in ('encoding', 'left_encoding', 'right_encoding'):
+        if getattr(args, option, None) is not None:
+            setattr(args, option, known_encoding(getattr(args, option), f'--{option.replace("_", "-")}'))
 
 
 def parse(words):
     """The arguments, judged. `--help` prints the page and ends the program."""
-    args = parser().parse_args(words)
+    args = parser().parse_args([*words[1:], '--help'] if words[:1] == ['help'] else words)
     if args.command is None:
         raise Problem('say what to do: rowkeeper join SALES.csv NOTICES.csv --on COLUMN; rowkeeper --help tells more',
                       BAD_USAGE)

@@ -1,10 +1,9 @@
-"""What the cells of a compared column may be: whole numbers, times, text. Each kind reads a cell, and a column of cells."""
+"""What the cells of a compared column may be: whole numbers or text; dates.py has times. Each kind reads a cell, and a column of cells."""
 import contextlib
 import re
 from array import array
 
 from .problem import quoted
-from .times import DATE_LENGTH, Clocks, Days, length
 
 # The ends of 64-bit numbers with a sign.
 LEAST, MOST = -2**63, 2**63 - 1
@@ -13,7 +12,7 @@ LEAST, MOST = -2**63, 2**63 - 1
 DIGITS = 19
 
 # How often each cell of a column stands there where it is read once for all, the cells that are looked at first for that, and how many
-# different times are remembered.
+# different amounts are remembered.
 OFTEN, SAMPLE, REMEMBERED = 4, 64, 20000
 
 WHOLE = re.compile(r'([+-]?)0*([0-9]+)')
@@ -37,7 +36,7 @@ def number(cell):
 class Whole:
     """Whole numbers of 64 bits with a sign."""
 
-    said = 'a whole number'
+    said, sample = 'a whole number', '120'
     value = staticmethod(number)
     # A distance of two keys as it is written.
     apart = staticmethod(str)
@@ -61,41 +60,6 @@ class Whole:
             except (ValueError, OverflowError):
                 pass
         return [number(cell) for cell in cells]
-
-
-class Time:
-    """Dates and times in whole microseconds, all with a zone or all without one."""
-
-    apart = staticmethod(length)
-
-    def __init__(self, zoned):
-        self.zoned = zoned
-        self.days, self.clocks, self.known = Days(), Clocks(zoned), {}
-        self.said = 'a time with a zone' if zoned else 'a date or time without a zone'
-
-    def value(self, cell):
-        """The microseconds of a cell, or None where it is empty."""
-        text = cell.strip()
-        if not text:
-            return None
-        try:
-            return self.days[text[:DATE_LENGTH]] + self.clocks[text[DATE_LENGTH:]]
-        except ValueError:
-            raise ValueError(f'{quoted(cell)} is not {self.said}') from None
-
-    def column(self, cells):
-        """The microseconds of a column, None for each null. A cell that was met before is not read again, until too many have been
-        met: then times hardly ever come again."""
-        days, clocks, known = self.days, self.clocks, self.known
-        try:
-            if len(known) < REMEMBERED:
-                with contextlib.suppress(KeyError):
-                    return array('q', map(known.__getitem__, cells))
-                known.update({cell: days[cell[:DATE_LENGTH]] + clocks[cell[DATE_LENGTH:]] for cell in set(cells) - known.keys()})
-                return array('q', map(known.__getitem__, cells))
-            return array('q', [days[cell[:DATE_LENGTH]] + clocks[cell[DATE_LENGTH:]] for cell in cells])
-        except ValueError:
-            return [self.value(cell) for cell in cells]
 
 
 class Text:
@@ -141,21 +105,6 @@ class Text:
         """The codes of a column of texts, where no other text will be met."""
         codes = self.codes()
         return [None if text is None else codes[self.known[text]] for text in column]
-
-
-def kind_of(cell):
-    """The kind of key that a cell is: whole numbers, or times with a zone or without."""
-    try:
-        number(cell)
-        return Whole()
-    except ValueError as why:
-        for kind in (Time(False), Time(True)):
-            try:
-                kind.value(cell)
-                return kind
-            except ValueError:
-                continue
-        raise ValueError(str(why).replace('a whole number', 'a whole number, nor a date or time')) from None
 
 
 def parted(column):

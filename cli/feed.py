@@ -43,7 +43,7 @@ def streamed(source, first, progress):
     alone, so all texts are known."""
     pair = first
     while pair is not None:
-        kinds = source.kinds.all()
+        kinds = source.kinds_here()
         yield pair[0], [parted(kind.coded(column) if isinstance(kind, Text) else column) for kind, column in zip(kinds, pair[1])]
         progress()
         pair = source.next()

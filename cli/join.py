@@ -6,6 +6,7 @@ from .arguments import PREFIX
 from .clustered import Answered, connected, numbers
 from .explain import explanation
 from .feed import Feed, Held, streamed
+from .groups import Missing
 from .joined import Join
 from .pricing import ROWS, Layout, Matching, Priced
 from .problem import UNMATCHED, Problem, say
@@ -22,6 +23,9 @@ class Pricing(Run):
         super().__init__(args, stack, ('sales', 'notices'), args.tolerance, args.stream)
         self.connection = args.cluster and stack.enter_context(connected(args.cluster))
         self.sales, self.notices = (self.source(*each) for each in ((args.sales, args.left), (args.notices, args.right)))
+        self.kinds.share((self.sales, self.notices))
+        self.priced = None
+        self.missing, self.table = None if args.stream else Missing(self.kinds.order), None
         self.layout = Layout(self.sales, self.notices, args.columns, args.prefix or PREFIX, args.distance)
         self.target = target or sink(args.output, [args.sales, args.notices], whole=args.fail_unmatched and not args.stream)
 
@@ -39,7 +43,8 @@ class Pricing(Run):
         """Matches and writes at once: both tables are sorted."""
         join, held = join or self.join(), Held(self.layout.texts)
         self.priced = self.begin()
-        self.matching = Matching(join, Feed(sales), Feed(notices), held, self.priced.part(held, self.args.stream))
+        self.matching = Matching(join, Feed(sales), Feed(notices), held, self.priced.part(held, self.args.stream),
+                                 missing=self.missing)
         self.matching.run(self.show('writing'))
 
     def answered(self, *tables):
@@ -55,7 +60,7 @@ class Pricing(Run):
         sorting.take_sales(sales.pairs(later=True), show)
         sorting.take_notices(notices.pairs(), show)
         feeds = [Feed(each.pairs(ROWS)) for each in (sorting.sales, sorting.notices)]
-        self.matching = Matching(join, *feeds, sorting.held, sorting.found)
+        self.matching = Matching(join, *feeds, sorting.held, sorting.found, missing=self.missing)
         self.matching.run(self.show('matching'))
         self.priced = self.begin()
         sorting.write(sales.again(), self.priced, self.show('writing'))
@@ -68,17 +73,30 @@ class Pricing(Run):
         while self.args.check and next(pairs[1], None):
             pass
 
+    def stream(self):
+        """Streams; a fault is told with how many rows were already written."""
+        try:
+            self.by_streaming()
+        except Problem as problem:
+            rows = self.priced.sales if self.priced is not None and self.args.output is None else 0
+            if rows:
+                raise Problem(f'{problem}; {rows:,} row{" was" if rows == 1 else "s were"} already written: do not use them', problem.status) from None
+            raise
+
     def run(self):
         """Does it all."""
         if self.args.stream:
-            self.by_streaming()
+            self.stream()
         elif self.args.sort:
-            self.by_sorting(*self.judged())
+            sales, self.table = self.judged()
+            self.by_sorting(sales, self.table)
         else:
             sales, notices = self.judged()
+            self.table = notices
             self.in_step(sales.pairs(), notices.pairs(later=True), self.connection and self.answered(sales, notices))
+        self.said = self.priced.said() + ('' if self.table is None else self.missing.said(self.table, self.kinds))
         if self.args.fail_unmatched and self.priced.matched < self.priced.sales:
-            raise Problem(self.priced.said(), UNMATCHED)
+            raise Problem(self.said, UNMATCHED)
 
 
 def price(args):
@@ -88,4 +106,4 @@ def price(args):
         pricing.run()
     if args.explain and sys.stderr is not None:
         sys.stderr.write(explanation(args, pricing))
-    say(pricing.priced.said())
+    say(pricing.said)

@@ -1,8 +1,10 @@
 """Both tables read to their ends and judged, before anything is written. The numbers of their compared columns are kept in
 temporary files, so that the second reading need not look at these cells again."""
 from array import array
+from itertools import compress
 
-from .cells import Text, parted
+from .cells import WHOLE, Text, parted
+from .dates import Unsettled
 from .input import put, temporary
 from .kinds import Turned
 from .problem import Disorder
@@ -50,7 +52,7 @@ class Judged:
     def keep(self, block, columns):
         """Keeps the numbers of a block: texts by the order in which they are met."""
         nulls = []
-        pairs = [parted(kind.numbers(column) if isinstance(kind, Text) else column) for kind, column in zip(self.source.kinds.all(), columns)]
+        pairs = [parted(kind.numbers(column) if isinstance(kind, Text) else column) for kind, column in zip(self.source.kinds_here(), columns)]
         for values, marks in pairs + [self.source.read_beside(block, cells) for cells in block.beside]:
             nulls.append(marks is not None)
             put(self.kept, values.tobytes() + (marks.tobytes() if marks is not None else b''))
@@ -93,9 +95,28 @@ class Judged:
             yield Later(self.source.records, place, how, height) if later else self.source.records.exactly(*how), columns
             place += how[0] + how[1]
 
+    def groups(self, by):
+        """For each block the set of its by-values, as the library has them; rows with a null are left out."""
+        for _, columns in self.pairs(later=True):
+            values, marks = zip(*columns[:by])
+            if any(each is not None for each in marks):
+                known = [all(row) for row in zip(*(each for each in marks if each is not None))]
+                yield set(compress(zip(*values), known))
+            elif all(each[0] == each[-1] for each in values) and self.source.check:
+                yield {tuple(each[0] for each in values)}
+            else:
+                yield set(zip(*values))
+
     def close(self):
         """Gives the temporary file back."""
         self.kept.close()
+
+
+def note_texts(kinds):
+    """Notes each by-column that is text because of one cell, though it has whole numbers too."""
+    for column, why in kinds.why.items():
+        if any(WHOLE.fullmatch(text) for text in kinds.by[column].known):
+            kinds.notes.append(f'{kinds.order.columns[column]} is compared as text, because of {why}')
 
 
 def read_all(tables, progress):
@@ -112,11 +133,14 @@ def read_all(tables, progress):
 
 
 def judge(tables, kinds, progress):
-    """Reads both tables to their ends and judges them. If a by-column turns out to be text, both are read again."""
+    """Reads both tables to their ends and judges them. If a by-column turns out to be text, or a date column
+    to need a look at all its cells, both are read again."""
     while True:
         try:
-            return read_all(tables, progress)
+            read_all(tables, progress)
+            note_texts(kinds)
+            return
+        except Unsettled as unsettled:
+            unsettled.source.look_through(unsettled.column)
         except Turned as turned:
             kinds.turn(turned)
-            if turned.after_numbers:
-                kinds.notes.append(f'{kinds.order.columns[turned.column]} is compared as text, because of {turned.why}')

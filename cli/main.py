@@ -9,7 +9,7 @@ from .join import price
 from .passes import cover
 from .picture import picture
 from .plan import plan
-from .problem import BAD_INPUT, DONE, Problem, reason, say
+from .problem import BAD_INPUT, DONE, Problem, Quiet, reason, say
 from .takings import take
 
 # The status of a program that a signal ends, less the signal's number.
@@ -33,20 +33,22 @@ def ended(number, _):
 
 def main(words):
     """Runs the command; its status."""
+    Quiet.wanted = False
     try:
         args = parse(words)
+        Quiet.wanted = args.quiet
         {'join': price, 'picture': picture, 'merge': merge, 'standing': standing, 'passes': cover, 'plan': plan,
          'takings': take}[args.command](args)
     except Problem as problem:
-        say(problem)
+        say(problem, always=True)
         return problem.status
     except MemoryError:
-        say('there is not enough memory')
+        say('there is not enough memory', always=True)
         return BAD_INPUT
     except BrokenPipeError:
         return no_reader()
     except OSError as error:  # whatever else is read or written tells its own name
-        say(f'a temporary file: cannot be used: {reason(error)}')
+        say(f'a temporary file: cannot be used: {reason(error)}', always=True)
         return BAD_INPUT
     except KeyboardInterrupt:
         return BY_SIGNAL + signal.SIGINT

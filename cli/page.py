@@ -1,6 +1,8 @@
 """The help pages: what `--help` prints, and the same text as a man page.
 
 python3 -m cli.page   prints the man page"""
+import re
+
 from rowkeeper.interface import VERSION
 
 SHORT = '''usage: rowkeeper join SALES.csv NOTICES.csv --on KEY [--by COLUMN] [options]
@@ -48,8 +50,26 @@ WHAT COMES OUT
 
 WHAT GOES IN
   The --on column holds whole numbers (64 bits, minus sign allowed) or dates and
-  times: 2026-01-05, 2026-01-05 19:30, 2026-01-05T19:30:05.123456; with a zone
-  behind the time (Z, +01:00) in all cells or in none. A date is its midnight.
+  times as tills write them: 2026-01-05 19:30, 2026/1/5, 05.01.2026 19:30:05,
+  1/5/2026 7:30 PM, 2026-01-05T19:30:05.123456; with a zone behind the time (Z,
+  +01:00, +0100) in all cells or in none. A column has one form, which its first
+  cell shows; each file may have its own. With dots the day comes first. With
+  slashes it is never guessed: a date such as 13/1/2026 settles it for the whole
+  column and a line says so, else say --dates. A date alone is its midnight, and
+  24:00 is the next one. What is finer than microseconds is refused.
+  --dates ORDER        dmy or mdy: day or month first in dates as 1/5/2026; ymd:
+                       only dates with the year first; excel: numbers are
+                       Excel's dates, as 46027.8125
+  --on DATE+TIME       a date and a time of day in two columns, as --on
+                       sold_date+sold_time; where one is empty the time is not
+                       known
+  --zone NAME          times that name no zone are local ones of this place, as
+                       Europe/Berlin. In the hour that the end of summer time
+                       repeats, times are the first until they fall, then the
+                       second: in a sorted file for each performance, with
+                       --sort in the order of the file. Where they do not fall
+                       nothing tells which is meant, and the run ends. It needs
+                       Python 3.9
   --by columns hold any text. If all cells of one are whole numbers, in both
   files, they are compared as numbers (7 is 007), else as text, letter by letter
   (7 is not 007, and 10 comes before 7). Blanks around a cell do not count.
@@ -58,7 +78,9 @@ WHAT GOES IN
   no sale. All other columns are carried along as they are.
   Both files must be sorted: by the --by columns in turn, then by the --on
   column; ascending, empty cells first. Or say --sort. Blank lines are passed
-  and not counted. A line can have 16 MB. Memory goes by the notices that lie
+  and not counted, and so are lines of separators alone, a first line as sep=;
+  and up to 20 lines above the header. A line can have 16 MB, and a row that
+  runs over lines 10,000 of them. Memory goes by the notices that lie
   between two sales of one performance (about 50 bytes each), and by the
   different texts of the --by columns, not by the length of the files.
   -                    as a file's name: standard input
@@ -69,6 +91,8 @@ WHAT GOES IN
                        UTF-8. A file that begins with a byte order mark (UTF-8
                        or UTF-16) says it itself. What comes out is UTF-8, with
                        a mark if the first has one or is in another encoding
+  --left-encoding NAME   the encoding of the first file alone
+  --right-encoding NAME  that of the second alone
 
 WHICH NOTICE
   --on COLUMN          the column that is compared, as the minute of the sale
@@ -122,6 +146,7 @@ WHERE IT GOES
                        columns must fit into memory (16 bytes a cell). Does not
                        go with --stream, --sort, --no-check, --explain or
                        --distance
+  --quiet              say nothing where all goes well
   --explain            tell at the end what was done: options, rows, frames,
                        turns, memory
 
@@ -176,12 +201,14 @@ WHICH PERFORMANCES A PASS COVERS
   --exclude-from       a performance at the first time itself is not covered
   --exclude-to         a performance at the last time itself is not covered
 
-  The three columns hold whole numbers, or all of them dates and times; a date
-  is its midnight, also in --to. A pass without one of its times covers nothing,
-  and so does one whose last time is before its first. Every performance has its
-  time, and they are sorted by it; or say --sort, and they come out in their own
-  order all the same. Passes are in any order. It takes the options on files and
-  -o. Memory goes by the performances, and by the rows of some passes at once.
+  The three columns hold whole numbers, or all of them dates and times. A date
+  alone in --to is that whole day, to its end; with --exclude-to the day is not
+  covered. Elsewhere a date is its midnight. A pass without one of its times
+  covers nothing, and so does one whose last time is before its first. Every
+  performance has its time, and they are sorted by it; or say --sort, and they
+  come out in their own order all the same. Passes are in any order. It takes
+  the options on files and -o. Memory goes by the performances, and by the rows
+  of some passes at once.
 
 WHAT WAS TAKEN
   rowkeeper takings SALES.csv NOTICES.csv --on minute --by performance \\
@@ -232,11 +259,17 @@ HOW MUCH MEMORY TO LEND
   It takes the options on columns, files, sorting and -o, and --strategy and
   --no-exact. Both files must be sorted, or say --sort. Memory goes by the rows.
 
-WHEN SOMETHING IS WRONG
-  One line says what, with file, line and column, and the status is 1 for the
-  files, 2 for the command line, 3 for the library (or for dask, where --cluster
-  finds none), 4 for --fail-unmatched.
-  Lines are counted as an editor counts them: the header is line 1.
+EXIT STATUS
+  If something is wrong one line says what, with file, line and column. Lines
+  are counted as an editor counts them: the header is line 1.
+  0    all went well
+  1    something is wrong with the files
+  2    something is wrong with the command line
+  3    there is no library, or no dask where --cluster wants it
+  4    a sale has no notice, with --fail-unmatched
+  130  ended by Ctrl-C
+  141  whoever read standard output has gone
+  143  ended by SIGTERM; 129 by SIGHUP
 
 THE LIBRARY
   The library that does the join is compiled from proved source. An installed
@@ -251,6 +284,47 @@ THE LIBRARY
   ROWKEEPER_FROM=c     in the environment: the library from the C file, on
                        64-bit x86 Linux too
 '''
+
+
+# The sections of each command's own help, before those that commands share.
+OWN = {'join': ('WHAT COMES OUT',), 'picture': ('A PICTURE',), 'merge': ('TWO BOOKS AS ONE',), 'standing': ('WHICH NOTICES STAND',),
+       'passes': ('WHICH PERFORMANCES A PASS COVERS',), 'takings': ('WHAT WAS TAKEN',), 'plan': ('HOW MUCH MEMORY TO LEND',)}
+SHARED = ('WHAT GOES IN', 'WHICH NOTICE', 'HOW THE FILES ARE SORTED', 'WHERE IT GOES', 'EXIT STATUS')
+
+# An entry of the page that tells an option, and a line that goes on with it.
+ENTRY, GOES_ON = re.compile('  (--?[a-z][a-z-]*)'), ' ' * 20
+
+
+def sections():
+    """The page's sections, by their headings; what stands before the first has none."""
+    found, heading = {'': []}, ''
+    for line in PAGE.splitlines():
+        if line and line == line.upper() and not line.startswith(' '):
+            heading = line
+            found[heading] = []
+        else:
+            found[heading].append(line)
+    return found
+
+
+def with_options(lines, options):
+    """The lines of a section, without the entries of options that a command does not have."""
+    kept, keeps = [], True
+    for line in lines:
+        entry = ENTRY.match(line)
+        keeps = entry.group(1) in options if entry else keeps or not line.startswith(GOES_ON)
+        kept += [line] if keeps else []
+    return kept
+
+
+def page_of(command, options):
+    """What the page says of one command: its own section and its options in the others."""
+    found = sections()
+    usage = re.search(f'rowkeeper {command} [^\\n]*(?:\\n {{10,}}[^\\n]*)*', SHORT).group()
+    lines = [f'usage: {usage}', *(found[''][1:] if command == 'join' else [''])]
+    for heading in OWN[command] + SHARED:
+        lines += [heading, *with_options(found[heading], options)]
+    return '\n'.join(lines).rstrip('\n') + '\n\nrowkeeper --help is the whole page.\n'
 
 
 def roff(line):

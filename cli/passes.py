@@ -7,6 +7,7 @@ import rowkeeper
 
 from .books import put, texts
 from .build import told
+from .dates import DAY
 from .joined import expected
 from .pricing import Heights, free
 from .problem import Problem, at, say
@@ -16,6 +17,9 @@ from .sink import sink
 
 # What a column of the performances is called where the passes have its name.
 PREFIX = 'performance_'
+
+# How much later than its midnight a date alone in --to is: it is the whole day, to its last microsecond.
+WHOLE_DAY = DAY - 1
 
 # The pairs that the passes of one call should have together: what is written of them is in memory.
 COMFORT = 1 << 16
@@ -96,6 +100,7 @@ def cover(args):
     with contextlib.ExitStack() as stack:
         run = Run(args, stack, ('passes', 'performances'), keys=2)
         passes = run.source(args.passes, [args.lower, args.upper], ordered=False)
+        passes.bare[1] = WHOLE_DAY if args.upper_inclusive else 0
         performances = run.source(args.performances, [args.on])
         target, tables = sink(args.output, [args.passes, args.performances]), run.judged()
         covered = Covered(run, Performances(run, tables[1], passes.separator))

@@ -6,7 +6,7 @@ import io
 import re
 from html import escape
 
-from .cells import Time
+from .dates import Time
 from .join import Pricing
 from .problem import Problem, at, quoted, say
 from .sink import sink
@@ -22,6 +22,13 @@ MOST_PANELS, MOST_DRAWN = 40, 50000
 # About how many marks the lower axis has, and the distances that those of times may have.
 MARKS = 7
 SPANS = [UNITS['m'] * count for count in (1, 5, 15, 60, 180, 360, 720)] + [UNITS['d'] * count for count in (1, 2, 7, 14, 28, 91, 182, 365, 3650)]
+
+# The characters of a price: longer ones are beyond what can be told apart in a picture.
+LONGEST_PRICE = 15
+
+# What XML has no place for, and what is drawn for it.
+REPLACED = '\ufffd'
+NOT_XML = re.compile('[^\t\n\r\x20-\ud7ff\ue000-\ufffd\U00010000-\U0010ffff]')
 
 PRICE = re.compile(r'[+-]?[0-9]+(?:[.,][0-9]+)?')
 
@@ -45,6 +52,8 @@ def price_of(cell, path, line, name):
     text = cell.strip()
     if text and not PRICE.fullmatch(text):
         raise Problem(f'{at(path, line, name)}: {quoted(cell)} is not a price, as 1800 or 12.50')
+    if len(text) > LONGEST_PRICE:
+        raise Problem(f'{at(path, line, name)}: {quoted(cell)} is too long a price to be drawn: it can have {LONGEST_PRICE} characters')
     return float(text.replace(',', '.')) if text else None
 
 
@@ -69,17 +78,17 @@ class Season:
     def take_sales(self, source, priced):
         """The sales with the prices that they were given."""
         for cells in list(csv.reader(io.StringIO(priced, newline=''), delimiter=source.separator))[1:]:
-            *by, key = (cells[place] for place in source.places)
+            *by, key = (source.cell(cells, column) for column in range(len(source.names)))
             price = price_of(cells[-1], source.path, None, 'price')
-            self.group(source.names, by)[2].append((self.kinds.all()[-1].value(key), price, cells[-1].strip()))
+            self.group(source.names, by)[2].append((source.kinds_here()[-1].value(key), price, cells[-1].strip()))
 
     def notices_of(self, source, name):
         """The notices that have a key and a price, each with its by-cells."""
         source.again()
-        places = [*source.places, source.place(name)]
         for block in iter(source.records.block, None):
-            for row, (*by, key, cell) in enumerate(zip(*block.columns(places, source.width))):
-                price, key = price_of(cell, source.path, block.line(row), name), self.kinds.all()[-1].value(key)
+            prices, = block.columns([source.place(name)], source.width)
+            for row, (*by, key, cell) in enumerate(zip(*source.cells(block)[0], prices)):
+                price, key = price_of(cell, source.path, block.line(row), name), source.kinds_here()[-1].value(key)
                 if price is not None and key is not None:
                     yield by, (key, price, cell.strip())
 
@@ -90,7 +99,8 @@ class Season:
 
 def text(left, top, words, more=''):
     """A line of text."""
-    return f'<text x="{left}" y="{top}" {more}>{escape(words)}</text>'
+    words = escape(NOT_XML.sub(REPLACED, words))
+    return f'<text x="{left}" y="{top}" {more}>{words}</text>'
 
 
 def steps(notices, x, y, colour):
@@ -183,4 +193,4 @@ def picture(args):
                 raise Problem(f'there are {rows:,} {what}, and a picture has room for {MOST_DRAWN:,}')
         found = drawn(Season(pricing, kept.getvalue().decode('utf-8-sig')), pricing.sales.names[-1])
         stack.enter_context(target).write(found.encode('utf-8'))
-    say(pricing.priced.said())
+    say(pricing.said)

@@ -10,7 +10,6 @@ from .build import told
 from .cells import frame_words
 from .joined import expected
 from .pricing import ROWS
-from .problem import say
 from .run import Run
 from .sink import sink
 from .sorting import Side
@@ -69,6 +68,7 @@ def plan(args):
         run = Run(args, stack, ('sales', 'notices'))
         for each in ((args.sales, args.left), (args.notices, args.right)):
             run.source(*each)
+        run.kinds.share(run.sources)
         target = sink(args.output, [args.sales, args.notices])
         sales, notices = (words_of(run, table) for table in run.judged())
         lefts, rights = heights(sales[0], args.sales_frame), heights(notices[0], args.notices_frame)
@@ -77,7 +77,4 @@ def plan(args):
             found = told(lambda: rowkeeper.plan(
                 sales, notices, lefts, rights, by=len(order.columns) - 1, strategy=args.strategy, allow_exact_matches=args.exact,
                 descending=order.descending, nulls_last=order.nulls_last, ranks=order.ranks))
-        run.progress.clear()
-        for note in run.kinds.notes:
-            say(note)
-        put(stack.enter_context(target), figures(args, found, lefts, rights))
+        put(run.begun(target, mark=False), figures(args, found, lefts, rights))

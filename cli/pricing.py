@@ -26,9 +26,11 @@ class Heights:
 
 class Matching:
     """Sales and notices on their way through a join. `held` keeps what is to be known of the notices, `found` takes each part of
-    the sales with the numbers of their notices, their marks, and their distances or None."""
+    the sales with the numbers of their notices, their marks, and their distances or None; `missing`, if it is there, the groups of those
+    that have none."""
 
-    def __init__(self, join, sales, notices, held, found, heights=None, right_height=ROWS):
+    def __init__(self, join, sales, notices, held, found, heights=None, right_height=ROWS, missing=None):
+        self.missing = missing
         self.join, self.sales, self.notices, self.held, self.found = join, sales, notices, held, found
         self.heights, self.right_height = heights or Heights(), right_height
         self.waiting, self.called, self.left_frames, self.right_frames = None, 0, 0, 0
@@ -62,7 +64,10 @@ class Matching:
             elif answer == WANTS_RIGHT:
                 self.next_notices()
             else:
-                self.found(self.waiting, *self.join.matched())
+                matched = self.join.matched()
+                if self.missing is not None:
+                    self.missing.take(self.waiting.words, matched[1])
+                self.found(self.waiting, *matched)
                 self.heights.learn(self.called)
                 self.held.drop(self.join.pruned)
                 show()
@@ -113,7 +118,7 @@ class Layout:
 def counted(sales, matched, first):
     """How many sales have a notice, in words; `first` is the line of the first that has none."""
     missing = sales - matched
-    have = f'{matched:,} of {sales:,} sale{"" if sales == 1 else "s"} ha{"s" if matched == 1 else "ve"} a notice'
+    have = f'{matched:,} of {sales:,} sale{"" if sales == 1 else "s"} ha{"s" if 1 in (matched, sales) else "ve"} a notice'
     if not missing:
         return have
     return f'{have}; {missing:,} ha{"s" if missing == 1 else "ve"} none, {"it is" if missing == 1 else "the first"} in line {first}'

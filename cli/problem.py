@@ -20,9 +20,15 @@ class Disorder(Problem):
     """Rows that are out of order."""
 
 
-def say(line):
-    """A line on standard error; nothing where that is closed or cannot be written."""
-    if sys.stderr is not None:
+class Quiet:
+    """Whether a run that goes well says nothing: `wanted` is set once the command line is read."""
+
+    wanted = False
+
+
+def say(line, always=False):
+    """A line on standard error; nothing where that is closed or cannot be written, or where --quiet keeps all but faults from it."""
+    if sys.stderr is not None and (always or not Quiet.wanted):
         try:
             print(f'rowkeeper: {line}', file=sys.stderr, flush=True)
         except OSError:

@@ -10,6 +10,10 @@ from .problem import Problem, at, reason
 # The bytes that a line can have at most: a file that is no text may have no line end at all.
 LONGEST_LINE = 1 << 24
 
+# The lines that one record can have at most; its bytes are limited as those of a line. A quote that is never closed makes the rest of a
+# file one record.
+MOST_LINES = 10000
+
 # The bytes of the first block, and the rows that later ones should have: as many as a frame takes.
 FIRST_BYTES, ROWS, FEWEST_BYTES, MOST_BYTES = 1 << 15, 4000, 1 << 12, 1 << 19
 
@@ -120,12 +124,14 @@ class Records:
     out."""
 
     def __init__(self, source, separator=','):
-        self.input, self.separator = source, separator
+        # A line of separators alone, which spreadsheets append, is passed as a blank one is; `header` is the sum of the header's bytes.
+        self.input, self.separator, self.hollow, self.header = source, separator, None, None
         self.start()
 
     def start(self):
         """Stands at the first byte."""
-        self.rest, self.ended, self.late, self.at_line, self.bytes, self.passed = b'', False, None, 1, FIRST_BYTES, 0
+        self.rest, self.ended, self.late, self.at_line, self.bytes = b'', False, None, 1, FIRST_BYTES
+        self.passed = self.passed_sum = 0
 
     def again(self, size, line):
         """Goes back to the byte of this number, with which this line begins."""
@@ -134,8 +140,16 @@ class Records:
         self.more(size)
         self.pass_over(size, line)
 
+    def changed(self):
+        """The file is another one than before."""
+        return Problem(f'{at(self.input.path)}: the file was changed while it was read')
+
     def pass_over(self, size, line):
-        """Goes on behind the first bytes of what was read, to this line."""
+        """Goes on behind the header, the first bytes of what was read, to this line. They are the same each time."""
+        found = zlib.crc32(self.rest[:size])
+        if self.header is not None and found != self.header:
+            raise self.changed()
+        self.header = found
         self.rest, self.at_line = self.rest[size:], line
 
     def go_to(self, place):
@@ -147,11 +161,12 @@ class Records:
         in the meantime. `by_line`: they are known to be one a line."""
         self.rest = b''
         self.more(passed)
+        before = zlib.crc32(self.rest)
         self.at_line, self.rest = self.at_line + self.rest.count(b'\n'), b''
         self.more(size)
         data, self.ended = self.rest, True
-        if len(data) != size or zlib.crc32(data) != total:
-            raise Problem(f'{at(self.input.path)}: the file was changed while it was read')
+        if len(data) != size or zlib.crc32(data, before) != total:
+            raise self.changed()
         if not by_line:
             return self.record_by_record(size)
         first, self.at_line = self.at_line, self.at_line + data.count(b'\n')
@@ -179,17 +194,21 @@ class Records:
 
     def lines(self, taken):
         """The lines from here on as text; each is put into `taken` with where it ends. Nothing is given away of what was read."""
-        start, line = 0, self.at_line
+        start, line, begun = 0, self.at_line, 0
         while True:
+            begun = begun if taken else start
             end = self.to_line_end(start, line)
             if start == end:
                 return
+            if len(taken) >= MOST_LINES or end - begun > LONGEST_LINE and taken:
+                raise Problem(f'{at(self.input.path, line - len(taken))}: a row has more than {MOST_LINES:,} lines or {LONGEST_LINE >> 20} MB: '
+                              'a quote is opened and never closed')
             try:
                 text = self.rest[start:end].decode('utf-8')
             except UnicodeDecodeError as error:
-                raise Problem(f'{at(self.input.path, line)}: byte {error.start + 1} of the line is not UTF-8 text') from None
+                raise Problem(self.input.said_of(line, error.start, self.rest[start:end])) from None
             if '\0' in text:
-                raise Problem(f'{at(self.input.path, line)}: there is a NUL character: the file is not text, or in another encoding')
+                raise Problem(self.input.said_of_nul(line, self.rest[start:end]))
             start, line = end, line + 1
             taken.append((text, end))
             yield text
@@ -199,8 +218,9 @@ class Records:
         taken, lines, rows, starts, end, line = [], [], [], [], 0, self.at_line
         try:
             for cells in csv.reader(self.lines(taken), strict=True, delimiter=self.separator):
-                if cells:
-                    lines.append(''.join(text for text, _ in taken).rstrip('\r\n'))
+                text = ''.join(text for text, _ in taken).rstrip('\r\n')
+                if cells and text != self.hollow:
+                    lines.append(text)
                     rows.append(cells)
                     starts.append(line)
                 line, end = line + len(taken), taken[-1][1]
@@ -224,7 +244,8 @@ class Records:
 
     def summed(self, block, data):
         """A block with the number and the sum of its bytes, and how many of blank lines were passed before them."""
-        block.passed, block.size, block.sum, self.passed = self.passed, len(data), zlib.crc32(data), 0
+        block.passed, block.size, block.sum = self.passed, len(data), zlib.crc32(data, self.passed_sum)
+        self.passed = self.passed_sum = 0
         return block
 
     def line_by_line(self, data):
@@ -236,7 +257,7 @@ class Records:
         if '\r' in text or '\0' in text:
             return None
         block = Block(self.separator, text, self.at_line)
-        blank = '\n\n' in text or text.startswith('\n') or text.endswith('\n') or not text
+        blank = '\n\n' in text or text.startswith('\n') or text.endswith('\n') or not text or self.has_hollow(text)
         if not blank and not block.quoted:
             return block
         try:
@@ -247,8 +268,14 @@ class Records:
             return None
         if not blank:
             return block
-        starts = list(compress(range(self.at_line, self.at_line + len(rows)), rows))
-        return Block(self.separator, None, self.at_line, list(compress(block.lines, rows)), list(filter(None, rows)), starts)
+        kept = [bool(cells) and line != self.hollow for cells, line in zip(rows, block.lines)]
+        starts = list(compress(range(self.at_line, self.at_line + len(rows)), kept))
+        return Block(self.separator, None, self.at_line, list(compress(block.lines, kept)), list(compress(rows, kept)), starts)
+
+    def has_hollow(self, text):
+        """Whether a line of a text has separators alone."""
+        sign = self.hollow
+        return sign is not None and (f'\n{sign}\n' in text or text.startswith(f'{sign}\n') or text.endswith(f'\n{sign}') or text == sign)
 
     def block(self):
         """The next records, at least one; None at the end of the file."""
@@ -269,4 +296,4 @@ class Records:
             if block.height:
                 self.bytes = min(MOST_BYTES, max(FEWEST_BYTES, len(data) * ROWS // block.height))
                 return self.summed(block, data)
-            self.passed += len(data)
+            self.passed, self.passed_sum = self.passed + len(data), zlib.crc32(data, self.passed_sum)

@@ -3,6 +3,7 @@ import codecs
 import contextlib
 import sys
 
+from .dates import Dates
 from .input import Input
 from .judged import Judged, judge
 from .kinds import Kinds
@@ -23,13 +24,18 @@ class Run:
         stack.callback(self.progress.clear)
         order = Order(args.left[:-1], args.left[-1], args.descending, args.nulls_last, args.rank)
         self.kinds = Kinds(order, tolerance, may_be_text=not streamed, keys=keys)
+        self.dates = Dates(args.dates, args.zone)
 
     def source(self, path, names, ordered=True, also=()):
         """One of the tables, with its header read. One that is not `ordered` may have its rows in any order; `also` are
         columns that it has besides."""
-        opened = self.stack.enter_context(contextlib.closing(Input(path, self.args.encoding, self.streamed)))
+        side = ('left', 'right')[len(self.sources)] if len(self.sources) < 2 and 'left_encoding' in self.args else None
+        own = side and getattr(self.args, f'{side}_encoding')
+        other = {'left': '--right-encoding', 'right': '--left-encoding'}.get(side) if self.args.encoding and not own else None
+        opened = self.stack.enter_context(contextlib.closing(
+            Input(path, own or self.args.encoding or 'utf-8', self.streamed, f'--{side}-encoding' if side else '--encoding', other)))
         check = ordered and self.args.check and not self.args.sort
-        self.sources.append(Source(opened, names, self.kinds, check, self.args.separator, also))
+        self.sources.append(Source(opened, names, self.kinds, check, self.args.separator, also, self.dates))
         return self.sources[-1]
 
     def show(self, stage):
@@ -42,12 +48,20 @@ class Run:
         judge(tables, self.kinds, self.progress)
         return tables
 
-    def begun(self, target):
-        """The output, when its first line is due; notes come before it. It has a mark where the first file has one or was converted."""
+    def unchanged(self):
+        """Stops if a file was changed since it was opened."""
+        for each in self.sources:
+            each.input.unchanged()
+
+    def begun(self, target, mark=True):
+        """The output, when its first line is due; notes come before it. It has a mark where the first file has one or was converted,
+        unless none is wanted."""
         self.progress.clear()
         for note in self.kinds.notes:
             say(note)
+        self.unchanged()
         file = self.stack.enter_context(target)
-        if self.sources[0].input.marked or self.sources[0].input.converted:
+        self.stack.push(lambda kind, error, place: kind is None and self.unchanged())
+        if mark and (self.sources[0].input.marked or self.sources[0].input.converted):
             file.write(codecs.BOM_UTF8)
         return file

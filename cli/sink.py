@@ -5,8 +5,8 @@ import shutil
 import stat
 import sys
 
-from .input import temporary
-from .problem import Problem, at, reason
+from .input import DASH, temporary
+from .problem import BAD_USAGE, Problem, at, reason
 
 # The bytes that are written at once.
 BUFFER = 1 << 18
@@ -47,25 +47,31 @@ def at_the_end(target):
             shutil.copyfileobj(kept, file, BUFFER)
 
 
-def take_over(made, goal):
-    """Gives a new file the name, and what the file of that name allowed, if there was one."""
-    with contextlib.suppress(FileNotFoundError):
-        os.chmod(made, stat.S_IMODE(os.stat(goal).st_mode))
-    os.replace(made, goal)
+def opened(made, goal):
+    """A new file, which from the start allows no more than the file that it will replace, and has its owner where that can be."""
+    try:
+        old = os.stat(goal)
+    except FileNotFoundError:
+        return os.open(made, os.O_WRONLY | os.O_CREAT | os.O_EXCL, 0o666)
+    found = os.open(made, os.O_WRONLY | os.O_CREAT | os.O_EXCL, 0o600)
+    with contextlib.suppress(OSError):
+        os.fchown(found, old.st_uid, old.st_gid)
+    os.fchmod(found, stat.S_IMODE(old.st_mode))
+    return found
 
 
 @contextlib.contextmanager
 def whole_file(path):
     """Bytes to a new file beside this one, which takes its name at the end. Whatever ends the run before, the new file is
-    removed: its name is settled before it is made, so that there is no moment at which it could be left behind."""
+    removed, but for SIGKILL: its name is settled before it is made, so that there is no moment at which it could be left behind."""
     goal = os.path.realpath(path)
     made = os.path.join(os.path.dirname(goal), f'.rowkeeper-{os.urandom(8).hex()}.part')
     try:
-        with open(os.open(made, os.O_WRONLY | os.O_CREAT | os.O_EXCL, 0o666), 'wb', buffering=BUFFER) as file:
+        with open(opened(made, goal), 'wb', buffering=BUFFER) as file:
             yield file
             file.flush()
             os.fsync(file.fileno())
-        take_over(made, goal)
+        os.replace(made, goal)
     except OSError as error:
         raise Problem(f'{at(path)}: cannot be written: {reason(error)}') from None
     finally:
@@ -88,8 +94,10 @@ def device(path):
 def sink(path, inputs, whole=False):
     """Where bytes go: the file of this name, or standard output where there is none. `whole`: all of them at the end or none, also
     where that is no file."""
-    if path is None:
+    if path is None or path == DASH:
         return at_the_end(standard_output()) if whole else standard_output()
+    if not path:
+        raise Problem('--output: the name is empty: say a file, or - for standard output', BAD_USAGE)
     if any(same_file(path, each) for each in inputs):
         raise Problem(f'{at(path)}: is one of the files to be read, and is left as it is')
     if os.path.isdir(path):

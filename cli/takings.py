@@ -12,12 +12,13 @@ from .books import put
 from .build import told
 from .cells import Text
 from .feed import Feed
+from .groups import Missing
 from .joined import Join, expected
 from .pricing import ROWS, Matching, counted, free
-from .problem import Problem, at, say
+from .problem import BAD_USAGE, Problem, at, say
 from .records import written
 from .run import Run
-from .sink import sink
+from .sink import same_file, sink
 from .sorting import Side, turned
 
 # The columns behind the by-columns, and what stands in front of one whose name a by-column has.
@@ -137,7 +138,12 @@ class Adding(Run):
         for name in (TOTAL, SALES):
             self.names.append(free(name, self.names, PREFIX))
         self.of_sales, self.of_notices = (self.source(*each) for each in ((args.sales, args.left), (args.notices, args.right)))
+        self.kinds.share((self.of_sales, self.of_notices))
+        self.missing = Missing(self.kinds.order)
         self.of_notices.beside, self.of_notices.read_beside = [self.of_notices.place(args.amount)], self.amount
+        for place, path in enumerate(args.add):
+            if any(same_file(path, other) for other in args.add[:place]):
+                raise Problem(f'--add: {at(path)} is named twice, and would be added twice', BAD_USAGE)
         self.subtotals = [Subtotal(self.source(path, args.left[:-1], ordered=False, also=self.names), self.names, self.amounts)
                           for path in args.add]
         self.target = sink(args.output, [args.sales, args.notices, *args.add])
@@ -203,7 +209,7 @@ class Adding(Run):
                 takings.add(part.words, join.output[:2 + 2 * height * width])
             sums.take(takings)
             self.count(part, marks)
-        Matching(join, Feed(sales), Feed(notices), Nothing(), found).run(self.show('adding'))
+        Matching(join, Feed(sales), Feed(notices), Nothing(), found, missing=self.missing).run(self.show('adding'))
         for _ in notices:
             pass
 
@@ -235,7 +241,7 @@ class Adding(Run):
             (tables[0].pairs(later=True), self.priced(tables[1]))
         self.add_all(sums, *pairs)
         own = sums.whole().unpriced
-        said = counted(self.sales, self.matched, self.line(tables[0]))
+        said = counted(self.sales, self.matched, self.line(tables[0])) + self.missing.said(tables[1], self.kinds)
         for each in before:
             sums.take(each)
         takings = sums.whole()

@@ -68,7 +68,7 @@ def in_order(rows, descending, nulls_last, lists=()):
 
 
 # The forms of a time, as Python's own reader of them knows them.
-FORMS = [f'%Y-%m-%d{clock}{zone}' for clock in ('', ' %H:%M', 'T%H:%M', ' %H:%M:%S', 'T%H:%M:%S', ' %H:%M:%S.%f', 'T%H:%M:%S.%f')
+FORMS = [f'{date}{clock}{zone}' for date in ('%Y-%m-%d', '%d.%m.%Y') for clock in ('', ' %H:%M', 'T%H:%M', ' %H:%M:%S', 'T%H:%M:%S', ' %H:%M:%S.%f', 'T%H:%M:%S.%f')
          for zone in ('', '%z') if clock or not zone]
 
 

@@ -10,6 +10,7 @@ import unittest
 
 from rowkeeper.interface import VERSION
 
+from ..arguments import parser
 from ..build import ROOT
 from ..page import PAGE, man
 from .command import PROGRAM, SEASON, Case, apart, within
@@ -61,7 +62,7 @@ class Till(Case):
         run = apart(command.split(), cwd=ROOT)
         self.assertEqual((run.status, run.out), (0, self.read(os.path.join(SEASON, 'till_priced.csv'))))
         self.assertEqual(run.err, 'rowkeeper: examples/season/till.csv: columns are separated by semicolons\n'
-                         'rowkeeper: 5 of 7 sales have a notice; 2 have none, the first in line 7\n')
+                         'rowkeeper: 5 of 7 sales have a notice; 2 have none, the first in line 7; 1 group has no notice at all: performance Macbeth\n')
 
 
 class Help(Case):
@@ -69,9 +70,27 @@ class Help(Case):
 
     def test_page(self):
         """However help is asked for, the page comes."""
-        for words in (['--help'], ['-h'], ['join', '--help'], ['merge', '--help'], ['standing', '-h'], ['passes', '-h'], ['takings', '-h']):
+        for words in (['--help'], ['-h'], ['help']):
             run = apart(words)
             self.assertEqual((run.status, run.out, run.err), (0, PAGE, ''))
+
+    def test_page_of_a_command(self):
+        """A command's own help has its example and all its options, and none that it does not have."""
+        commands = parser()._subparsers._group_actions[0].choices
+        for name, each in commands.items():
+            run = apart([name, '--help'])
+            self.assertEqual((run.status, run.err, apart(['help', name]).out), (0, '', run.out))
+            own = {option for action in each._actions for option in action.option_strings} - {'-h', '--help'}
+            self.assertEqual(set(re.findall('(?m)^  (--?[a-z][a-z-]*)', run.out)), own, name)
+            self.assertIn(f'  rowkeeper {name} ', run.out)
+            self.assertLess(len(run.out.splitlines()), len(PAGE.splitlines()) * 2 // 3)
+
+    def test_quiet(self):
+        """A run that goes well says nothing; a fault is told."""
+        run = apart(['join', SALES, NOTICES, *ON, '--quiet'])
+        self.assertEqual((run.status, run.out, run.err), (0, self.read(PRICED), ''))
+        self.refused(within(['join', SALES, 'none.csv', *ON, '--quiet']), 'none.csv: cannot be read')
+        self.went_well(within(['join', SALES, NOTICES, *ON]))
 
     def test_version(self):
         """The version of the description, and nothing else."""
@@ -206,8 +225,8 @@ class Tables(Case):
 
     def test_no_notices(self):
         """Every sale comes out without a notice."""
-        self.assertEqual(self.priced('performance,minute\n,\n1,5\n', 'performance,minute\n', *ON),
-                         'performance,minute,notice_row,notice_minute\n,,,\n1,5,,\n')
+        self.assertEqual(self.priced('performance,minute\n,5\n1,5\n', 'performance,minute\n', *ON),
+                         'performance,minute,notice_row,notice_minute\n,5,,\n1,5,,\n')
 
     def test_names_that_are_taken(self):
         """Columns of the same name are told apart."""

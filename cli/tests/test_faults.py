@@ -55,6 +55,7 @@ class Faults(Case):
         run = apart(['join', sales, notices, *ON, '--stream'])
         self.assertEqual((run.status, run.out.count('\n')), (1, 5001))
         self.assertIn('line 5003, column performance: out of order', run.err)
+        self.assertTrue(run.err.endswith('or add --sort; 5,000 rows were already written: do not use them\n'), run.err)
         started = subprocess.Popen([sys.executable, PROGRAM, 'join', '-', notices, *ON, '--stream', '--no-check'],
                                    stdin=subprocess.PIPE, stdout=subprocess.PIPE, stderr=subprocess.PIPE)
         with started:
@@ -133,7 +134,7 @@ class Faults(Case):
 
     def test_blank_lines(self):
         """They are passed and not counted, as the page says; lines are still counted as an editor does."""
-        self.assertIn('Blank lines are passed\n  and not counted.', PAGE)
+        self.assertIn('Blank lines are passed\n  and not counted,', PAGE)
         sales, notices = self.file('s.csv', 'm\n\n3\n'), self.file('n.csv', 'm\n\n\n4\n')
         run = within(['join', sales, notices, '--on', 'm', '--strategy', 'forward'])
         self.assertEqual((self.went_well(run), run.out), ([1, 1, None, None], 'm,notice_row,notice_m\n3,0,4\n'))

@@ -3,7 +3,7 @@ import os
 import subprocess
 import sys
 
-from .command import PROGRAM, SEASON, Case, apart, within
+from .command import PROGRAM, SEASON, Case, apart, plain, within
 
 ON = ('--on', 'minute', '--by', 'performance')
 SALES, NOTICES, PRICED = (os.path.join(SEASON, name) for name in ('sales.csv', 'notices.csv', 'priced.csv'))
@@ -88,7 +88,8 @@ class Files(Case):
         self.refused(self.run_over('m,x\n5,ü\n'.encode('cp1252'), good, '--on', 'm'), 's.csv, line 2: byte 3 of the line is not UTF-8 text')
         self.refused(self.run_over(b'\xff\xfem\x00\n\x00\x00\xd8', good, '--on', 'm'), 's.csv, line 2: the line is not text in the '
                      'encoding utf-16-le')
-        self.refused(self.run_over('m\n5\n'.encode('utf-16-le'), good, '--on', 'm'), 's.csv, line 1: there is a NUL character')
+        self.refused(self.run_over('m\n5\n'.encode('utf-16-le'), good, '--on', 'm'), 's.csv, line 1: the line reads as UTF-16: add --left-encoding utf-16-le')
+        self.refused(self.run_over(b'm,x\n5,abcdef\0\n', good, '--on', 'm'), 's.csv, line 2: there is a NUL character')
         self.refused(self.run_over(b'm,x\n5,\x80\n6,\x81\n', good, '--on', 'm', '--encoding', 'cp1252'), 's.csv, line 3: the line is not '
                      'text in the encoding cp1252')
         for name in ('klingon', 'base64', ''):
@@ -183,6 +184,7 @@ class ComesOut(Case):
         """The line at the end, of none, one and several."""
         for sales, said in (('', '0 of 0 sales have a notice'), ('1,5\n', '1 of 1 sale has a notice'),
                             ('1,5\n9,9\n', '1 of 2 sales has a notice; 1 has none, it is in line 3'),
+                            ('9,9\n', '0 of 1 sale has a notice; 1 has none, it is in line 2'),
                             ('"1",5\n8,8\n9,9\n', '1 of 3 sales has a notice; 2 have none, the first in line 3')):
             run = within(['join', self.file('s.csv', 'performance,minute\n' + sales), NOTICES, *ON])
-            self.assertEqual(run.err, f'rowkeeper: {said}\n')
+            self.assertEqual(plain(run.err), f'rowkeeper: {said}\n')

@@ -11,7 +11,8 @@ from unittest import mock
 
 from rowkeeper.interface import STRATEGIES
 
-from ..cells import Text, Time, kind_of
+from ..cells import Text
+from ..dates import Dates, Days, Times
 from .command import Case, within
 from .judge import by_values, in_order, matches, moment
 
@@ -19,13 +20,18 @@ TABLES = int(os.environ.get('ROWKEEPER_TABLES', '1500')) // 6
 TEXTS = ('Hamlet', 'Lear', 'hamlet', 'Ärger', 'Z', '1984', '7', '07', '10', 'a,b', 'a"b', '☂', 'Lear II', '-1')
 
 
-class Times(unittest.TestCase):
-    """Cells of times."""
+def reader(zoned):
+    """What reads a column of ISO times."""
+    return Times(Days('ymd', '-'), zoned)
+
+
+class IsoTimes(unittest.TestCase):
+    """Cells of times in ISO form; test_dates.py has the others."""
 
     def test_times(self):
         """All forms, by the distance from another time, beside Python's own reader."""
         for zone in (False, True):
-            kind, zones = Time(zone), ('Z', '+00:00', '-00:00', '+01:00', '-11:30', '+23:59') if zone else ('',)
+            kind, zones = reader(zone), ('Z', '+00:00', '-00:00', '+01:00', '-11:30', '+23:59') if zone else ('',)
             clocks = [' 00:00', 'T00:00', ' 19:30', 'T23:59:59', ' 19:30:05.1', 'T19:30:05.000001', 'T19:30:05.999999', ' 05:00']
             days = ['0001-01-01', '1969-12-31', '1970-01-01', '2026-01-05', '2024-02-29', '9999-12-31']
             cells = [f'{day}{clock}{sign}' for day in days for clock in ([] if zone else ['']) + clocks for sign in zones]
@@ -35,27 +41,27 @@ class Times(unittest.TestCase):
             one = plain[0]
             for value, time in plain:
                 self.assertEqual(value - one[0], (time - one[1]) // datetime.timedelta(microseconds=1))
-        self.assertEqual(Time(True).value('0001-01-01T00:00+23:59'), Time(False).value('0001-01-01') - 86340 * 10**6)
+        self.assertEqual(reader(True).value('0001-01-01T00:00+23:59'), reader(False).value('0001-01-01') - 86340 * 10**6)
 
     def test_no_times(self):
         """What is none, though other readers may take it."""
-        for cell in ('2026-1-5', '2026-02-29', '2026-13-01', '0000-01-01', '2026/01/05', '2026-01-05 24:00', '2026-01-05 19:60', '26-01-05',
+        for cell in ('2026-02-29', '2026-13-01', '0000-01-01', '2026-01-05 24:01', '2026-01-05 19:60', '26-01-05',
                      '2026-01-05 19:30:60', '2026-01-05 1930', '2026-01-05 19', '2026-01-05  19:30', '2026-01-05t19:30', '2026-01-05Z',
-                     '2026-01-05 19:30:05.', '2026-01-05 19:30:05.1234567', '2026-01-05 19:30:05,5', '2026-01-05 19:30+01', '٢٠٢٦-01-05',
-                     '2026-01-05 19:30 Z', '2026-01-05 19:30+24:00', '2026-01-05 19:30+01:60', '2026-W02-1', '05.01.2026', '19:30', '12.50'):
+                     '2026-01-05 19:30:05.', '2026-01-05 19:30:05.1234567', '2026-01-05 19:30+1', '٢٠٢٦-01-05',
+                     '2026-01-05 19:30+24:00', '2026-01-05 19:30+01:60', '2026-W02-1', '19:30', '12.50'):
             for zoned in (False, True):
-                for read in (Time(zoned).value, lambda each, kind=Time(zoned): kind.column([each])):
+                for read in (reader(zoned).value, lambda each, kind=reader(zoned): kind.column([each])):
                     with self.assertRaisesRegex(ValueError, 'is not a (date or )?time'):
                         read(cell)
-            with self.assertRaisesRegex(ValueError, 'is not a whole number, nor a date or time'):
-                kind_of(cell)
+            with self.assertRaisesRegex(ValueError, 'is not a|has a year of two digits'):
+                Dates().reader(cell)
         for cell, zoned in (('2026-01-05 19:30', True), ('2026-01-05', True), ('2026-01-05 19:30Z', False)):
             with self.assertRaises(ValueError):
-                Time(zoned).value(cell)
+                reader(zoned).value(cell)
 
     def test_many_times_of_day(self):
         """More than are remembered."""
-        kind = Time(False)
+        kind = reader(False)
         cells = [f'2026-01-05 19:30:05.{part:06}' for part in range(0, 1000000, 7)]
         values = kind.column(cells)
         self.assertEqual([value - values[0] for value in values], list(range(0, 1000000, 7)))
@@ -67,8 +73,8 @@ class Times(unittest.TestCase):
         start, micro = datetime.datetime(1970, 1, 1), datetime.timedelta(microseconds=1)
         columns = [[f'2026-01-{1 + (row * step) % 28:02} 19:{row % 3}0' for row in range(40)] for step in (1, 0, 3, 5, 1)]
         for most, known in ((0, 0), (30, len(set(columns[0]))), (20000, len(set(chain(*columns))))):
-            with mock.patch('cli.cells.REMEMBERED', most):
-                kind = Time(False)
+            with mock.patch('cli.dates.REMEMBERED', most):
+                kind = reader(False)
                 for cells in columns:
                     self.assertEqual(list(kind.column(cells)), [(moment(cell) - start) // micro for cell in cells])
                 self.assertEqual(len(kind.known), known)

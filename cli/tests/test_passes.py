@@ -1,5 +1,6 @@
 """passes: random passes and performances against a double loop, files of every form, bad input."""
 import csv
+import datetime
 import io
 import os
 import random
@@ -11,6 +12,7 @@ from .command import PROGRAM, SEASON, Case, apart, within
 from .judge import moment
 from .test_random import TABLES
 
+MICRO = datetime.timedelta(microseconds=1)
 COLUMNS = ('--from', 'a', '--to', 'z', '--on', 't')
 SEASONS = ('--from', 'valid_from', '--to', 'valid_to', '--on', 'starts')
 PASSES, PERFORMANCES, COVERED = (os.path.join(SEASON, f'{name}.csv') for name in ('passes', 'performances', 'covered'))
@@ -47,10 +49,15 @@ class Tickets:
             return False
         return (lower <= time if self.flags[0] else lower < time) and (time <= upper if self.flags[1] else time < upper)
 
+    def last(self, cell):
+        """The last time of a pass: of a date alone the end of its day, unless the last time is excluded."""
+        found = self.read(cell)
+        return found + datetime.timedelta(1) - MICRO if self.times and self.flags[1] and len(cell.strip()) == 10 else found
+
     def pairs(self):
         """Which pass covers which performance, by their numbers, by a double loop."""
         times = [self.read(time) for time, _ in self.performances]
-        bounds = [(self.read(lower), self.read(upper)) for lower, upper, _ in self.passes]
+        bounds = [(self.read(lower), self.last(upper)) for lower, upper, _ in self.passes]
         return [(row, number) for row, each in enumerate(bounds) for number, time in enumerate(times) if self.covers(*each, time)]
 
     def options(self):
@@ -167,7 +174,7 @@ class Forms(Case):
         """A pass for one day has one column for its first and its last time."""
         paths = self.file('p.csv', 'day\n2026-01-02\n'), self.file('f.csv', 't\n2026-01-01\n2026-01-02\n2026-01-02 19:30\n')
         run = within(['passes', *paths, '--from', 'day', '--to', 'day', '--on', 't'])
-        self.assertEqual((run.status, run.out), (0, 'day,t\n2026-01-02,2026-01-02\n'))
+        self.assertEqual((run.status, run.out), (0, 'day,t\n2026-01-02,2026-01-02\n2026-01-02,2026-01-02 19:30\n'))
 
     def test_kind_by_any_column(self):
         """Times are known by the first cell that has one, in whichever of the columns; zones are compared as moments."""
@@ -189,7 +196,7 @@ class Forms(Case):
         empty, three = self.file('empty.csv', 't\n'), self.file('three.csv', 't\n3\n')
         for paths, counted in (((none, empty), '0 of 0 passes cover a performance'), ((none, three), '0 of 0 passes cover a performance'),
                                ((one, empty), '0 of 1 pass covers a performance; 1 covers none, it is in line 2'),
-                               ((self.file('nulls.csv', 'a,z\n,\n'), three), '0 of 1 pass covers a performance; 1 covers none, it is in line 2')):
+                               ((self.file('nulls.csv', 'a,z\n ,\n'), three), '0 of 1 pass covers a performance; 1 covers none, it is in line 2')):
             for more in ([], ['--sort']):
                 run = within(['passes', *paths, *COLUMNS, *more])
                 self.assertEqual((run.status, run.out, run.err), (0, 'a,z,t\n', f'rowkeeper: 0 rows: {counted}\n'))

@@ -60,3 +60,12 @@ class Pictures(Case):
         self.refused(within(['picture', many, NOTICES, *ON]), 'there are 41 groups, and a picture has room for 40')
         long = self.file('l.csv', 'performance,minute\n' + '1,5\n' * 50001)
         self.refused(within(['picture', long, NOTICES, *ON]), 'there are 50,001 sales, and a picture has room for 50,000')
+
+    def test_any_cell(self):
+        """A price that is too long is refused, a long one is drawn, and the picture is well-formed whatever a group is called."""
+        sales = self.file('s.csv', 'p,m\na\x1bb,5\n')
+        words = ['--on', 'm', '--by', 'p', '--price', 'x']
+        for price in ('99999999999999999999', '9' * 400):
+            self.refused(within(['picture', sales, self.file('n.csv', f'p,m,x\na\x1bb,4,{price}\n'), *words]), 'is too long a price to be drawn')
+        run = within(['picture', sales, self.file('n.csv', 'p,m,x\na\x1bb,4,999999999999999\n'), *words])
+        self.assertIn('p a\ufffdb', self.drawn(run)[1])

@@ -8,7 +8,7 @@ import sys
 import unittest
 from decimal import Decimal
 
-from .command import PROGRAM, SEASON, Case, apart, within
+from .command import PROGRAM, SEASON, Case, apart, plain, within
 from .judge import in_order, matches
 from .test_random import TABLES, Tables
 
@@ -27,7 +27,7 @@ def said(numbers, unpriced, added=None):
     """The line at the end, for sales that begin in line 2 and have a line each, by the numbers of their notices."""
     none = [row for row, number in enumerate(numbers) if number is None]
     have, many = len(numbers) - len(none), lambda count: 'has' if count == 1 else 'have'
-    line = f'rowkeeper: {have} of {len(numbers)} sale{"s" * (len(numbers) != 1)} {many(have)} a notice'
+    line = f'rowkeeper: {have} of {len(numbers)} sale{"s" * (len(numbers) != 1)} {many(1 if 1 in (have, len(numbers)) else 0)} a notice'
     if none:
         line += f'; {len(none)} {many(len(none))} none, {"it is" if len(none) == 1 else "the first"} in line {none[0] + 2}'
     line += f'; {unpriced} of those with a notice {many(unpriced)} no amount'
@@ -59,7 +59,7 @@ class RandomTakings(Case):
             if sort:
                 r.shuffle(tables.sales)
                 r.shuffle(notices)
-            paths = self.file('s.csv', text([*tables.by, 'm'], tables.sales)), self.file('n.csv', text([*tables.by, 'm', 'price'], notices))
+            paths = self.file('s.csv', text([*tables.by, 'm', 'seat'], [(*row, 'A') for row in tables.sales])), self.file('n.csv', text([*tables.by, 'm', 'price'], notices))
             words = [word for word in tables.words() if word not in ('--check', '--no-check')]
             flags = [[name in names for name in tables.by] for names in (tables.descending, tables.nulls_last)]
             lists = [tables.rank[1] if tables.rank and name == tables.rank[0] else None for name in tables.by]
@@ -70,7 +70,7 @@ class RandomTakings(Case):
             with self.subTest(seed=seed):
                 run = within(['takings', *paths, *words, '--amount', 'price', *['--sort'] * sort])
                 wanted = text([*tables.by, 'total', 'sales'], [*rows, (*[None] * len(tables.by), None, unpriced)])
-                self.assertEqual((run.status, run.out, run.err), (0, wanted, said(numbers, unpriced)))
+                self.assertEqual((run.status, run.out, plain(run.err)), (0, wanted, said(numbers, unpriced)))
             groups, without = groups + len(rows), without + unpriced
         self.assertGreater(groups, TABLES // 15)
         self.assertGreater(without, TABLES // 60)
@@ -138,6 +138,12 @@ class RandomTakings(Case):
 class Files(Case):
     """Files of every form."""
 
+    def test_added_twice(self):
+        """A file that --add names twice, by whichever name, is refused."""
+        path, day = self.file('s.csv', 'p,m\n'), self.file('day.csv', 'p,total,sales\n1,5,1\n,,0\n')
+        self.refused(within(['takings', path, path, '--on', 'm', '--by', 'p', '--amount', 'm', '--add', day, '--add',
+                             os.path.join(self.folder, '.', 'day.csv')]), 'is named twice, and would be added twice', 2)
+
     def test_season(self):
         """The season's takings are those of examples/season, also by a pipe, sorted first, and as two halves."""
         words, wanted = ['--on', 'minute', '--by', 'performance', '--amount', 'price'], self.read(os.path.join(SEASON, 'takings.csv'))
@@ -145,7 +151,7 @@ class Files(Case):
                    '0 of those with a notice have no amount\n')
         for more in ([], ['--sort']):
             run = apart(['takings', SALES, NOTICES, *words, *more])
-            self.assertEqual((run.status, run.out, run.err), (0, wanted, counted))
+            self.assertEqual((run.status, run.out, plain(run.err)), (0, wanted, counted))
         with open(SALES, 'rb') as file:
             piped = subprocess.run([sys.executable, PROGRAM, 'takings', '-', NOTICES, *words], stdin=file, capture_output=True, check=True)
         self.assertEqual(piped.stdout.decode('utf-8'), wanted)
@@ -163,7 +169,7 @@ class Files(Case):
         run = within(['takings', TILL, PRICES, '--left-on', 'sold_at', '--right-on', 'valid_from', '--by', 'performance', '--sort',
                       '--tolerance', '30d', '--amount', 'price', '--decimals', '2'])
         self.assertEqual((run.status, run.out), (0, self.read(os.path.join(SEASON, 'till_takings.csv'))), run.err)
-        self.assertTrue(run.err.endswith('2 have none, the first in line 7; 0 of those with a notice have no amount\n'), run.err)
+        self.assertTrue(run.err.endswith('2 have none, the first in line 7; 1 group has no notice at all: performance Macbeth; 0 of those with a notice have no amount\n'), run.err)
 
     def test_names_and_signs(self):
         """By-columns that are called as the output's own, text that needs quotes, tabs, an encoding; what comes out can be added."""
