@@ -10,6 +10,9 @@ from .problem import SHOWN, quoted
 # How many groups a message names.
 NAMED = 5
 
+# The sales of a frame that are looked at one by one.
+FEW = 256
+
 # A number as other programs write it, and a cell as Excel guards it from becoming a number.
 NUMBER, GUARDED = re.compile('([+-]?)0*([0-9]+)(?:[.,]0+)?'), re.compile('="(.*)"')
 
@@ -37,7 +40,11 @@ class Missing:
     def take(self, words, marks):
         """Takes the groups of those sales of a frame that have no notice."""
         width, size, by = words[1], words[0] * words[1], len(self.names)
-        if by and 0 in marks:
+        rows = list(compress(range(len(marks)), map(operator.not_, marks))) if by else []
+        if len(rows) < FEW:
+            starts = [2 + row * width for row in rows]
+            self.groups.update((*words[start:start + by], *words[start + size:start + size + by]) for start in starts)
+        else:
             columns = [words[start + place:start + size:width] for start in (2, 2 + size) for place in range(by)]
             self.groups.update(compress(zip(*columns), map(operator.not_, marks)))
 

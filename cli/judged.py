@@ -1,5 +1,6 @@
 """Both tables read to their ends and judged, before anything is written. The numbers of their compared columns are kept in
 temporary files, so that the second reading need not look at these cells again."""
+import os
 from array import array
 from itertools import compress
 
@@ -97,15 +98,16 @@ class Judged:
 
     def groups(self, by):
         """For each block the set of its by-values, as the library has them; rows with a null are left out."""
-        for _, columns in self.pairs(later=True):
-            values, marks = zip(*columns[:by])
-            if any(each is not None for each in marks):
-                known = [all(row) for row in zip(*(each for each in marks if each is not None))]
-                yield set(compress(zip(*values), known))
-            elif all(each[0] == each[-1] for each in values) and self.source.check:
-                yield {tuple(each[0] for each in values)}
-            else:
-                yield set(zip(*values))
+        codes = [code and code.tolist() for code in self.source.kinds.codes()[:by]]
+        self.kept.seek(0)
+        for _, height, nulls in self.blocks:
+            values, marks = [], []
+            for null in nulls[:by]:
+                values.append(self.words(height))
+                marks += [self.words(height)] if null else []
+            self.kept.seek(WORD * height * sum(1 + null for null in nulls[by:]), os.SEEK_CUR)
+            found = zip(set(values[0])) if by == 1 and not marks else set(compress(zip(*values), map(all, zip(*marks))) if marks else zip(*values))
+            yield {tuple(value if code is None else code[value] for value, code in zip(group, codes)) for group in found}
 
     def close(self):
         """Gives the temporary file back."""
