@@ -1,4 +1,6 @@
 // Books of notices, which are sorted tables of right rows: merging two books, and which notices are in force.
+#![tactic(auto)]
+
 pub mod bookjudge;
 pub mod bookmerge;
 mod merge;

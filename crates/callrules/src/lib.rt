@@ -1,4 +1,6 @@
 // Rules of the calls over the numbers of a join: validity, refusals in checking order, accepted frames, ports. `bad` says whether the join meets refusal 2.
+#![tactic(auto)]
+
 pub mod consistency;
 pub mod intake;
 pub mod judges;

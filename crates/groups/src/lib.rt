@@ -1,4 +1,6 @@
 // Groups of rows: runs of equal groups and where they end, the right cursor of a frame, and whether rows are sorted.
+#![tactic(auto)]
+
 pub mod neighbours;
 pub mod rising;
 pub mod sortedruns;

@@ -1,4 +1,6 @@
 // The exported functions, over structs of 64-bit numbers and the words that the host passes. Each calls one function of hostjoin, hosttables or ffi.
+#![tactic(auto)]
+
 ghost use Rattle.std.specs.Prelude.{◌≡◌, length};
 ghost use Rattle.hostcalls.specs.CallContracts.{HostOpenContract, HostLeftContract, HostRightContract, HostEndContract, HostMoveContract, HostPortsContract, HostTurnContract, HostRunContract};
 ghost use Rattle.hosttables.specs.bookhost.Calls.{HostMergeContract, HostStandContract};

@@ -1,4 +1,6 @@
 // The calls for C over tables and answer frames, in numbers: merge, standing, spans, plan, cut, join of cut tables, takings, readers.
+#![tactic(auto)]
+
 pub mod bookhost;
 pub mod cuthost;
 pub mod cutjoinhost;

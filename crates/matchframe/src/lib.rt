@@ -1,4 +1,6 @@
 // Matching the rows of a turn: pruning, the order check, the matches run by run, and the answer frame.
+#![tactic(auto)]
+
 pub mod carrying;
 pub mod sortedrows;
 pub mod turnanswer;

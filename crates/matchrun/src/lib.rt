@@ -1,4 +1,6 @@
 // Matching a run of left rows against a right run: candidates, the scan, the walk.
+#![tactic(auto)]
+
 pub mod advance;
 pub mod approach;
 pub mod candidates;

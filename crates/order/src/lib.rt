@@ -1,4 +1,6 @@
 // Options, the list of ranked codes, and the order of cells, groups and rows: types, definitions and laws. The code is in rows.
+#![tactic(auto)]
+
 pub mod options;
 pub mod ranks;
 

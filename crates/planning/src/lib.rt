@@ -1,4 +1,6 @@
 // The lengths of the areas that a join needs, computed from two tables and the heights of their frames.
+#![tactic(auto)]
+
 pub mod fullplan;
 pub mod heights;
 pub mod plancall;

@@ -1,4 +1,6 @@
 // The two readers of answer frames. A view checks a frame once and then reads any number of cells.
+#![tactic(auto)]
+
 pub mod readcalls;
 
 use frames::refusals::Refusal;

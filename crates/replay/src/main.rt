@@ -11,6 +11,8 @@
 //     0 PART    ends a part
 //
 // Each of the three has one number at least. A further number that is not told is 0, and a further word -9, as the whole output is before the call. The areas keep their words from script to script.
+#![tactic(auto)]
+
 mod calls;
 mod reader;
 mod summary;

@@ -1,4 +1,6 @@
 // Rows as words: the frame rule, the frame view, null tests, comparing cells and rows, rows with a key.
+#![tactic(auto)]
+
 pub mod cells;
 pub mod compare;
 pub mod framerule;

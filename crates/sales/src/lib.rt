@@ -1,4 +1,6 @@
 // Adding sales to a table of takings: finding the group, counting, checking limits, writing, and the call.
+#![tactic(auto)]
+
 pub mod addcall;
 pub mod addrows;
 pub mod saleadd;

@@ -1,4 +1,6 @@
 // Scan and walk over the same two frames of one key column, for the benchmark that compares them. The join does not use it.
+#![tactic(auto)]
+
 ghost use Rattle.std.specs.Prelude.{◌≡◌, true, false, ◌&&◌, ◌≤◌, length};
 ghost use Rattle.frames.specs.Cells.{rows_of};
 ghost use Rattle.frames.specs.Frame.{frame_rows};

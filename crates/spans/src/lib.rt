@@ -1,4 +1,6 @@
 // Passes that cover a span of time: which points lie inside the bounds of each interval.
+#![tactic(auto)]
+
 pub mod pairing;
 pub mod pointsearch;
 pub mod spancall;

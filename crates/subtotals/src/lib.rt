@@ -1,4 +1,6 @@
 // Tables of takings by performance: what is refused of them, and the call that joins two.
+#![tactic(auto)]
+
 pub mod joincall;
 pub mod subtables;
 pub mod takejoin;

@@ -1,4 +1,6 @@
 // Tables, which are frames of any number of rows: writing their cells, and what a call over tables returns.
+#![tactic(auto)]
+
 pub mod tableresults;
 
 ghost use Rattle.std.specs.Prelude.{◌≡◌, ◌+◌, pos, set};
