@@ -10,7 +10,7 @@ pub mod ports;
 use frames::outcomes::Took;
 
 // After a left frame: the answer, where the queue starts and how many words wait.
-#[derive(Drop)]
+#[derive(Clone, Copy)]
 pub struct FedLeft {
     pub answer: Took,
     pub start: usize,
@@ -18,14 +18,14 @@ pub struct FedLeft {
 }
 
 // After the end of right: the answer, and whether right has ended.
-#[derive(Drop)]
+#[derive(Clone, Copy)]
 pub struct FedEnd {
     pub answer: Took,
     pub ended: bool,
 }
 
 // After a right frame: the answer, where the held rows start and how many are held.
-#[derive(Drop)]
+#[derive(Clone, Copy)]
 pub struct FedRight {
     pub answer: Took,
     pub base: usize,

@@ -8,7 +8,7 @@ use frames::outcomes::{NodeState, PortState, Ported};
 use frames::refusals::Refusal;
 
 // After a port call: what the ports are told, and the node's state.
-#[derive(Drop)]
+#[derive(Clone, Copy)]
 pub struct PortsMoved {
     pub answer: Ported,
     pub state: NodeState,

@@ -12,7 +12,7 @@ pub const LAYOUT: u64 = 0x726f_776b_6565_7004;
 
 // A row that a side remembers, where some is 1.
 #[repr(C)]
-#[derive(Drop)]
+#[derive(Clone, Copy)]
 pub struct HostRow {
     pub some: u64,
     pub values: [i64; 5],
@@ -21,7 +21,7 @@ pub struct HostRow {
 
 // The join in numbers. State is 0 Running, 1 Flush, 2 Done; rising has the places of the list of ranks by rising code.
 #[repr(C)]
-#[derive(Drop)]
+#[derive(Clone, Copy)]
 pub struct HostJoin {
     pub layout: u64,
     pub options: HostOptions,

@@ -13,7 +13,7 @@ use rows::ranking::ranks_of;
 
 // A list of codes for one by-column, where given is 1: the first count words of codes.
 #[repr(C)]
-#[derive(Drop)]
+#[derive(Clone, Copy)]
 pub struct HostRanks {
     pub given: u64,
     pub column: usize,
@@ -23,7 +23,7 @@ pub struct HostRanks {
 
 // The options in numbers. A flag is 0 or 1; check is 0 off, 1 on, 2 strict.
 #[repr(C)]
-#[derive(Drop)]
+#[derive(Clone, Copy)]
 pub struct HostOptions {
     pub by: usize,
     pub strategy: u64,

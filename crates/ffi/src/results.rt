@@ -17,7 +17,7 @@ use rows::keyed::no_row;
 
 // The answer of opening, of a left or right frame, and of the end of right: refusal is 0 where the call was accepted.
 #[repr(C)]
-#[derive(Drop)]
+#[derive(Clone, Copy)]
 pub struct HostTook {
     pub refusal: u64,
     pub join: HostJoin,
@@ -25,7 +25,7 @@ pub struct HostTook {
 
 // The answer of a port call: what left, right and send are told, 0 Blocked, 1 Ready, 2 Done.
 #[repr(C)]
-#[derive(Drop)]
+#[derive(Clone, Copy)]
 pub struct HostPorted {
     pub refusal: u64,
     pub left: u64,
@@ -36,7 +36,7 @@ pub struct HostPorted {
 
 // The answer of a turn: 0 wrote, 1 wants right, 2 idle, 3 refused.
 #[repr(C)]
-#[derive(Drop)]
+#[derive(Clone, Copy)]
 pub struct HostTurned {
     pub answer: u64,
     pub refusal: u64,
@@ -46,7 +46,7 @@ pub struct HostTurned {
 
 // What a run made: the turns that wrote and the words that they wrote back to back; stop is 0 its turns are used, 1 wants right, 2 idle, 3 refused.
 #[repr(C)]
-#[derive(Drop)]
+#[derive(Clone, Copy)]
 pub struct HostRan {
     pub turns: usize,
     pub words: usize,

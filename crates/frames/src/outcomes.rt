@@ -4,7 +4,7 @@ ghost use Rattle.frames.specs.outcomes.Answers.{is_running, is_done, wrote};
 
 use crate::refusals::Refusal;
 
-#[derive(Drop)]
+#[derive(Clone, Copy)]
 pub enum NodeState {
     Running,
     Flush,
@@ -12,7 +12,7 @@ pub enum NodeState {
 }
 
 // What a port says, and is told: 0 Blocked, 1 Ready, 2 Done.
-#[derive(Drop)]
+#[derive(Clone, Copy)]
 pub enum PortState {
     Blocked,
     Ready,
@@ -20,7 +20,7 @@ pub enum PortState {
 }
 
 // The answer of a turn.
-#[derive(Drop)]
+#[derive(Clone, Copy)]
 pub enum Answer {
     Wrote(u64),
     WantsRight,
@@ -29,21 +29,21 @@ pub enum Answer {
 }
 
 // The answer of opening, of a left or right frame, and of the end of right.
-#[derive(Drop)]
+#[derive(Clone, Copy)]
 pub enum Took {
     Accepted,
     Refused(Refusal),
 }
 
 // The answer of a port call: left, right, send.
-#[derive(Drop)]
+#[derive(Clone, Copy)]
 pub enum Ported {
     Ports(PortState, PortState, PortState),
     Refused(Refusal),
 }
 
 // What ends a run: its k turns are used, or the answer of a turn that did not write.
-#[derive(Drop)]
+#[derive(Clone, Copy)]
 pub enum Stop {
     Used,
     WantsRight,

@@ -3,7 +3,7 @@ ghost use Rattle.std.specs.Prelude.{◌≡◌};
 ghost use Rattle.frames.specs.refusals.Refusals.{number};
 
 // Named by what is wrong, in the order of their numbers. In which order a call checks them is said by the call's own answer.
-#[derive(Drop)]
+#[derive(Clone, Copy)]
 pub enum Refusal {
     BadOptions,
     BadJoin,

@@ -9,7 +9,7 @@ use planning::plancall::plan;
 
 // The answer of a plan: refusal is 0 and the figures are there, or the refusal's number and no figure.
 #[repr(C)]
-#[derive(Drop)]
+#[derive(Clone, Copy)]
 pub struct HostPlanned {
     pub refusal: u64,
     pub rows: usize,

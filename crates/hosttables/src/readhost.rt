@@ -10,7 +10,7 @@ use readers::{Shown, Viewed};
 
 // What a view tells: refusal is 0 and the frame has so many rows and columns, or the refusal's number and zeros.
 #[repr(C)]
-#[derive(Drop)]
+#[derive(Clone, Copy)]
 pub struct HostViewed {
     pub refusal: u64,
     pub rows: usize,
@@ -19,7 +19,7 @@ pub struct HostViewed {
 
 // The two words of a place.
 #[repr(C)]
-#[derive(Drop)]
+#[derive(Clone, Copy)]
 pub struct HostCell {
     pub value: i64,
     pub mark: i64,
@@ -27,7 +27,7 @@ pub struct HostCell {
 
 // What a reader shows of a place: refusal is 0 and these are its two words, or the refusal's number and zeros.
 #[repr(C)]
-#[derive(Drop)]
+#[derive(Clone, Copy)]
 pub struct HostShown {
     pub refusal: u64,
     pub value: i64,

@@ -10,7 +10,7 @@ use takings::Taken;
 
 // The answer of a call over takings: refusal is 0, with the table's rows and the number beside it; or the refusal's number, with no row and 0.
 #[repr(C)]
-#[derive(Drop)]
+#[derive(Clone, Copy)]
 pub struct HostTaken {
     pub refusal: u64,
     pub rows: usize,

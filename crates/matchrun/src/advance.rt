@@ -6,7 +6,7 @@ ghost use Rattle.matchrun.specs.advance.Below.{keyed, below, last_true, HasNext,
 
 // A row of a run, the place of its key, and how many moves the cursors have made when the right one
 // is there: each takes a cursor one row forward, and a step over several rows is as many moves.
-#[derive(Drop)]
+#[derive(Clone, Copy)]
 pub struct Position {
     pub row: usize,
     pub place: usize,

@@ -10,7 +10,7 @@ use crate::look::{first_fit, last_fit};
 use order::options::{Strategy, Terms, strategy_of};
 
 // Rows from..to of a run.
-#[derive(Drop)]
+#[derive(Clone, Copy)]
 pub struct Part {
     pub from: usize,
     pub to: usize,

@@ -12,7 +12,7 @@ use order::options::{answer_columns, terms_of};
 use rows::framerule::row_count;
 
 // What a run made: the turns that wrote, the words that they wrote back to back, what ended it, and the join.
-#[derive(Drop)]
+#[derive(Clone, Copy)]
 pub struct RanJoin {
     pub turns: usize,
     pub words: usize,

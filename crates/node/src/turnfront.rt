@@ -16,7 +16,7 @@ use order::options::{Terms, left_columns, right_columns};
 use rows::framerule::row_count;
 
 // What a turn answers, and what it leaves of its part of the join.
-#[derive(Drop)]
+#[derive(Clone, Copy)]
 pub struct TurnedPart {
     pub answer: Answer,
     pub part: Part,

@@ -15,7 +15,7 @@ use order::Row;
 use order::options::{Terms, answer_columns};
 
 // A join without its options, which come beside it, and its state.
-#[derive(Drop)]
+#[derive(Clone, Copy)]
 pub struct Part {
     pub base: usize,
     pub held: usize,

@@ -5,7 +5,7 @@ pub mod options;
 pub mod ranks;
 
 // How two compare.
-#[derive(Drop)]
+#[derive(Clone, Copy)]
 pub enum Order {
     Less,
     Equal,
@@ -13,7 +13,7 @@ pub enum Order {
 }
 
 // A row that a side remembers, or none.
-#[derive(Drop)]
+#[derive(Clone, Copy)]
 pub struct Row {
     pub some: bool,
     pub values: [i64; 5],
@@ -21,7 +21,7 @@ pub struct Row {
 }
 
 // The place of a row that is looked for, mostly the first or the last with a key, or none.
-#[derive(Drop)]
+#[derive(Clone, Copy)]
 pub enum Keyed {
     At(usize),
     Nothing,

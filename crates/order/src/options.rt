@@ -5,7 +5,7 @@ ghost use Rattle.order.specs.options.Options.{terms_of, without_list, has_list, 
 use crate::ranks::Ranks;
 
 // The strategies of a match. In the options a strategy is its number, since a host may hand in any.
-#[derive(Drop)]
+#[derive(Clone, Copy)]
 pub enum Strategy {
     Backward,
     Forward,
@@ -13,7 +13,7 @@ pub enum Strategy {
 }
 
 // Whether the order of the rows is checked; strict compares rows without a key between left frames too.
-#[derive(Drop)]
+#[derive(Clone, Copy)]
 pub enum Check {
     Off,
     On,
@@ -21,7 +21,7 @@ pub enum Check {
 }
 
 // What a join is opened with.
-#[derive(Drop)]
+#[derive(Clone, Copy)]
 pub struct Options {
     pub by: usize,
     pub strategy: u8,
@@ -37,7 +37,7 @@ pub struct Options {
 
 // The options without the codes of the list, which functions take beside them as two slices: a list is 576 bytes, and most joins have none. What is less
 // than a word stands last, so that a copy has no gaps: terms are copied at every call.
-#[derive(Drop)]
+#[derive(Clone, Copy)]
 pub struct Terms {
     pub by: usize,
     pub tolerance: i64,

@@ -1,7 +1,7 @@
 // A list of codes for one by-column, which then compares by place in the list: its definitions and laws. The code is in rows::ranking.
 
 // The first `count` of `codes` are the list. `rising` has their places in the order of the codes as numbers, so that a code is found by halving.
-#[derive(Drop)]
+#[derive(Clone, Copy)]
 pub struct Ranks {
     pub given: bool,
     pub column: usize,

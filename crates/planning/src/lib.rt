@@ -10,7 +10,7 @@ pub mod planwalk;
 use frames::refusals::Refusal;
 
 // The right rows that have to find room at once; the turn calls up to the last frame written, those that want right rows among them; and the right frames taken.
-#[derive(Drop)]
+#[derive(Clone, Copy)]
 pub struct Figures {
     pub rows: usize,
     pub turns: usize,
@@ -18,7 +18,7 @@ pub struct Figures {
 }
 
 // What a plan answers: the figures that its schedule needs, or a refusal.
-#[derive(Drop)]
+#[derive(Clone, Copy)]
 pub enum Planned {
     Needs(Figures),
     Refused(Refusal),

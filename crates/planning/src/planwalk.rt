@@ -14,7 +14,7 @@ use matchframe::turnrows::{from_row, last_prune};
 use order::options::Terms;
 
 // Where the walk stands: the left frames written and the rows in them; the right frames taken; the right rows held, from `from` on and below `to`; and the most that were held at once.
-#[derive(Drop)]
+#[derive(Clone, Copy)]
 pub struct Walk {
     pub lefts: usize,
     pub passed: usize,

@@ -4,7 +4,7 @@ use host::{HostJoin, HostOptions, HostRanks, HostTook};
 use rows::view::Found;
 
 // What a call left, and the numbers of its answer; those that it does not have are 0.
-#[derive(Drop)]
+#[derive(Clone, Copy)]
 pub(crate) struct Said {
     pub(crate) join: HostJoin,
     pub(crate) numbers: [u64; 11],

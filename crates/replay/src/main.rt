@@ -27,7 +27,7 @@ use summary::{Tally, nothing, tallied, tell_part};
 use words::{number_at, same_numbers, same_words};
 
 // The replay so far: what of the line is read, the join, and what was counted in this part.
-#[derive(Drop)]
+#[derive(Clone, Copy)]
 struct Replay {
     reader: Reader,
     join: HostJoin,

@@ -2,7 +2,7 @@
 use crate::words::word_of;
 
 // A line as far as it is read: the digits of its next number, whether a minus came before them, how many words are read, and where the call and the answer's numbers end.
-#[derive(Drop)]
+#[derive(Clone, Copy)]
 pub(crate) struct Reader {
     value: u64,
     minus: bool,

@@ -1,7 +1,7 @@
 // What was replayed of a part of the input, and the line that tells it.
 
 // Openings, calls, answers that differ, and the call of the first one.
-#[derive(Drop)]
+#[derive(Clone, Copy)]
 pub(crate) struct Tally {
     scripts: u64,
     calls: u64,

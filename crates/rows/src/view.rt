@@ -5,7 +5,7 @@ ghost use Rattle.frames.specs.Frame.{is_frame, row_count};
 ghost use Rattle.rows.specs.view.View.{Inside, value_at, mark_at, told, found_at};
 
 // What a view keeps: the words as they were lent, and their counts.
-#[derive(Drop)]
+#[derive(Clone, Copy)]
 pub struct FrameView<'a> {
     pub words: &'a [i64],
     pub rows: usize,
@@ -13,7 +13,7 @@ pub struct FrameView<'a> {
 }
 
 // What a reader is told of a cell: its value, that it is null, or that there is no such cell.
-#[derive(Drop)]
+#[derive(Clone, Copy)]
 pub enum Found {
     Value(i64),
     Null,

@@ -10,7 +10,7 @@ use rows::cells::distance;
 use rows::keyed::{null_at, null_group};
 
 // What a left row is with its answer row: unmatched, matched without an amount, or matched with one.
-#[derive(Drop)]
+#[derive(Clone, Copy)]
 pub enum Kind {
     Unmatched,
     Nothing,
@@ -18,7 +18,7 @@ pub enum Kind {
 }
 
 // How many matched sales have an amount and how many have none; or that an amount is beyond its bounds.
-#[derive(Drop)]
+#[derive(Clone, Copy)]
 pub struct Tally {
     pub sales: usize,
     pub nulls: usize,

@@ -14,7 +14,7 @@ use order::options::Terms;
 use rows::compare::cmp_group;
 
 // How many rows there are, if the sales come in group order; else nothing is said of them.
-#[derive(Drop)]
+#[derive(Clone, Copy)]
 pub struct Ordered {
     pub rows: usize,
     pub told: bool,

@@ -11,7 +11,7 @@ use crate::salewrite::copy_words;
 use order::options::Terms;
 
 // How many rows are written, the place of the sale's row among them, and how many rows of the table they have taken in.
-#[derive(Drop)]
+#[derive(Clone, Copy)]
 pub struct Pass {
     pub rows: usize,
     pub place: usize,

@@ -9,7 +9,7 @@ use order::Order;
 use order::options::Terms;
 
 // The row of a group; or, if none is here, the row before which it belongs.
-#[derive(Drop)]
+#[derive(Clone, Copy)]
 pub struct Place {
     pub row: usize,
     pub here: bool,

@@ -17,7 +17,7 @@ use rows::framerule::{is_frame, row_count};
 
 // What a call answers: 0 or the refusal's number, and how many moves the cursors of a walk made.
 #[repr(C)]
-#[derive(Drop)]
+#[derive(Clone, Copy)]
 pub struct Driven {
     pub refusal: u64,
     pub moves: u64,

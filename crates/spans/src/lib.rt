@@ -6,7 +6,7 @@ pub mod pointsearch;
 pub mod spancall;
 
 // Whether the lower and the upper bound are inclusive.
-#[derive(Drop)]
+#[derive(Clone, Copy)]
 pub struct Bounds {
     pub lower_in: bool,
     pub upper_in: bool,

@@ -11,7 +11,7 @@ ghost use Rattle.tables.specs.Requires.{CopyRoom};
 use frames::refusals::Refusal;
 
 // A table of so many rows was written; or the call was refused, and nothing was.
-#[derive(Drop)]
+#[derive(Clone, Copy)]
 pub enum Written {
     Rows(usize),
     Refused(Refusal),

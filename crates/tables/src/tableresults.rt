@@ -7,7 +7,7 @@ use frames::refusals::number_of;
 
 // The answer of a call that writes a table: refusal is 0 and rows are so many, or the refusal's number and no row.
 #[repr(C)]
-#[derive(Drop)]
+#[derive(Clone, Copy)]
 pub struct HostWritten {
     pub refusal: u64,
     pub rows: usize,

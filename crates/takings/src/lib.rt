@@ -4,7 +4,7 @@
 use frames::refusals::Refusal;
 
 // A table of so many rows was written, with this number of matched sales that have no amount; or nothing was.
-#[derive(Drop)]
+#[derive(Clone, Copy)]
 pub enum Taken {
     Table(usize, i64),
     Refused(Refusal),
