@@ -1,16 +1,16 @@
 -- What the frame rule says of a frame's words: its length, its values and marks, its rows. Assumes nothing.
-use mathlib.Core.Path.{◌≡◌, refl, sym, ap, ◌∙◌}
-use mathlib.Core.Bool.{Bool, true, false, ◌&&◌}
-use mathlib.Core.List.{List, [], ◌∷◌, ◌++◌}
-use Prim.Native.Nat.{ℕ, zero, suc, ◌+◌, ◌-◌, ◌*◌, ◌≤◌, ◌<◌}
+use mathlib.Core.Path.{◌≡◌, ap, ◌∙◌}
+use mathlib.Core.Bool.{true, ◌&&◌}
+use mathlib.Core.List.{[], ◌++◌}
+use Prim.Native.Nat.{ℕ, ◌+◌, ◌*◌, ◌≤◌, ◌<◌}
 use native.Mathlib.Omega.{arith}
 use borrow.Author.Tests.{leb-true, eqb-true}
 use lib.Dec.{leb, eqb}
-use lib.IntN.{ℤ, pos, nat_abs}
+use lib.IntN.{pos, nat_abs}
 use lib.Signed.{le_z}
-use lib.ListN.{length, take, drop, get_or, length-drop, get_or-append}
+use lib.ListN.{length, drop, get_or, length-drop, get_or-append}
 use lib.Seq.{length-take-le}
-use Rattle.frames.specs.Cells.{Cell, Rows, Words, rows_of}
+use Rattle.frames.specs.Cells.{Words}
 use Rattle.frames.specs.Frame.{same_z, row_count, frame_words, pairs_fine, values_in, marks_in, is_table, frame_limit, is_frame, frame_rows}
 use Rattle.frames.proofs.BoolLaws.{and-true}
 use Rattle.frames.proofs.WordLaws.{rows_length, rows_wide}

@@ -1,16 +1,13 @@
 -- Words in an area after a copy: what was copied, and what stood before and behind it; rows decoded from words that are cut or joined. Assumes nothing.
 use mathlib.Core.Path.{◌≡◌, refl, sym, ap, ◌∙◌}
-use mathlib.Core.Bool.{Bool, true, false}
 use mathlib.Core.List.{List, [], ◌∷◌, ◌++◌, append_assoc, map}
-use mathlib.Core.Option.{Option, none, some}
-use Prim.Native.Nat.{ℕ, zero, suc, ◌+◌, ◌-◌, ◌*◌, ◌≤◌, ◌<◌, min}
-use native.Mathlib.Nat.{add-zero, mul-le-mul_right}
+use Prim.Native.Nat.{ℕ, zero, suc, ◌+◌, ◌-◌, ◌*◌, ◌≤◌, ◌<◌}
+use native.Mathlib.Nat.{mul-le-mul_right}
 use native.Mathlib.Numerals.{unary_clauses}
 use native.Mathlib.Omega.{arith}
-use lib.IntN.{ℤ, pos, negsuc}
-use lib.ListN.{length, take, drop, get_or, length-append, length-take, length-drop, take-append-drop, replicate, length-map}
-use lib.Seq.{take_at, drop_at, take-append-le, drop-append-le, length-take-le, take-take, drop-drop, take-add, take-append-add, drop-append-add, paste, length_paste_head, take-append_seam, drop-append_seam, take-length, take_all, get_or-take, get_or-drop}
-use Rattle.frames.specs.Cells.{Cell, null, value, cell_of, cells_of, rows_of, Rows, Words, value_word, mark_word}
+use lib.ListN.{length, take, drop, get_or, length-drop, take-append-drop}
+use lib.Seq.{take_at, drop_at, take-append-le, drop-append-le, length-take-le, take-take, drop-drop, paste, length_paste_head}
+use Rattle.frames.specs.Cells.{Cell, null, value, cell_of, cells_of, rows_of, Words, value_word, mark_word}
 
 -- ---- lists
 module _ {A : Type 0} where

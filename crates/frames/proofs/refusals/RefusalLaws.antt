@@ -1,7 +1,6 @@
 -- Laws of the refusals. Assumes nothing.
 use mathlib.Core.Path.{◌≡◌, refl}
 use mathlib.Core.Bool.{Bool, true, false, cond, ◌||◌}
-use Prim.Native.Nat.{ℕ}
 use lib.Dec.{eqb}
 use Rattle.frames.specs.refusals.Refusals.{number, marks_failed}
 use Rattle.frames.specs.declared.refusals.Refusal.{Refusal}
