@@ -1,10 +1,10 @@
 -- Values that the list lacks, over rows put together. Assumes nothing.
 use mathlib.Core.Path.{◌≡◌, refl, sym, ap, ◌∙◌}
 use mathlib.Core.Bool.{Bool, true, false, ◌&&◌, ◌||◌}
-use mathlib.Core.List.{List, [], ◌∷◌, ◌++◌}
+use mathlib.Core.List.{[], ◌∷◌, ◌++◌}
 use Prim.Native.Nat.{ℕ}
 use native.Mathlib.Omega.{arith}
-use Rattle.frames.specs.Cells.{Cell, cell, Rows, Words}
+use Rattle.frames.specs.Cells.{cell, Rows, Words}
 use Rattle.order.specs.ranks.Ranks.{codes_of}
 use Rattle.order.specs.declared.options.Options.{Options}
 use Rattle.order.specs.Listed.{lacks, unlisted_in, lacks_code}

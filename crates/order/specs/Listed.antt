@@ -1,5 +1,5 @@
 -- Values that the list of ranks lacks. Assumes nothing.
-use Rattle.std.specs.Prelude.{Bool, false, not, ◌&&◌, ◌||◌, List, [], ◌∷◌, ℕ}
+use Rattle.std.specs.Prelude.{Bool, false, not, ◌&&◌, ◌||◌, [], ◌∷◌, ℕ}
 use Rattle.frames.specs.Cells.{Cell, null, value, cell, Rows, Words}
 use Rattle.order.specs.ranks.Ranks.{codes_of, listed}
 use Rattle.order.specs.declared.options.Options.{Options}

@@ -77,6 +77,7 @@ pub fn terms_of(o: Options) -> Terms
 }
 
 // Whether the options are invalid (SCOPE 3.6).
+#[tactic(auto, unfolding(crate::specs::options::Options::bad_options))]
 pub fn bad_options(o: Terms) -> bool
     ensures { result ≡ bad_options (without_list o) }
 {

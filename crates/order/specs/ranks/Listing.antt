@@ -1,5 +1,5 @@
 -- What the places of a list in rising order say of the list. Assumes nothing.
-use Rattle.std.specs.Prelude.{◌≡◌, Bool, true, false, not, ◌&&◌, ◌||◌, ℕ, ◌<◌, ltb, eqb, length, take}
+use Rattle.std.specs.Prelude.{◌≡◌, Bool, not, ◌&&◌, ◌||◌, ℕ, ltb, eqb, length, take}
 use Rattle.frames.specs.Cells.{Words}
 use Rattle.order.specs.ranks.Ranks.{twice, bad_ranks, ranks_for}
 
