@@ -1,19 +1,17 @@
 -- A table's words from its rows: how many they are, that they are a table, and that its rows are read back. Every frame is a table. Assumes nothing.
-use mathlib.Core.Path.{◌≡◌, refl, sym, ap, ◌∙◌}
+use mathlib.Core.Path.{◌≡◌, refl, ◌∙◌}
 use mathlib.Core.Bool.{Bool, true, false, ◌&&◌}
 use mathlib.Core.List.{List, [], ◌∷◌, ◌++◌, map}
-use Prim.Native.Nat.{ℕ, zero, suc, ◌+◌, ◌*◌, ◌≤◌}
+use Prim.Native.Nat.{ℕ, suc, ◌+◌, ◌*◌, ◌≤◌}
 use native.Mathlib.Omega.{arith}
 use borrow.Author.Tests.{le-leb, eq-eqb}
-use lib.Dec.{leb, eqb}
-use lib.IntN.{ℤ, pos, negsuc}
+use lib.IntN.{ℤ, pos}
 use lib.Signed.{le_z}
 use lib.ListN.{length, take, drop, get_or, length-append, length-map}
 use lib.Seq.{take_at, drop_at, take-length}
-use Rattle.frames.specs.Cells.{Cell, null, value, value_word, mark_word, cells_of, rows_of, Rows, Words}
-use Rattle.frames.specs.Frame.{same_z, row_count, frame_words, pair_fine, pairs_fine, values_in, marks_in, is_frame, frame_rows, is_table}
+use Rattle.frames.specs.Cells.{Cell, null, value, value_word, mark_word, rows_of, Rows, Words}
+use Rattle.frames.specs.Frame.{same_z, row_count, frame_words, pair_fine, pairs_fine, values_in, marks_in, frame_rows, is_table}
 use Rattle.order.proofs.SortedLaws.{All}
-use Rattle.frames.proofs.BoolLaws.{and-true}
 use Rattle.frames.proofs.WordLaws.{cells_back, part_copied}
 use Rattle.tables.specs.Table.{words_of, table_of, laid}
 

@@ -1,5 +1,5 @@
 -- A table's words from its rows, and what a call over tables leaves. Assumes nothing.
-use Rattle.std.specs.Prelude.{List, [], ◌∷◌, ◌++◌, map, ℕ, ℤ, pos, length}
+use Rattle.std.specs.Prelude.{[], ◌∷◌, ◌++◌, map, ℕ, ℤ, pos, length}
 use Rattle.std.proofs.Math.Seq.{paste}
 use Rattle.frames.specs.Cells.{Cell, value_word, mark_word, Rows, Words}
 use Rattle.frames.specs.Frame.{frame_rows}

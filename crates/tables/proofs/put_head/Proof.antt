@@ -3,27 +3,25 @@ use mir.ValLaws.{to_z_pos}
 use borrow.Author.Rules.{rules}
 use Rattle.tables.proofs.put_head.Statement.{statement}
 use Rattle.tables.proofs.put_head.Tie as tie
-use Rattle.tables.proofs.put_head.Reads as reads
-use Rattle.tables.proofs.put_head.Lts as lts
 
 -- src/lib.rt:42:14
-cast-out : tie.Need-overflow-cast-out
+cast-out : tie.Need-overflow_cast-out
 cast-out c = search rules
 
 -- src/lib.rt:42:5
-slice-set-from-out : tie.Need-slice-set-from-out
+slice-set-from-out : tie.Need-bounds-out-0
 slice-set-from-out c = search rules
 
 -- src/lib.rt:43:14
-cast-out-2 : tie.Need-overflow-cast-out-2
+cast-out-2 : tie.Need-overflow_cast-out-2
 cast-out-2 c = search rules
 
 -- src/lib.rt:43:5
-slice-set-from-out-2 : tie.Need-slice-set-from-out-2
+slice-set-from-out-2 : tie.Need-bounds-out-1
 slice-set-from-out-2 c = search rules
 
 -- src/lib.rt:38:1
-same_length : tie.Need-same-length
+same_length : tie.Need-shape_of-out
 same_length c = search rules
 
 -- src/lib.rt:38:1
