@@ -1,12 +1,11 @@
 -- No false alarm at the split: over sorted rows, of which none is before the remembered row, the check at a split passes. Assumes nothing.
-use mathlib.Core.Path.{◌≡◌, refl, sym, ap, ◌∙◌}
+use mathlib.Core.Path.{◌≡◌, refl}
 use mathlib.Core.Bool.{Bool, true, false, cond}
-use mathlib.Core.List.{List, [], ◌∷◌, ◌++◌}
-use mathlib.Core.Option.{Option, none, some}
-use Prim.Native.Nat.{ℕ, ◌+◌, ◌-◌, ◌≤◌, ◌<◌}
+use mathlib.Core.List.{[], ◌++◌}
+use Prim.Native.Nat.{ℕ, ◌<◌}
 use native.Mathlib.Omega.{arith}
-use lib.ListN.{length, get_or, take, drop, take-append-drop, length-drop}
-use Rattle.frames.specs.Cells.{Cell, Rows}
+use lib.ListN.{length, get_or, take, drop, take-append-drop}
+use Rattle.frames.specs.Cells.{Rows}
 use Rattle.order.specs.options.Options.{columns}
 use Rattle.order.specs.Order.{cmp_row, sorted}
 use Rattle.order.specs.Keyed.{first_keyed, last_keyed, row_at, recall, out_of_order}

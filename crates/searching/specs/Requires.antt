@@ -1,5 +1,5 @@
 -- What the functions over held rows require of their arguments, and what an append and a push leave: small records; and a stretch as a range. Assumes nothing.
-use Rattle.std.specs.Prelude.{◌≡◌, ℕ, ◌+◌, ◌*◌, ◌≤◌, ◌<◌, length}
+use Rattle.std.specs.Prelude.{ℕ, ◌*◌, ◌≤◌, ◌<◌, length}
 use Rattle.frames.specs.Cells.{Words}
 use Rattle.searching.specs.Reach.{Range}
 use Rattle.searching.specs.declared.Stretch.{Stretch}
