@@ -1,12 +1,11 @@
 -- Values compared by their places, case by case as the code asks. Assumes nothing.
-use Rattle.std.proofs.Common.{◌≡◌, ℕ, ◌<◌, ◌≤◌, Bool, true, false, cond, [], ◌∷◌, length, ℤ, pos, sym, refl, ◌∙◌, arith, le-ltb, lt-ltb}
+use Rattle.std.proofs.Common.{◌≡◌, ℕ, ◌<◌, Bool, true, [], ◌∷◌, length, ℤ, pos, refl, ◌∙◌, arith, le-ltb, lt-ltb}
 use Rattle.frames.specs.Cells.{Cell, null, value, cell_of, is_zero, Words}
 use Rattle.order.specs.ranks.Ranks.{place_in}
 use Rattle.order.specs.options.Options.{Rule}
 use Rattle.order.specs.Order.{next, cmp_z, cmp_value, cmp_cell}
-use Rattle.order.specs.declared.Order.{Order}
 use Rattle.order.specs.declared.Order.TheVariants.{Less, Equal, Greater}
-use Rattle.order.proofs.OrderLaws.{IsOrder, cmp_value_is}
+use Rattle.order.proofs.OrderLaws.{cmp_value_is}
 
 module _ (cs : Words) (a b : ℤ) (p q : ℕ) (at : p ≡ place_in cs a) (other : q ≡ place_in cs b) where
   places : cmp_value cs a b ≡ next (cmp_z (pos p) (pos q)) (cmp_z a b)

@@ -1,5 +1,5 @@
 -- Marks that fit their values, four at a time. Assumes nothing.
-use Rattle.std.proofs.Common.{◌≡◌, ℕ, ◌+◌, ◌≤◌, true, false, ◌&&◌, length, get_or, drop, pos, refl, ◌∙◌, arith}
+use Rattle.std.proofs.Common.{◌≡◌, ℕ, ◌+◌, ◌≤◌, true, false, ◌&&◌, length, get_or, drop, pos, ◌∙◌, arith}
 use Rattle.frames.specs.Cells.{Words}
 use Rattle.frames.specs.Frame.{same_z, pair_fine, pairs_fine}
 use Rattle.frames.proofs.FrontLaws.{pairs_more}

@@ -7,49 +7,44 @@ use Rattle.order.specs.declared.options.Options.{Options}
 use Rattle.order.proofs.options.OptionLaws.{ranked_list, ranked_rule, plain_rule}
 use Rattle.rows.proofs.compare.cmp_column.Statement.{statement}
 use Rattle.rows.proofs.compare.cmp_column.Tie as tie
-use Rattle.rows.proofs.compare.cmp_column.Reads as reads
-use Rattle.rows.proofs.compare.cmp_column.Lts as lts
-use Rattle.rows.proofs.cells.cmp_listed.Reads as cmp-listed-reads
-use Rattle.rows.proofs.compare.cmp_at.Reads as cmp-at-reads
-use Rattle.order.proofs.options.is_ranked.Reads as is-ranked-reads
 
-add_a : tie.Need-overflow-add-a
+add_a : tie.Need-overflow_add-a
 add_a c = search rules
 
-add-b : tie.Need-overflow-add-b
+add-b : tie.Need-overflow_add-b
 add-b c = search rules
 
-is-ranked-requires : tie.Need-is-ranked-requires
+is-ranked-requires : tie.Need-is_ranked-requires
 is-ranked-requires c κs = search rules
 
-mul-cmp-listed : tie.Need-overflow-mul-cmp-listed
+mul-cmp-listed : tie.Need-offset_bounds-va-a
 mul-cmp-listed c = search rules
 
-shared-slice-copy-out-cmp-listed : tie.Need-shared-slice-copy-out-cmp-listed
+shared-slice-copy-out-cmp-listed : tie.Need-bounds-va-a
 shared-slice-copy-out-cmp-listed c = search rules
 
-mul-cmp-listed-2 : tie.Need-overflow-mul-cmp-listed-2
+mul-cmp-listed-2 : tie.Need-offset_bounds-ma-a
 mul-cmp-listed-2 c = search rules
 
-shared-slice-copy-out-cmp-listed-2 : tie.Need-shared-slice-copy-out-cmp-listed-2
+shared-slice-copy-out-cmp-listed-2 : tie.Need-bounds-ma-a
 shared-slice-copy-out-cmp-listed-2 c = search rules
 
-mul-cmp-listed-3 : tie.Need-overflow-mul-cmp-listed-3
+mul-cmp-listed-3 : tie.Need-offset_bounds-vb-b
 mul-cmp-listed-3 c = search rules
 
-shared-slice-copy-out-cmp-listed-3 : tie.Need-shared-slice-copy-out-cmp-listed-3
+shared-slice-copy-out-cmp-listed-3 : tie.Need-bounds-vb-b
 shared-slice-copy-out-cmp-listed-3 c = search rules
 
-mul-cmp-listed-4 : tie.Need-overflow-mul-cmp-listed-4
+mul-cmp-listed-4 : tie.Need-offset_bounds-mb-b
 mul-cmp-listed-4 c = search rules
 
-shared-slice-copy-out-cmp-listed-4 : tie.Need-shared-slice-copy-out-cmp-listed-4
+shared-slice-copy-out-cmp-listed-4 : tie.Need-bounds-mb-b
 shared-slice-copy-out-cmp-listed-4 c = search rules
 
-array-read-cmp-listed : tie.Need-array-read-cmp-listed
+array-read-cmp-listed : tie.Need-bounds-descending-j
 array-read-cmp-listed c = search rules
 
-array-read-cmp-listed-2 : tie.Need-array-read-cmp-listed-2
+array-read-cmp-listed-2 : tie.Need-bounds-last-j
 array-read-cmp-listed-2 c = search rules
 
 -- The options with their list.
@@ -57,81 +52,60 @@ abbrev whole : tie.Start → Options
 whole s = with_list s.args.o s.args.codes.now s.args.rising.now
 
 -- The column has the list, which is kept; or it has none.
-ranked : (c : tie.Then1) → let s = c.before.before.before.before.before in is_ranked (whole s) s.args.j ≡ true
-ranked c = sym c.before.is-ranked.ensures ∙ c.if1.true
+ranked : (c : tie.Then-is_ranked) → let s = c in is_ranked (whole s.before.before.before.before.before) s.args.j ≡ true
+ranked c = sym c.is_ranked.ensures ∙ c.if-is_ranked.true
 
-list : (c : tie.Then1) → Kept (whole c.before.before.before.before.before).ranks
-list c = let s = c.before.before.before.before.before in ranked_list (whole s) s.args.j (ranked c) s.requires.0.few
+list : (c : tie.Then-is_ranked) → Kept (whole c.before.before.before.before.before).ranks
+list c = let s = c in ranked_list (whole s.before.before.before.before.before) s.args.j (ranked c) s.requires.0.few
 
-plain : (c : tie.Else1) → let s = c.before.before.before.before.before in is_ranked (whole s) s.args.j ≡ false
-plain c = sym c.before.is-ranked.ensures ∙ c.if1.false
+plain : (c : tie.Else-is_ranked) → let s = c in is_ranked (whole s.before.before.before.before.before) s.args.j ≡ false
+plain c = sym c.is_ranked.ensures ∙ c.if-is_ranked.false
 
-slice-aggregate-cmp-listed : tie.Need-slice-aggregate-cmp-listed
+slice-aggregate-cmp-listed : tie.Need-slice_bounds-cmp_listed-end
 slice-aggregate-cmp-listed c =
-    let t = c.before.before.before.before.before in
-    let s = t.before.before.before.before.before in
-    sym (length-take-le s.args.o.count s.args.codes.now (list t).codes)
+    let t = c in
+    let s = t in
+    sym (length-take-le s.args.o.count s.args.codes.now (list t.before.before.before.before).codes)
 
-slice-aggregate-cmp-listed-2 : tie.Need-slice-aggregate-cmp-listed-2
+slice-aggregate-cmp-listed-2 : tie.Need-slice_bounds-cmp_listed-end-then-is_ranked
 slice-aggregate-cmp-listed-2 c =
-    let t = c.before.before.before.before.before.before in
-    let s = t.before.before.before.before.before in
-    sym (length-take-le s.args.o.count s.args.rising.now (list t).places)
+    let t = c in
+    let s = t in
+    sym (length-take-le s.args.o.count s.args.rising.now (list t.before.before.before.before).places)
 
-cmp-listed-requires : tie.Need-cmp-listed-requires
-cmp-listed-requires c κs = (list c.before.before.before.before.before.before).indexed
+cmp-listed-requires : tie.Need-cmp_listed-requires
+cmp-listed-requires c κs = (list c.before.before.before.before).indexed
 
-returns : tie.Need-returns
+returns : tie.Need-returns-then-is_ranked
 returns c =
-    let t = c.before.before.before.before.before.before.before in
-    let s = t.before.before.before.before.before in
+    let t = c in
+    let s = t in
     let a = s.args in
     rw (
-      ranked_rule (whole s) a.j (ranked t),
-      back (get_or a.va.now (a.pa + a.j) (pos 0)) c.before.before.before.before.before.before.cmp-listed-arg.given,
-      back (get_or a.ma.now (a.pa + a.j) (pos 0)) c.before.before.before.before.before.cmp-listed-arg2.given,
-      back (get_or a.vb.now (a.pb + a.j) (pos 0)) c.before.before.before.before.cmp-listed-arg3.given,
-      back (get_or a.mb.now (a.pb + a.j) (pos 0)) c.before.before.before.cmp-listed-arg4.given,
+      ranked_rule (whole s.before.before.before.before.before.before.before.before.before.before) a.j (ranked t.before.before.before.before.before),
+      back (get_or a.va.now (a.pa + a.j) (pos 0)) c.cmp_listed-arg-1.given,
+      back (get_or a.ma.now (a.pa + a.j) (pos 0)) c.cmp_listed-arg-then-is_ranked-1.given,
+      back (get_or a.vb.now (a.pb + a.j) (pos 0)) c.cmp_listed-arg-then-is_ranked-2-1.given,
+      back (get_or a.mb.now (a.pb + a.j) (pos 0)) c.cmp_listed-arg-then-is_ranked-3-1.given,
     )
-    at c.cmp-listed.ensures
+    at c.cmp_listed.ensures
 
-array-read-cmp-at : tie.Need-array-read-cmp-at
+array-read-cmp-at : tie.Need-bounds-descending-j-2
 array-read-cmp-at c = search rules
 
-array-read-cmp-at-2 : tie.Need-array-read-cmp-at-2
+array-read-cmp-at-2 : tie.Need-bounds-last-j-2
 array-read-cmp-at-2 c = search rules
 
-cmp-at-requires : tie.Need-cmp-at-requires
+cmp-at-requires : tie.Need-cmp_at-requires
 cmp-at-requires c κs = search rules
 
-returns-2 : tie.Need-returns-2
+returns-2 : tie.Need-returns
 returns-2 c =
-    let t = c.before in
-    let s = t.before.before.before.before.before in
-    rw (plain_rule (whole s) s.args.j (plain t)) at c.cmp-at.ensures
+    let t = c in
+    let s = t in
+    rw (plain_rule (whole s.before.before.before.before.before.before) s.args.j (plain t.before)) at c.cmp_at.ensures
 
 pub cmp_column_spec : {M : Type 1} → statement M
 cmp_column_spec =
     tie.close
-    (tie.spec
-    add_a
-    add-b
-    is-ranked-requires
-    mul-cmp-listed
-    shared-slice-copy-out-cmp-listed
-    mul-cmp-listed-2
-    shared-slice-copy-out-cmp-listed-2
-    mul-cmp-listed-3
-    shared-slice-copy-out-cmp-listed-3
-    mul-cmp-listed-4
-    shared-slice-copy-out-cmp-listed-4
-    array-read-cmp-listed
-    array-read-cmp-listed-2
-    slice-aggregate-cmp-listed
-    slice-aggregate-cmp-listed-2
-    cmp-listed-requires
-    returns
-    array-read-cmp-at
-    array-read-cmp-at-2
-    cmp-at-requires
-    returns-2)
+    (tie.spec add_a add-b is-ranked-requires mul-cmp-listed shared-slice-copy-out-cmp-listed mul-cmp-listed-2 shared-slice-copy-out-cmp-listed-2 mul-cmp-listed-3 shared-slice-copy-out-cmp-listed-3 mul-cmp-listed-4 shared-slice-copy-out-cmp-listed-4 array-read-cmp-listed array-read-cmp-listed-2 slice-aggregate-cmp-listed slice-aggregate-cmp-listed-2 cmp-listed-requires returns array-read-cmp-at array-read-cmp-at-2 cmp-at-requires returns-2)

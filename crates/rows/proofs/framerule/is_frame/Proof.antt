@@ -1,5 +1,5 @@
 -- `framerule::is_frame` meets its contract. Assumes nothing.
-use Rattle.std.proofs.Common.{◌≡◌, get_or, pos, sym, ◌∙◌, arith, rules}
+use Rattle.std.proofs.Common.{◌≡◌, get_or, pos, sym, ◌∙◌, rules}
 use borrow.Author.Tests.{not-true, not-false}
 use Rattle.frames.specs.Front.{few_rows}
 use Rattle.frames.proofs.Signed.{back}
@@ -7,31 +7,31 @@ use Rattle.frames.proofs.FrontLaws.{frame_empty, frame_many, frame_is_table}
 use Rattle.rows.proofs.framerule.is_frame.Statement.{statement}
 use Rattle.rows.proofs.framerule.is_frame.Tie as tie
 
-returns : tie.Need-returns
-returns c = sym (frame_empty _ _ c.if1.true)
+returns : tie.Need-returns-then-words-lt1
+returns c = sym (frame_empty _ _ c.if-words-lt1.true)
 
-shared-slice-copy-out-few-rows : tie.Need-shared-slice-copy-out-few-rows
+shared-slice-copy-out-few-rows : tie.Need-bounds-words-0
 shared-slice-copy-out-few-rows c = search rules
 
-few-rows-requires : tie.Need-few-rows-requires
+few-rows-requires : tie.Need-few_rows-requires
 few-rows-requires c κs = search rules
 
 -- What `few_rows` says of the first word.
-few : (c : tie.After-few-rows) → let a = c.before.before.before.args in c.few_rows_lem.result ≡ few_rows (get_or a.words.now 0 (pos 0))
+few : (c : tie.After-few_rows) → let a = c.args in c.few_rows.result ≡ few_rows (get_or a.words.now 0 (pos 0))
 few c =
-    let z = get_or c.before.before.before.args.words.now 0 (pos 0) in
-    rw (back z c.before.few-rows-arg.given) at c.few_rows_lem.ensures
+    let z = get_or c.args.words.now 0 (pos 0) in
+    rw (back z c.few_rows-arg-1.given) at c.few_rows.ensures
 
-returns-2 : tie.Need-returns-2
-returns-2 c = sym (frame_many _ _ (sym (few c.before) ∙ not-true c.before.few_rows_lem.result c.if2.true))
+returns-2 : tie.Need-returns-then-not-few_rows
+returns-2 c = sym (frame_many _ _ (sym (few c.before) ∙ not-true c.few_rows.result c.if-not-few_rows.true-raw))
 
-is-table-requires : tie.Need-is-table-requires
+is-table-requires : tie.Need-is_table-requires
 is-table-requires c κs = search rules
 
-returns-3 : tie.Need-returns-3
+returns-3 : tie.Need-returns
 returns-3 c =
-    let e = c.before in
-    c.is-table.ensures ∙ sym (frame_is_table _ _ (sym (few e.before) ∙ not-false e.before.few_rows_lem.result e.if2.false))
+    let e = c in
+    c.is_table.ensures ∙ sym (frame_is_table _ _ (sym (few e.before.before) ∙ not-false e.few_rows.result e.if-not-few_rows.false-raw))
 
 pub is_frame_spec : {M : Type 1} → statement M
 is_frame_spec =

@@ -5,14 +5,14 @@ use Rattle.frames.proofs.FrontLaws.{from_zero_word}
 use Rattle.rows.proofs.framerule.row_count.Statement.{statement}
 use Rattle.rows.proofs.framerule.row_count.Tie as tie
 
-shared-slice-copy-out-result : tie.Need-shared-slice-copy-out-result
+shared-slice-copy-out-result : tie.Need-bounds-words-0
 shared-slice-copy-out-result c = search rules
 
-cast-result : tie.Need-overflow-cast-result
+cast-result : tie.Need-overflow_cast-result
 cast-result c =
-    let z = get_or c.before.args.words.now 0 (pos 0) in
-    let f = from_zero_word z c.before.requires.counted c.result.given in
-    rw (back z c.result.given) (f.0, omega (arith, f.1))
+    let z = get_or c.args.words.now 0 (pos 0) in
+    let f = from_zero_word z c.requires.counted c.result-1.given in
+    rw (back z c.result-1.given) (f.0, omega (arith, f.1))
 
 returns : tie.Need-returns
 returns c = search rules

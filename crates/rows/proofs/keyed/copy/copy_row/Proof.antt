@@ -7,113 +7,93 @@ use Rattle.order.proofs.RowLaws.{copy_none, copy_more}
 use Rattle.rows.proofs.keyed.copy.copy_row.Statement.{statement}
 use Rattle.rows.proofs.keyed.copy.copy_row.Tie as tie
 
-abbrev invariant-loop : tie.invariant-loop
+abbrev invariant-loop : tie.invariant-loop-j
 invariant-loop values marks p w v₀ m₀ j₀ v m j =
     (j ≤ w) × (length v ≡ 5) × (length m ≡ 5) × (v ≡ five (map value_word (row_from j p values marks))) × (m ≡ five (map mark_word (row_from j p values marks)))
 
-abbrev decreases-loop : tie.decreases-loop
+abbrev decreases-loop : tie.decreases-loop-j
 decreases-loop values marks p w v₀ m₀ j₀ v m j = w - j
 
-loop-holds : tie.Need-loop-init invariant-loop decreases-loop
+loop-holds : tie.Need-loop-j-init invariant-loop decreases-loop
 loop-holds c =
     let a = c.args in
     let e = copy_none a.p a.values.now a.marks.now in
     (omega arith, refl, refl, rw e, rw e)
 
-add-k : tie.Need-overflow-add-k invariant-loop decreases-loop
+add-k : tie.Need-overflow_add-k invariant-loop decreases-loop
 add-k c = omega arith
 
-mul-value-word : tie.Need-overflow-mul-value-word invariant-loop decreases-loop
+mul-value-word : tie.Need-offset_bounds-values-k invariant-loop decreases-loop
 mul-value-word c = omega arith
 
-shared-slice-copy-out-value-word : tie.Need-shared-slice-copy-out-value-word invariant-loop decreases-loop
+shared-slice-copy-out-value-word : tie.Need-bounds-values-k invariant-loop decreases-loop
 shared-slice-copy-out-value-word c = omega arith
 
-mul-value-word-2 : tie.Need-overflow-mul-value-word-2 invariant-loop decreases-loop
+mul-value-word-2 : tie.Need-offset_bounds-marks-k invariant-loop decreases-loop
 mul-value-word-2 c = omega arith
 
-shared-slice-copy-out-value-word-2 : tie.Need-shared-slice-copy-out-value-word-2 invariant-loop decreases-loop
+shared-slice-copy-out-value-word-2 : tie.Need-bounds-marks-k invariant-loop decreases-loop
 shared-slice-copy-out-value-word-2 c = omega arith
 
-value-word-requires : tie.Need-value-word-requires invariant-loop decreases-loop
+value-word-requires : tie.Need-value_word-requires invariant-loop decreases-loop
 value-word-requires c κs = search rules
 
-mul-v : tie.Need-overflow-mul-v invariant-loop decreases-loop
+mul-v : tie.Need-offset_bounds-v-j invariant-loop decreases-loop
 mul-v c = omega arith
 
-array-set-from-v : tie.Need-array-set-from-v invariant-loop decreases-loop
+array-set-from-v : tie.Need-bounds-v-j invariant-loop decreases-loop
 array-set-from-v c = omega arith
 
-mul-mark-word : tie.Need-overflow-mul-mark-word invariant-loop decreases-loop
+mul-mark-word : tie.Need-offset_bounds-marks-k-in-loop-j invariant-loop decreases-loop
 mul-mark-word c = omega arith
 
-shared-slice-copy-out-mark-word : tie.Need-shared-slice-copy-out-mark-word invariant-loop decreases-loop
+shared-slice-copy-out-mark-word : tie.Need-bounds-marks-k-in-loop-j invariant-loop decreases-loop
 shared-slice-copy-out-mark-word c = omega arith
 
-mark-word-requires : tie.Need-mark-word-requires invariant-loop decreases-loop
+mark-word-requires : tie.Need-mark_word-requires invariant-loop decreases-loop
 mark-word-requires c κs = search rules
 
-mul-m : tie.Need-overflow-mul-m invariant-loop decreases-loop
+mul-m : tie.Need-offset_bounds-m-j invariant-loop decreases-loop
 mul-m c = omega arith
 
-array-set-from-m : tie.Need-array-set-from-m invariant-loop decreases-loop
+array-set-from-m : tie.Need-bounds-m-j invariant-loop decreases-loop
 array-set-from-m c = omega arith
 
-add-j : tie.Need-overflow-add-j invariant-loop decreases-loop
+add-j : tie.Need-overflow_add-j invariant-loop decreases-loop
 add-j c = omega arith
 
-loop-less : tie.Need-loop-smaller invariant-loop decreases-loop
+loop-less : tie.Need-loop-j-smaller invariant-loop decreases-loop
 loop-less c = omega arith
 
-loop-again : tie.Need-loop-preserved invariant-loop decreases-loop
+loop-again : tie.Need-loop-j-preserved invariant-loop decreases-loop
 loop-again c =
-    let l = c.before.before.before.before.before.before in
-    let a = l.before.args in
-    let t = c.before.before.before.before.before.loop-test.true in
-    let j = l.loop.j in
+    let l = c in
+    let a = l.args in
+    let t = c.loop-j-test.true in
+    let j = l.loop-j.j in
     let v = get_or a.values.now (a.p + j) (pos 0) in
     let m = get_or a.marks.now (a.p + j) (pos 0) in
-    let x = c.before.before.value-word.result in
-    let y = c.mark-word.result in
-    let p = l.before.requires in
-    let ev = back x c.before.before.value-word.type-inv ∙ rw (back v c.before.before.before.before.value-word-arg.given, back m c.before.before.before.value-word-arg2.given) at c.before.before.value-word.ensures in
-    let em = back y c.mark-word.type-inv ∙ rw (back m c.before.mark-word-arg.given) at (c.mark-word.ensures v) in (
+    let x = c.value_word.result in
+    let y = c.mark_word.result in
+    let p = l.requires in
+    let ev = back x c.value_word.type_inv ∙ rw (back v c.value_word-arg-1.given, back m c.value_word-arg-in-loop-j-1.given) at c.value_word.ensures in
+    let em = back y c.mark_word.type_inv ∙ rw (back m c.mark_word-arg-1.given) at (c.mark_word.ensures v) in (
       omega arith,
-      length-set l.loop.v j (to_z w64 (of_z w64 x)) ∙ l.loop.invariant.1,
-      length-set l.loop.m j (to_z w64 (of_z w64 y)) ∙ l.loop.invariant.2,
-      copy_more j a.p a.values.now a.marks.now (omega arith) (omega arith) value_word l.loop.v (to_z w64 (of_z w64 x)) (omega arith) l.loop.invariant.3 ev,
-      copy_more j a.p a.values.now a.marks.now (omega arith) (omega arith) mark_word l.loop.m (to_z w64 (of_z w64 y)) (omega arith) l.loop.invariant.4 em,
+      length-set l.loop-j.v j (to_z w64 (of_z w64 x)) ∙ l.loop-j.invariant.1,
+      length-set l.loop-j.m j (to_z w64 (of_z w64 y)) ∙ l.loop-j.invariant.2,
+      copy_more j a.p a.values.now a.marks.now (omega arith) (omega arith) value_word l.loop-j.v (to_z w64 (of_z w64 x)) (omega arith) l.loop-j.invariant.3 ev,
+      copy_more j a.p a.values.now a.marks.now (omega arith) (omega arith) mark_word l.loop-j.m (to_z w64 (of_z w64 y)) (omega arith) l.loop-j.invariant.4 em,
     )
 
 returns : tie.Need-returns invariant-loop decreases-loop
 unfolding remember
 returns c =
-    let l = c.before in
-    let a = l.before.args in
-    let e : l.loop.j ≡ a.w = omega arith in
-    rw (l.loop.invariant.3, l.loop.invariant.4, e)
+    let l = c in
+    let a = l.args in
+    let e : l.loop-j.j ≡ a.w = omega arith in
+    rw (l.loop-j.invariant.3, l.loop-j.invariant.4, e)
 
 pub copy_row_spec : {M : Type 1} → statement M
 copy_row_spec =
     tie.close
-    (tie.spec
-    invariant-loop
-    decreases-loop
-    loop-holds
-    add-k
-    mul-value-word
-    shared-slice-copy-out-value-word
-    mul-value-word-2
-    shared-slice-copy-out-value-word-2
-    value-word-requires
-    mul-v
-    array-set-from-v
-    mul-mark-word
-    shared-slice-copy-out-mark-word
-    mark-word-requires
-    mul-m
-    array-set-from-m
-    add-j
-    loop-less
-    loop-again
-    returns)
+    (tie.spec invariant-loop decreases-loop loop-holds add-k mul-value-word shared-slice-copy-out-value-word mul-value-word-2 shared-slice-copy-out-value-word-2 value-word-requires mul-v array-set-from-v mul-mark-word shared-slice-copy-out-mark-word mark-word-requires mul-m array-set-from-m add-j loop-less loop-again returns)
