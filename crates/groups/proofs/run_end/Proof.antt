@@ -17,165 +17,146 @@ use Rattle.groups.proofs.RunLaws.{on_stretch}
 use Rattle.groups.proofs.run_end.Statement.{statement}
 use Rattle.groups.proofs.run_end.Tie as tie
 
-abbrev invariant-loop : tie.invariant-loop
+abbrev invariant-loop : tie.invariant-loop-e
 invariant-loop values marks n w i o codes rising by p₀ e₀ p e =
     (i < e) × (e ≤ n) × (p + w ≡ e * w)
     × (i + run_length (with_list o codes rising) (between w i n values marks) ≡ e + run_on (with_list o codes rising) (row_from w p values marks) (between w e n values marks))
 
-abbrev decreases-loop : tie.decreases-loop
+abbrev decreases-loop : tie.decreases-loop-e
 decreases-loop values marks n w i o codes rising by p₀ e₀ p e = n - e
 
 -- row i is among the rows
-low : (c : tie.Else1 invariant-loop decreases-loop) → c.before.before.args.i < c.before.before.args.n
-low c = let l = c.if1.false in omega arith
+low : (c : tie.Else-i-n invariant-loop decreases-loop) → c.args.i < c.args.n
+low c = let l = c.if-i-n.false in omega arith
 
 -- row e ends within them
-room : (c : tie.In-loop invariant-loop decreases-loop) → c.before.loop.e * c.before.before.before.before.args.w + c.before.before.before.before.args.w ≤ c.before.before.before.before.args.n * c.before.before.before.before.args.w
-room c = row_room c.before.loop.e c.before.before.before.before.args.n c.before.before.before.before.args.w c.loop-test.true
+room : (c : tie.In-loop-e invariant-loop decreases-loop) → c.loop-e.e * c.args.w + c.args.w ≤ c.args.n * c.args.w
+room c = row_room c.loop-e.e c.args.n c.args.w c.loop-e-test.true
 
 -- the two rows are there
-rows_at : (c : tie.In-loop invariant-loop decreases-loop) → let l = c.before.loop in let a = c.before.before.before.before.args in
+rows_at : (c : tie.In-loop-e invariant-loop decreases-loop) → let l = c.loop-e in let a = c.args in
     RowAt (with_list a.o a.codes.now a.rising.now) l.p a.values.now a.marks.now × RowAt (with_list a.o a.codes.now a.rising.now) (l.p + a.w) a.values.now a.marks.now
 rows_at c =
     let r = room c in
-    let p = c.before.before.before.before.requires.rows in
+    let p = c.requires.rows in
     (record { few = p.few; values = omega arith; marks = omega arith }, record { few = p.few; values = omega arith; marks = omega arith })
 
 -- and whatever the list
-plain_at : (c : tie.In-loop invariant-loop decreases-loop) → let l = c.before.loop in let a = c.before.before.before.before.args in
+plain_at : (c : tie.In-loop-e invariant-loop decreases-loop) → let l = c.loop-e in let a = c.args in
     RowAt (without_list a.o) l.p a.values.now a.marks.now × RowAt (without_list a.o) (l.p + a.w) a.values.now a.marks.now
 plain_at c =
-    let a = c.before.before.before.before.args in
+    let a = c.args in
     let r = rows_at c in
     let plain = row_terms a.o a.codes.now a.rising.now in
-    (plain c.before.loop.p a.values.now a.marks.now r.0, plain (c.before.loop.p + a.w) a.values.now a.marks.now r.1)
+    (plain c.loop-e.p a.values.now a.marks.now r.0, plain (c.loop-e.p + a.w) a.values.now a.marks.now r.1)
 
 -- rows with the same by-values are of one run
-alike : (c : tie.Then2 invariant-loop decreases-loop) →
-    let l = c.before.before.before.loop in
-    let a = c.before.before.before.before.before.before.args in
+alike : (c : tie.Then-same_values invariant-loop decreases-loop) →
+    let l = c.loop-e in
+    let a = c.args in
     same_run (with_list a.o a.codes.now a.rising.now) (row_from a.w l.p a.values.now a.marks.now) (row_from a.w (l.e * a.w) a.values.now a.marks.now) ≡ true
 alike c =
-    let s = c.before.before.before.before.before.before in
-    let l = c.before.before.before.loop in
-    sym (same_yes (with_list s.args.o s.args.codes.now s.args.rising.now) _ _ (rw l.invariant.2 at (c.before.same-values.ensures c.if2.true s.args.codes.now s.args.rising.now s.args.w s.requires.rows.wide)))
+    let s = c in
+    let l = c.loop-e in
+    sym (same_yes (with_list s.args.o s.args.codes.now s.args.rising.now) _ _ (rw l.invariant.2 at (c.same_values.ensures c.if-same_values.true s.args.codes.now s.args.rising.now s.args.w s.requires.rows.wide)))
 
 -- what `same_run` says is what row e says to the row before it
-told : (c : tie.After-same-run invariant-loop decreases-loop) (t : Bool) → c.same-run.result ≡ t →
-    let l = c.before.before.before.before.loop in
-    let a = c.before.before.before.before.before.before.before.args in
+told : (c : tie.After-same_run invariant-loop decreases-loop) (t : Bool) → c.same_run.result ≡ t →
+    let l = c.loop-e in
+    let a = c.args in
     same_run (with_list a.o a.codes.now a.rising.now) (row_from a.w l.p a.values.now a.marks.now) (row_from a.w (l.e * a.w) a.values.now a.marks.now) ≡ t
 told c t e =
-    let s = c.before.before.before.before.before.before.before in
-    let l = c.before.before.before.before.loop in
-    sym (rw l.invariant.2 at (c.same-run.ensures s.args.codes.now s.args.rising.now s.args.w s.requires.rows.wide)) ∙ e
+    let s = c in
+    let l = c.loop-e in
+    sym (rw l.invariant.2 at (c.same_run.ensures s.args.codes.now s.args.rising.now s.args.w s.requires.rows.wide)) ∙ e
 
-returns : tie.Need-returns invariant-loop decreases-loop
+returns : tie.Need-returns-then-i-n invariant-loop decreases-loop
 returns c =
-    let a = c.before.before.args in
-    rw (c.if1.true, run_past (with_list a.o a.codes.now a.rising.now) a.w a.n a.values.now a.marks.now) (omega arith)
+    let a = c.args in
+    rw (c.if-i-n.true, run_past (with_list a.o a.codes.now a.rising.now) a.w a.n a.values.now a.marks.now) (omega arith)
 
-mul-p : tie.Need-overflow-mul-p invariant-loop decreases-loop
-mul-p c = omega (arith, row_room c.before.before.args.i c.before.before.args.n c.before.before.args.w (low c))
+mul-p : tie.Need-overflow_mul-p invariant-loop decreases-loop
+mul-p c = omega (arith, row_room c.args.i c.args.n c.args.w (low c))
 
-add-e : tie.Need-overflow-add-e invariant-loop decreases-loop
+add-e : tie.Need-overflow_add-e invariant-loop decreases-loop
 add-e c = omega (arith, low c)
 
-loop-holds : tie.Need-loop-init invariant-loop decreases-loop
+loop-holds : tie.Need-loop-e-init invariant-loop decreases-loop
 loop-holds c =
-    let a = c.before.before.args in
+    let a = c.args in
     let h = low c in
     (omega arith, omega arith, omega arith, on_first (with_list a.o a.codes.now a.rising.now) a.w a.n a.values.now a.marks.now a.i h)
 
-add-q : tie.Need-overflow-add-q invariant-loop decreases-loop
+add-q : tie.Need-overflow_add-q invariant-loop decreases-loop
 add-q c = omega (arith, room c)
 
-same-values-requires : tie.Need-same-values-requires invariant-loop decreases-loop
+same-values-requires : tie.Need-same_values-requires invariant-loop decreases-loop
 same-values-requires c κs = plain_at c
 
-same-end-requires : tie.Need-same-end-requires invariant-loop decreases-loop
+same-end-requires : tie.Need-same_end-e-requires invariant-loop decreases-loop
 same-end-requires c κs =
-    let t = c.before.before.loop-test.true in
-    let r = c.before.before.before.before.before.before.requires.rows in
+    let t = c.loop-e-test.true in
+    let r = c.requires.rows in
     (record { wide = omega (arith, r.wide); within = omega arith; values = r.values; marks = r.marks }, t)
 
 -- the row before the one where the stretch ends is among the rows
-last : (c : tie.After-same-end invariant-loop decreases-loop) → let a = c.before.before.before.before.before.before.before.args in
-    (c.same_end.result - 1) * a.w + a.w ≡ c.same_end.result * a.w
+last : (c : tie.After-same_end-e invariant-loop decreases-loop) → let a = c.args in
+    (c.same_end-e.result - 1) * a.w + a.w ≡ c.same_end-e.result * a.w
 last c =
-    let s = c.same_end.ensures.start in
-    sym (one_row c.same_end.result c.before.before.before.before.before.before.before.args.w (omega arith))
+    let s = c.same_end-e.ensures.start in
+    sym (one_row c.same_end-e.result c.args.w (omega arith))
 
-sub-p : tie.Need-overflow-sub-p invariant-loop decreases-loop
-sub-p c = omega (arith, c.same_end.ensures.start)
+sub-p : tie.Need-overflow_sub-p invariant-loop decreases-loop
+sub-p c = omega (arith, c.same_end-e.ensures.start)
 
-mul-p-2 : tie.Need-overflow-mul-p-2 invariant-loop decreases-loop
+mul-p-2 : tie.Need-overflow_mul-p-then-same_values invariant-loop decreases-loop
 mul-p-2 c =
-    let s = c.before.before.before.before.before.before.before in
-    let m = mul-le-mul_right {m = c.same_end.result} {n = s.args.n} s.args.w c.same_end.ensures.within in
+    let s = c in
+    let m = mul-le-mul_right {m = c.same_end-e.result} {n = s.args.n} s.args.w c.same_end-e.ensures.within in
     omega (arith, last c, m, s.requires.rows.values)
 
-loop-less : tie.Need-loop-smaller invariant-loop decreases-loop
+loop-less : tie.Need-loop-e-smaller-then-same_values invariant-loop decreases-loop
 loop-less c =
-    let t = c.before.before.before.loop-test.true in
-    omega (arith, c.same_end.ensures.start, c.same_end.ensures.within)
+    let t = c.loop-e-test.true in
+    omega (arith, c.same_end-e.ensures.start, c.same_end-e.ensures.within)
 
-loop-again : tie.Need-loop-preserved invariant-loop decreases-loop
+loop-again : tie.Need-loop-e-preserved-then-same_values invariant-loop decreases-loop
 loop-again c =
-    let l = c.before.before.before.before.loop in
-    let s = c.before.before.before.before.before.before.before in
+    let l = c.loop-e in
+    let s = c in
     let a = s.args in
-    let t = c.before.before.before.loop-test.true in
-    let k = c.same_end.ensures in
+    let t = c.loop-e-test.true in
+    let k = c.same_end-e.ensures in
     let m = on_more _ _ _ _ _ _ l.e t (alike c.before) in
-    let n = on_stretch (with_list a.o a.codes.now a.rising.now) a.w a.n a.values.now a.marks.now s.requires.rows.wide s.requires.rows.values l.e c.same_end.result k in
+    let n = on_stretch (with_list a.o a.codes.now a.rising.now) a.w a.n a.values.now a.marks.now s.requires.rows.wide s.requires.rows.values l.e c.same_end-e.result k in
     (omega (arith, k.start), k.within, last c, l.invariant.3 ∙ m ∙ n)
 
-same-run-requires : tie.Need-same-run-requires invariant-loop decreases-loop
+same-run-requires : tie.Need-same_run-requires invariant-loop decreases-loop
 same-run-requires c κs = plain_at c.before.before
 
-returns-2 : tie.Need-returns-2 invariant-loop decreases-loop
+returns-2 : tie.Need-returns-then-not-same_run invariant-loop decreases-loop
 returns-2 c =
-    let l = c.before.before.before.before.before.loop in
-    sym (l.invariant.3 ∙ on_stop _ _ _ _ _ _ l.e c.before.before.before.before.loop-test.true (told c.before false (not-true _ c.if3.true)))
+    let l = c.loop-e in
+    sym (l.invariant.3 ∙ on_stop _ _ _ _ _ _ l.e c.loop-e-test.true (told c.before false (not-true _ c.if-not-same_run.true-raw)))
 
-add-e-2 : tie.Need-overflow-add-e-2 invariant-loop decreases-loop
+add-e-2 : tie.Need-overflow_add-e-else-same_values invariant-loop decreases-loop
 add-e-2 c = omega arith
 
-loop-less-2 : tie.Need-loop-smaller-2 invariant-loop decreases-loop
+loop-less-2 : tie.Need-loop-e-smaller invariant-loop decreases-loop
 loop-less-2 c = omega arith
 
-loop-again-2 : tie.Need-loop-preserved-2 invariant-loop decreases-loop
+loop-again-2 : tie.Need-loop-e-preserved invariant-loop decreases-loop
 loop-again-2 c =
-    let l = c.before.before.before.before.before.loop in
-    let m = on_more _ _ _ _ _ _ l.e c.before.before.before.before.loop-test.true (told c.before true (not-false _ c.if3.false)) in
+    let l = c.loop-e in
+    let m = on_more _ _ _ _ _ _ l.e c.loop-e-test.true (told c.before true (not-false _ c.if-not-same_run.false-raw)) in
     (omega arith, omega arith, omega arith, l.invariant.3 ∙ rw l.invariant.2 m)
 
-returns-3 : tie.Need-returns-3 invariant-loop decreases-loop
+returns-3 : tie.Need-returns invariant-loop decreases-loop
 returns-3 c =
-    let l = c.before.loop in
+    let l = c.loop-e in
     sym (l.invariant.3 ∙ on_end_lem _ _ _ _ _ _ l.e (omega arith))
 
 pub run_end_spec : {M : Type 1} → statement M
 run_end_spec =
     tie.close
-    (tie.spec
-    invariant-loop
-    decreases-loop
-    returns
-    mul-p
-    add-e
-    loop-holds
-    add-q
-    same-values-requires
-    same-end-requires
-    sub-p
-    mul-p-2
-    loop-less
-    loop-again
-    same-run-requires
-    returns-2
-    add-e-2
-    loop-less-2
-    loop-again-2
-    returns-3)
+    (tie.spec invariant-loop decreases-loop returns mul-p add-e loop-holds add-q same-values-requires same-end-requires sub-p mul-p-2 loop-less loop-again same-run-requires returns-2 add-e-2 loop-less-2 loop-again-2 returns-3)

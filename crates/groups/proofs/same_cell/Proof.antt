@@ -16,68 +16,56 @@ use borrow.Author.Rules.{rules}
 use Rattle.groups.proofs.same_cell.Statement.{statement}
 use Rattle.groups.proofs.same_cell.Tie as tie
 
-mul-cmp-cell : tie.Need-overflow-mul-cmp-cell
+mul-cmp-cell : tie.Need-offset_bounds-values-a
 mul-cmp-cell c = search rules
 
-shared-slice-copy-out-cmp-cell : tie.Need-shared-slice-copy-out-cmp-cell
+shared-slice-copy-out-cmp-cell : tie.Need-bounds-values-a
 shared-slice-copy-out-cmp-cell c = search rules
 
-mul-cmp-cell-2 : tie.Need-overflow-mul-cmp-cell-2
+mul-cmp-cell-2 : tie.Need-offset_bounds-marks-a
 mul-cmp-cell-2 c = search rules
 
-shared-slice-copy-out-cmp-cell-2 : tie.Need-shared-slice-copy-out-cmp-cell-2
+shared-slice-copy-out-cmp-cell-2 : tie.Need-bounds-marks-a
 shared-slice-copy-out-cmp-cell-2 c = search rules
 
-mul-cmp-cell-3 : tie.Need-overflow-mul-cmp-cell-3
+mul-cmp-cell-3 : tie.Need-offset_bounds-values-b
 mul-cmp-cell-3 c = search rules
 
-shared-slice-copy-out-cmp-cell-3 : tie.Need-shared-slice-copy-out-cmp-cell-3
+shared-slice-copy-out-cmp-cell-3 : tie.Need-bounds-values-b
 shared-slice-copy-out-cmp-cell-3 c = search rules
 
-mul-cmp-cell-4 : tie.Need-overflow-mul-cmp-cell-4
+mul-cmp-cell-4 : tie.Need-offset_bounds-marks-b
 mul-cmp-cell-4 c = search rules
 
-shared-slice-copy-out-cmp-cell-4 : tie.Need-shared-slice-copy-out-cmp-cell-4
+shared-slice-copy-out-cmp-cell-4 : tie.Need-bounds-marks-b
 shared-slice-copy-out-cmp-cell-4 c = search rules
 
-cmp-cell-requires : tie.Need-cmp-cell-requires
+cmp-cell-requires : tie.Need-cmp_cell-requires
 cmp-cell-requires c κs = search rules
 
-enum_told : tie.Need-enum-told
+enum_told : tie.Need-enum_told-1
 enum_told c = search rules
 
 -- the cells' own order is told
-told : (c : tie.After-cmp-cell) → let a = c.before.before.before.before.before.args in
-    c.cmp-cell.result ≡ cmp_cell key_rule (cell_at a.a a.values.now a.marks.now) (cell_at a.b a.values.now a.marks.now)
+told : (c : tie.After-cmp_cell) → let a = c.args in
+    c.cmp_cell.result ≡ cmp_cell key_rule (cell_at a.a a.values.now a.marks.now) (cell_at a.b a.values.now a.marks.now)
 told c =
-    let a = c.before.before.before.before.before.args in
+    let a = c.args in
     rw (
-      back (get_or a.values.now a.a (pos 0)) c.before.before.before.before.cmp-cell-arg.given,
-      back (get_or a.marks.now a.a (pos 0)) c.before.before.before.cmp-cell-arg2.given,
-      back (get_or a.values.now a.b (pos 0)) c.before.before.cmp-cell-arg3.given,
-      back (get_or a.marks.now a.b (pos 0)) c.before.cmp-cell-arg4.given,
+      back (get_or a.values.now a.a (pos 0)) c.cmp_cell-arg-1.given,
+      back (get_or a.marks.now a.a (pos 0)) c.cmp_cell-arg-2-1.given,
+      back (get_or a.values.now a.b (pos 0)) c.cmp_cell-arg-3-1.given,
+      back (get_or a.marks.now a.b (pos 0)) c.cmp_cell-arg-4-1.given,
     )
-    at c.cmp-cell.ensures
+    at c.cmp_cell.ensures
 
-returns : tie.Need-returns
-returns c = (λ e. cell_equal key_rule _ _ (sym (told c.before.before) ∙ c.enum_told.given.1), λ (e : true ≡ false). λ h. absurd (let z : ◌≡◌ {A = ℕ} 0 1 = cc in omega arith))
+returns : tie.Need-returns-in-Equal
+returns c = (λ e. cell_equal key_rule _ _ (sym (told c.before) ∙ c.in-Equal.is), λ (e : true ≡ false). λ h. absurd (let z : ◌≡◌ {A = ℕ} 0 1 = cc in omega arith))
 
-returns-2 : tie.Need-returns-2
-returns-2 c = (λ (e : false ≡ true). cc, λ e h. unequal (sym (ap is_equal (told c.before)) ∙ not_equal_arm c.before.cmp-cell.result c.match.keys2) h)
+returns-2 : tie.Need-returns-in_default
+returns-2 c = (λ (e : false ≡ true). cc, λ e h. unequal (sym (ap is_equal (told c.before)) ∙ not_equal_arm c.cmp_cell.result c.in_default.in_default-own.keys2) h)
 
 pub same_cell_spec : {M : Type 1} → statement M
 same_cell_spec =
     tie.close
-    (tie.spec
-    mul-cmp-cell
-    shared-slice-copy-out-cmp-cell
-    mul-cmp-cell-2
-    shared-slice-copy-out-cmp-cell-2
-    mul-cmp-cell-3
-    shared-slice-copy-out-cmp-cell-3
-    mul-cmp-cell-4
-    shared-slice-copy-out-cmp-cell-4
-    cmp-cell-requires
-    enum_told
-    returns
-    returns-2)
+    (tie.spec mul-cmp-cell shared-slice-copy-out-cmp-cell mul-cmp-cell-2 shared-slice-copy-out-cmp-cell-2 mul-cmp-cell-3 shared-slice-copy-out-cmp-cell-3 mul-cmp-cell-4 shared-slice-copy-out-cmp-cell-4 cmp-cell-requires enum_told returns returns-2)

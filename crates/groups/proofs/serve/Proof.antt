@@ -5,26 +5,26 @@ use borrow.Author.Rules.{rules}
 use Rattle.groups.proofs.serve.Statement.{statement}
 use Rattle.groups.proofs.serve.Tie as tie
 
-null-group-requires : tie.Need-null-group-requires
+null-group-requires : tie.Need-null_group-requires
 null-group-requires c κs = search rules
 
-returns : tie.Need-returns
+returns : tie.Need-returns-then-null_group
 returns c =
-    let s = c.before.before.before in
+    let s = c in
     let a = s.args in
     let r = s.requires.right in (
       record { run = r; upward = omega arith; within = r.within },
-      λ wl h. serve_null _ _ _ _ _ _ _ a.to (sym (c.before.null_group_lem.ensures wl a.lv.now (omega arith) (omega arith)) ∙ c.if1.true),
+      λ wl h. serve_null _ _ _ _ _ _ _ a.to (sym (c.null_group.ensures wl a.lv.now (omega arith) (omega arith)) ∙ c.if-null_group.true),
     )
 
-pass-runs-requires : tie.Need-pass-runs-requires
+pass-runs-requires : tie.Need-pass_runs-requires
 pass-runs-requires c κs = search rules
 
-returns-2 : tie.Need-returns-2
+returns-2 : tie.Need-returns
 returns-2 c =
-    let a = c.before.before.before.before.args in (
-      c.pass-runs.ensures.0,
-      λ wl h. serve_pass _ _ _ _ _ _ _ c.pass-runs.result (sym (c.before.before.null_group_lem.ensures wl a.lv.now (omega arith) (omega arith)) ∙ c.before.if1.false) (c.pass-runs.ensures.1 wl h),
+    let a = c.args in (
+      c.pass_runs.ensures.0,
+      λ wl h. serve_pass _ _ _ _ _ _ _ c.pass_runs.result (sym (c.null_group.ensures wl a.lv.now (omega arith) (omega arith)) ∙ c.if-null_group.false) (c.pass_runs.ensures.1 wl h),
     )
 
 pub serve_spec : {M : Type 1} → statement M

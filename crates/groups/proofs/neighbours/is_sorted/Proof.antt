@@ -13,197 +13,175 @@ use Rattle.groups.proofs.rising.RiseLaws.{equal_falls_key, sorted_on, sorted_sto
 use Rattle.groups.proofs.neighbours.is_sorted.Statement.{statement}
 use Rattle.groups.proofs.neighbours.is_sorted.Tie as tie
 
-abbrev invariant-loop : tie.invariant-loop
+abbrev invariant-loop : tie.invariant-loop-e
 invariant-loop values marks n w o codes rising by p₀ e₀ p e =
     (0 < e) × (p + w ≡ e * w) × (sorted (with_list o codes rising) (rows_of w n values marks) ≡ sorted (with_list o codes rising) (rest w p (n - (e - 1)) values marks))
 
-abbrev decreases-loop : tie.decreases-loop
+abbrev decreases-loop : tie.decreases-loop-e
 decreases-loop values marks n w o codes rising by p₀ e₀ p e = n - e
 
 -- row e ends within the rows
-room : (c : tie.In-loop invariant-loop decreases-loop) → let a = c.before.before.before.before.args in c.before.loop.e * a.w + a.w ≤ a.n * a.w
-room c = row_room c.before.loop.e c.before.before.before.before.args.n c.before.before.before.before.args.w c.loop-test.true
+room : (c : tie.In-loop-e invariant-loop decreases-loop) → let a = c.args in c.loop-e.e * a.w + a.w ≤ a.n * a.w
+room c = row_room c.loop-e.e c.args.n c.args.w c.loop-e-test.true
 
 -- the two rows are there
-rows_at : (c : tie.In-loop invariant-loop decreases-loop) → let l = c.before.loop in let a = c.before.before.before.before.args in
+rows_at : (c : tie.In-loop-e invariant-loop decreases-loop) → let l = c.loop-e in let a = c.args in
     RowAt (with_list a.o a.codes.now a.rising.now) l.p a.values.now a.marks.now × RowAt (with_list a.o a.codes.now a.rising.now) (l.p + a.w) a.values.now a.marks.now
 rows_at c =
     let r = room c in
-    let p = c.before.before.before.before.requires in
+    let p = c.requires in
     (record { few = p.few; values = omega arith; marks = omega arith }, record { few = p.few; values = omega arith; marks = omega arith })
 
 -- in equal groups `key_falls` tells whether the row before is greater
-told : (c : tie.After-key-falls invariant-loop decreases-loop) (t : Bool) → c.key-falls.result ≡ t →
-    let l = c.before.before.before.before.loop in
-    let a = c.before.before.before.before.before.before.before.args in
+told : (c : tie.After-key_falls invariant-loop decreases-loop) (t : Bool) → c.key_falls.result ≡ t →
+    let l = c.loop-e in
+    let a = c.args in
     is_greater (cmp_row (with_list a.o a.codes.now a.rising.now) (row_from a.w l.p a.values.now a.marks.now) (row_from a.w (l.p + a.w) a.values.now a.marks.now)) ≡ t
 told c t e =
-    let i = c.before.before.before in
-    let l = i.before.loop in
-    let s = i.before.before.before.before in
+    let i = c in
+    let l = i.loop-e in
+    let s = i in
     let a = s.args in
-    let r = rows_at i in
-    let same = c.before.before.same-values.ensures c.before.if2.true a.codes.now a.rising.now a.w s.requires.wide in
-    equal_falls_key (with_list a.o a.codes.now a.rising.now) a.w a.values.now a.marks.now s.requires.wide l.p (l.p + a.w) r.0.values r.1.values same ∙ sym c.key-falls.ensures ∙ e
+    let r = rows_at i.before.before.before in
+    let same = c.same_values.ensures c.if-same_values.true a.codes.now a.rising.now a.w s.requires.wide in
+    equal_falls_key (with_list a.o a.codes.now a.rising.now) a.w a.values.now a.marks.now s.requires.wide l.p (l.p + a.w) r.0.values r.1.values same ∙ sym c.key_falls.ensures ∙ e
 
-keys-sorted-requires : tie.Need-keys-sorted-requires invariant-loop decreases-loop
-keys-sorted-requires c κs = let p = c.before.before.requires in record { wide = omega (arith, p.wide); within = omega arith; values = p.values; marks = p.marks }
+keys-sorted-requires : tie.Need-keys_sorted-requires invariant-loop decreases-loop
+keys-sorted-requires c κs = let p = c.requires in record { wide = omega (arith, p.wide); within = omega arith; values = p.values; marks = p.marks }
 
-returns : tie.Need-returns invariant-loop decreases-loop
-returns c = let a = c.before.before.before.args in c.keys-sorted.ensures (with_list a.o a.codes.now a.rising.now) c.before.if1.true
+returns : tie.Need-returns-then-by-eq0 invariant-loop decreases-loop
+returns c = let a = c.args in c.keys_sorted.ensures (with_list a.o a.codes.now a.rising.now) c.if-by-eq0.true
 
-loop-holds : tie.Need-loop-init invariant-loop decreases-loop
+loop-holds : tie.Need-loop-e-init invariant-loop decreases-loop
 loop-holds c =
-    let a = c.before.before.args in
+    let a = c.args in
     let o = with_list a.o a.codes.now a.rising.now in
     let z : a.n - (1 - 1) ≡ a.n = omega arith in
     (omega arith, omega arith, rw z (ap (sorted o) (rest_all o a.w a.values.now a.marks.now a.n)))
 
-add-q : tie.Need-overflow-add-q invariant-loop decreases-loop
-add-q c = omega (arith, room c, c.before.before.before.before.requires.values)
+add-q : tie.Need-overflow_add-q invariant-loop decreases-loop
+add-q c = omega (arith, room c, c.requires.values)
 
-same-values-requires : tie.Need-same-values-requires invariant-loop decreases-loop
+same-values-requires : tie.Need-same_values-requires invariant-loop decreases-loop
 same-values-requires c κs =
-    let l = c.before.loop in
-    let a = c.before.before.before.before.args in
+    let l = c.loop-e in
+    let a = c.args in
     let r = rows_at c in
     let plain = row_terms a.o a.codes.now a.rising.now in
     (plain l.p a.values.now a.marks.now r.0, plain (l.p + a.w) a.values.now a.marks.now r.1)
 
-add-key-falls : tie.Need-overflow-add-key-falls invariant-loop decreases-loop
+add-key-falls : tie.Need-overflow_add-p invariant-loop decreases-loop
 add-key-falls c = let r = rows_at c.before.before in omega (arith, r.0.values)
 
-add-key-falls-2 : tie.Need-overflow-add-key-falls-2 invariant-loop decreases-loop
+add-key-falls-2 : tie.Need-overflow_add-q-then-same_values invariant-loop decreases-loop
 add-key-falls-2 c = let r = rows_at c.before.before in omega (arith, r.1.values)
 
-key-falls-requires : tie.Need-key-falls-requires invariant-loop decreases-loop
+key-falls-requires : tie.Need-key_falls-requires invariant-loop decreases-loop
 key-falls-requires c κs =
     let r = rows_at c.before.before in
     (record { values = r.0.values; marks = r.0.marks }, record { values = r.1.values; marks = r.1.marks })
 
-returns-2 : tie.Need-returns-2 invariant-loop decreases-loop
+returns-2 : tie.Need-returns-then-key_falls invariant-loop decreases-loop
 returns-2 c =
-    let i = c.before.before.before.before in
-    let l = i.before.loop in
-    let s = i.before.before.before.before in
+    let i = c in
+    let l = i.loop-e in
+    let s = i in
     let a = s.args in
     let o = with_list a.o a.codes.now a.rising.now in
     let vs = a.values.now in
     let ms = a.marks.now in
-    let t = i.loop-test.true in
+    let t = i.loop-e-test.true in
     let h = l.invariant.0 in
-    sym (l.invariant.2 ∙ sorted_stop o a.w vs ms s.requires.wide l.p (a.n - (l.e - 1)) (omega arith) (told c.before _ c.if3.true))
+    sym (l.invariant.2 ∙ sorted_stop o a.w vs ms s.requires.wide l.p (a.n - (l.e - 1)) (omega arith) (told c.before _ c.if-key_falls.true))
 
-rise-end-requires : tie.Need-rise-end-requires invariant-loop decreases-loop
+rise-end-requires : tie.Need-rise_end-e-requires invariant-loop decreases-loop
 rise-end-requires c κs =
-    let i = c.before.before.before.before in
-    let p = i.before.before.before.before.requires in
-    (record { wide = omega (arith, p.wide); within = omega (arith, i.loop-test.true); values = p.values; marks = p.marks }, i.loop-test.true)
+    let i = c in
+    let p = i.requires in
+    (record { wide = omega (arith, p.wide); within = omega (arith, i.loop-e-test.true); values = p.values; marks = p.marks }, i.loop-e-test.true)
 
-sub-p : tie.Need-overflow-sub-p invariant-loop decreases-loop
-sub-p c = omega (arith, c.rise-end.ensures.0.start)
+sub-p : tie.Need-overflow_sub-p invariant-loop decreases-loop
+sub-p c = omega (arith, c.rise_end-e.ensures.0.start)
 
-mul-p : tie.Need-overflow-mul-p invariant-loop decreases-loop
+mul-p : tie.Need-overflow_mul-p invariant-loop decreases-loop
 mul-p c =
-    let s = c.before.before.before.before.before.before.before.before.before in
-    let e = c.rise-end.result in
-    let k = c.rise-end.ensures.0 in
+    let s = c in
+    let e = c.rise_end-e.result in
+    let k = c.rise_end-e.ensures.0 in
     let m = mul-le-mul_right {m = e} {n = s.args.n} s.args.w k.within in
     let o = one_row e s.args.w (omega (arith, k.start)) in
     omega (arith, s.requires.values)
 
-loop-less : tie.Need-loop-smaller invariant-loop decreases-loop
-loop-less c = let t = c.before.before.before.before.before.loop-test.true in omega (arith, c.rise-end.ensures.0.start, c.rise-end.ensures.0.within)
+loop-less : tie.Need-loop-e-smaller-then-same_values invariant-loop decreases-loop
+loop-less c = let t = c.loop-e-test.true in omega (arith, c.rise_end-e.ensures.0.start, c.rise_end-e.ensures.0.within)
 
-loop-again : tie.Need-loop-preserved invariant-loop decreases-loop
+loop-again : tie.Need-loop-e-preserved-then-same_values invariant-loop decreases-loop
 loop-again c =
-    let i = c.before.before.before.before.before in
-    let l = i.before.loop in
-    let s = i.before.before.before.before in
+    let i = c in
+    let l = i.loop-e in
+    let s = i in
     let a = s.args in
     let o = with_list a.o a.codes.now a.rising.now in
     let vs = a.values.now in
     let ms = a.marks.now in
-    let t = i.loop-test.true in
+    let t = i.loop-e-test.true in
     let h = l.invariant.0 in
-    let k = c.rise-end.ensures.0 in
+    let k = c.rise_end-e.ensures.0 in
     let z : a.n - (l.e - 1) - 1 ≡ a.n - l.e = omega arith in
-    let on = sorted_on o a.w vs ms s.requires.wide l.p (a.n - (l.e - 1)) (omega arith) (told c.before.before _ c.before.if3.false) in
-    let past = sorted_stretch o a.w vs ms s.requires.wide a.n s.requires.values l.e c.rise-end.result k c.rise-end.ensures.1 in
-    (omega (arith, k.start), sym (one_row c.rise-end.result a.w (omega (arith, k.start))), l.invariant.2 ∙ on ∙ rw (z, l.invariant.1) past)
+    let on = sorted_on o a.w vs ms s.requires.wide l.p (a.n - (l.e - 1)) (omega arith) (told c.before.before _ c.if-key_falls.false) in
+    let past = sorted_stretch o a.w vs ms s.requires.wide a.n s.requires.values l.e c.rise_end-e.result k c.rise_end-e.ensures.1 in
+    (omega (arith, k.start), sym (one_row c.rise_end-e.result a.w (omega (arith, k.start))), l.invariant.2 ∙ on ∙ rw (z, l.invariant.1) past)
 
-row-falls-requires : tie.Need-row-falls-requires invariant-loop decreases-loop
+row-falls-requires : tie.Need-row_falls-requires invariant-loop decreases-loop
 row-falls-requires c κs =
-    let i = c.before.before in
-    let r = rows_at i in
-    let b = i.before.before.if1.false in
+    let i = c in
+    let r = rows_at i.before.before in
+    let b = i.if-by-eq0.false in
     (r.0, r.1, omega arith)
 
-returns-3 : tie.Need-returns-3 invariant-loop decreases-loop
+returns-3 : tie.Need-returns-then-row_falls invariant-loop decreases-loop
 returns-3 c =
-    let i = c.before.before.before.before in
-    let l = i.before.loop in
-    let s = i.before.before.before.before in
+    let i = c in
+    let l = i.loop-e in
+    let s = i in
     let a = s.args in
     let o = with_list a.o a.codes.now a.rising.now in
     let vs = a.values.now in
     let ms = a.marks.now in
-    let t = i.loop-test.true in
+    let t = i.loop-e-test.true in
     let h = l.invariant.0 in
-    let e = sym (c.before.row-falls.ensures a.w s.requires.wide) ∙ c.if4.true in
+    let e = sym (c.row_falls.ensures a.w s.requires.wide) ∙ c.if-row_falls.true in
     sym (l.invariant.2 ∙ sorted_stop o a.w vs ms s.requires.wide l.p (a.n - (l.e - 1)) (omega arith) e)
 
-add-e : tie.Need-overflow-add-e invariant-loop decreases-loop
+add-e : tie.Need-overflow_add-e invariant-loop decreases-loop
 add-e c = omega arith
 
-loop-less-2 : tie.Need-loop-smaller-2 invariant-loop decreases-loop
+loop-less-2 : tie.Need-loop-e-smaller invariant-loop decreases-loop
 loop-less-2 c = omega arith
 
-loop-again-2 : tie.Need-loop-preserved-2 invariant-loop decreases-loop
+loop-again-2 : tie.Need-loop-e-preserved invariant-loop decreases-loop
 loop-again-2 c =
-    let i = c.before.before.before.before in
-    let l = i.before.loop in
-    let s = i.before.before.before.before in
+    let i = c in
+    let l = i.loop-e in
+    let s = i in
     let a = s.args in
     let o = with_list a.o a.codes.now a.rising.now in
     let vs = a.values.now in
     let ms = a.marks.now in
-    let t = i.loop-test.true in
+    let t = i.loop-e-test.true in
     let h = l.invariant.0 in
-    let e = sym (c.before.row-falls.ensures a.w s.requires.wide) ∙ c.if4.false in
+    let e = sym (c.row_falls.ensures a.w s.requires.wide) ∙ c.if-row_falls.false in
     let z : a.n - (l.e + 1 - 1) ≡ a.n - (l.e - 1) - 1 = omega arith in
     (omega arith, omega arith, rw z (l.invariant.2 ∙ sorted_on o a.w vs ms s.requires.wide l.p (a.n - (l.e - 1)) (omega arith) e))
 
-returns-4 : tie.Need-returns-4 invariant-loop decreases-loop
+returns-4 : tie.Need-returns invariant-loop decreases-loop
 returns-4 c =
-    let l = c.before.loop in
-    let a = c.before.before.before.before.args in
+    let l = c.loop-e in
+    let a = c.args in
     let h = l.invariant.0 in
-    sym (l.invariant.2 ∙ sorted_few (with_list a.o a.codes.now a.rising.now) a.w a.values.now a.marks.now l.p (a.n - (l.e - 1)) (omega (arith, c.loop-test.false)))
+    sym (l.invariant.2 ∙ sorted_few (with_list a.o a.codes.now a.rising.now) a.w a.values.now a.marks.now l.p (a.n - (l.e - 1)) (omega (arith, c.loop-e-test.false)))
 
 pub is_sorted_spec : {M : Type 1} → statement M
 is_sorted_spec =
     tie.close
-    (tie.spec
-    invariant-loop
-    decreases-loop
-    keys-sorted-requires
-    returns
-    loop-holds
-    add-q
-    same-values-requires
-    add-key-falls
-    add-key-falls-2
-    key-falls-requires
-    returns-2
-    rise-end-requires
-    sub-p
-    mul-p
-    loop-less
-    loop-again
-    row-falls-requires
-    returns-3
-    add-e
-    loop-less-2
-    loop-again-2
-    returns-4)
+    (tie.spec invariant-loop decreases-loop keys-sorted-requires returns loop-holds add-q same-values-requires add-key-falls add-key-falls-2 key-falls-requires returns-2 rise-end-requires sub-p mul-p loop-less loop-again row-falls-requires returns-3 add-e loop-less-2 loop-again-2 returns-4)

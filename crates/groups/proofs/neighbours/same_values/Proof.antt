@@ -4,12 +4,12 @@ use borrow.Author.Rules.{rules}
 use Rattle.groups.proofs.neighbours.same_values.Statement.{statement}
 use Rattle.groups.proofs.neighbours.same_values.Tie as tie
 
-same-words-requires : tie.Need-same-words-requires
+same-words-requires : tie.Need-same_words-requires
 same-words-requires c κs = search rules
 
 returns : tie.Need-returns
 returns c = λ e codes rising w h.
-    let s = c.before in
+    let s = c in
     let a = s.args in
     same_group_lem (with_list a.o codes rising) w a.p a.q a.values.now a.marks.now h s.requires.0.values s.requires.1.values (c.same_words.ensures e)
 

@@ -17,117 +17,117 @@ use Rattle.groups.proofs.sortedruns.RunsLaws.{run_keys, used_group}
 use Rattle.groups.proofs.sortedruns.pass_sorted.Statement.{statement}
 use Rattle.groups.proofs.sortedruns.pass_sorted.Tie as tie
 
-abbrev invariant-loop : tie.invariant-loop
+abbrev invariant-loop : tie.invariant-loop-at
 invariant-loop rv rm n w from to lv lm p o codes rising at₀ end₀ at end =
     RunAt (with_list o codes rising) w n rv rm at end
     × ((wl : ℕ) → o.by < wl → (first : ℕ)
     → pass (with_list o codes rising) (row_from wl p lv lm) (first + from) (runs (with_list o codes rising) (between w from n rv rm)) ≡ pass (with_list o codes rising) (row_from wl p lv lm) (first + at) (runs (with_list o codes rising) (between w at n rv rm)))
 
-abbrev decreases-loop : tie.decreases-loop
+abbrev decreases-loop : tie.decreases-loop-at
 decreases-loop rv rm n w from to lv lm p o codes rising at₀ end₀ at end = n - at
 
 -- row `at` ends within the rows; its run has a row, and ends within them
-room : (c : tie.In-loop invariant-loop decreases-loop) → let a = c.before.before.before.args in c.before.loop.at * a.w + a.w ≤ a.n * a.w
-room c = let a = c.before.before.before.args in row_room c.before.loop.at a.n a.w c.loop-test.true
+room : (c : tie.In-loop-at invariant-loop decreases-loop) → let a = c.args in c.loop-at.at * a.w + a.w ≤ a.n * a.w
+room c = let a = c.args in row_room c.loop-at.at a.n a.w c.loop-at-test.true
 
-ahead : (c : tie.In-loop invariant-loop decreases-loop) → (c.before.loop.at < c.before.loop.end) × (c.before.loop.end ≤ c.before.before.before.args.n)
+ahead : (c : tie.In-loop-at invariant-loop decreases-loop) → (c.loop-at.at < c.loop-at.end) × (c.loop-at.end ≤ c.args.n)
 ahead c =
-    let l = c.before.loop in
-    let a = c.before.before.before.args in
-    let u = run_up (with_list a.o a.codes.now a.rising.now) a.w a.n a.rv.now a.rm.now l.at c.loop-test.true in
-    let v = run_within (with_list a.o a.codes.now a.rising.now) a.w a.n a.rv.now a.rm.now l.at c.loop-test.true in
+    let l = c.loop-at in
+    let a = c.args in
+    let u = run_up (with_list a.o a.codes.now a.rising.now) a.w a.n a.rv.now a.rm.now l.at c.loop-at-test.true in
+    let v = run_within (with_list a.o a.codes.now a.rising.now) a.w a.n a.rv.now a.rm.now l.at c.loop-at-test.true in
     let q = l.invariant.0.run in
     (omega arith, omega arith)
 
 -- what `stands_to` says is how row `at` stands to the left row
-told : (c : tie.After-stands-to invariant-loop decreases-loop) (t : Order) → c.stands-to.result ≡ t →
-    let l = c.before.before.loop in
-    let a = c.before.before.before.before.args in
+told : (c : tie.After-stands_to invariant-loop decreases-loop) (t : Order) → c.stands_to.result ≡ t →
+    let l = c.loop-at in
+    let a = c.args in
     (wl : ℕ) → a.o.by < wl → standing (with_list a.o a.codes.now a.rising.now) (row_from wl a.p a.lv.now a.lm.now) (row_from a.w (l.at * a.w) a.rv.now a.rm.now) ≡ t
-told c t e wl h = sym (c.stands-to.ensures wl _ h c.before.before.before.before.requires.0.right.rows.wide) ∙ e
+told c t e wl h = sym (c.stands_to.ensures wl _ h c.requires.0.right.rows.wide) ∙ e
 
-loop-holds : tie.Need-loop-init invariant-loop decreases-loop
-loop-holds c = (c.before.requires.0.right, λ wl h first. refl)
+loop-holds : tie.Need-loop-at-init invariant-loop decreases-loop
+loop-holds c = (c.requires.0.right, λ wl h first. refl)
 
-mul-stands-to : tie.Need-overflow-mul-stands-to invariant-loop decreases-loop
-mul-stands-to c = let r = room c in let p = c.before.before.before.requires.0.right.rows in omega arith
+mul-stands-to : tie.Need-overflow_mul-at invariant-loop decreases-loop
+mul-stands-to c = let r = room c in let p = c.requires.0.right.rows in omega arith
 
-stands-to-requires : tie.Need-stands-to-requires invariant-loop decreases-loop
+stands-to-requires : tie.Need-stands_to-requires invariant-loop decreases-loop
 stands-to-requires c κs =
     let r = room c in
-    let p = c.before.before.before.requires.0.right.rows in
-    (record { few = p.few; values = omega arith; marks = omega arith }, c.before.before.before.requires.0.left)
+    let p = c.requires.0.right.rows in
+    (record { few = p.few; values = omega arith; marks = omega arith }, c.requires.0.left)
 
-enum_told : tie.Need-enum-told invariant-loop decreases-loop
+enum_told : tie.Need-enum_told-1 invariant-loop decreases-loop
 enum_told c = search rules
 
-enum-told-2 : tie.Need-enum-told-2 invariant-loop decreases-loop
+enum-told-2 : tie.Need-enum_told-in-Equal invariant-loop decreases-loop
 enum-told-2 c = search rules
 
-returns : tie.Need-returns invariant-loop decreases-loop
+returns : tie.Need-returns-in-Equal invariant-loop decreases-loop
 returns c =
-    let i = c.before.before.before in
-    let l = i.before.loop in
-    let a = i.before.before.before.args in
-    let u = ahead i in
+    let i = c in
+    let l = i.loop-at in
+    let a = i.args in
+    let u = ahead i.before.before in
     let q = l.invariant.0.run in
-    let d = told c.before.before Equal c.enum-told2.given.1 in
+    let d = told c.before Equal c.in-Equal.is in
     let x = row_from (a.o.by + 1) a.p a.lv.now a.lm.now in
     let g = used_group (with_list a.o a.codes.now a.rising.now) x (row_from a.w (l.at * a.w) a.rv.now a.rm.now) (d (a.o.by + 1) (omega arith)) in (
       record { run = l.invariant.0; upward = omega arith; within = omega arith },
       sorted_terms a.o a.codes.now a.rising.now (between a.w l.at l.end a.rv.now a.rm.now)
-          ∙ run_keys (with_list a.o a.codes.now a.rising.now) a.w a.n a.rv.now a.rm.now i.before.before.before.requires.1.in_order l.at l.end i.loop-test.true q g,
+          ∙ run_keys (with_list a.o a.codes.now a.rising.now) a.w a.n a.rv.now a.rm.now i.requires.1.in_order l.at l.end i.loop-at-test.true q g,
       λ wl h.
           record {
-            cursor = λ first. l.invariant.1 wl h first ∙ pass_stop _ _ _ _ _ _ _ l.end i.loop-test.true q (first + l.at) Equal refl (d wl h);
-            uses = used_run _ _ _ _ _ _ _ l.end i.loop-test.true q (d wl h);
+            cursor = λ first. l.invariant.1 wl h first ∙ pass_stop _ _ _ _ _ _ _ l.end i.loop-at-test.true q (first + l.at) Equal refl (d wl h);
+            uses = used_run _ _ _ _ _ _ _ l.end i.loop-at-test.true q (d wl h);
           },
     )
 
-enum-told-3 : tie.Need-enum-told-3 invariant-loop decreases-loop
+enum-told-3 : tie.Need-enum_told-in-Greater invariant-loop decreases-loop
 enum-told-3 c = search rules
 
-returns-2 : tie.Need-returns-2 invariant-loop decreases-loop
+returns-2 : tie.Need-returns-in-Greater invariant-loop decreases-loop
 returns-2 c =
-    let i = c.before.before.before in
-    let l = i.before.loop in
-    let a = i.before.before.before.args in
-    let u = ahead i in
+    let i = c in
+    let l = i.loop-at in
+    let a = i.args in
+    let u = ahead i.before.before in
     let q = l.invariant.0.run in
-    let d = told c.before.before Greater c.enum-told3.given.1 in (
+    let d = told c.before Greater c.in-Greater.is in (
       record { run = l.invariant.0; upward = omega arith; within = omega arith },
       keys_few (without_list a.o) a.w a.rv.now a.rm.now l.at l.at (omega arith),
       λ wl h.
           record {
-            cursor = λ first. l.invariant.1 wl h first ∙ pass_stop _ _ _ _ _ _ _ l.end i.loop-test.true q (first + l.at) Greater refl (d wl h);
-            uses = used_none _ _ _ _ _ _ _ l.end i.loop-test.true q (d wl h);
+            cursor = λ first. l.invariant.1 wl h first ∙ pass_stop _ _ _ _ _ _ _ l.end i.loop-at-test.true q (first + l.at) Greater refl (d wl h);
+            uses = used_none _ _ _ _ _ _ _ l.end i.loop-at-test.true q (d wl h);
           },
     )
 
-sorted-end-requires : tie.Need-sorted-end-requires invariant-loop decreases-loop
+sorted-end-requires : tie.Need-sorted_end-end-requires invariant-loop decreases-loop
 sorted-end-requires c κs =
-    let i = c.before.before.before in
-    let u = ahead i in
-    (i.before.before.before.requires.1, u.1)
+    let i = c in
+    let u = ahead i.before.before in
+    (i.requires.1, u.1)
 
-loop-less : tie.Need-loop-smaller invariant-loop decreases-loop
-loop-less c = let u = ahead c.before.before.before.before in let t = c.before.before.before.before.loop-test.true in omega arith
+loop-less : tie.Need-loop-at-smaller invariant-loop decreases-loop
+loop-less c = let u = ahead c.before.before.before in let t = c.loop-at-test.true in omega arith
 
-loop-again : tie.Need-loop-preserved invariant-loop decreases-loop
+loop-again : tie.Need-loop-at-preserved invariant-loop decreases-loop
 loop-again c =
-    let i = c.before.before.before.before in
-    let l = i.before.loop in
-    let u = ahead i in (
-      record { rows = i.before.before.before.requires.0.right.rows; within = u.1; run = c.sorted-end.ensures },
-      λ wl h first. l.invariant.1 wl h first ∙ pass_on _ _ _ _ _ _ _ l.end i.loop-test.true l.invariant.0.run first (told c.before.before.before Less c.before.enum_told.given.1 wl h),
+    let i = c in
+    let l = i.loop-at in
+    let u = ahead i.before.before.before in (
+      record { rows = i.requires.0.right.rows; within = u.1; run = c.sorted_end-end.ensures },
+      λ wl h first. l.invariant.1 wl h first ∙ pass_on _ _ _ _ _ _ _ l.end i.loop-at-test.true l.invariant.0.run first (told c.before.before Less c.in-Less.is wl h),
     )
 
-returns-3 : tie.Need-returns-3 invariant-loop decreases-loop
+returns-3 : tie.Need-returns invariant-loop decreases-loop
 returns-3 c =
-    let l = c.before.loop in
-    let a = c.before.before.before.args in
+    let l = c.loop-at in
+    let a = c.args in
     let q = l.invariant.0.within in
-    let e : l.at ≡ a.n = omega (arith, c.loop-test.false) in (
+    let e : l.at ≡ a.n = omega (arith, c.loop-at-test.false) in (
       record { run = l.invariant.0; upward = omega arith; within = omega arith },
       keys_few (without_list a.o) a.w a.rv.now a.rm.now l.at l.at (omega arith),
       λ wl h.
@@ -140,18 +140,4 @@ returns-3 c =
 pub pass_sorted_spec : {M : Type 1} → statement M
 pass_sorted_spec =
     tie.close
-    (tie.spec
-    invariant-loop
-    decreases-loop
-    loop-holds
-    mul-stands-to
-    stands-to-requires
-    enum_told
-    enum-told-2
-    returns
-    enum-told-3
-    returns-2
-    sorted-end-requires
-    loop-less
-    loop-again
-    returns-3)
+    (tie.spec invariant-loop decreases-loop loop-holds mul-stands-to stands-to-requires enum_told enum-told-2 returns enum-told-3 returns-2 sorted-end-requires loop-less loop-again returns-3)

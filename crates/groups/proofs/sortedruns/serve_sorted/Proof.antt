@@ -7,29 +7,29 @@ use borrow.Author.Rules.{rules}
 use Rattle.groups.proofs.sortedruns.serve_sorted.Statement.{statement}
 use Rattle.groups.proofs.sortedruns.serve_sorted.Tie as tie
 
-null-group-requires : tie.Need-null-group-requires
+null-group-requires : tie.Need-null_group-requires
 null-group-requires c κs = search rules
 
-returns : tie.Need-returns
+returns : tie.Need-returns-then-null_group
 returns c =
-    let s = c.before.before.before in
+    let s = c in
     let a = s.args in
     let r = s.requires.0.right in (
       record { run = r; upward = omega arith; within = r.within },
       keys_few (without_list a.o) a.w a.rv.now a.rm.now a.from a.from (omega arith),
-      λ wl h. serve_null _ _ _ _ _ _ _ a.to (sym (c.before.null_group_lem.ensures wl a.lv.now (omega arith) (omega arith)) ∙ c.if1.true),
+      λ wl h. serve_null _ _ _ _ _ _ _ a.to (sym (c.null_group.ensures wl a.lv.now (omega arith) (omega arith)) ∙ c.if-null_group.true),
     )
 
-pass-sorted-requires : tie.Need-pass-sorted-requires
+pass-sorted-requires : tie.Need-pass_sorted-requires
 pass-sorted-requires c κs = search rules
 
-returns-2 : tie.Need-returns-2
+returns-2 : tie.Need-returns
 returns-2 c =
-    let a = c.before.before.before.before.args in
-    let e = c.pass-sorted.ensures in (
+    let a = c.args in
+    let e = c.pass_sorted.ensures in (
       e.0,
       e.1,
-      λ wl h. serve_pass _ _ _ _ _ _ _ c.pass-sorted.result (sym (c.before.before.null_group_lem.ensures wl a.lv.now (omega arith) (omega arith)) ∙ c.before.if1.false) (e.2 wl h),
+      λ wl h. serve_pass _ _ _ _ _ _ _ c.pass_sorted.result (sym (c.null_group.ensures wl a.lv.now (omega arith) (omega arith)) ∙ c.if-null_group.false) (e.2 wl h),
     )
 
 pub serve_sorted_spec : {M : Type 1} → statement M

@@ -7,56 +7,46 @@ use borrow.Author.Rules.{rules}
 use Rattle.groups.proofs.sortedruns.skip_alike.Statement.{statement}
 use Rattle.groups.proofs.sortedruns.skip_alike.Tie as tie
 
-sub-if1 : tie.Need-overflow-sub-if1
+sub-if1 : tie.Need-overflow_sub-n
 sub-if1 c = search rules
 
-returns : tie.Need-returns
-returns c = (omega arith, c.before.requires.1, λ l. absurd (omega arith))
+returns : tie.Need-returns-then-n-i-le16
+returns c = (omega arith, c.requires.1, λ l. absurd (omega arith))
 
 -- the row that is asked is one of them
-there : (c : tie.Else1) → c.before.args.i + 16 < c.before.args.n
-there c = omega (arith, c.if1.false)
+there : (c : tie.Else-n-i-le16) → c.args.i + 16 < c.args.n
+there c = omega (arith, c.if-n-i-le16.false)
 
-mul-same-values : tie.Need-overflow-mul-same-values
-mul-same-values c = let s = c.before in omega (arith, row_room s.args.i s.args.n s.args.w (omega (arith, there c)), s.requires.0.values)
+mul-same-values : tie.Need-overflow_mul-i
+mul-same-values c = let s = c in omega (arith, row_room s.args.i s.args.n s.args.w (omega (arith, there c)), s.requires.0.values)
 
-add-same-values : tie.Need-overflow-add-same-values
+add-same-values : tie.Need-overflow_add-i
 add-same-values c = search rules
 
-mul-same-values-2 : tie.Need-overflow-mul-same-values-2
-mul-same-values-2 c = let s = c.before in omega (arith, row_room (s.args.i + 16) s.args.n s.args.w (there c), s.requires.0.values)
+mul-same-values-2 : tie.Need-overflow_mul-i-2
+mul-same-values-2 c = let s = c in omega (arith, row_room (s.args.i + 16) s.args.n s.args.w (there c), s.requires.0.values)
 
-same-values-requires : tie.Need-same-values-requires
-same-values-requires c κs = let s = c.before in (row_at s.requires.0 s.args.i (omega (arith, there c)), row_at s.requires.0 (s.args.i + 16) (there c))
+same-values-requires : tie.Need-same_values-requires
+same-values-requires c κs = let s = c in (row_at s.requires.0 s.args.i (omega (arith, there c)), row_at s.requires.0 (s.args.i + 16) (there c))
 
-returns-2 : tie.Need-returns-2
-returns-2 c = (omega arith, c.before.before.before.requires.1, λ l. absurd (omega arith))
+returns-2 : tie.Need-returns-then-not-same_values
+returns-2 c = (omega arith, c.requires.1, λ l. absurd (omega arith))
 
-reach-requires : tie.Need-reach-requires
+reach-requires : tie.Need-reach-high-requires
 reach-requires c κs = search rules
 
-last-alike-requires : tie.Need-last-alike-requires
+last-alike-requires : tie.Need-last_alike-requires
 last-alike-requires c κs =
-    let s = c.before.before.before.before in
-    (rows_less _ _ _ _ _ s.args.n c.reach.ensures.1 s.requires.0, c.reach.ensures.0)
+    let s = c in
+    (rows_less _ _ _ _ _ s.args.n c.reach-high.ensures.1 s.requires.0, c.reach-high.ensures.0)
 
-returns-3 : tie.Need-returns-3
+returns-3 : tie.Need-returns
 returns-3 c =
     let e = c.last_alike.ensures in
-    let r = c.before.reach.ensures in
+    let r = c.reach-high.ensures in
     (e.0, omega (arith, e.1, r.1), λ l. (omega (arith, e.1, r.1), e.2))
 
 pub skip_alike_spec : {M : Type 1} → statement M
 skip_alike_spec =
     tie.close
-    (tie.spec
-    sub-if1
-    returns
-    mul-same-values
-    add-same-values
-    mul-same-values-2
-    same-values-requires
-    returns-2
-    reach-requires
-    last-alike-requires
-    returns-3)
+    (tie.spec sub-if1 returns mul-same-values add-same-values mul-same-values-2 same-values-requires returns-2 reach-requires last-alike-requires returns-3)

@@ -11,40 +11,33 @@ use borrow.Author.Rules.{rules}
 use Rattle.groups.proofs.stretch.has_words.Statement.{statement}
 use Rattle.groups.proofs.stretch.has_words.Tie as tie
 
-mul-if1 : tie.Need-overflow-mul-if1
+mul-if1 : tie.Need-offset_bounds-values-q
 mul-if1 c = search rules
 
-shared-slice-copy-out-if1 : tie.Need-shared-slice-copy-out-if1
+shared-slice-copy-out-if1 : tie.Need-bounds-values-q
 shared-slice-copy-out-if1 c = search rules
 
-returns : tie.Need-returns
+returns : tie.Need-returns-then-values-q
 returns c = λ (e : false ≡ true). cc
 
-mul-if2 : tie.Need-overflow-mul-if2
+mul-if2 : tie.Need-offset_bounds-marks-q
 mul-if2 c = search rules
 
-shared-slice-copy-out-if2 : tie.Need-shared-slice-copy-out-if2
+shared-slice-copy-out-if2 : tie.Need-bounds-marks-q
 shared-slice-copy-out-if2 c = search rules
 
-returns-2 : tie.Need-returns-2
+returns-2 : tie.Need-returns-then-marks-q
 returns-2 c = λ (e : false ≡ true). cc
 
-returns-3 : tie.Need-returns-3
+returns-3 : tie.Need-returns
 returns-3 c = λ e.
-    let s = c.before.before.before.before in
+    let s = c in
     let a = s.args in
     same_cell
-    (sym (back (get_or a.values.now a.q (pos 0)) c.before.before.before.if12.given) ∙ ap (to_z w64) c.before.before.if1.false ∙ to_z-of_z s.ranges.v)
-    (sym (back (get_or a.marks.now a.q (pos 0)) c.before.if22.given) ∙ ap (to_z w64) c.if2.false ∙ to_z-of_z s.ranges.m)
+    (sym (back (get_or a.values.now a.q (pos 0)) c.t8-1.given) ∙ ap (to_z w64) c.if-values-q.false ∙ to_z-of_z s.ranges.v)
+    (sym (back (get_or a.marks.now a.q (pos 0)) c.t8-2-1.given) ∙ ap (to_z w64) c.if-marks-q.false ∙ to_z-of_z s.ranges.m)
 
 pub has_words_spec : {M : Type 1} → statement M
 has_words_spec =
     tie.close
-    (tie.spec
-    mul-if1
-    shared-slice-copy-out-if1
-    returns
-    mul-if2
-    shared-slice-copy-out-if2
-    returns-2
-    returns-3)
+    (tie.spec mul-if1 shared-slice-copy-out-if1 returns mul-if2 shared-slice-copy-out-if2 returns-2 returns-3)

@@ -20,91 +20,75 @@ room : (c : tie.Start) → c.args.i * c.args.w + c.args.w ≤ c.args.n * c.args.
 room c = row_room c.args.i c.args.n c.args.w c.requires.1
 
 -- the words that are kept are those of its first cell
-kept : (c : tie.After-m) → let a = c.before.before.args in
+kept : (c : tie.After-m-1) → let a = c.args in
     cell_at (a.i * a.w) a.values.now a.marks.now ≡ cell_of (to_z w64 (of_z w64 (get_or a.values.now (a.i * a.w) (pos 0)))) (to_z w64 (of_z w64 (get_or a.marks.now (a.i * a.w) (pos 0))))
 kept c =
-    let a = c.before.before.args in
-    same_cell (sym (back (get_or a.values.now (a.i * a.w) (pos 0)) c.before.v.given)) (sym (back (get_or a.marks.now (a.i * a.w) (pos 0)) c.m.given))
+    let a = c.args in
+    same_cell (sym (back (get_or a.values.now (a.i * a.w) (pos 0)) c.v-1.given)) (sym (back (get_or a.marks.now (a.i * a.w) (pos 0)) c.m-1.given))
 
-mul-p : tie.Need-overflow-mul-p
+mul-p : tie.Need-overflow_mul-p
 mul-p c = let r = room c in omega (arith, c.requires.0.values)
 
-mul-v : tie.Need-overflow-mul-v
+mul-v : tie.Need-offset_bounds-values-p
 mul-v c = let r = room c in omega (arith, c.requires.0.wide, c.requires.0.values)
 
-shared-slice-copy-out-v : tie.Need-shared-slice-copy-out-v
+shared-slice-copy-out-v : tie.Need-bounds-values-p
 shared-slice-copy-out-v c = let r = room c in omega (arith, c.requires.0.wide, c.requires.0.values)
 
-mul-m : tie.Need-overflow-mul-m
-mul-m c = let r = room c.before in omega (arith, c.before.requires.0.wide, c.before.requires.0.values)
+mul-m : tie.Need-offset_bounds-marks-p
+mul-m c = let r = room c.before in omega (arith, c.requires.0.wide, c.requires.0.values)
 
-shared-slice-copy-out-m : tie.Need-shared-slice-copy-out-m
-shared-slice-copy-out-m c = let r = room c.before in omega (arith, c.before.requires.0.wide, c.before.requires.0.marks)
+shared-slice-copy-out-m : tie.Need-bounds-marks-p
+shared-slice-copy-out-m c = let r = room c.before in omega (arith, c.requires.0.wide, c.requires.0.marks)
 
-sub-if1 : tie.Need-overflow-sub-if1
+sub-if1 : tie.Need-overflow_sub-n
 sub-if1 c = search rules
 
-add-words-end : tie.Need-overflow-add-words-end
+add-words-end : tie.Need-overflow_add-i
 add-words-end c = search rules
 
-words-end-requires : tie.Need-words-end-requires
+words-end-requires : tie.Need-words_end-requires
 words-end-requires c κs = search rules
 
-returns : tie.Need-returns
+returns : tie.Need-returns-then-n-i-le9
 returns c =
-    let a = c.before.before.before.before.args in
-    one_same a.w a.n a.n a.values.now a.marks.now a.i c.words-end.result _ (omega arith) (kept c.before.before) c.words-end.ensures
+    let a = c.args in
+    one_same a.w a.n a.n a.values.now a.marks.now a.i c.words_end.result _ (omega arith) (kept c.before.before) c.words_end.ensures
 
-add-words-end-2 : tie.Need-overflow-add-words-end-2
+add-words-end-2 : tie.Need-overflow_add-i-2
 add-words-end-2 c = search rules
 
-add-words-end-3 : tie.Need-overflow-add-words-end-3
+add-words-end-3 : tie.Need-overflow_add-i-3
 add-words-end-3 c = search rules
 
-words-end-requires-2 : tie.Need-words-end-requires-2
+words-end-requires-2 : tie.Need-words_end-e-requires
 words-end-requires-2 c κs =
-    let s = c.before.before.before in
+    let s = c in
     let a = s.args in
-    let h : a.i + 9 ≤ a.n = omega (arith, c.if1.false) in
+    let h : a.i + 9 ≤ a.n = omega (arith, c.if-n-i-le9.false) in
     let m = mul-le-mul_right {m = a.i + 9} {n = a.n} a.w h in
     record { wide = s.requires.0.wide; within = omega arith; values = omega (arith, m, s.requires.0.values); marks = omega (arith, m, s.requires.0.marks) }
 
-add-if2 : tie.Need-overflow-add-if2
+add-if2 : tie.Need-overflow_add-i-4
 add-if2 c = search rules
 
-returns-2 : tie.Need-returns-2
+returns-2 : tie.Need-returns-then-e-i
 returns-2 c =
-    let e = c.before.before in
-    let a = e.before.before.before.args in
-    let h : a.i + 9 ≤ a.n = omega (arith, e.if1.false) in
-    one_same a.w a.n (a.i + 9) a.values.now a.marks.now a.i c.before.words-end2.result _ h (kept e.before) c.before.words-end2.ensures
+    let e = c in
+    let a = e.args in
+    let h : a.i + 9 ≤ a.n = omega (arith, e.if-n-i-le9.false) in
+    one_same a.w a.n (a.i + 9) a.values.now a.marks.now a.i c.words_end-e.result _ h (kept e.before.before.before) c.words_end-e.ensures
 
-fours-end-requires : tie.Need-fours-end-requires
+fours-end-requires : tie.Need-fours_end-requires
 fours-end-requires c κs = search rules
 
-returns-3 : tie.Need-returns-3
+returns-3 : tie.Need-returns
 returns-3 c =
-    let e = c.before.before.before in
-    let a = e.before.before.before.args in
-    one_same a.w a.n a.n a.values.now a.marks.now a.i c.fours-end.result _ (omega arith) (kept e.before) (have_join c.before.before.words-end2.ensures c.fours-end.ensures)
+    let e = c in
+    let a = e.args in
+    one_same a.w a.n a.n a.values.now a.marks.now a.i c.fours_end.result _ (omega arith) (kept e.before.before.before.before) (have_join c.words_end-e.ensures c.fours_end.ensures)
 
 pub one_end_spec : {M : Type 1} → statement M
 one_end_spec =
     tie.close
-    (tie.spec
-    mul-p
-    mul-v
-    shared-slice-copy-out-v
-    mul-m
-    shared-slice-copy-out-m
-    sub-if1
-    add-words-end
-    words-end-requires
-    returns
-    add-words-end-2
-    add-words-end-3
-    words-end-requires-2
-    add-if2
-    returns-2
-    fours-end-requires
-    returns-3)
+    (tie.spec mul-p mul-v shared-slice-copy-out-v mul-m shared-slice-copy-out-m sub-if1 add-words-end words-end-requires returns add-words-end-2 add-words-end-3 words-end-requires-2 add-if2 returns-2 fours-end-requires returns-3)

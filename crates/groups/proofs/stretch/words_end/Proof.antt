@@ -1,5 +1,5 @@
 use mathlib.Core.Path.{◌≡◌}
-use Prim.Native.Nat.{ℕ, ◌+◌, ◌-◌, ◌*◌, ◌≤◌, ◌<◌}
+use Prim.Native.Nat.{ℕ, ◌+◌, ◌*◌, ◌≤◌, ◌<◌}
 use native.Mathlib.Nat.{mul-le-mul_right}
 use native.Mathlib.Omega.{arith}
 use borrow.Author.Tests.{not-false}
@@ -12,89 +12,76 @@ use Rattle.groups.proofs.stretch.StretchLaws.{walk_start, left_room, left_less, 
 use Rattle.groups.proofs.stretch.words_end.Statement.{statement}
 use Rattle.groups.proofs.stretch.words_end.Tie as tie
 
-abbrev invariant-loop : tie.invariant-loop
+abbrev invariant-loop : tie.invariant-loop-left
 invariant-loop values marks e n w v m left₀ q₀ left q =
     (left ≤ n) × (e + left ≤ n) × (q + left * w ≡ n * w) × ((k : ℕ) → e ≤ k → k + left < n → cell_at (k * w) values marks ≡ cell_of (to_z w64 v) (to_z w64 m))
 
-abbrev decreases-loop : tie.decreases-loop
+abbrev decreases-loop : tie.decreases-loop-left
 decreases-loop values marks e n w v m left₀ q₀ left q = left
 
-sub-left : tie.Need-overflow-sub-left invariant-loop decreases-loop
+sub-left : tie.Need-overflow_sub-left invariant-loop decreases-loop
 sub-left c = omega arith
 
-mul-q : tie.Need-overflow-mul-q invariant-loop decreases-loop
+mul-q : tie.Need-overflow_mul-q invariant-loop decreases-loop
 mul-q c = let a = c.args in omega (arith, mul-le-mul_right {m = a.e} {n = a.n} a.w c.requires.within)
 
-loop-holds : tie.Need-loop-init invariant-loop decreases-loop
+loop-holds : tie.Need-loop-left-init invariant-loop decreases-loop
 loop-holds c =
     let a = c.args in
     let h = c.requires.within in
     (omega arith, omega arith, walk_start a.e a.n a.w h, λ k g h. absurd (omega (arith, g, h)))
 
-has-words-requires : tie.Need-has-words-requires invariant-loop decreases-loop
+has-words-requires : tie.Need-has_words-requires invariant-loop decreases-loop
 has-words-requires c κs =
-    let l = c.before.loop in
-    let s = c.before.before in
-    let r = left_room l.left s.args.w 1 c.loop-test.true in
+    let l = c.loop-left in
+    let s = c in
+    let r = left_room l.left s.args.w 1 c.loop-left-test.true in
     let p = s.requires.wide in
     record { values = omega arith; marks = omega arith }
 
-sub-result : tie.Need-overflow-sub-result invariant-loop decreases-loop
+sub-result : tie.Need-overflow_sub-result invariant-loop decreases-loop
 sub-result c = omega arith
 
-returns : tie.Need-returns invariant-loop decreases-loop
+returns : tie.Need-returns-then-not-has_words invariant-loop decreases-loop
 returns c =
-    let l = c.before.before.before.loop in
-    let s = c.before.before.before.before in
+    let l = c.loop-left in
+    let s = c in
     let a = s.args in
     have_passed a.w a.e a.n a.values.now a.marks.now (cell_of a.v a.m) l.left l.invariant.1 (λ k g h. rw (to_z-of_z s.ranges.v, to_z-of_z s.ranges.m) at (l.invariant.3 k g h))
 
-add-q : tie.Need-overflow-add-q invariant-loop decreases-loop
+add-q : tie.Need-overflow_add-q invariant-loop decreases-loop
 add-q c =
-    let l = c.before.before.before.loop in
-    let s = c.before.before.before.before in
-    let r = left_room l.left s.args.w 1 c.before.before.loop-test.true in
+    let l = c.loop-left in
+    let s = c in
+    let r = left_room l.left s.args.w 1 c.loop-left-test.true in
     omega arith
 
-sub-left-2 : tie.Need-overflow-sub-left-2 invariant-loop decreases-loop
+sub-left-2 : tie.Need-overflow_sub-left-in-loop-left invariant-loop decreases-loop
 sub-left-2 c = omega arith
 
-loop-less : tie.Need-loop-smaller invariant-loop decreases-loop
+loop-less : tie.Need-loop-left-smaller invariant-loop decreases-loop
 loop-less c = omega arith
 
-loop-again : tie.Need-loop-preserved invariant-loop decreases-loop
+loop-again : tie.Need-loop-left-preserved invariant-loop decreases-loop
 loop-again c =
-    let l = c.before.before.before.loop in
-    let a = c.before.before.before.before.args in
-    let t = c.before.before.loop-test.true in (
+    let l = c.loop-left in
+    let a = c.args in
+    let t = c.loop-left-test.true in (
       omega arith,
       omega arith,
       omega (arith, left_less a.n a.w l.left l.q 1 t l.invariant.2),
-      pass_one (λ k. cell_at k a.values.now a.marks.now ≡ cell_of (to_z w64 (of_z w64 a.v)) (to_z w64 (of_z w64 a.m))) a.e a.n a.w l.left l.q l.invariant.0 t l.invariant.2 l.invariant.3 (c.before.has_words.ensures (not-false c.before.has_words.result c.if1.false)),
+      pass_one (λ k. cell_at k a.values.now a.marks.now ≡ cell_of (to_z w64 (of_z w64 a.v)) (to_z w64 (of_z w64 a.m))) a.e a.n a.w l.left l.q l.invariant.0 t l.invariant.2 l.invariant.3 (c.has_words.ensures (not-false c.has_words.result c.if-not-has_words.false-raw)),
     )
 
-returns-2 : tie.Need-returns-2 invariant-loop decreases-loop
+returns-2 : tie.Need-returns invariant-loop decreases-loop
 returns-2 c =
-    let l = c.before.loop in
-    let s = c.before.before in
+    let l = c.loop-left in
+    let s = c in
     let a = s.args in
-    let z = c.loop-test.false in
+    let z = c.loop-left-test.false in
     record { start = s.requires.within; within = omega arith; have = λ k g h. rw (to_z-of_z s.ranges.v, to_z-of_z s.ranges.m) at (l.invariant.3 k g (omega (arith, h, z))) }
 
 pub words_end_spec : {M : Type 1} → statement M
 words_end_spec =
     tie.close
-    (tie.spec
-    invariant-loop
-    decreases-loop
-    sub-left
-    mul-q
-    loop-holds
-    has-words-requires
-    sub-result
-    returns
-    add-q
-    sub-left-2
-    loop-less
-    loop-again
-    returns-2)
+    (tie.spec invariant-loop decreases-loop sub-left mul-q loop-holds has-words-requires sub-result returns add-q sub-left-2 loop-less loop-again returns-2)

@@ -14,142 +14,118 @@ use Rattle.groups.proofs.stretchkeys.GoLaws.{Goes, goes_first, goes_on_lem, goes
 use Rattle.groups.proofs.stretchkeys.one_rise.Statement.{statement}
 use Rattle.groups.proofs.stretchkeys.one_rise.Tie as tie
 
-abbrev invariant-loop : tie.invariant-loop
+abbrev invariant-loop : tie.invariant-loop-left
 invariant-loop values marks n w i left₀ p₀ v m k left p = Goes w n values marks i (cell_of (to_z w64 v) (to_z w64 m)) (to_z w64 k) left p
 
-abbrev decreases-loop : tie.decreases-loop
+abbrev decreases-loop : tie.decreases-loop-left
 decreases-loop values marks n w i left₀ p₀ v m k left p = left
 
 -- two rows more end within the rows
-room : (c : tie.In-loop invariant-loop decreases-loop) → let l = c.before.loop in let a = c.before.before.before.before.before.args in l.p + a.w + a.w + a.w ≤ a.n * a.w
+room : (c : tie.In-loop-left invariant-loop decreases-loop) → let l = c.loop-left in let a = c.args in l.p + a.w + a.w + a.w ≤ a.n * a.w
 room c =
-    let l = c.before.loop in
-    let a = c.before.before.before.before.before.args in
-    goes_room a.w a.n a.values.now a.marks.now a.i _ _ l.left l.p l.invariant c.loop-test.true
+    let l = c.loop-left in
+    let a = c.args in
+    goes_room a.w a.n a.values.now a.marks.now a.i _ _ l.left l.p l.invariant c.loop-left-test.true
 
 -- the first of them goes on
-next : (c : tie.Else1 invariant-loop decreases-loop) →
-    let l = c.before.before.before.loop in
-    let a = c.before.before.before.before.before.before.before.args in
+next : (c : tie.Else-not-row_follows invariant-loop decreases-loop) →
+    let l = c.loop-left in
+    let a = c.args in
     let at = a.i * a.w in
     Goes a.w a.n a.values.now a.marks.now a.i (cell_of (to_z w64 (of_z w64 (get_or a.values.now at (pos 0)))) (to_z w64 (of_z w64 (get_or a.marks.now at (pos 0))))) (to_z w64 (of_z w64 (get_or a.marks.now (at + 1) (pos 0)))) (l.left - 1) (l.p + a.w)
 next c =
-    let l = c.before.before.before.loop in
-    let a = c.before.before.before.before.before.before.before.args in
-    let t = c.before.before.loop-test.true in
-    let f = c.before.row-follows.ensures (not-false c.before.row-follows.result c.if1.false) in
+    let l = c.loop-left in
+    let a = c.args in
+    let t = c.loop-left-test.true in
+    let f = c.row_follows.ensures (not-false c.row_follows.result c.if-not-row_follows.false-raw) in
     goes_on_lem a.w a.n a.values.now a.marks.now a.i _ _ l.left l.p l.invariant (omega arith) f.0 (f.1, f.2)
 
-sub-left : tie.Need-overflow-sub-left invariant-loop decreases-loop
+sub-left : tie.Need-overflow_sub-left invariant-loop decreases-loop
 sub-left c = omega (arith, c.requires.1)
 
-sub-left-2 : tie.Need-overflow-sub-left-2 invariant-loop decreases-loop
+sub-left-2 : tie.Need-overflow_sub-left-2 invariant-loop decreases-loop
 sub-left-2 c = omega (arith, c.requires.1)
 
-mul-p : tie.Need-overflow-mul-p invariant-loop decreases-loop
+mul-p : tie.Need-overflow_mul-p invariant-loop decreases-loop
 mul-p c = let s = c in let a = s.args in let r = row_room a.i a.n a.w s.requires.1 in let p = s.requires.0 in omega arith
 
-mul-v : tie.Need-overflow-mul-v invariant-loop decreases-loop
+mul-v : tie.Need-offset_bounds-values-p invariant-loop decreases-loop
 mul-v c = let s = c in let a = s.args in let r = row_room a.i a.n a.w s.requires.1 in let p = s.requires.0 in omega arith
 
-shared-slice-copy-out-v : tie.Need-shared-slice-copy-out-v invariant-loop decreases-loop
+shared-slice-copy-out-v : tie.Need-bounds-values-p invariant-loop decreases-loop
 shared-slice-copy-out-v c = let s = c in let a = s.args in let r = row_room a.i a.n a.w s.requires.1 in let p = s.requires.0 in omega arith
 
-mul-m : tie.Need-overflow-mul-m invariant-loop decreases-loop
-mul-m c = let s = c.before in let a = s.args in let r = row_room a.i a.n a.w s.requires.1 in let p = s.requires.0 in omega arith
+mul-m : tie.Need-offset_bounds-marks-p invariant-loop decreases-loop
+mul-m c = let s = c in let a = s.args in let r = row_room a.i a.n a.w s.requires.1 in let p = s.requires.0 in omega arith
 
-shared-slice-copy-out-m : tie.Need-shared-slice-copy-out-m invariant-loop decreases-loop
-shared-slice-copy-out-m c = let s = c.before in let a = s.args in let r = row_room a.i a.n a.w s.requires.1 in let p = s.requires.0 in omega arith
+shared-slice-copy-out-m : tie.Need-bounds-marks-p invariant-loop decreases-loop
+shared-slice-copy-out-m c = let s = c in let a = s.args in let r = row_room a.i a.n a.w s.requires.1 in let p = s.requires.0 in omega arith
 
-add-k : tie.Need-overflow-add-k invariant-loop decreases-loop
-add-k c = let s = c.before.before in let a = s.args in let r = row_room a.i a.n a.w s.requires.1 in let p = s.requires.0 in omega arith
+add-k : tie.Need-overflow_add-k invariant-loop decreases-loop
+add-k c = let s = c in let a = s.args in let r = row_room a.i a.n a.w s.requires.1 in let p = s.requires.0 in omega arith
 
-mul-k : tie.Need-overflow-mul-k invariant-loop decreases-loop
-mul-k c = let s = c.before.before in let a = s.args in let r = row_room a.i a.n a.w s.requires.1 in let p = s.requires.0 in omega arith
+mul-k : tie.Need-offset_bounds-marks-p-2 invariant-loop decreases-loop
+mul-k c = let s = c in let a = s.args in let r = row_room a.i a.n a.w s.requires.1 in let p = s.requires.0 in omega arith
 
-shared-slice-copy-out-k : tie.Need-shared-slice-copy-out-k invariant-loop decreases-loop
-shared-slice-copy-out-k c = let s = c.before.before in let a = s.args in let r = row_room a.i a.n a.w s.requires.1 in let p = s.requires.0 in omega arith
+shared-slice-copy-out-k : tie.Need-bounds-marks-p-2 invariant-loop decreases-loop
+shared-slice-copy-out-k c = let s = c in let a = s.args in let r = row_room a.i a.n a.w s.requires.1 in let p = s.requires.0 in omega arith
 
-loop-holds : tie.Need-loop-init invariant-loop decreases-loop
+loop-holds : tie.Need-loop-left-init invariant-loop decreases-loop
 loop-holds c =
-    let s = c.before.before.before in
+    let s = c in
     let a = s.args in
     let vs = a.values.now in
     let ms = a.marks.now in
     goes_first a.w a.n vs ms a.i _ _ s.requires.1
-    (same_cell (sym (back (get_or vs (a.i * a.w) (pos 0)) c.before.before.v.given)) (sym (back (get_or ms (a.i * a.w) (pos 0)) c.before.m.given)))
-    (sym (back (get_or ms (a.i * a.w + 1) (pos 0)) c.k.given))
+    (same_cell (sym (back (get_or vs (a.i * a.w) (pos 0)) c.v-1.given)) (sym (back (get_or ms (a.i * a.w) (pos 0)) c.m-1.given)))
+    (sym (back (get_or ms (a.i * a.w + 1) (pos 0)) c.k-1.given))
 
-add-q : tie.Need-overflow-add-q invariant-loop decreases-loop
+add-q : tie.Need-overflow_add-q invariant-loop decreases-loop
 add-q c =
-    let i = c in let s = i.before.before.before.before.before in let r = room i in let p = s.requires.0 in omega arith
+    let i = c in let s = i in let r = room i in let p = s.requires.0 in omega arith
 
-row-follows-requires : tie.Need-row-follows-requires invariant-loop decreases-loop
+row-follows-requires : tie.Need-row_follows-requires invariant-loop decreases-loop
 row-follows-requires c κs =
-    let i = c in let s = i.before.before.before.before.before in let r = room i in let p = s.requires.0 in
-    (record { values = omega arith; marks = omega arith }, record { values = omega arith; marks = omega arith }, i.before.loop.invariant.5)
+    let i = c in let s = i in let r = room i in let p = s.requires.0 in
+    (record { values = omega arith; marks = omega arith }, record { values = omega arith; marks = omega arith }, i.loop-left.invariant.5)
 
-returns : tie.Need-returns invariant-loop decreases-loop
-returns c = let g = c.before.before.before.loop.invariant in let h = g.0 in (omega arith, g.2, g.3)
+returns : tie.Need-returns-then-not-row_follows invariant-loop decreases-loop
+returns c = let g = c.loop-left.invariant in let h = g.0 in (omega arith, g.2, g.3)
 
-add_r : tie.Need-overflow-add-r invariant-loop decreases-loop
+add_r : tie.Need-overflow_add-r invariant-loop decreases-loop
 add_r c =
-    let i = c.before.before in let s = i.before.before.before.before.before in let r = room i in let p = s.requires.0 in omega arith
+    let i = c in let s = i in let r = room i.before.before in let p = s.requires.0 in omega arith
 
-row-follows-requires-2 : tie.Need-row-follows-requires-2 invariant-loop decreases-loop
+row-follows-requires-2 : tie.Need-row_follows-requires-in-loop-left invariant-loop decreases-loop
 row-follows-requires-2 c κs =
-    let i = c.before.before in let s = i.before.before.before.before.before in let r = room i in let p = s.requires.0 in
+    let i = c in let s = i in let r = room i.before.before in let p = s.requires.0 in
     (record { values = omega arith; marks = omega arith }, record { values = omega arith; marks = omega arith }, (next c).5)
 
-sub-result : tie.Need-overflow-sub-result invariant-loop decreases-loop
-sub-result c = let t = c.before.before.before.before.loop-test.true in omega arith
+sub-result : tie.Need-overflow_sub-result invariant-loop decreases-loop
+sub-result c = let t = c.loop-left-test.true in omega arith
 
-returns-2 : tie.Need-returns-2 invariant-loop decreases-loop
+returns-2 : tie.Need-returns-then-not-row_follows-2 invariant-loop decreases-loop
 returns-2 c = let g = next c.before.before in let h = g.0 in (omega arith, g.2, g.3)
 
-sub-left-3 : tie.Need-overflow-sub-left-3 invariant-loop decreases-loop
-sub-left-3 c = let t = c.before.before.before.before.loop-test.true in omega arith
+sub-left-3 : tie.Need-overflow_sub-left-in-loop-left invariant-loop decreases-loop
+sub-left-3 c = let t = c.loop-left-test.true in omega arith
 
-loop-less : tie.Need-loop-smaller invariant-loop decreases-loop
-loop-less c = let t = c.before.before.before.before.loop-test.true in omega arith
+loop-less : tie.Need-loop-left-smaller invariant-loop decreases-loop
+loop-less c = let t = c.loop-left-test.true in omega arith
 
-loop-again : tie.Need-loop-preserved invariant-loop decreases-loop
+loop-again : tie.Need-loop-left-preserved invariant-loop decreases-loop
 loop-again c =
-    let l = c.before.before.before.before.before.loop in
-    let a = c.before.before.before.before.before.before.before.before.before.args in
-    let t = c.before.before.before.before.loop-test.true in
-    let f = c.before.row-follows2.ensures (not-false c.before.row-follows2.result c.if2.false) in
+    let l = c.loop-left in
+    let a = c.args in
+    let t = c.loop-left-test.true in
+    let f = c.row_follows-in-loop-left.ensures (not-false c.row_follows-in-loop-left.result c.if-not-row_follows-2.false-raw) in
     let z : l.left - 2 ≡ l.left - 1 - 1 = omega arith in
     rw z (goes_on_lem a.w a.n a.values.now a.marks.now a.i _ _ (l.left - 1) (l.p + a.w) (next c.before.before) (omega arith) f.0 (f.1, f.2))
 
-returns-3 : tie.Need-returns-3 invariant-loop decreases-loop
-returns-3 c = let g = c.before.loop.invariant in let h = g.0 in (omega arith, g.2, g.3)
+returns-3 : tie.Need-returns invariant-loop decreases-loop
+returns-3 c = let g = c.loop-left.invariant in let h = g.0 in (omega arith, g.2, g.3)
 
 pub one_rise_spec : {M : Type 1} → statement M
 one_rise_spec =
     tie.close
-    (tie.spec
-    invariant-loop
-    decreases-loop
-    sub-left
-    sub-left-2
-    mul-p
-    mul-v
-    shared-slice-copy-out-v
-    mul-m
-    shared-slice-copy-out-m
-    add-k
-    mul-k
-    shared-slice-copy-out-k
-    loop-holds
-    add-q
-    row-follows-requires
-    returns
-    add_r
-    row-follows-requires-2
-    sub-result
-    returns-2
-    sub-left-3
-    loop-less
-    loop-again
-    returns-3)
+    (tie.spec invariant-loop decreases-loop sub-left sub-left-2 mul-p mul-v shared-slice-copy-out-v mul-m shared-slice-copy-out-m add-k mul-k shared-slice-copy-out-k loop-holds add-q row-follows-requires returns add_r row-follows-requires-2 sub-result returns-2 sub-left-3 loop-less loop-again returns-3)
