@@ -1,20 +1,19 @@
 -- What a push leaves: the held rows before and then the frame's, word for word; the area's length stays. Assumes nothing.
-use mathlib.Core.Path.{◌≡◌, refl, sym, ap, ◌∙◌}
+use mathlib.Core.Path.{◌≡◌, refl, ap, ◌∙◌}
 use mathlib.Core.Bool.{Bool, true, false, cond}
-use mathlib.Core.List.{List, [], ◌∷◌, ◌++◌}
-use Prim.Native.Nat.{ℕ, zero, suc, ◌+◌, ◌-◌, ◌*◌, ◌/◌, ◌%◌, ◌≤◌, ◌<◌}
+use mathlib.Core.List.{◌++◌}
+use Prim.Native.Nat.{ℕ, ◌+◌, ◌*◌, ◌≤◌}
 use native.Mathlib.Nat.{mul-le-mul_right, div-add-mod'}
 use native.Mathlib.Omega.{arith}
-use borrow.Author.Tests.{ltb-true, ltb-false}
+use borrow.Author.Tests.{ltb-false}
 use lib.Dec.{ltb}
-use lib.IntN.{ℤ}
-use lib.ListN.{length, take, drop, length-drop, length-append}
-use lib.Seq.{paste, length-paste, take-add, take-length, drop-drop}
-use Rattle.frames.specs.Cells.{Rows, Words, rows_of}
+use lib.ListN.{length, take, drop, length-drop}
+use lib.Seq.{length-paste, take-add, take-length, drop-drop}
+use Rattle.frames.specs.Cells.{Words}
 use Rattle.frames.specs.Frame.{row_count, values_in, marks_in, is_frame}
-use Rattle.frames.proofs.WordLaws.{part_copied, part_before, part_behind, rows_read}
+use Rattle.frames.proofs.WordLaws.{part_copied, part_before, part_behind}
 use Rattle.frames.proofs.FrameLaws.{values_length, marks_length}
-use Rattle.buffer.specs.area.Area.{capacity, held_rows, moved, written, new_base, moved_rows, pushed}
+use Rattle.buffer.specs.area.Area.{capacity, moved, written, new_base, moved_rows, pushed}
 
 -- R rows have room: 2cR words.
 pub capacity_room : (c : ℕ) (area : Words) → capacity c area * c + capacity c area * c ≤ length area

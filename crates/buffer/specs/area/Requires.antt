@@ -1,5 +1,5 @@
 -- What the functions of area require of their arguments, and what an append and a push leave: small records; and a stretch as a range. Assumes nothing.
-use Rattle.std.specs.Prelude.{◌≡◌, true, ℕ, ◌+◌, ◌*◌, ◌≤◌, ◌<◌, length}
+use Rattle.std.specs.Prelude.{◌≡◌, true, ℕ, ◌+◌, ◌≤◌, length}
 use Rattle.frames.specs.Cells.{Words}
 use Rattle.frames.specs.Frame.{row_count, is_frame}
 use Rattle.buffer.specs.area.Area.{capacity, moved, written, new_base, pushed}

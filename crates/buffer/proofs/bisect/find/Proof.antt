@@ -14,94 +14,81 @@ use Rattle.searching.proofs.FindLaws.{held_cell, Met, find_true, find_false, fin
 use Rattle.buffer.proofs.bisect.find.Statement.{statement}
 use Rattle.buffer.proofs.bisect.find.Tie as tie
 
-abbrev invariant-loop : tie.invariant-loop
+abbrev invariant-loop : tie.invariant-loop-low
 invariant-loop seek descending nulls-last codes rising j value mark values marks w lower upper low₀ high₀ low high =
     let rule : Rule = record { descending = descending; nulls_last = nulls-last; codes = codes } in
     let v : Cell = cell_of (to_z w64 value) (to_z w64 mark) in
     (high ≤ upper) × ((n : ℕ) → upper ≤ n → find seek rule j v (rows_of w n values marks) lower upper ≡ find seek rule j v (rows_of w n values marks) low high)
 
-abbrev decreases-loop : tie.decreases-loop
+abbrev decreases-loop : tie.decreases-loop-low
 decreases-loop seek descending nulls-last codes rising j value mark values marks w lower upper low₀ high₀ low high = high - low
 
-loop-holds : tie.Need-loop-init invariant-loop decreases-loop
+loop-holds : tie.Need-loop-low-init invariant-loop decreases-loop
 loop-holds c = (omega arith, λ n h. refl)
 
 -- the probe's row is among those that are there
-place : (c : tie.In-loop invariant-loop decreases-loop) → let l = c.before.loop in let a = c.before.before.before.args in (l.low + l.high) / 2 * a.w + a.w ≤ a.upper * a.w
+place : (c : tie.In-loop-low invariant-loop decreases-loop) → let l = c.loop-low in let a = c.args in (l.low + l.high) / 2 * a.w + a.w ≤ a.upper * a.w
 place c =
-    let l = c.before.loop in
-    let a = c.before.before.before.args in
+    let l = c.loop-low in
+    let a = c.args in
     row_room ((l.low + l.high) / 2) a.upper a.w (omega (arith, l.invariant.0))
 
-add-mid : tie.Need-overflow-add-mid invariant-loop decreases-loop
+add-mid : tie.Need-overflow_add-mid invariant-loop decreases-loop
 add-mid c =
-    let a = c.before.before.before.args in
-    let p = c.before.before.before.requires.1 in
+    let a = c.args in
+    let p = c.requires.1 in
     let n = rows_words a.upper a.w (omega (arith, p.wide)) in
     omega arith
 
-mul-probe : tie.Need-overflow-mul-probe invariant-loop decreases-loop
+mul-probe : tie.Need-overflow_mul-mid invariant-loop decreases-loop
 mul-probe c = omega (arith, place c)
 
-add-probe : tie.Need-overflow-add-probe invariant-loop decreases-loop
+add-probe : tie.Need-overflow_add-mid-in-loop-low invariant-loop decreases-loop
 add-probe c = omega (arith, place c)
 
 probe-requires : tie.Need-probe-requires invariant-loop decreases-loop
 probe-requires c κs =
     let p = place c in
-    (c.before.before.before.requires.0, record { values = omega arith; marks = omega arith })
+    (c.requires.0, record { values = omega arith; marks = omega arith })
 
 -- what the probe says is what its row's cell says
 told : (c : tie.After-probe invariant-loop decreases-loop) (t : Bool) → c.probe.result ≡ t → (n : ℕ) →
-    let l = c.before.before.loop in
-    let a = c.before.before.before.before.args in
-    a.upper ≤ n → Met a.seek (record { descending = a.descending; nulls_last = a.nulls-last; codes = a.codes.now }) a.j (cell_of (to_z w64 (of_z w64 a.value)) (to_z w64 (of_z w64 a.mark))) (rows_of a.w n a.values.now a.marks.now) l.low l.high t
+    let l = c.loop-low in
+    let a = c.args in
+    a.upper ≤ n → Met a.seek (record { descending = a.descending; nulls_last = a.nulls_last; codes = a.codes.now }) a.j (cell_of (to_z w64 (of_z w64 a.value)) (to_z w64 (of_z w64 a.mark))) (rows_of a.w n a.values.now a.marks.now) l.low l.high t
 told c t e n h =
-    let l = c.before.before.loop in
-    let s = c.before.before.before.before in
+    let l = c.loop-low in
+    let s = c in
     let a = s.args in
     let p = place c.before in
-    rw (held_cell a.w n ((l.low + l.high) / 2) a.j a.values.now a.marks.now (omega (arith, c.before.loop-test.true, l.invariant.0)) s.requires.1.wide (omega (arith, s.requires.1.values, s.requires.1.wide))) (rw c.probe.ensures at e)
+    rw (held_cell a.w n ((l.low + l.high) / 2) a.j a.values.now a.marks.now (omega (arith, c.loop-low-test.true, l.invariant.0)) s.requires.1.wide (omega (arith, s.requires.1.values, s.requires.1.wide))) (rw c.probe.ensures at e)
 
-loop-less : tie.Need-loop-smaller invariant-loop decreases-loop
+loop-less : tie.Need-loop-low-smaller-then-probe invariant-loop decreases-loop
 loop-less c = omega arith
 
-loop-again : tie.Need-loop-preserved invariant-loop decreases-loop
+loop-again : tie.Need-loop-low-preserved-then-probe invariant-loop decreases-loop
 loop-again c =
-    let l = c.before.before.before.loop in
-    (omega arith, λ n h. l.invariant.1 n h ∙ find_true _ _ _ _ _ _ _ c.before.before.loop-test.true (told c.before true c.if1.true n h))
+    let l = c.loop-low in
+    (omega arith, λ n h. l.invariant.1 n h ∙ find_true _ _ _ _ _ _ _ c.loop-low-test.true (told c.before true c.if-probe.true n h))
 
-add_low : tie.Need-overflow-add-low invariant-loop decreases-loop
+add_low : tie.Need-overflow_add-low invariant-loop decreases-loop
 add_low c = omega arith
 
-loop-less-2 : tie.Need-loop-smaller-2 invariant-loop decreases-loop
+loop-less-2 : tie.Need-loop-low-smaller invariant-loop decreases-loop
 loop-less-2 c = omega arith
 
-loop-again-2 : tie.Need-loop-preserved-2 invariant-loop decreases-loop
+loop-again-2 : tie.Need-loop-low-preserved invariant-loop decreases-loop
 loop-again-2 c =
-    let l = c.before.before.before.loop in
-    (l.invariant.0, λ n h. l.invariant.1 n h ∙ find_false _ _ _ _ _ _ _ c.before.before.loop-test.true (told c.before false c.if1.false n h))
+    let l = c.loop-low in
+    (l.invariant.0, λ n h. l.invariant.1 n h ∙ find_false _ _ _ _ _ _ _ c.loop-low-test.true (told c.before false c.if-probe.false n h))
 
 returns : tie.Need-returns invariant-loop decreases-loop
 returns c = λ n h.
-    let l = c.before.loop in
-    let f = c.before.before.before.ranges in
-    rw (to_z-of_z f.value, to_z-of_z f.mark) at (sym (l.invariant.1 n h ∙ find_end _ _ _ _ _ _ _ c.loop-test.false))
+    let l = c.loop-low in
+    let f = c.ranges in
+    rw (to_z-of_z f.value, to_z-of_z f.mark) at (sym (l.invariant.1 n h ∙ find_end _ _ _ _ _ _ _ c.loop-low-test.false))
 
 pub find_spec : {M : Type 1} → statement M
 find_spec =
     tie.close
-    (tie.spec
-    invariant-loop
-    decreases-loop
-    loop-holds
-    add-mid
-    mul-probe
-    add-probe
-    probe-requires
-    loop-less
-    loop-again
-    add_low
-    loop-less-2
-    loop-again-2
-    returns)
+    (tie.spec invariant-loop decreases-loop loop-holds add-mid mul-probe add-probe probe-requires loop-less loop-again add_low loop-less-2 loop-again-2 returns)

@@ -16,28 +16,28 @@ many-left c = let a = c.args in rows_length a.wl a.nl a.lv.now a.lm.now
 many : (c : tie.Start) → let a = c.args in length (rows_of a.w a.n a.rv.now a.rm.now) ≡ a.n
 many c = let a = c.args in rows_length a.w a.n a.rv.now a.rm.now
 
-chosen : (c : tie.Else2) → c.before.before.before.args.i < c.before.before.before.args.nl
-chosen c = c.before.before.before.requires.0.row (omega (arith, c.before.if1.false))
+chosen : (c : tie.Else-n-eq0) → c.args.i < c.args.nl
+chosen c = c.requires.0.row (omega (arith, c.if-nl-eq0.false))
 
-returns : tie.Need-returns
-returns c = prune_no_left _ _ _ _ _ _ (many-left c.before.before) (many c.before.before) c.if1.true
+returns : tie.Need-returns-then-nl-eq0
+returns c = prune_no_left _ _ _ _ _ _ (many-left c.before.before) (many c.before.before) c.if-nl-eq0.true
 
-returns-2 : tie.Need-returns-2
-returns-2 c = let s = c.before.before.before in prune_no_held _ _ _ _ _ _ (many-left s) (many s) c.before.if1.false c.if2.true
+returns-2 : tie.Need-returns-then-n-eq0
+returns-2 c = let s = c in prune_no_held _ _ _ _ _ _ (many-left s.before.before.before) (many s.before.before.before) c.if-nl-eq0.false c.if-n-eq0.true
 
-mul-split-at : tie.Need-overflow-mul-split-at
-mul-split-at c = let s = c.before.before.before in let r = row_room s.args.i s.args.nl s.args.wl (chosen c) in omega (arith, s.requires.1.values)
+mul-split-at : tie.Need-overflow_mul-i
+mul-split-at c = let s = c in let r = row_room s.args.i s.args.nl s.args.wl (chosen c) in omega (arith, s.requires.1.values)
 
-split-at-requires : tie.Need-split-at-requires
-split-at-requires c κs = let s = c.before.before.before in (row_at s.requires.1 s.args.i (chosen c), s.requires.2)
+split-at-requires : tie.Need-split_at-requires
+split-at-requires c κs = let s = c in (row_at s.requires.1 s.args.i (chosen c), s.requires.2)
 
-returns-3 : tie.Need-returns-3
+returns-3 : tie.Need-returns
 returns-3 c =
-    let e = c.before in
-    let s = e.before.before.before in
+    let e = c in
+    let s = e in
     let a = s.args in
     rw (c.split_at.ensures a.wl s.requires.1.wide)
-    (prune_split _ _ _ _ _ _ (many-left s) (many s) e.before.if1.false e.if2.false _ (rows_from a.wl a.nl a.i a.lv.now a.lm.now (chosen e)))
+    (prune_split _ _ _ _ _ _ (many-left s.before.before.before.before) (many s.before.before.before.before) e.if-nl-eq0.false e.if-n-eq0.false _ (rows_from a.wl a.nl a.i a.lv.now a.lm.now (chosen e.before)))
 
 pub prune_by_spec : {M : Type 1} → statement M
 prune_by_spec = tie.close (tie.spec returns returns-2 mul-split-at split-at-requires returns-3)

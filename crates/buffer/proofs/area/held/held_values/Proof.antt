@@ -9,23 +9,23 @@ use Rattle.buffer.proofs.area.held.held_values.Tie as tie
 room : (c : tie.Start) → let a = c.args in a.base * a.c ≤ length a.area.now
 room c = let a = c.args in (base_room a.c a.base a.area.now c.requires.within).0
 
-mul-p : tie.Need-overflow-mul-p
+mul-p : tie.Need-overflow_mul-p
 mul-p c = omega (arith, room c)
 
-mul-result : tie.Need-overflow-mul-result
+mul-result : tie.Need-offset_bounds-area-p
 mul-result c = omega (arith, room c)
 
-sub-result : tie.Need-overflow-sub-result
+sub-result : tie.Need-slice_bounds-result-count
 sub-result c = omega (arith, room c)
 
-part-result-start : tie.Need-slice-bounds-result-start
+part-result-start : tie.Need-slice_bounds-result-start
 part-result-start c = omega (arith, room c)
 
-part-result-end : tie.Need-slice-bounds-result-end
+part-result-end : tie.Need-slice_bounds-result-end
 part-result-end c = search rules
 
 returns : tie.Need-returns
-returns c = let a = c.before.args in to_end (a.base * a.c) a.area.now
+returns c = let a = c.args in to_end (a.base * a.c) a.area.now
 
 pub held_values_spec : {M : Type 1} → statement M
 held_values_spec =

@@ -7,60 +7,49 @@ use borrow.Author.Rules.{rules}
 use Rattle.buffer.proofs.splitcheck.split.before_split.Statement.{statement}
 use Rattle.buffer.proofs.splitcheck.split.before_split.Tie as tie
 
-enum-known-found : tie.Need-enum-known-found
+enum-known-found : tie.Need-enum_known-found
 enum-known-found c = search rules
 
-enum_told : tie.Need-enum-told
+enum_told : tie.Need-enum_told-1
 enum_told c = search rules
 
-slice-aggregate-result : tie.Need-slice-aggregate-result
-slice-aggregate-result c = let s = c.before.before.before in sym (length-take-le s.args.c s.args.remembered.now s.requires.other)
+slice-aggregate-result : tie.Need-slice_bounds-result-end
+slice-aggregate-result c = let s = c in sym (length-take-le s.args.c s.args.remembered.now s.requires.other)
 
-returns : tie.Need-returns
-returns c = rw c.before.enum_told.given.1
+returns : tie.Need-returns-in_default
+returns c = rw c.in_default.is
 
 -- the row that was found is there
-inside : (c : tie.After-known-told) → let a = c.before.before.before.args in c.before.found.given.0.0 * a.w + a.w ≤ length a.held.now
-inside c = c.before.before.before.requires.inside c.before.found.given.0.0 c.before.found.given.1
+inside : (c : tie.In-At) → let a = c.args in c.in-At.i * a.w + a.w ≤ length a.held.now
+inside c = c.requires.inside c.in-At.i c.in-At.is
 
-mul-p : tie.Need-overflow-mul-p
+mul-p : tie.Need-overflow_mul-p
 mul-p c = let r = inside c in omega arith
 
-add-e : tie.Need-overflow-add-e
+add-e : tie.Need-overflow_add-e
 add-e c = let r = inside c in omega arith
 
-mul-result : tie.Need-overflow-mul-result
+mul-result : tie.Need-offset_bounds-held-p
 mul-result c = let r = inside c in omega arith
 
-sub-result : tie.Need-overflow-sub-result
+sub-result : tie.Need-slice_bounds-result-count
 sub-result c = search rules
 
-part-result-start : tie.Need-slice-bounds-result-start
+part-result-start : tie.Need-slice_bounds-result-start
 part-result-start c = search rules
 
-part-result-end : tie.Need-slice-bounds-result-end
+part-result-end : tie.Need-slice_bounds-result-end-2
 part-result-end c = omega (arith, inside c)
 
-returns-2 : tie.Need-returns-2
+returns-2 : tie.Need-returns
 returns-2 c =
-    let k = c.before in
-    let a = k.before.before.before.args in
-    let i = k.before.found.given.0.0 in
+    let k = c in
+    let a = k.args in
+    let i = k.in-At.i in
     let e : i * a.w + a.w - i * a.w ≡ a.w = omega arith in
-    rw (k.before.found.given.1, e)
+    rw (k.in-At.is, e)
 
 pub before_split_spec : {M : Type 1} → statement M
 before_split_spec =
     tie.close
-    (tie.spec
-    enum-known-found
-    enum_told
-    slice-aggregate-result
-    returns
-    mul-p
-    add-e
-    mul-result
-    sub-result
-    part-result-start
-    part-result-end
-    returns-2)
+    (tie.spec enum-known-found enum_told slice-aggregate-result returns mul-p add-e mul-result sub-result part-result-start part-result-end returns-2)

@@ -1,5 +1,5 @@
-use mathlib.Core.Path.{◌≡◌, ap, ◌∙◌}
-use Prim.Native.Nat.{◌+◌, ◌*◌, ◌≤◌}
+use mathlib.Core.Path.{ap, ◌∙◌}
+use Prim.Native.Nat.{◌*◌}
 use native.Mathlib.Omega.{arith}
 use Rattle.frames.specs.Cells.{row_from, rows_of}
 use Rattle.order.specs.options.Options.{without_list, columns}
@@ -10,51 +10,44 @@ use borrow.Author.Rules.{rules}
 use Rattle.buffer.proofs.splitcheck.split.remember_found.Statement.{statement}
 use Rattle.buffer.proofs.splitcheck.split.remember_found.Tie as tie
 
-enum-known-found : tie.Need-enum-known-found
+enum-known-found : tie.Need-enum_known-found
 enum-known-found c = search rules
 
-enum_told : tie.Need-enum-told
+enum_told : tie.Need-enum_told-1
 enum_told c = search rules
 
-returns : tie.Need-returns
-returns c = λ n k. let a = c.before.before.args in remember_nothing (without_list a.o) _ (rows_of a.w n a.values.now a.marks.now) a.found c.enum_told.given.1
+returns : tie.Need-returns-in_default
+returns c = λ n k. let a = c.args in remember_nothing (without_list a.o) _ (rows_of a.w n a.values.now a.marks.now) a.found c.in_default.is
 
-left-columns-requires : tie.Need-left-columns-requires
-left-columns-requires c κs = c.before.before.before.requires.few.by
+left-columns-requires : tie.Need-left_columns-c-requires
+left-columns-requires c κs = c.requires.few.by
 
-mul-copy-row : tie.Need-overflow-mul-copy-row
+mul-copy-row : tie.Need-overflow_mul-i
 mul-copy-row c =
-    let k = c.before in
-    omega (arith, k.before.before.before.requires.values k.before.found.given.0.0 k.before.found.given.1)
+    let k = c in
+    omega (arith, k.requires.values k.in-At.i k.in-At.is)
 
-copy-row-requires : tie.Need-copy-row-requires
+copy-row-requires : tie.Need-copy_row-requires
 copy-row-requires c κs =
-    let k = c.before in
-    let q = k.before.before.before.requires in
-    let i = k.before.found.given.0.0 in
-    let e = k.before.found.given.1 in
-    let l = c.left-columns.ensures in
+    let k = c in
+    let q = k.requires in
+    let i = k.in-At.i in
+    let e = k.in-At.is in
+    let l = c.left_columns-c.ensures in
     record { narrow = omega (arith, q.few); values = omega (arith, q.values i e, q.wide); marks = omega (arith, q.marks i e, q.wide) }
 
-returns-2 : tie.Need-returns-2
+returns-2 : tie.Need-returns
 returns-2 c = λ n h.
-    let k = c.before.before in
-    let s = k.before.before.before in
+    let k = c in
+    let s = k in
     let a = s.args in
-    let i = k.before.found.given.0.0 in
-    let e = k.before.found.given.1 in
-    rw c.before.left-columns.ensures at c.copy-row.ensures
+    let i = k.in-At.i in
+    let e = k.in-At.is in
+    rw c.left_columns-c.ensures at c.copy_row.ensures
     ∙ remember_at_lem (without_list a.o) _ (rows_of a.w n a.values.now a.marks.now) a.found i (row_from (columns (without_list a.o)) (i * a.w) a.values.now a.marks.now) e
     (ap (compared (without_list a.o)) (rows_from a.w n i a.values.now a.marks.now (h i e)) ∙ compared_from (without_list a.o) a.w (i * a.w) a.values.now a.marks.now s.requires.wide)
 
 pub remember_found_spec : {M : Type 1} → statement M
 remember_found_spec =
     tie.close
-    (tie.spec
-    enum-known-found
-    enum_told
-    returns
-    left-columns-requires
-    mul-copy-row
-    copy-row-requires
-    returns-2)
+    (tie.spec enum-known-found enum_told returns left-columns-requires mul-copy-row copy-row-requires returns-2)
