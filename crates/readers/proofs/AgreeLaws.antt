@@ -1,17 +1,15 @@
 -- The two readers agree. Assumes nothing.
 use mathlib.Core.Path.{◌≡◌, refl, sym, ap, ◌∙◌}
-use mathlib.Core.Bool.{Bool, true, false, cond, not, ◌&&◌}
+use mathlib.Core.Bool.{Bool, true, false, cond, not}
 use mathlib.Core.List.{List, [], ◌∷◌, map}
 use Prim.Native.Nat.{ℕ, zero, suc, ◌≤◌, ◌<◌}
 use native.Mathlib.Omega.{arith}
 use borrow.Author.Tests.{le-leb}
 use lib.Dec.{ltb}
-use lib.IntN.{pos}
-use lib.Signed.{le_z}
-use lib.ListN.{length, get_or, take, length-map}
+use lib.ListN.{length, take, length-map}
 use lib.Seq.{get_or-take, length-take-le}
 use Rattle.frames.specs.Cells.{Cell, null, Rows, Words}
-use Rattle.frames.specs.Frame.{row_count, is_table, is_frame, frame_rows}
+use Rattle.frames.specs.Frame.{row_count, is_frame, frame_rows}
 use Rattle.frames.proofs.FrameLaws.{frame_rows_lem, frame_wide}
 use Rattle.frames.proofs.FrontLaws.{frame_few}
 use Rattle.order.proofs.SortedLaws.{All, all_by}
@@ -20,10 +18,9 @@ use Rattle.tables.proofs.TableLaws.{Wide, table_is, table_rows_lem}
 use Rattle.frames.specs.declared.refusals.Refusal.TheVariants.{TooManyCarried, BadColumns}
 use Rattle.readers.specs.declared.Viewed.{Viewed}
 use Rattle.readers.specs.declared.Viewed.TheVariants.{Frame, Refused}
-use Rattle.readers.specs.declared.Shown.{Shown}
 use Rattle.readers.specs.declared.Shown.TheVariants.{Refused as Unshown}
-use Rattle.readers.specs.Reader.{plain_knows, distance_knows, cell_in, shown, read_in, view_by, read_by, without_last}
-use Rattle.readers.specs.Laws.{Agree, Agreement}
+use Rattle.readers.specs.Reader.{plain_knows, distance_knows, cell_in, shown, read_in, read_by, without_last}
+use Rattle.readers.specs.Laws.{Agreement}
 use Rattle.readers.proofs.ViewLaws.{view_frame, plain_knows_lem, plain_not, distance_knows_plain, distance_knows_lem}
 
 -- ---- what a reader shows of a frame of c columns

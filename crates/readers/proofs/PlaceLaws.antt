@@ -4,27 +4,23 @@ use mathlib.Core.Bool.{Bool, true, false}
 use mathlib.Core.List.{List, [], ◌∷◌}
 use Prim.Native.Nat.{ℕ, zero, suc, ◌+◌, ◌*◌, ◌≤◌, ◌<◌}
 use native.Mathlib.Omega.{arith}
-use borrow.Author.Tests.{lt-ltb, le-ltb, le-leb, ltb-true, ltb-false, leb-true}
+use borrow.Author.Tests.{lt-ltb, le-ltb, le-leb, ltb-true, ltb-false}
 use lib.Dec.{ltb, leb}
 use lib.IntN.{ℤ, pos}
 use lib.ListN.{length, drop, get_or}
 use lib.Seq.{get_or-take, get_or-drop}
-use Rattle.frames.specs.Cells.{Cell, null, cell, value_word, mark_word, Rows, Words}
+use Rattle.frames.specs.Cells.{Cell, null, cell, mark_word, Words}
 use Rattle.frames.specs.Frame.{row_count, frame_words, values_in, marks_in, is_frame, frame_rows}
 use Rattle.frames.proofs.FrameLaws.{frame_length, values_length, marks_length, frame_rows_lem, frame_wide}
 use Rattle.frames.proofs.FrontLaws.{frame_parts}
 use Rattle.order.specs.Requires.{cell_at}
 use Rattle.order.proofs.RowLaws.{row_cell, rows_from, row_room}
 use Rattle.tables.proofs.CellLaws.{fine_at}
-use Rattle.frames.specs.declared.refusals.Refusal.{Refusal}
 use Rattle.readers.specs.declared.Viewed.{Viewed}
-use Rattle.readers.specs.declared.Viewed.TheVariants.{Frame, Refused}
-use Rattle.readers.specs.declared.CellWords.{CellWords}
-use Rattle.readers.specs.declared.Shown.{Shown}
-use Rattle.readers.specs.declared.Shown.TheVariants.{Pair, Refused as Unshown}
-use Rattle.readers.specs.Reader.{cell_in, shown, read_in, view_by, read_by}
+use Rattle.readers.specs.declared.Shown.TheVariants.{Pair}
+use Rattle.readers.specs.Reader.{cell_in, shown, read_in, read_by}
 use Rattle.readers.specs.Places.{Place, place_words, null_words, shown_at}
-use Rattle.readers.specs.Laws.{pair_of, ViewReads, ViewsRead}
+use Rattle.readers.specs.Laws.{pair_of, ViewsRead}
 use Rattle.readers.proofs.ViewLaws.{view_told}
 
 -- ---- by counts and words alone

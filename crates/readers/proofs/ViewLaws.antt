@@ -1,7 +1,6 @@
 -- What a view tells, test by test. Assumes nothing.
-use mathlib.Core.Path.{◌≡◌, refl, sym, ap, ◌∙◌}
+use mathlib.Core.Path.{◌≡◌, refl, sym, ◌∙◌}
 use mathlib.Core.Bool.{Bool, true, false, cond, not, ◌||◌}
-use mathlib.Core.List.{[], ◌∷◌}
 use Prim.Native.Nat.{ℕ, suc, ◌+◌, ◌≤◌, ◌<◌}
 use native.Mathlib.Omega.{arith}
 use borrow.Author.Tests.{lt-ltb, le-ltb, le-leb, eq-eqb, ne_eqb, eqb-true}
@@ -10,12 +9,10 @@ use lib.IntN.{ℤ, pos, negsuc, nat_abs}
 use lib.Signed.{lt_z, le_z}
 use lib.ListN.{length, get_or}
 use Rattle.frames.specs.Cells.{Words}
-use Rattle.frames.specs.Frame.{same_z, row_count, is_table, is_frame}
+use Rattle.frames.specs.Frame.{same_z, row_count, is_frame}
 use Rattle.frames.specs.Front.{HasCount}
 use Rattle.frames.proofs.FrontLaws.{same_negative, table_short, table_other_columns, frame_parts, frame_count}
-use Rattle.frames.specs.declared.refusals.Refusal.{Refusal}
 use Rattle.frames.specs.declared.refusals.Refusal.TheVariants.{BadFrame, TooManyCarried, BadColumns}
-use Rattle.readers.specs.declared.Viewed.{Viewed}
 use Rattle.readers.specs.declared.Viewed.TheVariants.{Frame, Refused}
 use Rattle.readers.specs.Reader.{column_count, framed, plain_knows, distance_knows, known_by, view_by}
 use Rattle.readers.specs.Places.{HasColumns}

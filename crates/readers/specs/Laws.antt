@@ -4,7 +4,6 @@ use Rattle.frames.specs.Cells.{Words}
 use Rattle.frames.specs.Frame.{is_frame}
 use Rattle.frames.specs.declared.refusals.Refusal.{Refusal}
 use Rattle.frames.specs.declared.refusals.Refusal.TheVariants.{TooManyCarried, BadColumns}
-use Rattle.readers.specs.declared.Viewed.{Viewed}
 use Rattle.readers.specs.declared.Viewed.TheVariants.{Frame, Refused}
 use Rattle.readers.specs.declared.CellWords.{CellWords}
 use Rattle.readers.specs.declared.Shown.{Shown}

@@ -6,27 +6,25 @@ use Prim.Native.Nat.{ℕ, zero, suc, ◌-◌, ◌≤◌, ◌<◌}
 use native.Mathlib.Omega.{arith}
 use borrow.Author.Tests.{le-ltb}
 use lib.Dec.{ltb}
-use lib.IntN.{pos}
-use lib.ListN.{length, get_or, replicate, length-append, get_or-append}
-use Rattle.frames.specs.Cells.{Cell, null, value, cell, Rows, Words}
+use lib.ListN.{length, get_or, replicate, get_or-append}
+use Rattle.frames.specs.Cells.{Cell, null, cell, Rows, Words}
 use Rattle.frames.specs.Frame.{is_frame, frame_rows}
 use Rattle.order.specs.options.Options.{columns, shared_columns, answer_columns}
 use Rattle.order.specs.declared.options.Options.{Options}
-use Rattle.tables.specs.Table.{table_of}
 use Rattle.tables.proofs.TableLaws.{table_rows_lem}
 use Rattle.matching.specs.Answer.{cells_from, answer_row, answer_rows}
 use Rattle.matching.specs.Groups.{match_frame}
 use Rattle.matching.specs.declared.Choice.{Choice}
 use Rattle.matching.specs.declared.Choice.TheVariants.{Row, Nothing}
-use Rattle.matching.proofs.AnswerRows.{row_wide, answer_wide, answer_count}
+use Rattle.matching.proofs.AnswerRows.{answer_wide, answer_count}
 use Rattle.matching.proofs.GroupLaws.{frame_length}
 use Rattle.frames.specs.declared.refusals.Refusal.TheVariants.{TooManyCarried, BadColumns}
 use Rattle.readers.specs.declared.Shown.{Shown}
 use Rattle.readers.specs.declared.Shown.TheVariants.{Refused}
-use Rattle.readers.specs.Reader.{plain_knows, distance_knows, shown, cell_in, read_plain, read_distance}
+use Rattle.readers.specs.Reader.{plain_knows, distance_knows, shown, cell_in, read_distance}
 use Rattle.readers.proofs.ViewLaws.{plain_knows_lem, plain_not, distance_knows_plain, distance_knows_lem}
 use Rattle.readers.proofs.AgreeLaws.{read_known, read_unknown, frame_made}
-use Rattle.readers.specs.readerlaws.Prices.{sharedRow, distance_of, answerFrame, sharedRows, NoDistanceAsPrice, NeverAsPrice, TurnsShown}
+use Rattle.readers.specs.readerlaws.Prices.{sharedRow, distance_of, answerFrame, NoDistanceAsPrice, NeverAsPrice, TurnsShown}
 
 -- ---- lists
 seam : (A : List Cell) (d : Cell) (n : ℕ) → length A ≡ n → get_or (A ++ d ∷ []) n null ≡ d

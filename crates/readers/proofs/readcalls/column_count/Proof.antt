@@ -8,14 +8,14 @@ use borrow.Author.Rules.{rules}
 use Rattle.readers.proofs.readcalls.column_count.Statement.{statement}
 use Rattle.readers.proofs.readcalls.column_count.Tie as tie
 
-shared-slice-copy-out-result : tie.Need-shared-slice-copy-out-result
+shared-slice-copy-out-result : tie.Need-bounds-frame-1
 shared-slice-copy-out-result c = search rules
 
-cast-result : tie.Need-overflow-cast-result
+cast-result : tie.Need-overflow_cast-result
 cast-result c =
-    let z = get_or c.before.args.frame.now 1 (pos 0) in
-    let f = from_zero_word z c.before.requires.counted c.result.given in
-    rw (back z c.result.given) (f.0, omega (arith, f.1))
+    let z = get_or c.args.frame.now 1 (pos 0) in
+    let f = from_zero_word z c.requires.counted c.result-1.given in
+    rw (back z c.result-1.given) (f.0, omega (arith, f.1))
 
 returns : tie.Need-returns
 returns c = search rules

@@ -5,24 +5,24 @@ use borrow.Author.Rules.{rules}
 use Rattle.readers.proofs.readcalls.knows.Statement.{statement}
 use Rattle.readers.proofs.readcalls.knows.Tie as tie
 
-add-if1 : tie.Need-overflow-add-if1
+add-if1 : tie.Need-overflow_add-p
 add-if1 c = search rules
 
-returns : tie.Need-returns
-returns c = sym (knows_shared c.before.args.p c.before.args.c c.before.args.distance c.if1.true)
+returns : tie.Need-returns-then-c-p
+returns c = sym (knows_shared c.args.p c.args.c c.args.distance c.if-c-p.true)
 
-add-result : tie.Need-overflow-add-result
+add-result : tie.Need-overflow_add-result
 add-result c = search rules
 
-returns-2 : tie.Need-returns-2
+returns-2 : tie.Need-returns-then-distance
 returns-2 c =
-    let a = c.before.before.args in
-    sym (knows_last a.p a.c a.distance c.if2.true c.before.if1.false)
+    let a = c.args in
+    sym (knows_last a.p a.c a.distance c.if-distance.true c.if-c-p.false)
 
-returns-3 : tie.Need-returns-3
+returns-3 : tie.Need-returns
 returns-3 c =
-    let a = c.before.before.args in
-    sym (knows_no a.p a.c a.distance c.if2.false c.before.if1.false)
+    let a = c.args in
+    sym (knows_no a.p a.c a.distance c.if-distance.false c.if-c-p.false)
 
 pub knows_spec : {M : Type 1} → statement M
 knows_spec = tie.close (tie.spec add-if1 returns add-result returns-2 returns-3)

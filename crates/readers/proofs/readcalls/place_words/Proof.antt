@@ -1,40 +1,39 @@
 -- `readcalls::place_words` meets its contract. Assumes nothing.
-use mathlib.Core.Path.{◌≡◌}
 use native.Mathlib.Omega.{arith}
 use Rattle.readers.proofs.PlaceLaws.{place_room}
 use borrow.Author.Rules.{rules}
 use Rattle.readers.proofs.readcalls.place_words.Statement.{statement}
 use Rattle.readers.proofs.readcalls.place_words.Tie as tie
 
-mul-k : tie.Need-overflow-mul-k
+mul-k : tie.Need-overflow_mul-k
 mul-k c = omega (arith, place_room _ _ _ _ _ c.requires, c.requires.long)
 
-add-k : tie.Need-overflow-add-k
+add-k : tie.Need-overflow_add-k
 add-k c = omega (arith, place_room _ _ _ _ _ c.requires, c.requires.long)
 
-mul-m : tie.Need-overflow-mul-m
+mul-m : tie.Need-overflow_mul-m
 mul-m c = search rules
 
-add-t8 : tie.Need-overflow-add-t8
+add-t8 : tie.Need-overflow_add-result
 add-t8 c = omega (arith, place_room _ _ _ _ _ c.requires, c.requires.long)
 
-mul-t9 : tie.Need-overflow-mul-t9
+mul-t9 : tie.Need-offset_bounds-frame-k
 mul-t9 c = omega (arith, place_room _ _ _ _ _ c.requires, c.requires.long)
 
-shared-slice-copy-out-t11 : tie.Need-shared-slice-copy-out-t11
+shared-slice-copy-out-t11 : tie.Need-bounds-frame-k
 shared-slice-copy-out-t11 c = omega (arith, place_room _ _ _ _ _ c.requires, c.requires.long)
 
-add-t12 : tie.Need-overflow-add-t12
-add-t12 c = omega (arith, place_room _ _ _ _ _ c.before.requires, c.before.requires.long)
+add-t12 : tie.Need-overflow_add-result-2
+add-t12 c = omega (arith, place_room _ _ _ _ _ c.requires, c.requires.long)
 
-add-t13 : tie.Need-overflow-add-t13
-add-t13 c = omega (arith, place_room _ _ _ _ _ c.before.requires, c.before.requires.long)
+add-t13 : tie.Need-overflow_add-result-3
+add-t13 c = omega (arith, place_room _ _ _ _ _ c.requires, c.requires.long)
 
-mul-t14 : tie.Need-overflow-mul-t14
-mul-t14 c = omega (arith, place_room _ _ _ _ _ c.before.requires, c.before.requires.long)
+mul-t14 : tie.Need-offset_bounds-frame-m
+mul-t14 c = omega (arith, place_room _ _ _ _ _ c.requires, c.requires.long)
 
-shared-slice-copy-out-t16 : tie.Need-shared-slice-copy-out-t16
-shared-slice-copy-out-t16 c = omega (arith, place_room _ _ _ _ _ c.before.requires, c.before.requires.long)
+shared-slice-copy-out-t16 : tie.Need-bounds-frame-m
+shared-slice-copy-out-t16 c = omega (arith, place_room _ _ _ _ _ c.requires, c.requires.long)
 
 returns : tie.Need-returns
 returns c = search rules
