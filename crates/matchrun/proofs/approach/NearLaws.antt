@@ -14,7 +14,6 @@ use Rattle.order.specs.Order.{cmp_cell}
 use Rattle.order.proofs.OrderLaws.{IsOrder, cmp_cell_is, at_most, greater_less, three_less}
 use Rattle.order.proofs.KeyLaws.{nearer_below}
 use Rattle.order.specs.declared.options.Strategy.TheVariants.{Nearest}
-use Rattle.matching.specs.Match.{nearer}
 use Rattle.matching.specs.Moves.{NotAbove, Rising, Behind, Stopped}
 use Rattle.matching.proofs.MayLaws.{never, is_false, nearer_least, nearer_by}
 use Rattle.matching.proofs.CursorLaws.{moved}

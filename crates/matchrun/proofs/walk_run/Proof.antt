@@ -23,154 +23,138 @@ left_rising c =
 right_rising : (c : tie.Start) → Rising (key_at (without_list c.args.o) c.args.wr c.args.rv.now c.args.rm.now) c.args.at c.args.end
 right_rising c = let a = c.args in sorted_rising (without_list a.o) a.wr a.rv.now a.rm.now a.at a.end c.requires.room.right c.requires.right
 
-first-key-requires : tie.Need-first-key-requires
+first-key-requires : tie.Need-first_key-start-requires
 first-key-requires c κs = search rules
 
-put-nothing-requires : tie.Need-put-nothing-requires
+put-nothing-requires : tie.Need-put_nothing-requires
 put-nothing-requires c κs = search rules
 
-sub-result : tie.Need-overflow-sub-result
+sub-result : tie.Need-overflow_sub-result
 sub-result c = search rules
 
-sub-result-2 : tie.Need-overflow-sub-result-2
+sub-result-2 : tie.Need-overflow_sub-result-then-start-end
 sub-result-2 c = search rules
 
 -- as many moves as both runs have rows are a word
 few-moves : (s : tie.Start) → s.args.to + s.args.end < 2 ^ 63 + 2 ^ 63
 few-moves s =
     let p = s.requires.room in
-    let g = s.well-formed.1.1.1.1.1.1.1.1.1.1.1.1.1.0 in
+    let g = s.well_formed.1.1.1.1.1.1.1.1.1.1.1.1.1.0 in
     omega (arith, p.within, p.room, p.numbers, g.0, g.1)
 
-add-result : tie.Need-overflow-add-result
+add-result : tie.Need-overflow_add-result
 add-result c = omega (arith, few-moves c.before.before.before.before.before)
 
-same_length : tie.Need-same-length
+same_length : tie.Need-shape_of-out-then-start-end
 same_length c = search rules
 
-returns : tie.Need-returns
+returns : tie.Need-returns-then-start-end
 returns c =
-    let k = c.before.before.before.before in
-    let s = k.before in
+    let k = c in
+    let s = k in
     let a = s.args in
     let o = without_list a.o in (
-      omega (arith, between_length a.wl a.lv.now a.lm.now a.from a.to, rights_alone o a.wr a.at a.end a.rv.now a.rm.now s.requires.room.right k.first_key.result k.first_key.ensures c.before.before.before.if1.true (between a.wl a.from a.to a.lv.now a.lm.now)),
-      c.before.put-nothing.ensures (match_in o (a.number + a.at) (between a.wr a.at a.end a.rv.now a.rm.now)) a.wl a.lv.now a.lm.now
-          (λ j l h. right_none o a.wr a.at a.end a.rv.now a.rm.now s.requires.room.right k.first_key.result k.first_key.ensures c.before.before.before.if1.true (a.number + a.at) _),
+      omega (arith, between_length a.wl a.lv.now a.lm.now a.from a.to, rights_alone o a.wr a.at a.end a.rv.now a.rm.now s.requires.room.right k.first_key-start.result k.first_key-start.ensures c.if-start-end.true (between a.wl a.from a.to a.lv.now a.lm.now)),
+      c.put_nothing.ensures (match_in o (a.number + a.at) (between a.wr a.at a.end a.rv.now a.rm.now)) a.wl a.lv.now a.lm.now
+          (λ j l h. right_none o a.wr a.at a.end a.rv.now a.rm.now s.requires.room.right k.first_key-start.result k.first_key-start.ensures c.if-start-end.true (a.number + a.at) _),
     )
 
-first-key-requires-2 : tie.Need-first-key-requires-2
+first-key-requires-2 : tie.Need-first_key-first-requires
 first-key-requires-2 c κs = search rules
 
-put-nothing-requires-2 : tie.Need-put-nothing-requires-2
+put-nothing-requires-2 : tie.Need-put_nothing-requires-2
 put-nothing-requires-2 c κs = search rules
 
-walk-keys-requires : tie.Need-walk-keys-requires
+walk-keys-requires : tie.Need-walk_keys-moves-requires
 walk-keys-requires c κs =
-    let l = c.before.before.before.before in
-    let k = l.before.before in
-    let s = k.before in
+    let l = c in
+    let k = l in
+    let s = k in
     let a = s.args in
     let o = without_list a.o in
     let r = s.requires.room in
-    let x = l.first-key2.ensures in
-    let y = k.first_key.ensures in (
+    let x = l.first_key-first.ensures in
+    let y = k.first_key-start.ensures in (
       record {
         few = r.left.few.by;
         left_wide = r.left.wide;
         left_values = r.left.values;
-        left_rising = keyed_rising o a.wl a.from a.to a.lv.now a.lm.now r.left l.first-key2.result x (left_rising s);
+        left_rising = keyed_rising o a.wl a.from a.to a.lv.now a.lm.now r.left l.first_key-first.result x (left_rising s.before.before.before.before.before.before.before);
         upward = x.within;
         within = r.within;
         right_wide = r.right.wide;
         right_values = r.right.values;
-        right_rising = keyed_rising o a.wr a.at a.end a.rv.now a.rm.now r.right k.first_key.result y (right_rising s);
+        right_rising = keyed_rising o a.wr a.at a.end a.rv.now a.rm.now r.right k.first_key-start.result y (right_rising s.before.before.before.before.before.before.before);
         run = y.within;
         numbers = r.numbers;
-        room = omega (arith, r.room, c.before.before.put-nothing2.auto.0);
+        room = omega (arith, r.room, c.put_nothing-2.auto.out);
       },
-      omega (arith, y.within, l.before.if1.false),
+      omega (arith, y.within, l.if-start-end.false),
     )
 
-sub-result-3 : tie.Need-overflow-sub-result-3
+sub-result-3 : tie.Need-overflow_sub-result-2
 sub-result-3 c = search rules
 
-sub-result-4 : tie.Need-overflow-sub-result-4
+sub-result-4 : tie.Need-overflow_sub-result-3
 sub-result-4 c = search rules
 
-add-result-2 : tie.Need-overflow-add-result-2
+add-result-2 : tie.Need-overflow_add-result-2
 add-result-2 c =
-    let l = c.before.before.before.before.before.before in
-    let k = l.before.before in
-    omega (arith, few-moves k.before, l.first-key2.ensures.within, k.first_key.ensures.within)
+    let l = c in
+    let k = l in
+    omega (arith, few-moves k.before.before.before.before.before.before.before.before.before, l.first_key-first.ensures.within, k.first_key-start.ensures.within)
 
 -- the moves of both cursors from their first keys on
-walked : (c : tie.After-out3) →
-    let l = c.before.before.before.before.before.before in
-    let k = l.before.before in
-    let a = k.before.args in
-    c.before.walk-keys.result ≡ length (walk_on (without_list a.o) (between a.wl l.first-key2.result a.to a.lv.now a.lm.now) (between a.wr k.first_key.result a.end a.rv.now a.rm.now))
+walked : (c : tie.After-out-3-1) →
+    let l = c in
+    let k = l in
+    let a = k.args in
+    c.walk_keys-moves.result ≡ length (walk_on (without_list a.o) (between a.wl l.first_key-first.result a.to a.lv.now a.lm.now) (between a.wr k.first_key-start.result a.end a.rv.now a.rm.now))
 walked c =
-    let l = c.before.before.before.before.before.before in
-    let k = l.before.before in
-    let s = k.before in
+    let l = c in
+    let k = l in
+    let s = k in
     let a = s.args in
     let o = without_list a.o in
     let r = s.requires.room in
-    c.before.walk-keys.ensures.counted a.lm.now a.rm.now
-    (marked o a.wl a.from a.to a.lv.now a.lm.now r.left l.first-key2.result l.first-key2.ensures (left_rising s))
-    (marked o a.wr a.at a.end a.rv.now a.rm.now r.right k.first_key.result k.first_key.ensures (right_rising s))
+    c.walk_keys-moves.ensures.counted a.lm.now a.rm.now
+    (marked o a.wl a.from a.to a.lv.now a.lm.now r.left l.first_key-first.result l.first_key-first.ensures (left_rising s.before.before.before.before.before.before.before.before.before))
+    (marked o a.wr a.at a.end a.rv.now a.rm.now r.right k.first_key-start.result k.first_key-start.ensures (right_rising s.before.before.before.before.before.before.before.before.before))
 
-add-result-3 : tie.Need-overflow-add-result-3
+add-result-3 : tie.Need-overflow_add-result-3
 add-result-3 c =
-    let l = c.before.before.before.before.before.before in
-    let k = l.before.before in
-    let a = k.before.args in
-    let ls = between a.wl l.first-key2.result a.to a.lv.now a.lm.now in
-    let rs = between a.wr k.first_key.result a.end a.rv.now a.rm.now in
-    omega (arith, walked c, walk_most (without_list a.o) ls rs, between_length a.wl a.lv.now a.lm.now l.first-key2.result a.to, between_length a.wr a.rv.now a.rm.now k.first_key.result a.end, few-moves k.before, l.first-key2.ensures.start, l.first-key2.ensures.within, k.first_key.ensures.start, k.first_key.ensures.within)
+    let l = c in
+    let k = l in
+    let a = k.args in
+    let ls = between a.wl l.first_key-first.result a.to a.lv.now a.lm.now in
+    let rs = between a.wr k.first_key-start.result a.end a.rv.now a.rm.now in
+    omega (arith, walked c, walk_most (without_list a.o) ls rs, between_length a.wl a.lv.now a.lm.now l.first_key-first.result a.to, between_length a.wr a.rv.now a.rm.now k.first_key-start.result a.end, few-moves k.before.before.before.before.before.before.before.before.before, l.first_key-first.ensures.start, l.first_key-first.ensures.within, k.first_key-start.ensures.start, k.first_key-start.ensures.within)
 
-same-length-2 : tie.Need-same-length-2
+same-length-2 : tie.Need-shape_of-out
 same-length-2 c = search rules
 
-returns-2 : tie.Need-returns-2
+returns-2 : tie.Need-returns
 returns-2 c =
-    let l = c.before.before.before.before.before.before in
-    let k = l.before.before in
-    let s = k.before in
+    let l = c in
+    let k = l in
+    let s = k in
     let a = s.args in
     let o = without_list a.o in
     let r = s.requires.room in
-    let x = l.first-key2.ensures in
-    let y = k.first_key.ensures in
-    let e = c.before.walk-keys.ensures in
+    let x = l.first_key-first.ensures in
+    let y = k.first_key-start.ensures in
+    let e = c.walk_keys-moves.ensures in
     let f = match_in o (a.number + a.at) (between a.wr a.at a.end a.rv.now a.rm.now) in
-    let g = match_in o (a.number + k.first_key.result) (between a.wr k.first_key.result a.end a.rv.now a.rm.now) in
-    let ml = marked o a.wl a.from a.to a.lv.now a.lm.now r.left l.first-key2.result x (left_rising s) in
-    let mr = marked o a.wr a.at a.end a.rv.now a.rm.now r.right k.first_key.result y (right_rising s) in
-    let n = c.before.before.before.before.put-nothing2.ensures f a.wl a.lv.now a.lm.now (λ j i h. left_null o a.wl a.from a.to a.lv.now a.lm.now r.left l.first-key2.result x (a.number + a.at) _ j i h) in
-    let same = right_cut o a.wr a.at a.end a.rv.now a.rm.now r.right k.first_key.result y a.number in (
-      omega (arith, walked c, lefts_moved o a.wl a.from a.to a.lv.now a.lm.now r.left l.first-key2.result x (between a.wr k.first_key.result a.end a.rv.now a.rm.now), rights_moved o a.wr a.at a.end a.rv.now a.rm.now r.right k.first_key.result y (between a.wl a.from a.to a.lv.now a.lm.now)),
-      e.laid a.lm.now a.rm.now ml mr ∙ rw n (lay_two a.m a.wl a.lv.now a.lm.now f g a.from l.first-key2.result a.to x.start x.within same a.out.now),
+    let g = match_in o (a.number + k.first_key-start.result) (between a.wr k.first_key-start.result a.end a.rv.now a.rm.now) in
+    let ml = marked o a.wl a.from a.to a.lv.now a.lm.now r.left l.first_key-first.result x (left_rising s.before.before.before.before.before.before.before.before.before) in
+    let mr = marked o a.wr a.at a.end a.rv.now a.rm.now r.right k.first_key-start.result y (right_rising s.before.before.before.before.before.before.before.before.before) in
+    let n = c.put_nothing-2.ensures f a.wl a.lv.now a.lm.now (λ j i h. left_null o a.wl a.from a.to a.lv.now a.lm.now r.left l.first_key-first.result x (a.number + a.at) _ j i h) in
+    let same = right_cut o a.wr a.at a.end a.rv.now a.rm.now r.right k.first_key-start.result y a.number in (
+      omega (arith, walked c, lefts_moved o a.wl a.from a.to a.lv.now a.lm.now r.left l.first_key-first.result x (between a.wr k.first_key-start.result a.end a.rv.now a.rm.now), rights_moved o a.wr a.at a.end a.rv.now a.rm.now r.right k.first_key-start.result y (between a.wl a.from a.to a.lv.now a.lm.now)),
+      e.laid a.lm.now a.rm.now ml mr ∙ rw n (lay_two a.m a.wl a.lv.now a.lm.now f g a.from l.first_key-first.result a.to x.start x.within same a.out.now),
     )
 
 pub walk_run_spec : {M : Type 1} → statement M
 walk_run_spec =
     tie.close
-    (tie.spec
-    first-key-requires
-    put-nothing-requires
-    sub-result
-    sub-result-2
-    add-result
-    same_length
-    returns
-    first-key-requires-2
-    put-nothing-requires-2
-    walk-keys-requires
-    sub-result-3
-    sub-result-4
-    add-result-2
-    add-result-3
-    same-length-2
-    returns-2)
+    (tie.spec first-key-requires put-nothing-requires sub-result sub-result-2 add-result same_length returns first-key-requires-2 put-nothing-requires-2 walk-keys-requires sub-result-3 sub-result-4 add-result-2 add-result-3 same-length-2 returns-2)

@@ -4,16 +4,16 @@ use Rattle.matchrun.proofs.advance.BelowLaws.{next_fits, below_strict, below_nex
 use Rattle.matchrun.proofs.advance.bound.Statement.{statement}
 use Rattle.matchrun.proofs.advance.bound.Tie as tie
 
-add-result : tie.Need-overflow-add-result
-add-result c = let s = c.before in rw (to_z-of_z s.ranges.v) (record { sfits = next_fits s.args.v s.ranges.v.sfits s.requires })
+add-result : tie.Need-overflow_add-result
+add-result c = let s = c in rw (to_z-of_z s.ranges.v) (record { sfits = next_fits s.args.v s.ranges.v.sfits s.requires })
 
-returns : tie.Need-returns
+returns : tie.Need-returns-then-inclusive
 returns c = λ a.
-    let s = c.before in
-    rw (to_z-of_z s.ranges.v, back _ (next_fits s.args.v s.ranges.v.sfits s.requires), c.if1.true) (below_next s.args.v a)
+    let s = c in
+    rw (to_z-of_z s.ranges.v, back _ (next_fits s.args.v s.ranges.v.sfits s.requires), c.if-inclusive.true) (below_next s.args.v a)
 
-returns-2 : tie.Need-returns-2
-returns-2 c = λ a. let s = c.before in rw (to_z-of_z s.ranges.v, c.if1.false) (below_strict s.args.v a)
+returns-2 : tie.Need-returns
+returns-2 c = λ a. let s = c in rw (to_z-of_z s.ranges.v, c.if-inclusive.false) (below_strict s.args.v a)
 
 pub bound_spec : {M : Type 1} → statement M
 bound_spec = tie.close (tie.spec add-result returns returns-2)

@@ -4,11 +4,11 @@ use Rattle.matchrun.proofs.advance.BelowLaws.{below_strict, below_at}
 use Rattle.matchrun.proofs.advance.is_below.Statement.{statement}
 use Rattle.matchrun.proofs.advance.is_below.Tie as tie
 
-returns : tie.Need-returns
-returns c = let s = c.before in rw (to_z-of_z s.ranges.a, to_z-of_z s.ranges.v, c.if1.true) (sym (below_at s.args.v s.args.a))
+returns : tie.Need-returns-then-inclusive
+returns c = let s = c in rw (to_z-of_z s.ranges.a, to_z-of_z s.ranges.v, c.if-inclusive.true) (sym (below_at s.args.v s.args.a))
 
-returns-2 : tie.Need-returns-2
-returns-2 c = let s = c.before in rw (to_z-of_z s.ranges.a, to_z-of_z s.ranges.v, c.if1.false) (sym (below_strict s.args.v s.args.a))
+returns-2 : tie.Need-returns
+returns-2 c = let s = c in rw (to_z-of_z s.ranges.a, to_z-of_z s.ranges.v, c.if-inclusive.false) (sym (below_strict s.args.v s.args.a))
 
 pub is_below_spec : {M : Type 1} → statement M
 is_below_spec = tie.close (tie.spec returns returns-2)

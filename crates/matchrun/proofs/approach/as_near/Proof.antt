@@ -12,9 +12,9 @@ distance-requires-2 c κs = search rules
 
 returns : tie.Need-returns
 returns c = λ h.
-    let s = c.before.before in
+    let s = c in
     let a = s.args in
-    rw (c.before.distance.ensures, c.distance2.ensures, to_z-of_z s.ranges.v, to_z-of_z s.ranges.a, to_z-of_z s.ranges.b) (near_by_distance a.v a.a a.b h)
+    rw (c.distance.ensures, c.distance-2.ensures, to_z-of_z s.ranges.v, to_z-of_z s.ranges.a, to_z-of_z s.ranges.b) (near_by_distance a.v a.a a.b h)
 
 pub as_near_spec : {M : Type 1} → statement M
 as_near_spec = tie.close (tie.spec distance-requires distance-requires-2 returns)

@@ -2,10 +2,10 @@ use borrow.Author.Tests.{le-leb, lt-leb}
 use Rattle.matchrun.proofs.approach.choose.Statement.{statement}
 use Rattle.matchrun.proofs.approach.choose.Tie as tie
 
-returns : tie.Need-returns
+returns : tie.Need-returns-then-x-y
 returns c = search (le-leb, lt-leb)
 
-returns-2 : tie.Need-returns-2
+returns-2 : tie.Need-returns-else-x-y
 returns-2 c = search (le-leb, lt-leb)
 
 pub choose_spec : {M : Type 1} → statement M

@@ -7,14 +7,14 @@ use Rattle.matchrun.proofs.approach.come_near.Tie as tie
 creep-requires : tie.Need-creep-requires
 creep-requires c κs = search rules
 
-returns : tie.Need-returns
-returns c = rw (to_z-of_z c.before.before.ranges.v) at c.creep.ensures
+returns : tie.Need-returns-then-few
+returns c = rw (to_z-of_z c.ranges.v) at c.creep.ensures
 
 approach-requires : tie.Need-approach-requires
 approach-requires c κs = search rules
 
-returns-2 : tie.Need-returns-2
-returns-2 c = rw (to_z-of_z c.before.before.ranges.v) at c.approach.ensures
+returns-2 : tie.Need-returns
+returns-2 c = rw (to_z-of_z c.ranges.v) at c.approach.ensures
 
 pub come_near_spec : {M : Type 1} → statement M
 come_near_spec = tie.close (tie.spec creep-requires returns approach-requires returns-2)

@@ -2,17 +2,17 @@ use borrow.Author.Rules.{rules}
 use Rattle.matchrun.proofs.choices.choice_mark.Statement.{statement}
 use Rattle.matchrun.proofs.choices.choice_mark.Tie as tie
 
-enum_told : tie.Need-enum-told
+enum_told : tie.Need-enum_told-1
 enum_told c = search rules
 
-enum-told-2 : tie.Need-enum-told-2
+enum-told-2 : tie.Need-enum_told-in-Nothing
 enum-told-2 c = search rules
 
-returns : tie.Need-returns
-returns c = rw c.enum_told.given.1
+returns : tie.Need-returns-in-Row
+returns c = rw c.in-Row.is
 
-returns-2 : tie.Need-returns-2
-returns-2 c = rw c.enum-told2.given.1
+returns-2 : tie.Need-returns-in-Nothing
+returns-2 c = rw c.in-Nothing.is
 
 pub choice_mark_spec : {M : Type 1} → statement M
 choice_mark_spec = tie.close (tie.spec enum_told enum-told-2 returns returns-2)

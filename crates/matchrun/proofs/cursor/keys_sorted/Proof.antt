@@ -6,32 +6,32 @@ use Rattle.matching.proofs.RestLaws.{keys_nulls, keys_none}
 use Rattle.matchrun.proofs.cursor.keys_sorted.Statement.{statement}
 use Rattle.matchrun.proofs.cursor.keys_sorted.Tie as tie
 
-first-key-requires : tie.Need-first-key-requires
+first-key-requires : tie.Need-first_key-start-requires
 first-key-requires c κs =
     let p = c.requires.0 in
     (record { few = p.few; wide = p.wide; marks = p.marks }, c.requires.1)
 
-returns : tie.Need-returns
+returns : tie.Need-returns-then-start-to
 returns c =
-    let s = c.before.before in
+    let s = c in
     let a = s.args in
-    let e = c.before.first_key.ensures in
-    sym (keys_none (without_list a.o) a.w a.values.now a.marks.now a.from a.to s.requires.0 c.before.first_key.result e.start (e.before a.values.now) c.if1.true)
+    let e = c.first_key-start.ensures in
+    sym (keys_none (without_list a.o) a.w a.values.now a.marks.now a.from a.to s.requires.0 c.first_key-start.result e.start (e.before a.values.now) c.if-start-to.true)
 
 -- there is a row with a key
-there : (c : tie.Else1) → c.before.first_key.result < c.before.before.args.to
-there c = omega (arith, c.before.first_key.ensures.within, c.if1.false)
+there : (c : tie.Else-start-to) → c.first_key-start.result < c.args.to
+there c = omega (arith, c.first_key-start.ensures.within, c.if-start-to.false)
 
-keys-rise-requires : tie.Need-keys-rise-requires
-keys-rise-requires c κs = (c.before.before.requires.0, there c, c.before.first_key.ensures.keyed c.before.before.args.values.now (there c))
+keys-rise-requires : tie.Need-keys_rise-requires
+keys-rise-requires c κs = (c.requires.0, there c, c.first_key-start.ensures.keyed c.args.values.now (there c))
 
-returns-2 : tie.Need-returns-2
+returns-2 : tie.Need-returns
 returns-2 c =
-    let k = c.before.before.first_key in
-    let s = c.before.before.before in
+    let k = c.first_key-start in
+    let s = c in
     let a = s.args in
     let e = k.ensures in
-    c.keys-rise.ensures ∙ sym (keys_nulls (without_list a.o) a.w a.values.now a.marks.now a.from a.to s.requires.0 k.result e.start (e.before a.values.now) (there c.before))
+    c.keys_rise.ensures ∙ sym (keys_nulls (without_list a.o) a.w a.values.now a.marks.now a.from a.to s.requires.0 k.result e.start (e.before a.values.now) (there c.before))
 
 pub keys_sorted_spec : {M : Type 1} → statement M
 keys_sorted_spec = tie.close (tie.spec first-key-requires returns keys-rise-requires returns-2)

@@ -8,41 +8,34 @@ use borrow.Author.Rules.{rules}
 use Rattle.matchrun.proofs.fits.fits_key.Statement.{statement}
 use Rattle.matchrun.proofs.fits.fits_key.Tie as tie
 
-null-at-requires : tie.Need-null-at-requires
+null-at-requires : tie.Need-null_at-requires
 null-at-requires c κs = search rules
 
-returns : tie.Need-returns
-returns c = let a = c.before.before.args in rw (sym (c.before.null_at.ensures a.rv.now) ∙ c.if1.true)
+returns : tie.Need-returns-then-null_at
+returns c = let a = c.args in rw (sym (c.null_at.ensures a.rv.now) ∙ c.if-null_at.true)
 
-mul-cmp-cell : tie.Need-overflow-mul-cmp-cell
+mul-cmp-cell : tie.Need-offset_bounds-rv-k
 mul-cmp-cell c = search rules
 
-shared-slice-copy-out-cmp-cell : tie.Need-shared-slice-copy-out-cmp-cell
+shared-slice-copy-out-cmp-cell : tie.Need-bounds-rv-k
 shared-slice-copy-out-cmp-cell c = search rules
 
-cmp-cell-requires : tie.Need-cmp-cell-requires
+cmp-cell-requires : tie.Need-cmp_cell-requires
 cmp-cell-requires c κs = search rules
 
-on-side-requires : tie.Need-on-side-requires
+on-side-requires : tie.Need-on_side-requires
 on-side-requires c κs = search rules
 
-returns-2 : tie.Need-returns-2
+returns-2 : tie.Need-returns
 returns-2 c =
-    let s = c.before.before.before.before.before in
+    let s = c in
     let a = s.args in
     let v = get_or a.rv.now a.k (pos 0) in
-    let e = sym (c.before.before.before.before.null_at.ensures a.rv.now) ∙ c.before.before.before.if1.false in
-    let g = rw (back v c.before.before.cmp-cell-arg.given, to_z-of_z s.ranges.v) at c.before.cmp-cell.ensures in
-    rw (present v (get_or a.rm.now a.k (pos 0)) e, ← g) c.on-side.ensures
+    let e = sym (c.null_at.ensures a.rv.now) ∙ c.if-null_at.false in
+    let g = rw (back v c.cmp_cell-arg-1.given, to_z-of_z s.ranges.v) at c.cmp_cell.ensures in
+    rw (present v (get_or a.rm.now a.k (pos 0)) e, ← g) c.on_side.ensures
 
 pub fits_key_spec : {M : Type 1} → statement M
 fits_key_spec =
     tie.close
-    (tie.spec
-    null-at-requires
-    returns
-    mul-cmp-cell
-    shared-slice-copy-out-cmp-cell
-    cmp-cell-requires
-    on-side-requires
-    returns-2)
+    (tie.spec null-at-requires returns mul-cmp-cell shared-slice-copy-out-cmp-cell cmp-cell-requires on-side-requires returns-2)

@@ -7,51 +7,51 @@ use borrow.Author.Rules.{rules}
 use Rattle.matchrun.proofs.fits.nearer_key.Statement.{statement}
 use Rattle.matchrun.proofs.fits.nearer_key.Tie as tie
 
-distance-requires : tie.Need-distance-requires
+distance-requires : tie.Need-distance-x-requires
 distance-requires c κs = search rules
 
-distance-requires-2 : tie.Need-distance-requires-2
+distance-requires-2 : tie.Need-distance-y-requires
 distance-requires-2 c κs = search rules
 
-returns : tie.Need-returns
+returns : tie.Need-returns-then-x-y
 returns c =
-    let s = c.before.before.before in
+    let s = c in
     let a = s.args in
     let f = s.ranges in
-    let ex = rw (to_z-of_z f.a, to_z-of_z f.v) at c.before.before.distance.ensures in
-    let ey = rw (to_z-of_z f.b, to_z-of_z f.v) at c.before.distance2.ensures in
+    let ex = rw (to_z-of_z f.a, to_z-of_z f.v) at c.distance-x.ensures in
+    let ey = rw (to_z-of_z f.b, to_z-of_z f.v) at c.distance-y.ensures in
     let z = not (is_less (cmp_z a.a a.b)) in
-    rw (← ex, ← ey) (near_first _ _ z c.if1.true)
+    rw (← ex, ← ey) (near_first _ _ z c.if-x-y.true)
 
-returns-2 : tie.Need-returns-2
+returns-2 : tie.Need-returns-then-y-x
 returns-2 c =
-    let s = c.before.before.before.before in
+    let s = c in
     let a = s.args in
     let f = s.ranges in
-    let ex = rw (to_z-of_z f.a, to_z-of_z f.v) at c.before.before.before.distance.ensures in
-    let ey = rw (to_z-of_z f.b, to_z-of_z f.v) at c.before.before.distance2.ensures in
+    let ex = rw (to_z-of_z f.a, to_z-of_z f.v) at c.distance-x.ensures in
+    let ey = rw (to_z-of_z f.b, to_z-of_z f.v) at c.distance-y.ensures in
     let z = not (is_less (cmp_z a.a a.b)) in
-    rw (← ex, ← ey) (near_behind _ _ z c.if2.true)
+    rw (← ex, ← ey) (near_behind _ _ z c.if-y-x.true)
 
-returns-3 : tie.Need-returns-3
+returns-3 : tie.Need-returns-then-a-b
 returns-3 c =
-    let s = c.before.before.before.before.before in
+    let s = c in
     let a = s.args in
     let f = s.ranges in
-    let ex = rw (to_z-of_z f.a, to_z-of_z f.v) at c.before.before.before.before.distance.ensures in
-    let ey = rw (to_z-of_z f.b, to_z-of_z f.v) at c.before.before.before.distance2.ensures in
+    let ex = rw (to_z-of_z f.a, to_z-of_z f.v) at c.distance-x.ensures in
+    let ey = rw (to_z-of_z f.b, to_z-of_z f.v) at c.distance-y.ensures in
     let z = not (is_less (cmp_z a.a a.b)) in
-    rw (← ex, ← ey) (rw (lt_flag f.a f.b c.if3.true) (near_tie _ _ false c.before.if2.false c.before.before.if1.false))
+    rw (← ex, ← ey) (rw (lt_flag f.a f.b c.if-a-b.true) (near_tie _ _ false c.if-y-x.false c.if-x-y.false))
 
-returns-4 : tie.Need-returns-4
+returns-4 : tie.Need-returns
 returns-4 c =
-    let s = c.before.before.before.before.before in
+    let s = c in
     let a = s.args in
     let f = s.ranges in
-    let ex = rw (to_z-of_z f.a, to_z-of_z f.v) at c.before.before.before.before.distance.ensures in
-    let ey = rw (to_z-of_z f.b, to_z-of_z f.v) at c.before.before.before.distance2.ensures in
+    let ex = rw (to_z-of_z f.a, to_z-of_z f.v) at c.distance-x.ensures in
+    let ey = rw (to_z-of_z f.b, to_z-of_z f.v) at c.distance-y.ensures in
     let z = not (is_less (cmp_z a.a a.b)) in
-    rw (← ex, ← ey) (rw (not_less a.a a.b (lt_flag f.a f.b c.if3.false)) (near_tie _ _ true c.before.if2.false c.before.before.if1.false))
+    rw (← ex, ← ey) (rw (not_less a.a a.b (lt_flag f.a f.b c.if-a-b.false)) (near_tie _ _ true c.if-y-x.false c.if-x-y.false))
 
 pub nearer_key_spec : {M : Type 1} → statement M
 nearer_key_spec =

@@ -8,23 +8,23 @@ use Rattle.matchrun.proofs.look.FitLaws.{below_fits}
 use Rattle.matchrun.proofs.look.fits_fore.Statement.{statement}
 use Rattle.matchrun.proofs.look.fits_fore.Tie as tie
 
-mul-if1 : tie.Need-overflow-mul-if1
+mul-if1 : tie.Need-offset_bounds-rv-k
 mul-if1 c = search rules
 
-shared-slice-copy-out-if1 : tie.Need-shared-slice-copy-out-if1
+shared-slice-copy-out-if1 : tie.Need-bounds-rv-k
 shared-slice-copy-out-if1 c = search rules
 
-returns : tie.Need-returns
+returns : tie.Need-returns-then-rv-k
 returns c =
-    let s = c.before.before in
+    let s = c in
     let a = s.args in
-    sym (below_fits a.eq a.v (get_or a.rv.now a.k (pos 0)) (get_or a.rm.now a.k (pos 0)) (lt_flag {a = get_or a.rv.now a.k (pos 0)} (record { sfits = c.before.if12.given }) s.ranges.v c.if1.true))
+    sym (below_fits a.eq a.v (get_or a.rv.now a.k (pos 0)) (get_or a.rm.now a.k (pos 0)) (lt_flag {a = get_or a.rv.now a.k (pos 0)} (record { sfits = c.t8-1.given }) s.ranges.v c.if-rv-k.true))
 
-fits-key-requires : tie.Need-fits-key-requires
+fits-key-requires : tie.Need-fits_key-requires
 fits-key-requires c κs = search rules
 
-returns-2 : tie.Need-returns-2
-returns-2 c = rw (to_z-of_z c.before.before.before.ranges.v) at c.fits-key.ensures
+returns-2 : tie.Need-returns
+returns-2 c = rw (to_z-of_z c.ranges.v) at c.fits_key.ensures
 
 pub fits_fore_spec : {M : Type 1} → statement M
 fits_fore_spec = tie.close (tie.spec mul-if1 shared-slice-copy-out-if1 returns fits-key-requires returns-2)

@@ -19,59 +19,59 @@ room c = let e : c.args.i - 4 + 4 ≡ c.args.i = omega (arith, c.requires.0) in 
     four : (n w : ℕ) → n * w + w + w + w + w ≡ (n + 4) * w
     four n w = omega arith
 
-sub-a : tie.Need-overflow-sub-a
+sub-a : tie.Need-overflow_sub-a
 sub-a c = omega (arith, c.requires.0)
 
-mul-a : tie.Need-overflow-mul-a
+mul-a : tie.Need-overflow_mul-a
 mul-a c = let r = room c in omega (arith, c.requires.1, c.requires.2)
 
-add_a : tie.Need-overflow-add-a
+add_a : tie.Need-overflow_add-a
 add_a c = let r = room c in omega (arith, c.requires.1, c.requires.2)
 
 above-requires : tie.Need-above-requires
 above-requires c κs = let r = room c in omega (arith, c.requires.1, c.requires.2)
 
-returns : tie.Need-returns
+returns : tie.Need-returns-then-not-above
 returns c = λ t. never false t refl
 
-add-b : tie.Need-overflow-add-b
-add-b c = let s = c.before.before in let r = room s in omega (arith, s.requires.1, s.requires.2)
+add-b : tie.Need-overflow_add-b
+add-b c = let s = c in let r = room s.before.before in omega (arith, s.requires.1, s.requires.2)
 
 above-requires-2 : tie.Need-above-requires-2
-above-requires-2 c κs = let s = c.before.before in let r = room s in omega (arith, s.requires.1, s.requires.2)
+above-requires-2 c κs = let s = c in let r = room s.before.before in omega (arith, s.requires.1, s.requires.2)
 
-returns-2 : tie.Need-returns-2
+returns-2 : tie.Need-returns-then-not-above-2
 returns-2 c = λ t. never false t refl
 
-add-c : tie.Need-overflow-add-c
-add-c c = let s = c.before.before.before.before in let r = room s in omega (arith, s.requires.1, s.requires.2)
+add-c : tie.Need-overflow_add-c
+add-c c = let s = c in let r = room s.before.before.before.before in omega (arith, s.requires.1, s.requires.2)
 
 above-requires-3 : tie.Need-above-requires-3
-above-requires-3 c κs = let s = c.before.before.before.before in let r = room s in omega (arith, s.requires.1, s.requires.2)
+above-requires-3 c κs = let s = c in let r = room s.before.before.before.before in omega (arith, s.requires.1, s.requires.2)
 
-returns-3 : tie.Need-returns-3
+returns-3 : tie.Need-returns-then-not-above-3
 returns-3 c = λ t. never false t refl
 
-add-above : tie.Need-overflow-add-above
-add-above c = let s = c.before.before.before.before.before.before in let r = room s in omega (arith, s.requires.1, s.requires.2)
+add-above : tie.Need-overflow_add-c-2
+add-above c = let s = c in let r = room s.before.before.before.before.before.before in omega (arith, s.requires.1, s.requires.2)
 
 above-requires-4 : tie.Need-above-requires-4
-above-requires-4 c κs = let s = c.before.before.before.before.before.before in let r = room s in omega (arith, s.requires.1, s.requires.2)
+above-requires-4 c κs = let s = c in let r = room s.before.before.before.before.before.before in omega (arith, s.requires.1, s.requires.2)
 
-returns-4 : tie.Need-returns-4
+returns-4 : tie.Need-returns
 returns-4 c =
-    let s = c.before.before.before.before.before.before.before in
+    let s = c in
     let a = s.args in
     let v = to_z-of_z s.ranges.v in
-    let one = c.before.before.before.before.before.before in
-    let two = c.before.before.before.before in
-    let three = c.before.before in
+    let one = c in
+    let two = c in
+    let three = c in
     λ t k l h.
     four_rows (λ j. lt_z a.v (get_or a.rv.now j (pos 0)) ≡ true) (a.i - 4) a.w a.by
-    (sym (rw v at one.above.ensures) ∙ not-false one.above.result c.before.before.before.before.before.if1.false)
-    (sym (rw v at two.above2.ensures) ∙ not-false two.above2.result c.before.before.before.if2.false)
-    (sym (rw v at three.above3.ensures) ∙ not-false three.above3.result c.before.if3.false)
-    (sym (rw v at c.above4.ensures) ∙ t)
+    (sym (rw v at one.above.ensures) ∙ not-false one.above.result c.if-not-above.false-raw)
+    (sym (rw v at two.above-2.ensures) ∙ not-false two.above-2.result c.if-not-above-2.false-raw)
+    (sym (rw v at three.above-3.ensures) ∙ not-false three.above-3.result c.if-not-above-3.false-raw)
+    (sym (rw v at c.above-4.ensures) ∙ t)
     k
     (omega (arith, l))
     (omega (arith, h, s.requires.0))

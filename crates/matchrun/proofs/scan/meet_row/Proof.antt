@@ -23,92 +23,78 @@ use Rattle.matchrun.proofs.scan.meet_row.Tie as tie
 room : (c : tie.Start) → c.args.j * c.args.w + c.args.w ≤ c.args.to * c.args.w
 room c = row_room c.args.j c.args.to c.args.w c.requires.there
 
-low : (c : tie.Else2) → c.before.before.before.args.best < c.before.before.before.args.to
-low c = let s = c.before.before.before in let l = c.if2.false in let k = s.requires.kept.within in omega arith
+low : (c : tie.Else-best-to) → c.args.best < c.args.to
+low c = let s = c in let l = c.if-best-to.false in let k = s.requires.kept.within in omega arith
 
-best-room : (c : tie.Else2) → let a = c.before.before.before.args in a.best * a.w + a.w ≤ a.to * a.w
-best-room c = let a = c.before.before.before.args in row_room a.best a.to a.w (low c)
+best-room : (c : tie.Else-best-to) → let a = c.args in a.best * a.w + a.w ≤ a.to * a.w
+best-room c = let a = c.args in row_room a.best a.to a.w (low c)
 
 -- what `fits_key` says of row j
-fit : (c : tie.After-fits-key) →
-    let a = c.before.args in
-    c.fits-key.result ≡ (not (is_null (cell_at (a.j * a.w + a.o.by) a.rv.now a.rm.now)) && on_side a.s a.o.allow_eq (cmp_cell key_rule (cell_at (a.j * a.w + a.o.by) a.rv.now a.rm.now) (value a.v)))
-fit c = rw (to_z-of_z c.before.ranges.v) at c.fits-key.ensures
+fit : (c : tie.After-fits_key) →
+    let a = c.args in
+    c.fits_key.result ≡ (not (is_null (cell_at (a.j * a.w + a.o.by) a.rv.now a.rm.now)) && on_side a.s a.o.allow_eq (cmp_cell key_rule (cell_at (a.j * a.w + a.o.by) a.rv.now a.rm.now) (value a.v)))
+fit c = rw (to_z-of_z c.ranges.v) at c.fits_key.ensures
 
 -- what `takes_over` says of row j and the best row
-over : (c : tie.After-takes-over) →
-    let a = c.before.before.before.before.before.before.args in
-    TakesOver a.s a.v (get_or a.rv.now (a.j * a.w + a.o.by) (pos 0)) (get_or a.rv.now (a.best * a.w + a.o.by) (pos 0)) c.takes-over.result
+over : (c : tie.After-takes_over) →
+    let a = c.args in
+    TakesOver a.s a.v (get_or a.rv.now (a.j * a.w + a.o.by) (pos 0)) (get_or a.rv.now (a.best * a.w + a.o.by) (pos 0)) c.takes_over.result
 over c =
-    let s = c.before.before.before.before.before.before in
+    let s = c in
     let a = s.args in
     rw (
       to_z-of_z s.ranges.v,
-      back (get_or a.rv.now (a.j * a.w + a.o.by) (pos 0)) c.before.before.takes-over-arg.given,
-      back (get_or a.rv.now (a.best * a.w + a.o.by) (pos 0)) c.before.takes-over-arg2.given,
-    ) at c.takes-over.ensures
+      back (get_or a.rv.now (a.j * a.w + a.o.by) (pos 0)) c.takes_over-arg-1.given,
+      back (get_or a.rv.now (a.best * a.w + a.o.by) (pos 0)) c.takes_over-arg-2-1.given,
+    ) at c.takes_over.ensures
 
-mul-k : tie.Need-overflow-mul-k
+mul-k : tie.Need-overflow_mul-k
 mul-k c = omega (arith, room c, c.requires.rows)
 
-add-k : tie.Need-overflow-add-k
+add-k : tie.Need-overflow_add-k
 add-k c = omega (arith, room c, c.requires.rows)
 
-fits-key-requires : tie.Need-fits-key-requires
+fits-key-requires : tie.Need-fits_key-requires
 fits-key-requires c κs = let r = room c in let p = c.requires.rows in record { values = omega arith; marks = omega arith }
 
-returns : tie.Need-returns
-returns c = stays _ _ _ _ _ _ _ _ _ c.before.before.requires _ (fit c.before) (not-true _ c.if1.true)
+returns : tie.Need-returns-then-not-fits_key
+returns c = stays _ _ _ _ _ _ _ _ _ c.requires _ (fit c.before) (not-true _ c.if-not-fits_key.true-raw)
 
-returns-2 : tie.Need-returns-2
-returns-2 c = comes _ _ _ _ _ _ _ _ _ c.before.before.before.requires _ (fit c.before.before) (not-false _ c.before.if1.false) c.if2.true
+returns-2 : tie.Need-returns-then-best-to
+returns-2 c = comes _ _ _ _ _ _ _ _ _ c.requires _ (fit c.before.before) (not-false _ c.if-not-fits_key.false-raw) c.if-best-to.true
 
-mul-b : tie.Need-overflow-mul-b
-mul-b c = omega (arith, best-room c, c.before.before.before.requires.rows)
+mul-b : tie.Need-overflow_mul-b
+mul-b c = omega (arith, best-room c, c.requires.rows)
 
-add-b : tie.Need-overflow-add-b
-add-b c = omega (arith, best-room c, c.before.before.before.requires.rows)
+add-b : tie.Need-overflow_add-b
+add-b c = omega (arith, best-room c, c.requires.rows)
 
-mul-takes-over : tie.Need-overflow-mul-takes-over
-mul-takes-over c = omega (arith, room c.before.before.before, c.before.before.before.requires.rows)
+mul-takes-over : tie.Need-offset_bounds-rv-k
+mul-takes-over c = omega (arith, room c.before.before.before, c.requires.rows)
 
-shared-slice-copy-out-takes-over : tie.Need-shared-slice-copy-out-takes-over
-shared-slice-copy-out-takes-over c = omega (arith, room c.before.before.before, c.before.before.before.requires.rows)
+shared-slice-copy-out-takes-over : tie.Need-bounds-rv-k
+shared-slice-copy-out-takes-over c = omega (arith, room c.before.before.before, c.requires.rows)
 
-mul-takes-over-2 : tie.Need-overflow-mul-takes-over-2
-mul-takes-over-2 c = omega (arith, best-room c.before, c.before.before.before.before.requires.rows)
+mul-takes-over-2 : tie.Need-offset_bounds-rv-b
+mul-takes-over-2 c = omega (arith, best-room c.before, c.requires.rows)
 
-shared-slice-copy-out-takes-over-2 : tie.Need-shared-slice-copy-out-takes-over-2
-shared-slice-copy-out-takes-over-2 c = omega (arith, best-room c.before, c.before.before.before.before.requires.rows)
+shared-slice-copy-out-takes-over-2 : tie.Need-bounds-rv-b
+shared-slice-copy-out-takes-over-2 c = omega (arith, best-room c.before, c.requires.rows)
 
-takes-over-requires : tie.Need-takes-over-requires
+takes-over-requires : tie.Need-takes_over-requires
 takes-over-requires c κs = search rules
 
-returns-3 : tie.Need-returns-3
+returns-3 : tie.Need-returns-then-takes_over
 returns-3 c =
-    let m = c.before.before.before.before in
-    wins _ _ _ _ _ _ _ _ _ m.before.before.before.requires _ (fit m.before.before) (not-false _ m.before.if1.false) (low m) _ (over c.before) c.if3.true
+    let m = c in
+    wins _ _ _ _ _ _ _ _ _ m.requires _ (fit m.before.before.before.before.before.before) (not-false _ m.if-not-fits_key.false-raw) (low m.before.before.before.before) _ (over c.before) c.if-takes_over.true
 
-returns-4 : tie.Need-returns-4
+returns-4 : tie.Need-returns
 returns-4 c =
-    let m = c.before.before.before.before in
-    loses _ _ _ _ _ _ _ _ _ m.before.before.before.requires _ (fit m.before.before) (not-false _ m.before.if1.false) (low m) _ (over c.before) c.if3.false
+    let m = c in
+    loses _ _ _ _ _ _ _ _ _ m.requires _ (fit m.before.before.before.before.before.before) (not-false _ m.if-not-fits_key.false-raw) (low m.before.before.before.before) _ (over c.before) c.if-takes_over.false
 
 pub meet_row_spec : {M : Type 1} → statement M
 meet_row_spec =
     tie.close
-    (tie.spec
-    mul-k
-    add-k
-    fits-key-requires
-    returns
-    returns-2
-    mul-b
-    add-b
-    mul-takes-over
-    shared-slice-copy-out-takes-over
-    mul-takes-over-2
-    shared-slice-copy-out-takes-over-2
-    takes-over-requires
-    returns-3
-    returns-4)
+    (tie.spec mul-k add-k fits-key-requires returns returns-2 mul-b add-b mul-takes-over shared-slice-copy-out-takes-over mul-takes-over-2 shared-slice-copy-out-takes-over-2 takes-over-requires returns-3 returns-4)

@@ -27,7 +27,7 @@ use Rattle.matchrun.proofs.walk.KeyedLaws.{row_counted, Reached, reached_here, b
 use Rattle.matchrun.proofs.walk.backward.Statement.{statement}
 use Rattle.matchrun.proofs.walk.backward.Tie as tie
 
-abbrev invariant-loop : tie.invariant-loop
+abbrev invariant-loop : tie.invariant-loop-i
 invariant-loop lv m wl from to rv wr at end number o out₀ by stop start row₀ place₀ i₀ p₀ moves₀ out row place i p moves =
     (from ≤ i) × (i ≤ to) × (length out ≡ length out₀) × (at ≤ row) × (row ≤ end) × (place ≡ row * wr + o.by) × (p ≡ i * wl + o.by)
     × ((u : ℤ) → Reached (keyed wl o.by lv) from i u → (k : ℕ) → at ≤ k → k < row → below o.allow_eq u (value_at wr o.by rv k) ≡ true)
@@ -38,79 +38,79 @@ invariant-loop lv m wl from to rv wr at end number o out₀ by stop start row₀
     × ((lm rm : Words) → Marked (without_list o) wl from to lv lm → Marked (without_list o) wr at end rv rm
     → length (walk_on (without_list o) (between wl from to lv lm) (between wr at end rv rm)) ≡ moves + length (walk_on (without_list o) (between wl i to lv lm) (between wr row end rv rm)))
 
-abbrev decreases-loop : tie.decreases-loop
+abbrev decreases-loop : tie.decreases-loop-i
 decreases-loop lv m wl from to rv wr at end number o out₀ by stop start row₀ place₀ i₀ p₀ moves₀ out row place i p moves = to - i
 
 -- row i ends within the left rows
-room : (c : tie.In-loop invariant-loop decreases-loop) → let a = c.before.before.before.args in c.before.loop.i * a.wl + a.wl ≤ a.to * a.wl
-room c = let a = c.before.before.before.args in row_room c.before.loop.i a.to a.wl c.loop-test.true
+room : (c : tie.In-loop-i invariant-loop decreases-loop) → let a = c.args in c.loop-i.i * a.wl + a.wl ≤ a.to * a.wl
+room c = let a = c.args in row_room c.loop-i.i a.to a.wl c.loop-i-test.true
 
 -- the key of row i
-abbrev left : tie.In-loop invariant-loop decreases-loop → ℤ
-left c = let a = c.before.before.before.args in value_at a.wl a.o.by a.lv.now c.before.loop.i
+abbrev left : tie.In-loop-i invariant-loop decreases-loop → ℤ
+left c = let a = c.args in value_at a.wl a.o.by a.lv.now c.loop-i.i
 
 -- where the cursor has come to
-came : (c : tie.After-advance invariant-loop decreases-loop) →
-    let a = c.before.before.before.before.before.args in
-    let l = c.before.before.before.loop in
-    Skipped a.wr a.o.by l.row a.end a.rv.now (below a.o.allow_eq (left c.before.before)) l.moves c.advance.result
+came : (c : tie.After-advance-c invariant-loop decreases-loop) →
+    let a = c.args in
+    let l = c.loop-i in
+    Skipped a.wr a.o.by l.row a.end a.rv.now (below a.o.allow_eq (left c.before.before)) l.moves c.advance-c.result
 came c =
-    let a = c.before.before.before.before.before.args in
-    let l = c.before.before.before.loop in
+    let a = c.args in
+    let l = c.loop-i in
     let e : l.place - l.row * a.wr ≡ a.o.by = omega (arith, l.invariant.5) in
-    rw (e, back (get_or a.lv.now l.p (pos 0)) c.before.v.given, l.invariant.6) at c.advance.ensures
+    rw (e, back (get_or a.lv.now l.p (pos 0)) c.v-1.given, l.invariant.6) at c.advance-c.ensures
 
 -- all that it has passed is below the key of row i
-passed : (c : tie.After-advance invariant-loop decreases-loop) →
-    let a = c.before.before.before.before.before.args in
-    (k : ℕ) → a.at ≤ k → k < c.advance.result.row → below a.o.allow_eq (left c.before.before) (value_at a.wr a.o.by a.rv.now k) ≡ true
+passed : (c : tie.After-advance-c invariant-loop decreases-loop) →
+    let a = c.args in
+    (k : ℕ) → a.at ≤ k → k < c.advance-c.result.row → below a.o.allow_eq (left c.before.before) (value_at a.wr a.o.by a.rv.now k) ≡ true
 passed c =
-    let s = c.before.before.before.before.before in
+    let s = c in
     let a = s.args in
-    let l = c.before.before.before.loop in
+    let l = c.loop-i in
     let v = left c.before.before in
-    let here = reached_here (keyed a.wl a.o.by a.lv.now) a.from a.to s.requires.0.left_rising l.i c.before.before.loop-test.true v refl in
-    below_on a.o.allow_eq (value_at a.wr a.o.by a.rv.now) a.at v l.row c.advance.result.row (l.invariant.7 v here) (came c).before
+    let here = reached_here (keyed a.wl a.o.by a.lv.now) a.from a.to s.requires.0.left_rising l.i c.loop-i-test.true v refl in
+    below_on a.o.allow_eq (value_at a.wr a.o.by a.rv.now) a.at v l.row c.advance-c.result.row (l.invariant.7 v here) (came c).before
 
 -- the place of the key of the row before it
-before-place : (c : tie.After-advance invariant-loop decreases-loop) →
-    let a = c.before.before.before.before.before.args in
-    let n = c.advance.result.row in
-    a.at < n → c.advance.result.place - a.wr ≡ (n - 1) * a.wr + a.o.by
+before-place : (c : tie.After-advance-c invariant-loop decreases-loop) →
+    let a = c.args in
+    let n = c.advance-c.result.row in
+    a.at < n → c.advance-c.result.place - a.wr ≡ (n - 1) * a.wr + a.o.by
 before-place c h =
-    let a = c.before.before.before.before.before.args in
-    omega (arith, (came c).place, row_before_lem c.advance.result.row a.wr (omega (arith, h)))
+    let a = c.args in
+    omega (arith, (came c).place, row_before_lem c.advance-c.result.row a.wr (omega (arith, h)))
 
 -- what `choice_back` says of it
-told : (c : tie.After-choice-back invariant-loop decreases-loop) →
-    let d = c.before.before in
-    let a = d.before.before.before.before.before.args in
-    let n = d.advance.result.row in
-    Small c.choice_back.result × (n ≡ a.at → c.choice_back.result ≡ Nothing)
-    × (a.at < n → c.choice_back.result ≡ unless_far a.o.tolerance (left d.before.before) (get_or a.rv.now (d.advance.result.place - a.wr) (pos 0)) (a.number + (n - 1)))
+told : (c : tie.After-choice_back-choice invariant-loop decreases-loop) →
+    let d = c in
+    let a = d.args in
+    let n = d.advance-c.result.row in
+    Small c.choice_back-choice.result × (n ≡ a.at → c.choice_back-choice.result ≡ Nothing)
+    × (a.at < n → c.choice_back-choice.result ≡ unless_far a.o.tolerance (left d.before.before.before.before) (get_or a.rv.now (d.advance-c.result.place - a.wr) (pos 0)) (a.number + (n - 1)))
 told c =
-    let d = c.before.before in
-    let a = d.before.before.before.before.before.args in
-    let l = d.before.before.before.loop in
-    rw (back (get_or a.lv.now l.p (pos 0)) d.before.v.given, back a.o.tolerance c.before.struct_told.given.1.0.1, l.invariant.6) at c.choice_back.ensures
+    let d = c in
+    let a = d.args in
+    let l = d.loop-i in
+    rw (back (get_or a.lv.now l.p (pos 0)) d.v-1.given, back a.o.tolerance c.struct_told-1.given.1.0.1, l.invariant.6) at c.choice_back-choice.ensures
 
 -- the choice of row i
-choice : (c : tie.After-choice-back invariant-loop decreases-loop) →
-    let a = c.before.before.before.before.before.before.before.args in
+choice : (c : tie.After-choice_back-choice invariant-loop decreases-loop) →
+    let a = c.args in
     (lm rm : Words) → Marked (without_list a.o) a.wl a.from a.to a.lv.now lm → Marked (without_list a.o) a.wr a.at a.end a.rv.now rm
-    → c.choice_back.result ≡ match_in (without_list a.o) (a.number + a.at) (between a.wr a.at a.end a.rv.now rm) (row_from a.wl (c.before.before.before.before.before.loop.i * a.wl) a.lv.now lm)
+    → c.choice_back-choice.result ≡ match_in (without_list a.o) (a.number + a.at) (between a.wr a.at a.end a.rv.now rm) (row_from a.wl (c.loop-i.i * a.wl) a.lv.now lm)
 choice c lm rm ml mr =
-    let d = c.before.before in
-    let i = d.before.before in
-    let s = i.before.before.before in
+    let d = c in
+    let i = d in
+    let s = i in
     let a = s.args in
-    let l = i.before.loop in
-    let n = d.advance.result.row in
-    let g = came d in
+    let l = i.loop-i in
+    let n = d.advance-c.result.row in
+    let g = came d.before.before in
     let h : a.at ≤ n = omega (arith, l.invariant.3, g.upward) in
-    let ex = key_at_lem (without_list a.o) a.wl a.to a.lv.now lm ml.rows l.i i.loop-test.true ∙ ml.keys l.i l.invariant.0 i.loop-test.true in
-    back_choice (without_list a.o) a.wr a.at a.end a.rv.now rm mr s.requires.0.right_rising a.number (row_from a.wl (l.i * a.wl) a.lv.now lm) (left i) ex
-    a.o.allow_eq n h (passed d) g.stop s.requires.1 refl g.within c.choice_back.result (told c).1 (λ t. (told c).2 t ∙ rw (before-place d t))
+    let ex = key_at_lem (without_list a.o) a.wl a.to a.lv.now lm ml.rows l.i i.loop-i-test.true ∙ ml.keys l.i l.invariant.0 i.loop-i-test.true in
+    back_choice (without_list a.o) a.wr a.at a.end a.rv.now rm mr s.requires.0.right_rising a.number (row_from a.wl (l.i * a.wl) a.lv.now lm) (left i.before.before.before.before) ex
+    a.o.allow_eq n h (passed d.before.before) g.stop s.requires.1 refl g.within c.choice_back-choice.result (told c).1 (λ t. (told c).2 t ∙ rw (before-place d.before.before t))
 
 -- both runs begin within their rows
 starts : (s : tie.Start invariant-loop decreases-loop) → let a = s.args in (a.from * a.wl ≤ a.to * a.wl) × (a.at * a.wr ≤ a.end * a.wr)
@@ -124,125 +124,125 @@ few-moves s =
     let a = s.args in
     let p = s.requires.0 in
     let m = mul-le-mul_right {m = 1} {n = a.wl} a.to (omega (arith, p.left_wide)) in
-    omega (arith, m, p.left_values, p.numbers, s.well-formed.0)
+    omega (arith, m, p.left_values, p.numbers, s.well_formed.0)
 
-fours-to-requires : tie.Need-fours-to-requires invariant-loop decreases-loop
+fours-to-requires : tie.Need-fours_to-stop-requires invariant-loop decreases-loop
 fours-to-requires c κs = let p = c.requires.0 in (p.left_wide, p.left_values, p.upward, p.run, p.left_rising)
 
-mul-start : tie.Need-overflow-mul-start invariant-loop decreases-loop
-mul-start c = let p = c.before.requires.0 in omega (arith, (starts c.before).1, p.right_values)
+mul-start : tie.Need-overflow_mul-start invariant-loop decreases-loop
+mul-start c = let p = c.requires.0 in omega (arith, (starts c.before).1, p.right_values)
 
-add_start : tie.Need-overflow-add-start invariant-loop decreases-loop
-add_start c = let p = c.before.requires.0 in omega (arith, (starts c.before).1, p.right_values, p.few)
+add_start : tie.Need-overflow_add-start invariant-loop decreases-loop
+add_start c = let p = c.requires.0 in omega (arith, (starts c.before).1, p.right_values, p.few)
 
-mul-p : tie.Need-overflow-mul-p invariant-loop decreases-loop
-mul-p c = let p = c.before.requires.0 in omega (arith, (starts c.before).0, p.left_values)
+mul-p : tie.Need-overflow_mul-p invariant-loop decreases-loop
+mul-p c = let p = c.requires.0 in omega (arith, (starts c.before).0, p.left_values)
 
-add-p : tie.Need-overflow-add-p invariant-loop decreases-loop
-add-p c = let p = c.before.requires.0 in omega (arith, (starts c.before).0, p.left_values, p.few)
+add-p : tie.Need-overflow_add-p invariant-loop decreases-loop
+add-p c = let p = c.requires.0 in omega (arith, (starts c.before).0, p.left_values, p.few)
 
-loop-holds : tie.Need-loop-init invariant-loop decreases-loop
+loop-holds : tie.Need-loop-i-init invariant-loop decreases-loop
 loop-holds c =
-    let p = c.before.requires.0 in
+    let p = c.requires.0 in
     (omega arith, p.upward, refl, omega arith, p.run, refl, refl, λ u r k l h. absurd (omega (arith, l, h)), λ lm rm ml mr. refl, omega arith, λ lm rm ml mr. omega arith)
 
-mul-v : tie.Need-overflow-mul-v invariant-loop decreases-loop
-mul-v c = let r = room c in let p = c.before.before.before.requires.0 in omega (arith, p.left_wide, p.left_values, c.before.loop.invariant.6)
+mul-v : tie.Need-offset_bounds-lv-p invariant-loop decreases-loop
+mul-v c = let r = room c in let p = c.requires.0 in omega (arith, p.left_wide, p.left_values, c.loop-i.invariant.6)
 
-shared-slice-copy-out-v : tie.Need-shared-slice-copy-out-v invariant-loop decreases-loop
-shared-slice-copy-out-v c = let r = room c in let p = c.before.before.before.requires.0 in omega (arith, p.left_wide, p.left_values, c.before.loop.invariant.6)
+shared-slice-copy-out-v : tie.Need-bounds-lv-p invariant-loop decreases-loop
+shared-slice-copy-out-v c = let r = room c in let p = c.requires.0 in omega (arith, p.left_wide, p.left_values, c.loop-i.invariant.6)
 
 -- where four rows are taken at a time, the key of row i has a next
-has-next : (c : tie.After-v invariant-loop decreases-loop) → let a = c.before.before.before.before.args in a.at + 3 < c.before.before.before.fours-to.result → HasNext (to_z w64 (of_z w64 (get_or a.lv.now c.before.before.loop.p (pos 0))))
+has-next : (c : tie.After-v-1 invariant-loop decreases-loop) → let a = c.args in a.at + 3 < c.fours_to-stop.result → HasNext (to_z w64 (of_z w64 (get_or a.lv.now c.loop-i.p (pos 0))))
 has-next c h =
-    let a = c.before.before.before.before.args in
-    let l = c.before.before.loop in
-    rw (back (get_or a.lv.now l.p (pos 0)) c.v.given, l.invariant.6) (c.before.before.before.fours-to.ensures.1 h l.i l.invariant.0 c.before.loop-test.true)
+    let a = c.args in
+    let l = c.loop-i in
+    rw (back (get_or a.lv.now l.p (pos 0)) c.v-1.given, l.invariant.6) (c.fours_to-stop.ensures.1 h l.i l.invariant.0 c.loop-i-test.true)
 
-advance-requires : tie.Need-advance-requires invariant-loop decreases-loop
+advance-requires : tie.Need-advance-c-requires invariant-loop decreases-loop
 advance-requires c κs =
-    let s = c.before.before.before.before in
+    let s = c in
     let a = s.args in
     let p = s.requires.0 in
-    let l = c.before.before.loop in
+    let l = c.loop-i in
     let e : l.place - l.row * a.wr ≡ a.o.by = omega (arith, l.invariant.5) in (
       record { within = l.invariant.4; values = p.right_values; start = omega (arith, l.invariant.5); wide = omega (arith, l.invariant.5, p.right_wide) },
       (
-        c.before.before.before.fours-to.ensures.0,
+        c.fours_to-stop.ensures.0,
         (
           rw e (λ i k g t h. p.right_rising i k (omega (arith, g, l.invariant.3)) t h),
           (
             λ h. has-next c (omega (arith, h, l.invariant.3)),
-            omega (arith, few-moves s, c.before.loop-test.true, l.invariant.0, l.invariant.3, l.invariant.4, l.invariant.9),
+            omega (arith, few-moves s.before.before.before.before, c.loop-i-test.true, l.invariant.0, l.invariant.3, l.invariant.4, l.invariant.9),
           ),
         ),
       ),
     )
 
-choice-back-requires : tie.Need-choice-back-requires invariant-loop decreases-loop
+choice-back-requires : tie.Need-choice_back-choice-requires invariant-loop decreases-loop
 choice-back-requires c κs =
-    let d = c.before in
-    let s = d.before.before.before.before.before in
+    let d = c in
+    let s = d in
     let a = s.args in
-    let n = d.advance.result.row in
-    let g = came d in
+    let n = d.advance-c.result.row in
+    let g = came d.before in
     let p = s.requires.0 in (
-      omega (arith, d.before.before.before.loop.invariant.3, g.upward),
+      omega (arith, d.loop-i.invariant.3, g.upward),
       λ h. omega (arith, g.place, row_before_lem n a.wr (omega (arith, h))),
-      λ h. rw (before-place d h) (omega (arith, row_room (n - 1) a.end a.wr (omega (arith, h, g.within)), p.right_values, p.right_wide)),
+      λ h. rw (before-place d.before h) (omega (arith, row_room (n - 1) a.end a.wr (omega (arith, h, g.within)), p.right_values, p.right_wide)),
       omega (arith, g.within, p.numbers),
     )
 
 put-requires : tie.Need-put-requires invariant-loop decreases-loop
 put-requires c κs =
-    let l = c.before.before.before.before.before.before.loop in
-    let p = c.before.before.before.before.before.before.before.before.requires.0 in
-    (record { there = omega (arith, c.before.before.before.before.before.loop-test.true, p.within); room = omega (arith, p.room, l.invariant.2) }, c.before.choice_back.ensures.0)
+    let l = c.loop-i in
+    let p = c.requires.0 in
+    (record { there = omega (arith, c.loop-i-test.true, p.within); room = omega (arith, p.room, l.invariant.2) }, c.choice_back-choice.ensures.0)
 
-add-i : tie.Need-overflow-add-i invariant-loop decreases-loop
-add-i c = omega (arith, c.before.before.before.before.before.before.before.loop-test.true)
+add-i : tie.Need-overflow_add-i invariant-loop decreases-loop
+add-i c = omega (arith, c.loop-i-test.true)
 
-add-p-2 : tie.Need-overflow-add-p-2 invariant-loop decreases-loop
+add-p-2 : tie.Need-overflow_add-p-in-loop-i invariant-loop decreases-loop
 add-p-2 c =
-    let i = c.before.before.before.before.before.before.before in
-    let r = room i in
-    let p = i.before.before.before.requires.0 in
-    omega (arith, p.left_wide, p.left_values, i.before.loop.invariant.6)
+    let i = c in
+    let r = room i.before.before.before.before.before.before.before in
+    let p = i.requires.0 in
+    omega (arith, p.left_wide, p.left_values, i.loop-i.invariant.6)
 
-add-moves : tie.Need-overflow-add-moves invariant-loop decreases-loop
+add-moves : tie.Need-overflow_add-moves invariant-loop decreases-loop
 add-moves c =
-    let d = c.before.before.before.before.before in
-    let i = d.before.before in
-    let l = i.before.loop in
-    let g = came d in
-    omega (arith, few-moves i.before.before.before, i.loop-test.true, g.counted, g.upward, g.within, l.invariant.0, l.invariant.3, l.invariant.9)
+    let d = c in
+    let i = d in
+    let l = i.loop-i in
+    let g = came d.before.before.before.before.before in
+    omega (arith, few-moves i.before.before.before.before.before.before.before.before.before.before, i.loop-i-test.true, g.counted, g.upward, g.within, l.invariant.0, l.invariant.3, l.invariant.9)
 
-loop-less : tie.Need-loop-smaller invariant-loop decreases-loop
-loop-less c = omega (arith, c.before.before.before.before.before.before.before.loop-test.true)
+loop-less : tie.Need-loop-i-smaller invariant-loop decreases-loop
+loop-less c = omega (arith, c.loop-i-test.true)
 
-loop-again : tie.Need-loop-preserved invariant-loop decreases-loop
+loop-again : tie.Need-loop-i-preserved invariant-loop decreases-loop
 loop-again c =
-    let e = c.before.before.before in
-    let d = e.before.before in
-    let i = d.before.before in
-    let s = i.before.before.before in
+    let e = c in
+    let d = e in
+    let i = d in
+    let s = i in
     let a = s.args in
-    let l = i.before.loop in
-    let t = i.loop-test.true in
-    let g = came d in
-    let n = d.advance.result.row in
+    let l = i.loop-i in
+    let t = i.loop-i-test.true in
+    let g = came d.before.before.before.before.before in
+    let n = d.advance-c.result.row in
     let z : (l.i + 1) * a.wl ≡ l.i * a.wl + a.wl = omega arith in (
       omega (arith, l.invariant.0),
       omega (arith, t),
-      c.before.put.auto.0 ∙ l.invariant.2,
+      c.put.auto.out ∙ l.invariant.2,
       omega (arith, l.invariant.3, g.upward),
       g.within,
       g.place,
       omega (arith, z, l.invariant.6),
-      λ u r. below_later a.o.allow_eq (value_at a.wr a.o.by a.rv.now) a.at (left i) u n (r l.i l.invariant.0 (omega arith)) (passed d),
+      λ u r. below_later a.o.allow_eq (value_at a.wr a.o.by a.rv.now) a.at (left i.before.before.before.before.before.before.before) u n (r l.i l.invariant.0 (omega arith)) (passed d.before.before.before.before.before),
       λ lm rm ml mr.
           let f = match_in (without_list a.o) (a.number + a.at) (between a.wr a.at a.end a.rv.now rm) in
-          l.invariant.8 lm rm ml mr ∙ lay_more a.m f a.wl a.lv.now lm l.i a.to l.out t ∙ rw (c.before.put.ensures, choice e lm rm ml mr),
+          l.invariant.8 lm rm ml mr ∙ lay_more a.m f a.wl a.lv.now lm l.i a.to l.out t ∙ rw (c.put.ensures, choice e.before.before.before lm rm ml mr),
       omega (arith, g.counted, g.upward, l.invariant.0, l.invariant.3, l.invariant.9),
       λ lm rm ml mr.
           let k = row_counted (without_list a.o) a.wl a.from a.to a.lv.now lm ml a.wr a.at a.end a.rv.now rm mr
@@ -250,14 +250,14 @@ loop-again c =
           omega (arith, k, g.counted, l.invariant.10 lm rm ml mr),
     )
 
-same_length : tie.Need-same-length invariant-loop decreases-loop
-same_length c = c.before.loop.invariant.2
+same_length : tie.Need-shape_of-out invariant-loop decreases-loop
+same_length c = c.loop-i.invariant.2
 
 returns : tie.Need-returns invariant-loop decreases-loop
 returns c =
-    let l = c.before.loop in
-    let a = c.before.before.before.args in
-    let e : l.i ≡ a.to = omega (arith, c.loop-test.false, l.invariant.1) in
+    let l = c.loop-i in
+    let a = c.args in
+    let e : l.i ≡ a.to = omega (arith, c.loop-i-test.false, l.invariant.1) in
     record {
       counted = λ lm rm ml mr.
           let z = lefts_done (without_list a.o) a.wl a.to a.lv.now lm (between a.wr l.row a.end a.rv.now rm) in
@@ -270,24 +270,4 @@ returns c =
 pub backward_spec : {M : Type 1} → statement M
 backward_spec =
     tie.close
-    (tie.spec
-    invariant-loop
-    decreases-loop
-    fours-to-requires
-    mul-start
-    add_start
-    mul-p
-    add-p
-    loop-holds
-    mul-v
-    shared-slice-copy-out-v
-    advance-requires
-    choice-back-requires
-    put-requires
-    add-i
-    add-p-2
-    add-moves
-    loop-less
-    loop-again
-    same_length
-    returns)
+    (tie.spec invariant-loop decreases-loop fours-to-requires mul-start add_start mul-p add-p loop-holds mul-v shared-slice-copy-out-v advance-requires choice-back-requires put-requires add-i add-p-2 add-moves loop-less loop-again same_length returns)

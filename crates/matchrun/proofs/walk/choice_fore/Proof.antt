@@ -7,22 +7,22 @@ use Rattle.matchrun.proofs.walk.choice_fore.Statement.{statement}
 use Rattle.matchrun.proofs.walk.choice_fore.Tie as tie
 
 -- the cursor is at a row
-there : (c : tie.Else1) → c.before.args.c < c.before.args.end
-there c = omega (arith, c.if1.false, c.before.requires.0)
+there : (c : tie.Else-c-end) → c.args.c < c.args.end
+there c = omega (arith, c.if-c-end.false, c.requires.0)
 
-returns : tie.Need-returns
-returns c = (tt, λ e. refl, λ h. absurd (omega (arith, h, c.if1.true)))
+returns : tie.Need-returns-then-c-end
+returns c = (tt, λ e. refl, λ h. absurd (omega (arith, h, c.if-c-end.true)))
 
-add-near-row : tie.Need-overflow-add-near-row
+add-near-row : tie.Need-overflow_add-number
 add-near-row c = search rules
 
-near-row-requires : tie.Need-near-row-requires
-near-row-requires c κs = (c.before.requires.1 (there c), c.before.requires.2)
+near-row-requires : tie.Need-near_row-requires
+near-row-requires c κs = (c.requires.1 (there c), c.requires.2)
 
-returns-2 : tie.Need-returns-2
+returns-2 : tie.Need-returns
 returns-2 c =
-    let s = c.before.before in
-    let r = rw (to_z-of_z s.ranges.v, to_z-of_z s.ranges.tolerance) at c.near-row.ensures in
+    let s = c in
+    let r = rw (to_z-of_z s.ranges.v, to_z-of_z s.ranges.tolerance) at c.near_row.ensures in
     (r.0, λ e. absurd (omega (arith, e, there c.before)), λ h. r.1)
 
 pub choice_fore_spec : {M : Type 1} → statement M
