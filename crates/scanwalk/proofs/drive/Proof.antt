@@ -1,5 +1,5 @@
 use mathlib.Core.Path.{◌≡◌, sym, ◌∙◌}
-use mathlib.Core.Bool.{Bool, true, ◌&&◌}
+use mathlib.Core.Bool.{true, ◌&&◌}
 use native.Mathlib.Omega.{arith}
 use borrow.Author.Tests.{not-true, not-false}
 use Rattle.frames.proofs.BoolLaws.{and-true}
@@ -12,73 +12,64 @@ use borrow.Author.Rules.{rules}
 use Rattle.scanwalk.proofs.drive.Statement.{statement}
 use Rattle.scanwalk.proofs.drive.Tie as tie
 
-key-options-requires : tie.Need-key-options-requires
+key-options-requires : tie.Need-key_options-o-requires
 key-options-requires c κs = search rules
 
-scan-run-requires : tie.Need-scan-run-requires
+scan-run-requires : tie.Need-scan_run-requires
 scan-run-requires c κs =
-    let s = c.before.before.before in
+    let s = c in
     let a = s.args in
-    rw c.before.before.key-options.ensures (run_room a.strategy a.n a.lv.now a.lm.now a.m a.rv.now a.rm.now a.out.now s.requires)
+    rw c.key_options-o.ensures (run_room a.strategy a.n a.lv.now a.lm.now a.m a.rv.now a.rm.now a.out.now s.requires)
 
-same_length : tie.Need-same-length
+same_length : tie.Need-shape_of-out-then-not-walked
 same_length c = search rules
 
-returns : tie.Need-returns
+returns : tie.Need-returns-then-not-walked
 returns c =
-    let b = c.before.before.before in
-    let a = b.before.before.args in
-    scanned a.strategy a.n a.lv.now a.lm.now a.m a.rv.now a.rm.now a.out.now a.walked (not-true a.walked b.if1.true) _ (rw b.before.key-options.ensures at c.before.scan-run.ensures)
+    let b = c in
+    let a = b.args in
+    scanned a.strategy a.n a.lv.now a.lm.now a.m a.rv.now a.rm.now a.out.now a.walked (not-true a.walked b.if-not-walked.true-raw) _ (rw b.key_options-o.ensures at c.scan_run.ensures)
 
-both-sorted-requires : tie.Need-both-sorted-requires
+both-sorted-requires : tie.Need-both_sorted-requires
 both-sorted-requires c κs =
-    let s = c.before.before in
+    let s = c in
     let a = s.args in
-    rw c.before.key-options.ensures
+    rw c.key_options-o.ensures
     (left_in a.strategy a.n a.lv.now a.lm.now a.m a.rv.now a.rm.now a.out.now s.requires, omega arith, right_in_lem a.strategy a.n a.lv.now a.lm.now a.m a.rv.now a.rm.now a.out.now s.requires, omega arith)
 
-returns-2 : tie.Need-returns-2
+returns-2 : tie.Need-returns-then-not-both_sorted
 returns-2 c =
-    let b = c.before.before in
-    let a = b.before.before.args in
-    unwalked a.strategy a.n a.lv.now a.lm.now a.m a.rv.now a.rm.now a.out.now a.walked (not-false a.walked b.if1.false)
-    (rw b.before.key-options.ensures at (sym c.before.both_sorted.ensures ∙ not-true c.before.both_sorted.result c.if2.true))
+    let b = c in
+    let a = b.args in
+    unwalked a.strategy a.n a.lv.now a.lm.now a.m a.rv.now a.rm.now a.out.now a.walked (not-false a.walked b.if-not-walked.false-raw)
+    (rw b.key_options-o.ensures at (sym c.both_sorted.ensures ∙ not-true c.both_sorted.result c.if-not-both_sorted.true-raw))
 
 -- both runs are sorted where the walk begins
-both : (c : tie.Else2) →
-    let a = c.before.before.before.before.args in
+both : (c : tie.Else-not-both_sorted) →
+    let a = c.args in
     (keys_sorted (without_list (terms_of (key_options a.strategy))) (between 1 0 a.n a.lv.now a.lm.now) && keys_sorted (without_list (terms_of (key_options a.strategy))) (between 1 0 a.m a.rv.now a.rm.now)) ≡ true
-both c = rw c.before.before.before.key-options.ensures at (sym c.before.both_sorted.ensures ∙ not-false c.before.both_sorted.result c.if2.false)
+both c = rw c.key_options-o.ensures at (sym c.both_sorted.ensures ∙ not-false c.both_sorted.result c.if-not-both_sorted.false-raw)
 
-walk-run-requires : tie.Need-walk-run-requires
+walk-run-requires : tie.Need-walk_run-moves-requires
 walk-run-requires c κs =
-    let s = c.before.before.before.before.before in
+    let s = c in
     let a = s.args in
     let t = and-true _ _ (both c.before) in
-    rw c.before.before.before.before.key-options.ensures
+    rw c.key_options-o.ensures
     (record { room = run_room a.strategy a.n a.lv.now a.lm.now a.m a.rv.now a.rm.now a.out.now s.requires; left = t.0; right = t.1 })
 
-same-length-2 : tie.Need-same-length-2
+same-length-2 : tie.Need-shape_of-out
 same-length-2 c = search rules
 
-returns-3 : tie.Need-returns-3
+returns-3 : tie.Need-returns
 returns-3 c =
-    let b = c.before.before.before in
-    let k = b.before.before.before in
-    let a = k.before.args in
-    let e = c.before.walk-run.ensures in
-    walks a.strategy a.n a.lv.now a.lm.now a.m a.rv.now a.rm.now a.out.now a.walked (not-false a.walked b.before.before.if1.false) (both b) _ _ (rw k.key-options.ensures at e.0) (rw k.key-options.ensures at e.1)
+    let b = c in
+    let k = b in
+    let a = k.args in
+    let e = c.walk_run-moves.ensures in
+    walks a.strategy a.n a.lv.now a.lm.now a.m a.rv.now a.rm.now a.out.now a.walked (not-false a.walked b.if-not-walked.false-raw) (both b.before.before.before) _ _ (rw k.key_options-o.ensures at e.0) (rw k.key_options-o.ensures at e.1)
 
 pub drive_spec : {M : Type 1} → statement M
 drive_spec =
     tie.close
-    (tie.spec
-    key-options-requires
-    scan-run-requires
-    same_length
-    returns
-    both-sorted-requires
-    returns-2
-    walk-run-requires
-    same-length-2
-    returns-3)
+    (tie.spec key-options-requires scan-run-requires same_length returns both-sorted-requires returns-2 walk-run-requires same-length-2 returns-3)
