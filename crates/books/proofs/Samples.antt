@@ -6,7 +6,7 @@ use Prim.Native.Nat.{ℕ}
 use lib.IntN.{pos, negsuc}
 use Rattle.frames.specs.Cells.{Cell, null, value, cell, Rows, Words, rows_of, cells_of}
 use Rattle.frames.specs.Frame.{frame_rows, pairs_fine, is_table}
-use Rattle.order.specs.ranks.Ranks.{bad_ranks, rises, rises_behind, below, placed, listed as inList}
+use Rattle.order.specs.ranks.Ranks.{bad_ranks, rises, rises_behind, below, placed, listed as in_list}
 use Rattle.order.specs.options.Options.{bad_options}
 use Rattle.order.specs.Order.{cmp_row, cmp_first, null_in, sorted}
 use Rattle.order.specs.declared.options.Options.{Options}
@@ -53,7 +53,7 @@ pub merge_words :
       answer = Wrote 2;
       out = pos 2 ∷ pos 2 ∷ pos 1 ∷ pos 0 ∷ pos 1 ∷ pos 9 ∷ pos 1 ∷ pos 0 ∷ pos 1 ∷ pos 1 ∷ pos 7 ∷ pos 8 ∷ [];
     }
-unfolding merge_call merge_answer bad_options is_table pairs_fine frame_rows rows_of cells_of bad_ranks rises rises_behind placed below inList unlisted_in sorted merge cmp_row cmp_first words_of table_of laid
+unfolding merge_call merge_answer bad_options is_table pairs_fine frame_rows rows_of cells_of bad_ranks rises rises_behind placed below in_list unlisted_in sorted merge cmp_row cmp_first words_of table_of laid
 merge_words = refl
 
 -- The refusals of a merge, in checking order: 10, 5 (another c), 12 before 14, 14 before 6, 6.
@@ -70,7 +70,7 @@ answers =
     ∷ []
 
 pub merge_refusals : answers ≡ Refused TooManyCarried ∷ Refused BadFrame ∷ Refused UnknownCode ∷ Refused Unsorted ∷ Refused NoRoom ∷ []
-unfolding merge_answer bad_options is_table pairs_fine frame_rows rows_of cells_of bad_ranks rises rises_behind placed below inList unlisted_in sorted merge cmp_row cmp_first
+unfolding merge_answer bad_options is_table pairs_fine frame_rows rows_of cells_of bad_ranks rises rises_behind placed below in_list unlisted_in sorted merge cmp_row cmp_first
 merge_refusals = refl
 
 -- ---- which notice stands: performance, minute, withdrawn. A correction; a correction that withdraws; a withdrawal that was corrected; null group and key.
@@ -118,5 +118,5 @@ pub stand_refusals :
     stand_answer (with 0) 0 (frame_of 2 []) none_out ∷ stand_answer (with 1) 1 (frame_of 3 (row (2 ∷ 1 ∷ 0 ∷ []) ∷ row (1 ∷ 1 ∷ 0 ∷ []) ∷ [])) none_out
     ∷ stand_answer (with 1) 0 (frame_of 3 (row (2 ∷ 1 ∷ 0 ∷ []) ∷ row (1 ∷ 1 ∷ 0 ∷ []) ∷ [])) none_out ∷ stand_answer (with 1) 0 (frame_of 3 (row (1 ∷ 1 ∷ 0 ∷ []) ∷ [])) none_out ∷ []
     ≡ Refused BadColumns ∷ Refused BadColumns ∷ Refused Unsorted ∷ Refused NoRoom ∷ []
-unfolding stand_answer bad_options is_table pairs_fine frame_rows rows_of cells_of bad_ranks rises rises_behind placed below inList unlisted_in sorted cmp_row cmp_first
+unfolding stand_answer bad_options is_table pairs_fine frame_rows rows_of cells_of bad_ranks rises rises_behind placed below in_list unlisted_in sorted cmp_row cmp_first
 stand_refusals = refl

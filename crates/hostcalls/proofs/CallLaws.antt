@@ -133,20 +133,20 @@ module _ (h : HostJoin) (left right : Words) where
   end_through j t r e i l x = record { result = through h (after_host (Refused BadJoin) h left right []) (λ j. end_call j left right) took_host e i l.answer l.join x }
 
 -- ---- a move
-module _ (h : HostJoin) (left right newLeft newRight : Words) where
-  pub move_bad : (r : HostTook) → is_join h ≡ false → r ≡ took_host (Refused BadJoin) h → HostMoveContract h left right newLeft newRight r newLeft newRight
+module _ (h : HostJoin) (left right new_left new_right : Words) where
+  pub move_bad : (r : HostTook) → is_join h ≡ false → r ≡ took_host (Refused BadJoin) h → HostMoveContract h left right new_left new_right r new_left new_right
   unfolding move_host
   move_bad r e x =
-      let no = after_host (Refused BadJoin) h newLeft newRight [] in
-      let call : Join → After Took = λ j. move_call j left right newLeft newRight in
+      let no = after_host (Refused BadJoin) h new_left new_right [] in
+      let call : Join → After Took = λ j. move_call j left right new_left new_right in
       record { result = refuses h no call took_host e x; left_words = words_refused h no call (λ y. y.left) e refl; right_words = words_refused h no call (λ y. y.right) e refl }
 
-  pub move_through : (j : Join) (t : TookJoin) (r : HostTook) (ls rs : Words) → is_join h ≡ true → j ≡ join_of h → MoveContract j left right newLeft newRight t ls rs
-      → r ≡ took_host t.answer (encode t.join) → HostMoveContract h left right newLeft newRight r ls rs
+  pub move_through : (j : Join) (t : TookJoin) (r : HostTook) (ls rs : Words) → is_join h ≡ true → j ≡ join_of h → MoveContract j left right new_left new_right t ls rs
+      → r ≡ took_host t.answer (encode t.join) → HostMoveContract h left right new_left new_right r ls rs
   unfolding move_host
   move_through j t r ls rs e i l x =
-      let no = after_host (Refused BadJoin) h newLeft newRight [] in
-      let call : Join → After Took = λ j. move_call j left right newLeft newRight in
+      let no = after_host (Refused BadJoin) h new_left new_right [] in
+      let call : Join → After Took = λ j. move_call j left right new_left new_right in
       record {
         result = through h no call took_host e i l.answer l.join x;
         left_words = words_through h no call (λ y. y.left) e i l.left_words;

@@ -154,11 +154,11 @@ module _ (h : HostJoin) (left right : Words) where
       keeps h left right [] (Refused BadJoin) (Refused n) (λ j. end_call j left right)
       (λ j. took_keeps (end_answer j left right) (after Accepted (ended_right j) left right []) j left right n refl)
 
-  move_kept : (newLeft newRight : Words) (n : Refusal) → (move_host h left right newLeft newRight).answer ≡ Refused n → move_host h left right newLeft newRight ≡ after_host (Refused n) h newLeft newRight []
+  move_kept : (new_left new_right : Words) (n : Refusal) → (move_host h left right new_left new_right).answer ≡ Refused n → move_host h left right new_left new_right ≡ after_host (Refused n) h new_left new_right []
   unfolding move_host move_call
-  move_kept newLeft newRight n =
-      keeps h newLeft newRight [] (Refused BadJoin) (Refused n) (λ j. move_call j left right newLeft newRight)
-      (λ j. took_keeps (move_answer j left right newLeft newRight) (after Accepted (at_front j) (left_moved j left newLeft) (right_moved j right newRight) []) j newLeft newRight n refl)
+  move_kept new_left new_right n =
+      keeps h new_left new_right [] (Refused BadJoin) (Refused n) (λ j. move_call j left right new_left new_right)
+      (λ j. took_keeps (move_answer j left right new_left new_right) (after Accepted (at_front j) (left_moved j left new_left) (right_moved j right new_right) []) j new_left new_right n refl)
 
   -- Where a test fails, the call is refused with everything kept.
   either : (t : Bool) (x : HostAfter Ported) (n : Refusal) → (x.answer ≡ PortsRefused n → x ≡ after_host (PortsRefused n) h left right [])
@@ -201,9 +201,9 @@ module _ (j : Join) (left right : Words) (e : bad_join j left right ≡ true) wh
   unfolding end_call end_judged
   end_bad = rw (e, end_call)
 
-  move_bad : (newLeft newRight : Words) → (move_call j left right newLeft newRight).answer ≡ Refused BadJoin
+  move_bad : (new_left new_right : Words) → (move_call j left right new_left new_right).answer ≡ Refused BadJoin
   unfolding move_call move_answer
-  move_bad newLeft newRight = rw (e, move_call)
+  move_bad new_left new_right = rw (e, move_call)
 
   ports_bad : (l r s : PortState) → (ports_call j left right l r s).answer ≡ PortsRefused BadJoin
   unfolding ports_call ports_judged
@@ -232,7 +232,7 @@ shut_by h left right is = record {
   by_left = λ f. by_bad h left right [] (Refused BadJoin) (λ j. left_call j left right f) (λ e. left_bad (join_of h) left right (is e) f);
   by_right = λ f. by_bad h left right [] (Refused BadJoin) (λ j. right_call j left right f) (λ e. right_bad (join_of h) left right (is e) f);
   by_end = by_bad h left right [] (Refused BadJoin) (λ j. end_call j left right) (λ e. end_bad (join_of h) left right (is e));
-  by_move = λ newLeft newRight. by_bad h newLeft newRight [] (Refused BadJoin) (λ j. move_call j left right newLeft newRight) (λ e. move_bad (join_of h) left right (is e) newLeft newRight);
+  by_move = λ new_left new_right. by_bad h new_left new_right [] (Refused BadJoin) (λ j. move_call j left right new_left new_right) (λ e. move_bad (join_of h) left right (is e) new_left new_right);
   by_ports = λ l r s. unsaid (is_code l && is_code r && is_code s)
       (by_join h (after_host (PortsRefused BadJoin) h left right []) (λ j. ports_call j left right (port_of l) (port_of r) (port_of s)))
       (by_bad h left right [] (PortsRefused BadJoin) (λ j. ports_call j left right (port_of l) (port_of r) (port_of s))
@@ -261,7 +261,7 @@ foreign h left right e = record {
   by_left = λ f. by_none h (after_host (Refused BadJoin) h left right []) (λ j. left_call j left right f) e;
   by_right = λ f. by_none h (after_host (Refused BadJoin) h left right []) (λ j. right_call j left right f) e;
   by_end = by_none h (after_host (Refused BadJoin) h left right []) (λ j. end_call j left right) e;
-  by_move = λ newLeft newRight. by_none h (after_host (Refused BadJoin) h newLeft newRight []) (λ j. move_call j left right newLeft newRight) e;
+  by_move = λ new_left new_right. by_none h (after_host (Refused BadJoin) h new_left new_right []) (λ j. move_call j left right new_left new_right) e;
   by_ports = λ l r s. either_none (is_code l && is_code r && is_code s)
       (by_none h (after_host (PortsRefused BadJoin) h left right []) (λ j. ports_call j left right (port_of l) (port_of r) (port_of s)) e);
   by_turn = λ out. by_none h (after_host (TurnRefused BadJoin) h left right out) (λ j. turn_call j left right out) e;
@@ -358,8 +358,8 @@ module _ (h : HostJoin) (j : Join) (left right : Words) (is : Is h j) where
         (took_options (right_answer j left right f) (pushed_right j left right f) j left right refl);
     by_end = followed h j (after_host (Refused BadJoin) h left right []) (λ k. end_call k left right) is
         (took_options (end_answer j left right) (after Accepted (ended_right j) left right []) j left right refl);
-    by_move = λ newLeft newRight. followed h j (after_host (Refused BadJoin) h newLeft newRight []) (λ k. move_call k left right newLeft newRight) is
-        (took_options (move_answer j left right newLeft newRight) (after Accepted (at_front j) (left_moved j left newLeft) (right_moved j right newRight) []) j newLeft newRight refl);
+    by_move = λ new_left new_right. followed h j (after_host (Refused BadJoin) h new_left new_right []) (λ k. move_call k left right new_left new_right) is
+        (took_options (move_answer j left right new_left new_right) (after Accepted (at_front j) (left_moved j left new_left) (right_moved j right new_right) []) j new_left new_right refl);
     by_ports = λ l r s. rw (said l r s)
         (followed h j (after_host (PortsRefused BadJoin) h left right []) (λ k. ports_call k left right l r s) is
         (ports_options (ports_answer j left right l r s) (state_at j (ports_state j l s)) j left right refl));

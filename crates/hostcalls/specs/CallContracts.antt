@@ -29,10 +29,10 @@ pub record HostEndContract (h : HostJoin) (left right : Words) (r : HostTook) : 
   pub result : r ≡ took_host (end_host h left right).answer (end_host h left right).join
 
 -- A move to other areas; the new areas' words as they are afterwards.
-pub record HostMoveContract (h : HostJoin) (left right newLeft newRight : Words) (r : HostTook) (left' right' : Words) : Type 0 where
-  pub result : r ≡ took_host (move_host h left right newLeft newRight).answer (move_host h left right newLeft newRight).join
-  pub left_words : left' ≡ (move_host h left right newLeft newRight).left
-  pub right_words : right' ≡ (move_host h left right newLeft newRight).right
+pub record HostMoveContract (h : HostJoin) (left right new_left new_right : Words) (r : HostTook) (left' right' : Words) : Type 0 where
+  pub result : r ≡ took_host (move_host h left right new_left new_right).answer (move_host h left right new_left new_right).join
+  pub left_words : left' ≡ (move_host h left right new_left new_right).left
+  pub right_words : right' ≡ (move_host h left right new_left new_right).right
 
 -- A port call that comes with l, r and s.
 pub record HostPortsContract (h : HostJoin) (left right : Words) (l r s : ℕ) (x : HostPorted) : Type 0 where

@@ -65,7 +65,7 @@ end_host h left right = by_join h (after_host (Refused BadJoin) h left right [])
 
 -- A move to other areas; the words that it leaves are those of the new areas.
 unfoldable pub move_host : HostJoin → Words → Words → Words → Words → HostAfter Took
-move_host h left right newLeft newRight = by_join h (after_host (Refused BadJoin) h newLeft newRight []) (λ j. move_call j left right newLeft newRight)
+move_host h left right new_left new_right = by_join h (after_host (Refused BadJoin) h new_left new_right []) (λ j. move_call j left right new_left new_right)
 
 -- A port call: what no port can say is refused like a join that cannot be.
 unfoldable pub ports_host : HostJoin → Words → Words → ℕ → ℕ → ℕ → HostAfter Ported

@@ -50,7 +50,7 @@ pub record Kept (h : HostJoin) (left right : Words) : Type 0 where
   pub by_left : (f : Words) (n : Refusal) → (left_host h left right f).answer ≡ Refused n → left_host h left right f ≡ after_host (Refused n) h left right []
   pub by_right : (f : Words) (n : Refusal) → (right_host h left right f).answer ≡ Refused n → right_host h left right f ≡ after_host (Refused n) h left right []
   pub by_end : (n : Refusal) → (end_host h left right).answer ≡ Refused n → end_host h left right ≡ after_host (Refused n) h left right []
-  pub by_move : (newLeft newRight : Words) (n : Refusal) → (move_host h left right newLeft newRight).answer ≡ Refused n → move_host h left right newLeft newRight ≡ after_host (Refused n) h newLeft newRight []
+  pub by_move : (new_left new_right : Words) (n : Refusal) → (move_host h left right new_left new_right).answer ≡ Refused n → move_host h left right new_left new_right ≡ after_host (Refused n) h new_left new_right []
   pub by_ports : (l r s : ℕ) (n : Refusal) → (ports_host h left right l r s).answer ≡ PortsRefused n → ports_host h left right l r s ≡ after_host (PortsRefused n) h left right []
   pub by_turn : (out : Words) (a : Answer) → stays a ≡ true → (turn_host h left right out).answer ≡ a → turn_host h left right out ≡ after_host a h left right out
   pub by_run : (k : ℕ) (out : Words) (s : Stop) → stays_at s ≡ true → (run_host h k left right out).answer ≡ no_turn s → run_host h k left right out ≡ after_host (no_turn s) h left right out
@@ -60,7 +60,7 @@ pub record Shut (h : HostJoin) (left right : Words) : Type 0 where
   pub by_left : (f : Words) → (left_host h left right f).answer ≡ Refused BadJoin
   pub by_right : (f : Words) → (right_host h left right f).answer ≡ Refused BadJoin
   pub by_end : (end_host h left right).answer ≡ Refused BadJoin
-  pub by_move : (newLeft newRight : Words) → (move_host h left right newLeft newRight).answer ≡ Refused BadJoin
+  pub by_move : (new_left new_right : Words) → (move_host h left right new_left new_right).answer ≡ Refused BadJoin
   pub by_ports : (l r s : ℕ) → (ports_host h left right l r s).answer ≡ PortsRefused BadJoin
   pub by_turn : (out : Words) → (turn_host h left right out).answer ≡ TurnRefused BadJoin
   pub by_run : (k : ℕ) (out : Words) → (run_host h (suc k) left right out).answer ≡ no_turn (StopRefused BadJoin)
@@ -71,7 +71,7 @@ pub record NoJoin (h : HostJoin) (left right : Words) : Type 0 where
   pub by_left : (f : Words) → left_host h left right f ≡ after_host (Refused BadJoin) h left right []
   pub by_right : (f : Words) → right_host h left right f ≡ after_host (Refused BadJoin) h left right []
   pub by_end : end_host h left right ≡ after_host (Refused BadJoin) h left right []
-  pub by_move : (newLeft newRight : Words) → move_host h left right newLeft newRight ≡ after_host (Refused BadJoin) h newLeft newRight []
+  pub by_move : (new_left new_right : Words) → move_host h left right new_left new_right ≡ after_host (Refused BadJoin) h new_left new_right []
   pub by_ports : (l r s : ℕ) → ports_host h left right l r s ≡ after_host (PortsRefused BadJoin) h left right []
   pub by_turn : (out : Words) → turn_host h left right out ≡ after_host (TurnRefused BadJoin) h left right out
   pub by_run : (k : ℕ) (out : Words) → run_host h k left right out ≡ after_host (no_turn (StopRefused BadJoin)) h left right out
@@ -86,7 +86,7 @@ pub record Follows (h : HostJoin) (j : Join) (left right : Words) : Type 0 where
   pub by_left : (f : Words) → Same (left_host h left right f) (left_call j left right f)
   pub by_right : (f : Words) → Same (right_host h left right f) (right_call j left right f)
   pub by_end : Same (end_host h left right) (end_call j left right)
-  pub by_move : (newLeft newRight : Words) → Same (move_host h left right newLeft newRight) (move_call j left right newLeft newRight)
+  pub by_move : (new_left new_right : Words) → Same (move_host h left right new_left new_right) (move_call j left right new_left new_right)
   pub by_ports : (l r s : PortState) → Same (ports_host h left right (port_code l) (port_code r) (port_code s)) (ports_call j left right l r s)
   pub by_turn : (out : Words) → Same (turn_host h left right out) (turn_call j left right out)
   pub by_run : (k : ℕ) (out : Words) → Same (run_host h k left right out) (ran_after (run_call k j left right out) left right)

@@ -13,7 +13,7 @@ use Rattle.order.specs.declared.options.Options.{Options}
 use Rattle.matching.specs.Match.{choose, takes_over, fits, tolerate, match_table, whole_table}
 use Rattle.matching.specs.Answer.{cells_from, answer_row}
 use Rattle.lists.specs.Lists.{Call, left, right, end, turn, start, events, final, left_frames, right_frames, rows_in, outputs, Entry, entries_of, written_in, matches_in}
-use Rattle.lists.specs.WholeTables.{due_over, lefts, rights, turnedRows, matches}
+use Rattle.lists.specs.WholeTables.{due_over, lefts, rights, turned_rows, matches}
 use Rattle.lists.proofs.Script.{ok, refused, wrote, wants, left_area, right_area, space, says, speak_all}
 
 -- Backward, one carried column.
@@ -68,7 +68,7 @@ answers = refl
 -- What the whole-table theorem reads off this list: the accepted rows of each side, which are sorted, the rows turned, and the matches written; rows were pruned.
 pub told : (lefts o (left_area 20) (right_area 12) calls ≡ keys (5 ∷ 15 ∷ 25 ∷ 31 ∷ []))
     × (rights o (left_area 20) (right_area 12) calls ≡ right₁ ++ right₂)
-    × (turnedRows o (left_area 20) (right_area 12) calls ≡ keys (5 ∷ 15 ∷ 25 ∷ 31 ∷ []))
+    × (turned_rows o (left_area 20) (right_area 12) calls ≡ keys (5 ∷ 15 ∷ 25 ∷ 31 ∷ []))
     × ((final (start o (left_area 20) (right_area 12)) calls).join.pruned ≡ 2)
     × (matches o (left_area 20) (right_area 12) calls ≡ written)
 unfolding calls speak_all events final left_frames right_frames rows_in outputs matches_in written_in entries_of

@@ -9,7 +9,7 @@ use lib.ListN.{length, get_or}
 use Rattle.frames.specs.Cells.{Cell, Rows}
 use Rattle.order.specs.options.Options.{strategy_of}
 use Rattle.order.specs.Order.{cmp_group, cmp_row, key_of, distance}
-use Rattle.order.proofs.OrderLaws.{AtMost, cmp_group_is, cmp_row_is, cmp_key_is, cmpKey, less_greater, less_at_most, equal_at_most, not_both, then_less, equal_flip, at_most, group_at_most}
+use Rattle.order.proofs.OrderLaws.{AtMost, cmp_group_is, cmp_row_is, cmp_key_is, cmp_key, less_greater, less_at_most, equal_at_most, not_both, then_less, equal_flip, at_most, group_at_most}
 use Rattle.order.proofs.SortedLaws.{All, all_map}
 use Rattle.order.proofs.KeyLaws.{Inside, inside, key_at_most, key_less, key_up, farther_above}
 use Rattle.order.specs.declared.options.Options.{Options}
@@ -31,12 +31,12 @@ past_at_most o true x r h = less_at_most (cmp_row_is o) x r h
 past_at_most o false x r h = h
 
 -- By keys, in one group: what is past x is not on Backward's side of x, and is on Forward's.
-not_back : (o : Options) (q : Bool) (x r : List Cell) → cmp_group o x r ≡ Equal → Past o q x r → on_side Backward q (cmpKey o r x) ≡ true → ⊥
-not_back o true x r e h s = back_side true (cmpKey o r x) s (less_greater (cmp_key_is o) x r (key_less o x r e h))
-not_back o false x r e h s = key_at_most o x r e h (less_greater (cmp_key_is o) r x (back_less (cmpKey o r x) s))
+not_back : (o : Options) (q : Bool) (x r : List Cell) → cmp_group o x r ≡ Equal → Past o q x r → on_side Backward q (cmp_key o r x) ≡ true → ⊥
+not_back o true x r e h s = back_side true (cmp_key o r x) s (less_greater (cmp_key_is o) x r (key_less o x r e h))
+not_back o false x r e h s = key_at_most o x r e h (less_greater (cmp_key_is o) r x (back_less (cmp_key o r x) s))
 
-on_fore : (o : Options) (q : Bool) (x r : List Cell) → cmp_group o x r ≡ Equal → Past o (not q) x r → on_side Forward q (cmpKey o r x) ≡ true
-on_fore o true x r e h = side_fore (cmpKey o r x) (λ l. key_at_most o x r e h (less_greater (cmp_key_is o) r x l))
+on_fore : (o : Options) (q : Bool) (x r : List Cell) → cmp_group o x r ≡ Equal → Past o (not q) x r → on_side Forward q (cmp_key o r x) ≡ true
+on_fore o true x r e h = side_fore (cmp_key o r x) (λ l. key_at_most o x r e h (less_greater (cmp_key_is o) r x l))
 on_fore o false x r e h = rw (less_greater (cmp_key_is o) x r (key_less o x r e h))
 
 module _ (o : Options) (x : List Cell) where
@@ -45,7 +45,7 @@ module _ (o : Options) (x : List Cell) where
     between : Inside o x h f
     between = inside o x h f xh hf (equal_flip (cmp_group_is o) f x m.group)
 
-    may_between : on_side (strategy_of o) o.allow_eq (cmpKey o h x) ≡ true → may o x h ≡ true
+    may_between : on_side (strategy_of o) o.allow_eq (cmp_key o h x) ≡ true → may o x h ≡ true
     may_between s = may_too o x f h m (equal_flip (cmp_group_is o) x h between.before) (key_up (key_of o x) (key_of o h) between.from m.left) s
 
   -- A held row between x and f that is on x's side and that f does not take over.
@@ -54,12 +54,12 @@ module _ (o : Options) (x : List Cell) where
     there : at < length held
     from : AtMost (cmp_row o) x (get_or held at [])
     to : AtMost (cmp_row o) (get_or held at []) f
-    side : on_side w o.allow_eq (cmpKey o (get_or held at []) x) ≡ true
+    side : on_side w o.allow_eq (cmp_key o (get_or held at []) x) ≡ true
     kept : takes_over o w x f (get_or held at []) ≡ false
 
   -- Forward's held row is such a row, and Nearest's, since f is farther; Backward leaves f no side.
   rival : (w : Strategy) (l : List Cell) (held : Rows) (f : List Cell) → AtMost (cmp_row o) x l → May o x f
-      → on_side w o.allow_eq (cmpKey o f x) ≡ true → Enough o w l held f → Rival w held f
+      → on_side w o.allow_eq (cmp_key o f x) ≡ true → Enough o w l held f → Rival w held f
   unfolding takes_over
   rival Backward l held f xl m s e = absurd (not_back o o.allow_eq x f (equal_flip (cmp_group_is o) f x m.group) (past_up o o.allow_eq x l f xl e) s)
   rival Forward l held f xl m s e =

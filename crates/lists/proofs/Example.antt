@@ -13,7 +13,7 @@ use Rattle.matching.specs.Answer.{cells_from, answer_row}
 use Rattle.matching.specs.Match.{choose, takes_over, fits, tolerate, match_table, whole_table}
 use Rattle.frames.specs.declared.outcomes.PortState.TheVariants.{Ready, Done as PortDone}
 use Rattle.lists.specs.Lists.{Call, left, right, end, ports, turn, start, events, final, left_frames, right_frames, rows_in, outputs, Entry, entries_of, written_in, matches_in}
-use Rattle.lists.specs.WholeTables.{due_over, lefts, rights, turnedRows, matches}
+use Rattle.lists.specs.WholeTables.{due_over, lefts, rights, turned_rows, matches}
 use Rattle.lists.proofs.Script.{Said, ok, refused, wrote, wants, idle, ports as said-ports, left_area, right_area, space, says, speak_all}
 
 abbrev pub o : Options
@@ -64,7 +64,7 @@ answers = refl
 -- What the whole-table theorem reads off this list: the accepted rows of each side, which are sorted, the rows turned, and the matches written.
 pub told : (lefts o (left_area 20) (right_area 8) calls ≡ keys (5 ∷ 15 ∷ 20 ∷ 25 ∷ 27 ∷ []))
     × (rights o (left_area 20) (right_area 8) calls ≡ keys (10 ∷ 20 ∷ 20 ∷ 30 ∷ []))
-    × (turnedRows o (left_area 20) (right_area 8) calls ≡ keys (5 ∷ 15 ∷ 20 ∷ 25 ∷ 27 ∷ []))
+    × (turned_rows o (left_area 20) (right_area 8) calls ≡ keys (5 ∷ 15 ∷ 20 ∷ 25 ∷ 27 ∷ []))
     × ((final (start o (left_area 20) (right_area 8)) calls).join.pruned ≡ 2)
     × (matches o (left_area 20) (right_area 8) calls ≡ entry 0 0 ∷ entry 0 1 ∷ entry 2 1 ∷ entry 2 1 ∷ entry 2 1 ∷ [])
 unfolding calls speak_all events final left_frames right_frames rows_in outputs matches_in written_in entries_of

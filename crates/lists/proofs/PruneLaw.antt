@@ -10,7 +10,7 @@ use lib.Seq.{drop-cons, get_or-take, length-take-le}
 use Rattle.frames.specs.Cells.{Cell, Rows}
 use Rattle.order.specs.options.Options.{strategy_of}
 use Rattle.order.specs.Order.{cmp_group, cmp_row, key_of, sorted}
-use Rattle.order.proofs.OrderLaws.{AtMost, cmp_group_is, cmp_row_is, cmp_key_is, cmpKey, less_at_most, equal_at_most, equal_flip, not_both, less_then, group_at_most, row_by_key}
+use Rattle.order.proofs.OrderLaws.{AtMost, cmp_group_is, cmp_row_is, cmp_key_is, cmp_key, less_at_most, equal_at_most, equal_flip, not_both, less_then, group_at_most, row_by_key}
 use Rattle.order.proofs.SortedLaws.{all_by, sorted_cut, sorted_at}
 use Rattle.order.proofs.KeyLaws.{Inside, inside, key_less, key_up, nearer_below}
 use Rattle.order.specs.declared.options.Options.{Options}
@@ -33,19 +33,19 @@ module _ (o : Options) (t x a : List Cell) (tx : AtMost (cmp_row o) t x) (m : Ma
   -- So it is covered; and by every strategy that may drop it, a row b with keys a ≤ b < x is on x's side and beats it.
   abbrev Beaten : Strategy → Type 0
   Beaten w =
-      (b : List Cell) → AtMost (cmpKey o) a b → cmpKey o b x ≡ Less → (on_side w o.allow_eq (cmpKey o b x) ≡ true) × (takes_over o w x b a ≡ true)
+      (b : List Cell) → AtMost (cmp_key o) a b → cmp_key o b x ≡ Less → (on_side w o.allow_eq (cmp_key o b x) ≡ true) × (takes_over o w x b a ≡ true)
 
-  beaten : (w : Strategy) (held : Rows) (p : ℕ) → Dropped o w t held p a → on_side w o.allow_eq (cmpKey o a x) ≡ true → Covered o t held p × Beaten w
+  beaten : (w : Strategy) (held : Rows) (p : ℕ) → Dropped o w t held p a → on_side w o.allow_eq (cmp_key o a x) ≡ true → Covered o t held p × Beaten w
   unfolding takes_over
   beaten Backward held p (inl g) s = absurd (same_group_lem g)
   beaten Backward held p (inr c) s = (c, λ b h l. (rw l, refl))
-  beaten Forward held p l s = absurd (fore_side o.allow_eq (cmpKey o a x) s (key_less o a x m.group (less_then (cmp_row_is o) a t x l tx)))
+  beaten Forward held p l s = absurd (fore_side o.allow_eq (cmp_key o a x) s (key_less o a x m.group (less_then (cmp_row_is o) a t x l tx)))
   beaten Nearest held p (inl g) s = absurd (same_group_lem g)
   beaten Nearest held p (inr c) s =
       (c, λ b h l. (refl, nearer_by (key_of o x) (key_of o b) (key_of o a) (nearer_below (key_of o x) (key_of o b) (key_of o a) m.right h (less_at_most (cmp_key_is o) b x l)) h))
 
   -- The row b that covers it may be chosen too, and beats it.
-  cover : (b : List Cell) → AtMost (cmp_row o) a b → cmp_group o b t ≡ Equal → cmpKey o b t ≡ Less → Beaten (strategy_of o)
+  cover : (b : List Cell) → AtMost (cmp_row o) a b → cmp_group o b t ≡ Equal → cmp_key o b t ≡ Less → Beaten (strategy_of o)
       → (may o x b ≡ true) × (takes_over o (strategy_of o) x b a ≡ true)
   cover b ab g l w =
       let bx : cmp_row o b x ≡ Less = less_then (cmp_row_is o) b t x (row_by_key o b t g ∙ l) tx in

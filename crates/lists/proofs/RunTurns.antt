@@ -15,7 +15,7 @@ use Rattle.frames.specs.declared.outcomes.Answer.{Answer}
 use Rattle.frames.specs.declared.outcomes.Answer.TheVariants.{Wrote, WantsRight, Idle, Refused}
 use Rattle.node.proofs.runs.RunLaws.{turn_fits, turn_length, turn_untouched, turn_areas, turn_options}
 use Rattle.lists.specs.Lists.{turn, World, step, events, final, when_wrote, outputs, back_to_back}
-use Rattle.lists.specs.Runs.{lent_by, stop_in, written_words, answersOf, words_of, ranFrom, RunIsTurns, Runs}
+use Rattle.lists.specs.Runs.{lent_by, stop_in, written_words, answers_of, words_of, ran_from, RunIsTurns, Runs}
 
 -- A turn's output is kept where it wrote, and only there.
 kept : (a : Answer) (outs : List Words) → wrote a ≡ true → when_wrote a outs ≡ outs
@@ -64,8 +64,8 @@ module _ (k : ℕ) (w : World) (out : Words) where
       let a = turn_areas w.join w.left w.right out in
       let f = turn_fits w.join w.left w.right out g in
       let l : length (take n t.out) ≡ n = length-take-le n t.out (omega (arith, f.room, turn_length w.join w.left w.right out)) in
-      let e : ranFrom k next (drop n t.out) ≡ r = rw (a.0, a.1) in
-      let b : Words = back_to_back (map (written_words (answer_columns w.join.options)) (outputs (answersOf k next (drop n t.out)))) in
+      let e : ran_from k next (drop n t.out) ≡ r = rw (a.0, a.1) in
+      let b : Words = back_to_back (map (written_words (answer_columns w.join.options)) (outputs (answers_of k next (drop n t.out)))) in
       let eb : words_of k next (drop n t.out) ≡ b = rw (turn_options w.join w.left w.right out) in
       record {
         world = rw g (ih.world ∙ rw (e, a.0, a.1));

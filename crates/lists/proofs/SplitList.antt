@@ -31,7 +31,7 @@ use Rattle.node.specs.Calls.{left_answer, left_call, queued, right_answer, right
 use Rattle.matchframe.specs.turnrows.Prunes.{bad_right, first_prune, remembered, kept_rows, last_prune}
 use Rattle.matching.specs.Answer.{answered}
 use Rattle.lists.specs.Lists.{Call, left, right, end, ports, turn, Event, on_left, on_right, on_end, on_ports, on_turn, World, start, step, events, final, right_in, right_frames, rows_in, left_frames, outputs, is_right_ended}
-use Rattle.lists.specs.SplitAlone.{heldAfter, rememberedAfter, SplitsAlone}
+use Rattle.lists.specs.SplitAlone.{held_after, remembered_after, SplitsAlone}
 use Rattle.lists.proofs.ListLaws.{right_append, ended_append, rows_in_append}
 use Rattle.lists.proofs.Invariant.{Inv, right_passed}
 use Rattle.lists.proofs.Turn.{passed, left_by, matched_by, held, held_is, rows, answer_is, turned_is, no_write}
@@ -186,8 +186,8 @@ module _ (o : Options) (l r : Words) (allowed : refused_options o ≡ false) whe
   low_start on = record { empty = λ z q. refl; first = λ h. tt }
 
   -- Over sorted held rows no split is out of order.
-  split_never_alone : (calls : List Call) → is_on o.check ≡ true → sorted o (heldAfter o l r calls) ≡ true → (k : ℕ) (xs : Rows)
-      → bad_split o (rememberedAfter o l r calls) k xs (heldAfter o l r calls) ≡ false
+  split_never_alone : (calls : List Call) → is_on o.check ≡ true → sorted o (held_after o l r calls) ≡ true → (k : ℕ) (xs : Rows)
+      → bad_split o (remembered_after o l r calls) k xs (held_after o l r calls) ≡ false
   unfolding held
   split_never_alone calls on s k xs =
       let w = final (start o l r) calls in
@@ -199,12 +199,12 @@ module _ (o : Options) (l r : Words) (allowed : refused_options o ≡ false) whe
 
   -- So what is asked of the right side is whether the held rows are sorted.
   right_fault_is : (calls : List Call) (xs : Rows)
-      → bad_right o (rememberedAfter o l r calls) xs (heldAfter o l r calls) ≡ (is_on o.check && not (sorted o (heldAfter o l r calls)))
+      → bad_right o (remembered_after o l r calls) xs (held_after o l r calls) ≡ (is_on o.check && not (sorted o (held_after o l r calls)))
   unfolding bad_right
-  right_fault_is calls xs = go (is_on o.check) refl (sorted o (heldAfter o l r calls)) refl
+  right_fault_is calls xs = go (is_on o.check) refl (sorted o (held_after o l r calls)) refl
     where
-      go : (b : Bool) → is_on o.check ≡ b → (s : Bool) → sorted o (heldAfter o l r calls) ≡ s
-          → (b && (not s || bad_split o (rememberedAfter o l r calls) (length xs - 1) xs (heldAfter o l r calls))) ≡ (b && not s)
+      go : (b : Bool) → is_on o.check ≡ b → (s : Bool) → sorted o (held_after o l r calls) ≡ s
+          → (b && (not s || bad_split o (remembered_after o l r calls) (length xs - 1) xs (held_after o l r calls))) ≡ (b && not s)
       go false eb s es = refl
       go true eb false es = refl
       go true eb true es = split_never_alone calls eb es (length xs - 1) xs

@@ -11,8 +11,8 @@ use Rattle.order.specs.declared.options.Check.TheVariants.{Strict}
 use Rattle.order.specs.Order.{sorted}
 use Rattle.order.proofs.Samples.{options, checking, row, frame_of}
 use Rattle.lists.specs.Lists.{Call, left, right, turn, events, final, left_frames, right_frames, rows_in, outputs}
-use Rattle.lists.specs.WholeTables.{rights, matches, due, turnedRows}
-use Rattle.lists.specs.Strict.{is_left_order, judged_order, answerNext, nextRows}
+use Rattle.lists.specs.WholeTables.{rights, matches, due, turned_rows}
+use Rattle.lists.specs.Strict.{is_left_order, judged_order, answer_next, next_rows}
 use Rattle.lists.proofs.Script.{left_area, right_area, space, speak_all}
 use Rattle.lists.proofs.Strict.{strict_theorem}
 
@@ -34,16 +34,16 @@ pub R : Words
 R = right_area 16
 
 -- The next turn judges the order of its left rows; right rows are sorted, and left rows are not: the third is before the second.
-pub met : (judged_order (answerNext o L R calls (space 4)) ≡ true) × (sorted o (rights o L R calls) ≡ true) × (sorted o (turnedRows o L R calls ++ nextRows o L R calls) ≡ false)
+pub met : (judged_order (answer_next o L R calls (space 4)) ≡ true) × (sorted o (rights o L R calls) ≡ true) × (sorted o (turned_rows o L R calls ++ next_rows o L R calls) ≡ false)
 unfolding o calls L R speak_all events final left_frames right_frames rows_in outputs
 met = (refl, refl, refl)
 
 -- So it answers 8.
-pub eight : is_left_order (answerNext o L R calls (space 4)) ≡ true
+pub eight : is_left_order (answer_next o L R calls (space 4)) ≡ true
 unfolding o refused_options bad_options bad_ranks
 eight = (strict_theorem o refl L R calls).exactly_eight refl (space 4) met.0 ∙ ap not met.2
 
 -- And what was written before is what is due.
-pub right_so_far : matches o L R calls ≡ map (due o L R calls) (turnedRows o L R calls)
+pub right_so_far : matches o L R calls ≡ map (due o L R calls) (turned_rows o L R calls)
 unfolding o refused_options bad_options bad_ranks
 right_so_far = ((strict_theorem o refl L R calls).right_anyway refl met.1).0

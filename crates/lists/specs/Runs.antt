@@ -35,29 +35,29 @@ stop_in (e ∷ es) = stop_by e (stop_in es)
 
 module _ (k : ℕ) (w : World) (out : Words) where
   -- The run's turns, as calls.
-  abbrev pub turnsOf : List Call
-  turnsOf = map turn (lent_by k w out)
+  abbrev pub turns_of : List Call
+  turns_of = map turn (lent_by k w out)
 
   -- Their answers.
-  abbrev pub answersOf : List Event
-  answersOf = events w turnsOf
+  abbrev pub answers_of : List Event
+  answers_of = events w turns_of
 
   -- What they wrote, back to back.
   abbrev pub words_of : Words
-  words_of = back_to_back (map (written_words (answer_columns w.join.options)) (outputs answersOf))
+  words_of = back_to_back (map (written_words (answer_columns w.join.options)) (outputs answers_of))
 
   -- What the run leaves.
-  abbrev pub ranFrom : Ran
-  ranFrom = run_call k w.join w.left w.right out
+  abbrev pub ran_from : Ran
+  ran_from = run_call k w.join w.left w.right out
 
 -- A run of at most k turns leaves the join and the areas that its turns leave as calls of their own, reports as many turns as answered Wrote and the
 -- answer that stopped them, and writes what they wrote back to back; the rest of the output is untouched.
 pub record RunIsTurns (k : ℕ) (w : World) (out : Words) : Type 0 where
-  pub world : final w (turnsOf k w out) ≡ record { join = (ranFrom k w out).join; left = w.left; right = w.right }
-  pub turns : (ranFrom k w out).turns ≡ length (outputs (answersOf k w out))
-  pub stop : (ranFrom k w out).stop ≡ stop_in (answersOf k w out)
-  pub written : (ranFrom k w out).words ≡ length (words_of k w out)
-  pub words : (ranFrom k w out).out ≡ words_of k w out ++ drop (ranFrom k w out).words out
+  pub world : final w (turns_of k w out) ≡ record { join = (ran_from k w out).join; left = w.left; right = w.right }
+  pub turns : (ran_from k w out).turns ≡ length (outputs (answers_of k w out))
+  pub stop : (ran_from k w out).stop ≡ stop_in (answers_of k w out)
+  pub written : (ran_from k w out).words ≡ length (words_of k w out)
+  pub words : (ran_from k w out).out ≡ words_of k w out ++ drop (ran_from k w out).words out
 
 -- For every join, areas, k and output.
 abbrev pub Runs : Type 0

@@ -10,7 +10,7 @@ use Rattle.frames.specs.declared.outcomes.Answer.{Answer}
 use Rattle.frames.specs.declared.outcomes.Answer.TheVariants.{Wrote, WantsRight, Idle, Refused}
 use Rattle.node.specs.Calls.{turn_call}
 use Rattle.lists.specs.Lists.{Call, World, start, final, rows_in, turn_refusal}
-use Rattle.lists.specs.WholeTables.{rights, turnedRows, waitingFrames, matches, due, Correct, Each}
+use Rattle.lists.specs.WholeTables.{rights, turned_rows, waiting_frames, matches, due, Correct, Each}
 
 -- The answer is 8.
 abbrev pub is_left_order : Answer → Bool
@@ -26,22 +26,22 @@ judged_order (Refused n) = marks_failed n
 -- After a list of calls, from a fresh join and two areas (SCOPE 15.1).
 module _ (o : Options) (l r : Words) (calls : List Call) where
   -- What a turn answers next.
-  abbrev pub answerNext : Words → Answer
-  answerNext out = let w = final (start o l r) calls in (turn_call w.join w.left w.right out).answer
+  abbrev pub answer_next : Words → Answer
+  answer_next out = let w = final (start o l r) calls in (turn_call w.join w.left w.right out).answer
 
   -- The rows of its frame: the first of the accepted left frames that wait.
-  abbrev pub nextRows : Rows
-  nextRows = rows_in (columns o) (take 1 (waitingFrames o l r calls))
+  abbrev pub next_rows : Rows
+  next_rows = rows_in (columns o) (take 1 (waiting_frames o l r calls))
 
   -- SCOPE 15.22, sorted or not.
   abbrev pub ExactlyEight : Type 0
-  ExactlyEight = o.check ≡ Strict → (out : Words) → judged_order (answerNext out) ≡ true → is_left_order (answerNext out) ≡ not (sorted o (turnedRows o l r calls ++ nextRows))
+  ExactlyEight = o.check ≡ Strict → (out : Words) → judged_order (answer_next out) ≡ true → is_left_order (answer_next out) ≡ not (sorted o (turned_rows o l r calls ++ next_rows))
 
   -- SCOPE 15.23: of the left rows nothing is supposed.
   abbrev pub RightAnyway : Type 0
   RightAnyway =
       o.check ≡ Strict → sorted o (rights o l r calls) ≡ true
-      → (matches o l r calls ≡ map (due o l r calls) (turnedRows o l r calls)) × Each (Correct o (rights o l r calls)) (turnedRows o l r calls) (matches o l r calls)
+      → (matches o l r calls ≡ map (due o l r calls) (turned_rows o l r calls)) × Each (Correct o (rights o l r calls)) (turned_rows o l r calls) (matches o l r calls)
 
 -- Both, of one list.
 pub record StrictHolds (o : Options) (l r : Words) (calls : List Call) : Type 0 where

@@ -45,12 +45,12 @@ module _ (o : Options) (l r : Words) (calls : List Call) where
   rights = rows_in (right_columns o) (right_frames all)
 
   -- SCOPE 15.5: the left rows turned.
-  abbrev pub turnedRows : Rows
-  turnedRows = rows_in (columns o) (take (length (outputs all)) (left_frames all))
+  abbrev pub turned_rows : Rows
+  turned_rows = rows_in (columns o) (take (length (outputs all)) (left_frames all))
 
   -- The accepted left frames that wait.
-  abbrev pub waitingFrames : List Words
-  waitingFrames = drop (length (outputs all)) (left_frames all)
+  abbrev pub waiting_frames : List Words
+  waiting_frames = drop (length (outputs all)) (left_frames all)
 
   -- The matches written, in call order.
   abbrev pub matches : List Entry
@@ -66,15 +66,15 @@ module _ (o : Options) (l r : Words) (calls : List Call) where
 
   -- SCOPE 15.9.
   abbrev pub WholeTable : Type 0
-  WholeTable = Declared → matches ≡ map due turnedRows
+  WholeTable = Declared → matches ≡ map due turned_rows
 
   -- SCOPE 15.10.
   abbrev pub NoneExactly : Type 0
-  NoneExactly = Declared → Each (Correct o rights) turnedRows matches
+  NoneExactly = Declared → Each (Correct o rights) turned_rows matches
 
   -- Outputs for the frames that wait, each enough: 2 + 2n(1 + p) words, with the distance 2 + 2n(2 + p).
   abbrev pub Enough : List Words → Type 0
-  Enough outs = Each (λ f out. frame_words (row_count f) (answer_columns o) ≤ length out) waitingFrames outs
+  Enough outs = Each (λ f out. frame_words (row_count f) (answer_columns o) ≤ length out) waiting_frames outs
 
   -- Further turns, from where the list ends.
   abbrev pub further : List Words → List Event
@@ -115,7 +115,7 @@ module _ (o : Options) (l r : Words) (calls : List Call) where
   abbrev pub WordsKept : Type 0
   WordsKept =
       let w = final (start o l r) calls in
-      (waiting w.join w.left ≡ back_to_back waitingFrames)
+      (waiting w.join w.left ≡ back_to_back waiting_frames)
       × (held_values w.join w.right ≡ drop (w.join.pruned * right_columns o) (back_to_back (map (values_in (right_columns o)) (right_frames all))))
       × (held_marks w.join w.right ≡ drop (w.join.pruned * right_columns o) (back_to_back (map (marks_in (right_columns o)) (right_frames all))))
       × (length w.left ≡ length l)
@@ -125,8 +125,8 @@ module _ (o : Options) (l r : Words) (calls : List Call) where
   -- those turned have to be sorted.
   abbrev pub Settled : Type 0
   Settled =
-      sorted o turnedRows ≡ true → (more : Rows) → (is_right_ended all ≡ true → more ≡ []) → sorted o (rights ++ more) ≡ true
-      → matches ≡ map (due_over o (rights ++ more)) turnedRows
+      sorted o turned_rows ≡ true → (more : Rows) → (is_right_ended all ≡ true → more ≡ []) → sorted o (rights ++ more) ≡ true
+      → matches ≡ map (due_over o (rights ++ more)) turned_rows
 
 -- The theorem for one list.
 pub record ListHolds (o : Options) (l r : Words) (calls : List Call) : Type 0 where

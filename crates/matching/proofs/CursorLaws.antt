@@ -172,14 +172,14 @@ module _ (eq : Bool) (key : ℕ → Cell) (at end : ℕ) (up : Rising key at end
       near_up v u (key k) (key c) n m (up k c l (omega arith) he) h (or_out (is_null (key k)) (nearer v (key c) (key k)) (b k l i) m))
 
   -- ---- what is chosen
-  abbrev pub takesKey : Strategy → Cell → Cell → Cell → Bool
-  takesKey Backward v a b = true
-  takesKey Forward v a b = false
-  takesKey Nearest v a b = nearer v a b
+  abbrev pub takes_key : Strategy → Cell → Cell → Cell → Bool
+  takes_key Backward v a b = true
+  takes_key Forward v a b = false
+  takes_key Nearest v a b = nearer v a b
 
   -- A row behind that fits gives way to row c, which fits.
   pub gives_way : (s : Strategy) (v : Cell) (c k : ℕ) → Behind s eq key at v c → at ≤ k → k < c → c < end → fits_key s eq v (key k) ≡ true
-      → (fits_key s eq v (key c) ≡ true) × (takesKey s v (key c) (key k) ≡ true)
+      → (fits_key s eq v (key c) ≡ true) × (takes_key s v (key c) (key k) ≡ true)
   gives_way Backward v c k b l h he e =
       let p = and-true (not (is_null (key k))) (on_side Backward eq (cmp_cell key_rule (key k) v)) e in
       let n = key_up (key k) (key c) (up k c l (omega arith) he) (not-true (is_null (key k)) p.0) in
@@ -193,7 +193,7 @@ module _ (eq : Bool) (key : ℕ → Cell) (at end : ℕ) (up : Rising key at end
 
   -- A row ahead that fits does not take the place of row c, which fits.
   pub holds_place : (s : Strategy) (v : Cell) (c k : ℕ) → is_null v ≡ false → Stopped s eq key end v c → at ≤ c → c < k → k < end → fits_key s eq v (key k) ≡ true
-      → (fits_key s eq v (key c) ≡ true) × (takesKey s v (key k) (key c) ≡ false)
+      → (fits_key s eq v (key c) ≡ true) × (takes_key s v (key k) (key c) ≡ false)
   holds_place Backward v c k nv st l h he e =
       let p = and-true (not (is_null (key k))) (on_side Backward eq (cmp_cell key_rule (key k) v)) e in
       let q = or_left (is_null (key (c + 1))) (on_side Backward eq (cmp_cell key_rule (key (c + 1)) v)) (st (omega arith)) in

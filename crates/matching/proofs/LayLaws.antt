@@ -43,18 +43,18 @@ module _ (m : ℕ) where
 
 -- ---- the left runs from row i on, with the cursor at row `at` of the right rows
 module _ (o : Options) (number m wl nl : ℕ) (lv lm : Words) (wr nr : ℕ) (rv rm : Words) where
-  abbrev pub groupsFrom : ℕ → ℕ → List Choice
-  groupsFrom at i = by_runs o (number + at) (runs o (between wr at nr rv rm)) (runs o (between wl i nl lv lm))
+  abbrev pub groups_from : ℕ → ℕ → List Choice
+  groups_from at i = by_runs o (number + at) (runs o (between wr at nr rv rm)) (runs o (between wl i nl lv lm))
 
-  pub groups_all : by_runs o number (runs o (rows_of wr nr rv rm)) (runs o (rows_of wl nl lv lm)) ≡ groupsFrom 0 0
+  pub groups_all : by_runs o number (runs o (rows_of wr nr rv rm)) (runs o (rows_of wl nl lv lm)) ≡ groups_from 0 0
   groups_all =
       let z : number + 0 ≡ number = omega arith in
       rw (z, between_all wr rv rm nr, between_all wl lv lm nl)
 
   -- The run i..e is laid, over what the cursor serves.
   pub groups_more : (at i e : ℕ) (r : RunCursor) (out : Words) → i < nl → e ≡ i + run_length o (between wl i nl lv lm) → Serves o wr nr rv rm at (row_from wl (i * wl) lv lm) r
-      → lay m i (groupsFrom at i) out
-      ≡ lay m e (groupsFrom r.at e) (lay m i (map (match_in o (number + r.at) (between wr r.at r.used rv rm)) (between wl i e lv lm)) out)
+      → lay m i (groups_from at i) out
+      ≡ lay m e (groups_from r.at e) (lay m i (map (match_in o (number + r.at) (between wr r.at r.used rv rm)) (between wl i e lv lm)) out)
   groups_more at i e r out h q s =
       let g : Rows = between wl i e lv lm in
       let f = match_in o (number + r.at) (between wr r.at r.used rv rm) in
@@ -62,10 +62,10 @@ module _ (o : Options) (number m wl nl : ℕ) (lv lm : Words) (wr nr : ℕ) (rv 
       let n : i + length (map f g) ≡ e = (let l = length-map g f in let k = between_length wl lv lm i e in omega arith) in
       ap (λ (ls : List Rows). lay m i (by_runs o (number + at) (runs o (between wr at nr rv rm)) ls) out) (run_first o wl nl lv lm i e h q)
       ∙ ap (λ (ks : List Choice). lay m i ks out) (s.step number g (runs o (between wl e nl lv lm)) (run_head o [] wl nl lv lm i e h q))
-      ∙ lay_append m i (map f g) (groupsFrom r.at e) out
-      ∙ ap (λ (k : ℕ). lay m k (groupsFrom r.at e) (lay m i (map f g) out)) n
+      ∙ lay_append m i (map f g) (groups_from r.at e) out
+      ∙ ap (λ (k : ℕ). lay m k (groups_from r.at e) (lay m i (map f g) out)) n
 
-  pub groups_end : (at : ℕ) (out : Words) → lay m nl (groupsFrom at nl) out ≡ out
+  pub groups_end : (at : ℕ) (out : Words) → lay m nl (groups_from at nl) out ≡ out
   unfolding by_runs lay
   groups_end at out = rw (runs_past o wl nl lv lm)
 

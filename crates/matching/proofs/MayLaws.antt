@@ -11,7 +11,7 @@ use lib.Dec.{ltb, eqb}
 use Rattle.frames.specs.Cells.{Cell}
 use Rattle.order.specs.options.Options.{strategy_of, key_rule}
 use Rattle.order.specs.Order.{cmp_cell, cmp_group, is_less, is_equal, null_group, null_key, key_of, distance}
-use Rattle.order.proofs.OrderLaws.{AtMost, cmp_cell_is, cmpKey, at_most, less_greater, greater_less, less_at_most}
+use Rattle.order.proofs.OrderLaws.{AtMost, cmp_cell_is, cmp_key, at_most, less_greater, greater_less, less_at_most}
 use Rattle.frames.proofs.BoolLaws.{and-true}
 use Rattle.order.proofs.KeyLaws.{null_group_lem}
 use Rattle.order.specs.declared.options.Options.{Options}
@@ -39,7 +39,7 @@ pub record May (o : Options) (x r : List Cell) : Type 0 where
   pub whole : null_group o x ≡ false
   pub left : null_key o x ≡ false
   pub right : null_key o r ≡ false
-  pub side : on_side (strategy_of o) o.allow_eq (cmpKey o r x) ≡ true
+  pub side : on_side (strategy_of o) o.allow_eq (cmp_key o r x) ≡ true
 
 is_equal_lem : (z : Order) → is_equal z ≡ true → z ≡ Equal
 is_equal_lem Less e = cc
@@ -52,7 +52,7 @@ may_out o x r e =
     let p = and-true (same_group o x r) (fits o x r) e in
     let g = and-true (not (null_group o x) && not (null_group o r)) (is_equal (cmp_group o r x)) p.0 in
     let n = and-true (not (null_group o x)) (not (null_group o r)) g.0 in
-    let f = and-true (not (null_key o x) && not (null_key o r)) (on_side (strategy_of o) o.allow_eq (cmpKey o r x)) p.1 in
+    let f = and-true (not (null_key o x) && not (null_key o r)) (on_side (strategy_of o) o.allow_eq (cmp_key o r x)) p.1 in
     let k = and-true (not (null_key o x)) (not (null_key o r)) f.0 in
     record {
       group = is_equal_lem (cmp_group o r x) g.1;
@@ -67,7 +67,7 @@ unfolding fits
 may_in o x r m = rw (m.whole, null_group_lem o r x m.group ∙ m.whole, m.group, m.left, m.right, m.side)
 
 -- Where one row may be chosen, so may another that has the group, a key, and a place on the side.
-pub may_too : (o : Options) (x r s : List Cell) → May o x r → cmp_group o s x ≡ Equal → null_key o s ≡ false → on_side (strategy_of o) o.allow_eq (cmpKey o s x) ≡ true
+pub may_too : (o : Options) (x r s : List Cell) → May o x r → cmp_group o s x ≡ Equal → null_key o s ≡ false → on_side (strategy_of o) o.allow_eq (cmp_key o s x) ≡ true
     → may o x s ≡ true
 may_too o x r s m g n d = may_in o x s (record { group = g; whole = m.whole; left = m.left; right = n; side = d })
 

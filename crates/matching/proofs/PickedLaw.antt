@@ -13,7 +13,7 @@ use lib.ListN.{length, get_or}
 use Rattle.frames.specs.Cells.{Cell, Rows}
 use Rattle.order.specs.options.Options.{strategy_of, key_rule}
 use Rattle.order.specs.Order.{cmp_cell, cmp_group, is_less, is_equal, is_greater, key_of, distance, sorted}
-use Rattle.order.proofs.OrderLaws.{AtMost, flip, cmp_cell_is, cmp_group_is, cmp_key_is, cmpKey, same_right, not_less}
+use Rattle.order.proofs.OrderLaws.{AtMost, flip, cmp_cell_is, cmp_group_is, cmp_key_is, cmp_key, same_right, not_less}
 use Rattle.order.proofs.SortedLaws.{sorted_at}
 use Rattle.frames.proofs.BoolLaws.{and-true}
 use Rattle.order.proofs.KeyLaws.{key_at_most, nearer_below, nearer_above}
@@ -153,17 +153,17 @@ module _ (o : Options) (rights : Rows) (x : List Cell) where
   Least c s = distance (key_of o c) (key_of o x) ≤ distance (key_of o s) (key_of o x)
 
   module _ (c s : List Cell) (m : May o x c) (u : May o x s) where
-    least_before : (w : Strategy) → on_side w o.allow_eq (cmpKey o c x) ≡ true → takes_over o w x c s ≡ true → AtMost (cmpKey o) s c → Least c s
+    least_before : (w : Strategy) → on_side w o.allow_eq (cmp_key o c x) ≡ true → takes_over o w x c s ≡ true → AtMost (cmp_key o) s c → Least c s
     unfolding takes_over
-    least_before Backward f t k = nearer_below (key_of o x) (key_of o c) (key_of o s) u.right k (back_side o.allow_eq (cmpKey o c x) f)
+    least_before Backward f t k = nearer_below (key_of o x) (key_of o c) (key_of o s) u.right k (back_side o.allow_eq (cmp_key o c x) f)
     least_before Forward f t k = never false t refl
     least_before Nearest f t k = nearer_least (key_of o x) (key_of o c) (key_of o s) t
 
-    least_behind : (w : Strategy) → on_side w o.allow_eq (cmpKey o c x) ≡ true → takes_over o w x s c ≡ false → AtMost (cmpKey o) c s → Least c s
+    least_behind : (w : Strategy) → on_side w o.allow_eq (cmp_key o c x) ≡ true → takes_over o w x s c ≡ false → AtMost (cmp_key o) c s → Least c s
     unfolding takes_over
     least_behind Backward f t k = never true refl t
     least_behind Forward f t k = nearer_above (key_of o x) (key_of o c) (key_of o s) m.left
-        (not_less (cmp_key_is o) c x (fore_side o.allow_eq (cmpKey o c x) f)) k
+        (not_less (cmp_key_is o) c x (fore_side o.allow_eq (cmp_key o c x) f)) k
     least_behind Nearest f t k = not_nearer_least (key_of o x) (key_of o s) (key_of o c) t
 
   -- Two rows that may be chosen for x have one group, so on sorted rows their keys stand as their places.

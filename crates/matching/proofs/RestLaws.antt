@@ -13,7 +13,7 @@ use Rattle.frames.specs.Cells.{Cell, null, value, is_null, Rows, Words, rows_of,
 use Rattle.order.specs.options.Options.{strategy_of, key_rule}
 use Rattle.order.specs.Order.{cmp_cell, cmp_group, is_greater, key_of, null_group, sorted}
 use Rattle.order.specs.Requires.{RowsIn}
-use Rattle.order.proofs.OrderLaws.{AtMost, cmpKey, cmp_key_is, cmp_group_is, at_most, at_most_refl, row_by_key}
+use Rattle.order.proofs.OrderLaws.{AtMost, cmp_key, cmp_key_is, cmp_group_is, at_most, at_most_refl, row_by_key}
 use Rattle.order.proofs.SortedLaws.{All, all_by, all_map, not_greater}
 use Rattle.frames.proofs.BoolLaws.{and-true}
 use Rattle.order.proofs.RowLaws.{rows_from}
@@ -28,24 +28,24 @@ use Rattle.matching.proofs.ChoiceLaws.{Keeps, Wins, choose_keep, choose_skip}
 use Rattle.matching.proofs.Runs.{Near}
 use Rattle.matching.proofs.WalkLaws.{between_length, between_more, between_cut}
 use Rattle.matching.proofs.BestLaws.{key_at_lem, hit_some}
-use Rattle.matching.proofs.CursorLaws.{takesKey, gives_way, holds_place}
+use Rattle.matching.proofs.CursorLaws.{takes_key, gives_way, holds_place}
 
 -- ---- rows whose keys do not fall
 module _ (o : Options) where
   sorted_tail : (r : List Cell) (rs : Rows) → keys_sorted o (r ∷ rs) ≡ true → keys_sorted o rs ≡ true
   unfolding keys_sorted
   sorted_tail r [] e = refl
-  sorted_tail r (s ∷ rs) e = (and-true (not (is_greater (cmpKey o r s))) (keys_sorted o (s ∷ rs)) e).1
+  sorted_tail r (s ∷ rs) e = (and-true (not (is_greater (cmp_key o r s))) (keys_sorted o (s ∷ rs)) e).1
 
-  sorted_from : (r : List Cell) (rs : Rows) → keys_sorted o (r ∷ rs) ≡ true → (k : ℕ) → k < suc (length rs) → AtMost (cmpKey o) r (get_or (r ∷ rs) k [])
+  sorted_from : (r : List Cell) (rs : Rows) → keys_sorted o (r ∷ rs) ≡ true → (k : ℕ) → k < suc (length rs) → AtMost (cmp_key o) r (get_or (r ∷ rs) k [])
   unfolding keys_sorted
   sorted_from r rs e zero l = at_most_refl (cmp_key_is o) r
   sorted_from r [] e (suc k) l = absurd (omega arith)
   sorted_from r (s ∷ rs) e (suc k) l =
-      let p = and-true (not (is_greater (cmpKey o r s))) (keys_sorted o (s ∷ rs)) e in
-      at_most (cmp_key_is o) r s (get_or (s ∷ rs) k []) (not_greater (cmpKey o r s) p.0) (sorted_from s rs p.1 k (omega arith))
+      let p = and-true (not (is_greater (cmp_key o r s))) (keys_sorted o (s ∷ rs)) e in
+      at_most (cmp_key_is o) r s (get_or (s ∷ rs) k []) (not_greater (cmp_key o r s) p.0) (sorted_from s rs p.1 k (omega arith))
 
-  sorted_at : (rs : Rows) → keys_sorted o rs ≡ true → (i k : ℕ) → i ≤ k → k < length rs → AtMost (cmpKey o) (get_or rs i []) (get_or rs k [])
+  sorted_at : (rs : Rows) → keys_sorted o rs ≡ true → (i k : ℕ) → i ≤ k → k < length rs → AtMost (cmp_key o) (get_or rs i []) (get_or rs k [])
   sorted_at [] e i k h l = absurd (omega arith)
   sorted_at (r ∷ rs) e zero k h l = sorted_from r rs e k l
   sorted_at (r ∷ rs) e (suc i) zero h l = absurd (omega arith)
@@ -164,7 +164,7 @@ module _ (o : Options) (s : Strategy) (w at end : ℕ) (vs ms : Words) (v : ℤ)
       let e = key_at_lem o w end vs ms p.rows k h in
       subst (λ (t : Strategy). fits o x (row k) ≡ fits_key t o.allow_eq (value v) (key k)) (sym p.told) (rw (ex, e))
 
-  over : (t : Strategy) (j k : ℕ) → j < end → k < end → takes_over o t x (row j) (row k) ≡ takesKey o.allow_eq key at end p.rising t (value v) (key j) (key k)
+  over : (t : Strategy) (j k : ℕ) → j < end → k < end → takes_over o t x (row j) (row k) ≡ takes_key o.allow_eq key at end p.rising t (value v) (key j) (key k)
   unfolding takes_over
   over Backward j k h l = refl
   over Forward j k h l = refl

@@ -23,20 +23,20 @@ pub record PortsMeet (j : Join) (l r s : PortState) (u : NodeState) (a b d : Por
   pub told : Told u (three l r s) (three a b d)
 
 -- Every port call that is not refused meets the rule.
-pub ports_meet : (j : Join) (areaL areaR : Words) (l r s : PortState) (x : PortedJoin) → PortsContract j areaL areaR l r s x
+pub ports_meet : (j : Join) (area_l area_r : Words) (l r s : PortState) (x : PortedJoin) → PortsContract j area_l area_r l r s x
     → (a b d : PortState) → x.answer ≡ Ports a b d → PortsMeet j l r s x.join.state a b d
 unfolding ports_call ports_judged
-ports_meet j areaL areaR l r s x h a b d is = go (ports_answer j areaL areaR l r s) refl
+ports_meet j area_l area_r l r s x h a b d is = go (ports_answer j area_l area_r l r s) refl
   where
     apart : (n : Refusal) (a b d : PortState) → Refused n ≡ Ports a b d → ⊥
     apart n a b d e = let z : ◌≡◌ {A = ℕ} 0 1 = cc in omega arith
 
-    go : (y : Ported) → ports_answer j areaL areaR l r s ≡ y → PortsMeet j l r s x.join.state a b d
+    go : (y : Ported) → ports_answer j area_l area_r l r s ≡ y → PortsMeet j l r s x.join.state a b d
     go (Refused n) e = absurd (apart n a b d (sym (rw (e, ports_call) at h.answer) ∙ is))
     go (Ports a' b' d') e =
         let state : x.join.state ≡ ports_state j l s = ap (λ (k : Join). k.state) (rw (e, ports_call) at h.join) in
         let same : Ports a' b' d' ≡ Ports a b d = sym (rw (e, ports_call) at h.answer) ∙ is in
-        let p2 = past (bad_join j areaL areaR) (Refused BadJoin) _ (Ports a' b' d') (apart BadJoin a' b' d') e in
+        let p2 = past (bad_join j area_l area_r) (Refused BadJoin) _ (Ports a' b' d') (apart BadJoin a' b' d') e in
         let p3 = past j.failed (Refused Failed) _ (Ports a' b' d') (apart Failed a' b' d') p2.1 in
         rw state
         (record {

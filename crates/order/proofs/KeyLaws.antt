@@ -14,22 +14,22 @@ use Rattle.order.specs.options.Options.{key_rule}
 use Rattle.order.specs.Order.{cmp_z, cmp_cell, cmp_group, cmp_row, null_in, null_group, distance}
 use Rattle.order.specs.declared.options.Options.{Options}
 use Rattle.order.specs.declared.Order.TheVariants.{Less, Equal, Greater}
-use Rattle.order.proofs.OrderLaws.{AtMost, three, three_less, less_greater, equal_at_most, equal_flip, at_most, at_most_equal, cmp_z_is, cmp_cell_is, cell_equal, cmp_group_is, cmpKey, group_equal, group_at_most, row_by_key}
+use Rattle.order.proofs.OrderLaws.{AtMost, three, three_less, less_greater, equal_at_most, equal_flip, at_most, at_most_equal, cmp_z_is, cmp_cell_is, cell_equal, cmp_group_is, cmp_key, group_equal, group_at_most, row_by_key}
 
 -- ---- rows of one group compare by their keys
 module _ (o : Options) (r s : List Cell) (e : cmp_group o r s ≡ Equal) where
-  pub key_at_most : AtMost (cmp_row o) r s → AtMost (cmpKey o) r s
+  pub key_at_most : AtMost (cmp_row o) r s → AtMost (cmp_key o) r s
   key_at_most h = λ g. h (row_by_key o r s e ∙ g)
 
-  pub key_less : cmp_row o r s ≡ Less → cmpKey o r s ≡ Less
+  pub key_less : cmp_row o r s ≡ Less → cmp_key o r s ≡ Less
   key_less h = sym (row_by_key o r s e) ∙ h
 
 -- Row s between rows r and u of one group: it has their group, and its key stands between theirs.
 pub record Inside (o : Options) (r s u : List Cell) : Type 0 where
   pub before : cmp_group o r s ≡ Equal
   pub behind : cmp_group o s u ≡ Equal
-  pub from : AtMost (cmpKey o) r s
-  pub to : AtMost (cmpKey o) s u
+  pub from : AtMost (cmp_key o) r s
+  pub to : AtMost (cmp_key o) s u
 
 pub inside : (o : Options) (r s u : List Cell) → AtMost (cmp_row o) r s → AtMost (cmp_row o) s u → cmp_group o r u ≡ Equal → Inside o r s u
 inside o r s u h k e =

@@ -297,13 +297,13 @@ module _ (o : Options) where
   cmp_first_is zero = record { equal = λ x. refl; flipped = λ x y. refl; same = λ x y z e. refl; less = λ x y z p q. p }
   cmp_first_is (suc j) = then (cmp_first_is j) (on (λ (r : List Cell). cell j r) (cmp_cell_is (by_rule o j)))
 
-  abbrev pub cmpKey : List Cell → List Cell → Order
-  cmpKey r s = cmp_cell key_rule (key_of o r) (key_of o s)
+  abbrev pub cmp_key : List Cell → List Cell → Order
+  cmp_key r s = cmp_cell key_rule (key_of o r) (key_of o s)
 
   pub cmp_group_is : IsOrder (cmp_group o)
   cmp_group_is = cmp_first_is o.by
 
-  pub cmp_key_is : IsOrder cmpKey
+  pub cmp_key_is : IsOrder cmp_key
   cmp_key_is = on (λ (r : List Cell). key_of o r) (cmp_cell_is key_rule)
 
   pub cmp_row_is : IsOrder (cmp_row o)
@@ -336,9 +336,9 @@ module _ (o : Options) where
   -- Rows: by group, then by key.
   pub row_equal : (r s : List Cell) → cmp_row o r s ≡ Equal → (cmp_group o r s ≡ Equal) × (key_of o r ≡ key_of o s)
   unfolding cmp_row
-  row_equal r s e = let p = next_equal (cmp_group o r s) (cmpKey r s) e in (p.0, cell_equal key_rule (key_of o r) (key_of o s) p.1)
+  row_equal r s e = let p = next_equal (cmp_group o r s) (cmp_key r s) e in (p.0, cell_equal key_rule (key_of o r) (key_of o s) p.1)
 
-  pub row_by_key : (r s : List Cell) → cmp_group o r s ≡ Equal → cmp_row o r s ≡ cmpKey r s
+  pub row_by_key : (r s : List Cell) → cmp_group o r s ≡ Equal → cmp_row o r s ≡ cmp_key r s
   unfolding cmp_row
   row_by_key r s e = rw e
 

@@ -32,16 +32,16 @@ find_within k rule j v rows lower upper h = search_within (λ i. meets k (cmp_ce
 
 -- A column leaves a range within the range that it was given.
 module _ (rule : Rule) (j : ℕ) (t : List Cell) (held : Rows) (r : Range) where
-  abbrev pub columnStart : ℕ
-  columnStart = find AtLeast rule j (cell j t) held r.start r.end
+  abbrev pub column_start : ℕ
+  column_start = find AtLeast rule j (cell j t) held r.start r.end
 
-  abbrev pub columnEnd : ℕ
-  columnEnd = find Above rule j (cell j t) held columnStart r.end
+  abbrev pub column_end : ℕ
+  column_end = find Above rule j (cell j t) held column_start r.end
 
-  pub column_inside : Inside (length held) r → Inside (length held) (record { start = columnStart; end = columnEnd })
+  pub column_inside : Inside (length held) r → Inside (length held) (record { start = column_start; end = column_end })
   column_inside w =
       let s = find_within AtLeast rule j (cell j t) held r.start r.end w.ordered in
-      let e = find_within Above rule j (cell j t) held columnStart r.end s.1 in
+      let e = find_within Above rule j (cell j t) held column_start r.end s.1 in
       record { ordered = e.0; within = omega (arith, e.1) }
 
 pub narrow_inside : (o : Options) (t : List Cell) (held : Rows) (j : ℕ) → Inside (length held) (narrow o held t j)
@@ -133,7 +133,7 @@ module _ {f : List Cell → List Cell → Order} (F : IsOrder f) (rule : Rule) (
   start_cut k = column_cut k r.start (omega arith) b.inside.ordered (λ i h. less_meets k (rw (b.before i h)))
 
   -- So the column's own range is that of the rows that are equal by f and in column j.
-  pub column_bounds : Bounds (with_column f rule j) held t (record { start = columnStart rule j t held r; end = columnEnd rule j t held r })
+  pub column_bounds : Bounds (with_column f rule j) held t (record { start = column_start rule j t held r; end = column_end rule j t held r })
   column_bounds = record {
     inside = column_inside rule j t held r b.inside;
     before = less;
@@ -141,16 +141,16 @@ module _ {f : List Cell → List Cell → Order} (F : IsOrder f) (rule : Rule) (
     after = λ i h k. above_is_greater (with_column f rule j (get_or held i []) t) (high.after i h k);
   }
     where
-      low : Cut (λ i. meets AtLeast (with_column f rule j (get_or held i []) t)) 0 (length held) (columnStart rule j t held r)
+      low : Cut (λ i. meets AtLeast (with_column f rule j (get_or held i []) t)) 0 (length held) (column_start rule j t held r)
       low = start_cut AtLeast
 
-      less : (i : ℕ) → i < columnStart rule j t held r → with_column f rule j (get_or held i []) t ≡ Less
+      less : (i : ℕ) → i < column_start rule j t held r → with_column f rule j (get_or held i []) t ≡ Less
       less i h = below_is_less (with_column f rule j (get_or held i []) t) (low.before i (omega arith) h)
 
-      high : Cut (λ i. meets Above (with_column f rule j (get_or held i []) t)) 0 (length held) (columnEnd rule j t held r)
+      high : Cut (λ i. meets Above (with_column f rule j (get_or held i []) t)) 0 (length held) (column_end rule j t held r)
       high =
           let s = find_within AtLeast rule j (cell j t) held r.start r.end b.inside.ordered in
-          column_cut Above (columnStart rule j t held r) s.0 s.1 (λ i h. less_meets Above (less i h))
+          column_cut Above (column_start rule j t held r) s.0 s.1 (λ i h. less_meets Above (less i h))
 
 -- ---- the by-columns, then the key
 module _ (o : Options) (t : List Cell) (held : Rows) where

@@ -8,7 +8,7 @@ use lib.ListN.{length, get_or}
 use Rattle.frames.specs.Cells.{Cell, Rows}
 use Rattle.order.specs.options.Options.{strategy_of}
 use Rattle.order.specs.Order.{cmp_group, cmp_row}
-use Rattle.order.proofs.OrderLaws.{AtMost, cmpKey}
+use Rattle.order.proofs.OrderLaws.{AtMost, cmp_key}
 use Rattle.order.specs.declared.options.Options.{Options}
 use Rattle.order.specs.declared.Order.TheVariants.{Less, Equal}
 use Rattle.order.specs.declared.options.Strategy.{Strategy}
@@ -18,7 +18,7 @@ use Rattle.order.specs.declared.options.Strategy.TheVariants.{Backward, Forward,
 pub record Covered (o : Options) (t : List Cell) (held : Rows) (p : ℕ) : Type 0 where
   pub there : p < length held
   pub group : cmp_group o (get_or held p []) t ≡ Equal
-  pub key : cmpKey o (get_or held p []) t ≡ Less
+  pub key : cmp_key o (get_or held p []) t ≡ Less
 
 -- Why row r, before the split p by the left row t, matters to no left row from t on. Forward: it is less than t.
 -- Backward and Nearest: its group is before t's, or a row that stays stands between the two.

@@ -8,7 +8,7 @@ import json
 import os
 
 # The kits whose MIR this translator is tested with, as `rt version` prints them.
-KITS = ('rattle-kit-5b-plain logic 097e4c862dff5811',)
+KITS = ('rattle-kit-13f logic dac8208d650f15bf',)
 
 
 class Unknown(Exception):
@@ -71,8 +71,8 @@ def type_of(raw):
         return ('Array', type_of(raw['Array'][0]), raw['Array'][1]['Lit'])
     if name == 'Struct' and raw['Struct'][0] == '&[]':
         return ('Slice', type_of(raw['Struct'][1][0])[1])
-    if name == 'Named':
-        return ('Named', raw['Named']['name'])
+    if name == 'Named' and not raw['Named'][1]:
+        return ('Named', raw['Named'][0]['name'])
     raise Unknown(f'a type {raw}')
 
 
@@ -157,9 +157,9 @@ class Reader:
     def read_call(self, raw):
         """A call of a function that the program names."""
         callee, given, goal = raw
-        if constructor(callee) != 'Direct':
+        if constructor(callee) != 'Fn' or any(callee['Fn'][1].values()):
             raise Unknown(f'a callee {callee}')
-        return Statement('call', map(operand_of, given), place_of(goal), more=callee['Direct'])
+        return Statement('call', map(operand_of, given), place_of(goal), more=callee['Fn'][0])
 
     def read_if(self, raw):
         """A condition, and both arms."""

@@ -234,33 +234,33 @@ module _ {c base held : ℕ} {f area : Words} (p : PushIn c base held f area) wh
 
   module _ (room n : ℕ) (e : room ≡ capacity c area) (g : n ≡ row_count f) where
     -- The frame's values and marks, as parts of it.
-    abbrev valuesPart : Words
-    valuesPart = take (2 + n * c - 2) (drop 2 f)
+    abbrev values_part : Words
+    values_part = take (2 + n * c - 2) (drop 2 f)
 
-    abbrev marksPart : Words
-    marksPart = take (length f - (2 + n * c)) (drop (2 + n * c) f)
+    abbrev marks_part : Words
+    marks_part = take (length f - (2 + n * c)) (drop (2 + n * c) f)
 
-    values_are : valuesPart ≡ values_in c f
+    values_are : values_part ≡ values_in c f
     values_are = let k : 2 + n * c - 2 ≡ row_count f * c = rw g (omega arith) in rw k
 
-    marks_are : marksPart ≡ marks_in c f
+    marks_are : marks_part ≡ marks_in c f
     marks_are = to_end (2 + n * c) f ∙ rw g
 
-    pub push_both : BothIn (room * c) (base * c) (held * c) valuesPart marksPart area
+    pub push_both : BothIn (room * c) (base * c) (held * c) values_part marks_part area
     push_both =
         let s = push_sizes room n e g in
-        let lv : length valuesPart ≡ n * c = ap length values_are ∙ values_length c f p.frame ∙ rw g in
-        let lm : length marksPart ≡ n * c = ap length marks_are ∙ marks_length c f p.frame ∙ rw g in
+        let lv : length values_part ≡ n * c = ap length values_are ∙ values_length c f p.frame ∙ rw g in
+        let lm : length marks_part ≡ n * c = ap length marks_are ∙ marks_length c f p.frame ∙ rw g in
         record { halves = s.area_long; paired = lm ∙ sym lv; within = s.live_in; room = omega (arith, s.fits, lv) }
 
-    pub push_done : (b : ℕ) (after : Words) → AppendedBoth (room * c) (base * c) (held * c) valuesPart marksPart area b after → Pushed c base held f area (b / c) after
+    pub push_done : (b : ℕ) (after : Words) → AppendedBoth (room * c) (base * c) (held * c) values_part marks_part area b after → Pushed c base held f area (b / c) after
     unfolding pushed moved_rows
     push_done b after d = record { base_is = at; area_is = d.area_is ∙ words }
       where
         to : ℕ
         to = new_base base held (row_count f) (capacity c area)
 
-        lv : length valuesPart ≡ row_count f * c
+        lv : length values_part ≡ row_count f * c
         lv = ap length values_are ∙ values_length c f p.frame
 
         bw : b ≡ new_base base held (row_count f) (capacity c area) * c
@@ -272,9 +272,9 @@ module _ {c base held : ℕ} {f area : Words} (p : PushIn c base held f area) wh
         rc : room * c ≡ capacity c area * c
         rc = rw e
 
-        words : written marksPart (room * c + (b + held * c)) (written valuesPart (b + held * c) (moved (room * c + base * c) (room * c + b) (held * c) (moved (base * c) b (held * c) area)))
+        words : written marks_part (room * c + (b + held * c)) (written values_part (b + held * c) (moved (room * c + base * c) (room * c + b) (held * c) (moved (base * c) b (held * c) area)))
             ≡ pushed c base held f area
         words =
-            same_words area (base * c) (held * c) valuesPart (values_in c f) marksPart (marks_in c f) (room * c + (b + held * c)) ((capacity c area + to + held) * c) (b + held * c) ((to + held) * c)
+            same_words area (base * c) (held * c) values_part (values_in c f) marks_part (marks_in c f) (room * c + (b + held * c)) ((capacity c area + to + held) * c) (b + held * c) ((to + held) * c)
             (room * c + base * c) ((capacity c area + base) * c) (room * c + b) ((capacity c area + to) * c) b (to * c)
             values_are marks_are (omega (arith, bw, rc)) (omega (arith, bw)) (omega (arith, rc)) (omega (arith, bw, rc)) bw

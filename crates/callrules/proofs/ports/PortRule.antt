@@ -19,9 +19,9 @@ use Rattle.callrules.specs.ports.Ports.{to_flush, to_done, ports_in}
 
 -- ---- a test of each in a list
 module _ {A : Type 0} where
-  abbrev pub isIn : A → List A → Type 0
-  isIn x [] = ⊥
-  isIn x (y ∷ ys) = (x ≡ y) ⊎ isIn x ys
+  abbrev pub is_in : A → List A → Type 0
+  is_in x [] = ⊥
+  is_in x (y ∷ ys) = (x ≡ y) ⊎ is_in x ys
 
   abbrev all_of : List A → (A → Bool) → Bool
   all_of [] f = true
@@ -31,12 +31,12 @@ module _ {A : Type 0} where
   any_of [] f = false
   any_of (x ∷ xs) f = f x || any_of xs f
 
-  all_at : (xs : List A) (f : A → Bool) → all_of xs f ≡ true → (x : A) → isIn x xs → f x ≡ true
+  all_at : (xs : List A) (f : A → Bool) → all_of xs f ≡ true → (x : A) → is_in x xs → f x ≡ true
   all_at [] f e x i = absurd i
   all_at (y ∷ ys) f e x (inl i) = rw i (and-true (f y) (all_of ys f) e).0
   all_at (y ∷ ys) f e x (inr i) = all_at ys f (and-true (f y) (all_of ys f) e).1 x i
 
-  any_at : (xs : List A) (f : A → Bool) (x : A) → isIn x xs → f x ≡ true → any_of xs f ≡ true
+  any_at : (xs : List A) (f : A → Bool) (x : A) → is_in x xs → f x ≡ true → any_of xs f ≡ true
   any_at [] f x i e = absurd i
   any_at (y ∷ ys) f x (inl i) e = let h : f y ≡ true = rw i at e in rw h
   any_at (y ∷ ys) f x (inr i) e = or_later (f y) (any_of ys f) (any_at ys f x i e)
@@ -45,7 +45,7 @@ module _ {A : Type 0} where
       or_later true b h = refl
       or_later false b h = h
 
-  any_none : (xs : List A) (f : A → Bool) → ((x : A) → isIn x xs → f x ≡ true → ⊥) → any_of xs f ≡ false
+  any_none : (xs : List A) (f : A → Bool) → ((x : A) → is_in x xs → f x ≡ true → ⊥) → any_of xs f ≡ false
   any_none [] f h = refl
   any_none (y ∷ ys) f h = rw (no (f y) (h y (inl refl))) (any_none ys f (λ x i. h x (inr i)))
     where
@@ -81,19 +81,19 @@ place left = 0
 place right = 1
 place send = 2
 
-state_in : (t : NodeState) → isIn t states
+state_in : (t : NodeState) → is_in t states
 unfolding states
 state_in Running = inl refl
 state_in Flush = inr (inl refl)
 state_in Done = inr (inr (inl refl))
 
-code_in : (p : PortState) → isIn p codes
+code_in : (p : PortState) → is_in p codes
 unfolding codes
 code_in Blocked = inl refl
 code_in Ready = inr (inl refl)
 code_in PortDone = inr (inr (inl refl))
 
-port_in : (p : Port) → isIn p each
+port_in : (p : Port) → is_in p each
 port_in left = inl refl
 port_in right = inr (inl refl)
 port_in send = inr (inr (inl refl))
@@ -132,13 +132,13 @@ same_place = by_code place (pick left right send) back
 -- ---- what the ports are told
 -- Of the ports ps: told Ready unless another one came Blocked, and Blocked then.
 pub record ReadyUnless (ps : List Port) (came told : Port → PortState) (p : Port) : Type 0 where
-  pub ready : ((q : Port) → isIn q ps → (q ≡ p → ⊥) → came q ≡ Blocked → ⊥) → told p ≡ Ready
-  pub blocked : (q : Port) → isIn q ps → (q ≡ p → ⊥) → came q ≡ Blocked → told p ≡ Blocked
+  pub ready : ((q : Port) → is_in q ps → (q ≡ p → ⊥) → came q ≡ Blocked → ⊥) → told p ≡ Ready
+  pub blocked : (q : Port) → is_in q ps → (q ≡ p → ⊥) → came q ≡ Blocked → told p ≡ Blocked
 
 -- SCOPE 13.3, as a relation.
 abbrev pub Told : NodeState → (Port → PortState) → (Port → PortState) → Type 0
 Told Running came told = (p : Port) → ReadyUnless each came told p
-Told Flush came told = (told left ≡ PortDone) × ((p : Port) → isIn p behind → ReadyUnless behind came told p)
+Told Flush came told = (told left ≡ PortDone) × ((p : Port) → is_in p behind → ReadyUnless behind came told p)
 Told Done came told = (p : Port) → told p ≡ PortDone
 
 -- The same as tests.
@@ -284,6 +284,6 @@ moved_rule t l s words =
     (rw (some_words (to_flush t l s) words)
     (all_at (true ∷ false ∷ []) (λ none. moved_test t l s none (to_done (to_flush t l s) (words_of none))) at-s (eqb words 0) (either (eqb words 0))))
   where
-    either : (b : Bool) → isIn b (true ∷ false ∷ [])
+    either : (b : Bool) → is_in b (true ∷ false ∷ [])
     either true = inl refl
     either false = inr (inl refl)

@@ -98,8 +98,8 @@ module _ (o : Options) (c nl : ℕ) (lv lm : Words) (w nr : ℕ) (rv rm : Words)
   abbrev rest_of : ℕ → ℕ → Pair
   rest_of a b = record { left = drop a left; right = drop b right }
 
-  abbrev groupsFrom : ℕ → Rows
-  groupsFrom i = rest o.by (i * o.by) (k - i) gv gm
+  abbrev groups_from : ℕ → Rows
+  groups_from i = rest o.by (i * o.by) (k - i) gv gm
 
   abbrev pub short : Bool
   short = any_short o l r (cut_by o (rows_of o.by k gv gm) (pair_in c nl lv lm w nr rv rm))
@@ -109,7 +109,7 @@ module _ (o : Options) (c nl : ℕ) (lv lm : Words) (w nr : ℕ) (rv rm : Words)
     pub boundaries : i ≤ k
     pub left : a ≤ nl
     pub right : b ≤ nr
-    pub whole : short ≡ any_short o l r (cut_by o (groupsFrom i) (rest_of a b))
+    pub whole : short ≡ any_short o l r (cut_by o (groups_from i) (rest_of a b))
 
   pub starts : Stands 0 0 0
   starts =
@@ -135,7 +135,7 @@ module _ (o : Options) (c nl : ℕ) (lv lm : Words) (w nr : ℕ) (rv rm : Words)
       others : behind o next (rest_of a b) ≡ rest_of (a + n) (b + m)
       others = rw (← en, ← em, drop-drop n a left, drop-drop m b right) refl
 
-      stepped : short ≡ (too_short o l r (parts_in a c n lv lm b w m rv rm) || any_short o l r (cut_by o (groupsFrom (i + 1)) (rest_of (a + n) (b + m))))
+      stepped : short ≡ (too_short o l r (parts_in a c n lv lm b w m rv rm) || any_short o l r (cut_by o (groups_from (i + 1)) (rest_of (a + n) (b + m))))
       unfolding cut_by any_short
       stepped =
           let p : i * o.by + o.by ≡ (i + 1) * o.by = omega arith in

@@ -29,8 +29,8 @@ use Rattle.ffi.specs.results.Results.{took_host, ported_host, turned_host, Made,
 use Rattle.hostcalls.specs.Calls.{HostAfter, after_host, left_host, right_host, end_host, ports_host, turn_host, ran_after, run_host}
 use Rattle.hostcalls.specs.Promises.{Same, Follows}
 use Rattle.hostcalls.proofs.PromiseLaws.{promises}
-use Rattle.lists.specs.Lists.{left as nodeLeft, right as nodeRight, end as nodeEnd, ports as nodePorts, turn as nodeTurn, World, step, events, final, outputs}
-use Rattle.lists.specs.Runs.{turnsOf, answersOf, words_of, ranFrom, stop_in, RunIsTurns}
+use Rattle.lists.specs.Lists.{left as node_left, right as node_right, end as node_end, ports as node_ports, turn as node_turn, World, step, events, final, outputs}
+use Rattle.lists.specs.Runs.{turns_of, answers_of, words_of, ran_from, stop_in, RunIsTurns}
 use Rattle.lists.proofs.RunTurns.{run_turns}
 use Rattle.lists.proofs.ListLaws.{final_append}
 use Rattle.hostcalls.specs.hostlists.HostLists.{HostCall, left, right, end, ports, turn, run, HostEvent, on_left, on_right, on_end, on_ports, on_turn, on_run, HostWorld, host_step, host_events, host_final, calls_for, node_calls, encode_run, event_for, node_events, Agree, HostLists}
@@ -122,8 +122,8 @@ module _ (h : HostJoin) (w : World) (d : decode h ≡ some w.join) where
   on_run_lem k out =
       let s = follows.by_run k out in
       let t = run_turns k w out in
-      let q = ranFrom k w out in
-      let j : (final w (turnsOf k w out)).join ≡ q.join = ap (λ (z : World). z.join) t.world in (
+      let q = ran_from k w out in
+      let j : (final w (turns_of k w out)).join ≡ q.join = ap (λ (z : World). z.join) t.world in (
         ap (λ (z : HostAfter Made). on_run (ran_host z.answer z.join) z.out) s.whole ∙ rw (j, ← t.turns, ← t.written, ← t.stop, t.words),
         record { join = s.again ∙ ap some (sym j); left = ap (λ (z : World). z.left) (sym t.world); right = ap (λ (z : World). z.right) (sym t.world) },
       )

@@ -18,7 +18,7 @@ use Rattle.hostcalls.specs.Calls.{by_join, open_host, left_host, right_host, end
 use Rattle.lists.specs.Lists.{Entry, entries_of, written_in, matches_in}
 use Rattle.lists.proofs.Script.{left_area, right_area, space, speak_all}
 use Rattle.hostcalls.specs.hostlists.HostLists.{HostCall, left, right, end, ports, turn, run, HostEvent, on_left, on_right, on_end, on_ports, on_turn, on_run, host_step, host_events, host_final}
-use Rattle.hostcalls.specs.hostlists.HostTable.{run_outputs, host_lefts, host_rights, host_outputs, returned, has, hostWaiting, hostMatches}
+use Rattle.hostcalls.specs.hostlists.HostTable.{run_outputs, host_lefts, host_rights, host_outputs, returned, has, host_waiting, host_matches}
 
 -- No list of ranks.
 abbrev none_given : HostRanks
@@ -85,8 +85,8 @@ unfolding speak_all calls host_events host_step open_host left_host right_host e
 returns = refl
 
 -- The four rows that were written, and the frame that waits; the join says that right has ended and that the node runs.
-pub reads : (hostMatches h (left_area 20) (right_area 8) calls ≡ entry 0 0 ∷ entry 0 1 ∷ entry 1 1 ∷ entry 1 1 ∷ [])
-    × (hostWaiting h (left_area 20) (right_area 8) calls ≡ frame_of 1 (keys (40 ∷ [])) ∷ [])
+pub reads : (host_matches h (left_area 20) (right_area 8) calls ≡ entry 0 0 ∷ entry 0 1 ∷ entry 1 1 ∷ entry 1 1 ∷ [])
+    × (host_waiting h (left_area 20) (right_area 8) calls ≡ frame_of 1 (keys (40 ∷ [])) ∷ [])
     × ((has h (left_area 20) (right_area 8) calls).join.right_ended ≡ 1)
     × ((has h (left_area 20) (right_area 8) calls).join.state ≡ 0)
 unfolding speak_all calls host_events host_final host_step open_host left_host right_host end_host ports_host turn_host run_host by_join decode is_join decode_options is_options are_flags flags_of flag_codes run_call host_lefts host_rights host_outputs run_outputs matches_in written_in entries_of
@@ -117,7 +117,7 @@ prices =
     ∷ []
 
 pub carries : (map numbers (returned carrying (left_area 20) (right_area 8) prices) ≡ (0 ∷ []) ∷ (0 ∷ []) ∷ (0 ∷ []) ∷ (0 ∷ []) ∷ (2 ∷ 12 ∷ 2 ∷ 0 ∷ []) ∷ [])
-    × (hostMatches carrying (left_area 20) (right_area 8) prices
+    × (host_matches carrying (left_area 20) (right_area 8) prices
     ≡ record { values = map pos (0 ∷ 100 ∷ []); marks = map pos (1 ∷ 1 ∷ []) } ∷ record { values = map pos (1 ∷ 200 ∷ []); marks = map pos (1 ∷ 1 ∷ []) } ∷ [])
 unfolding speak_all prices host_events host_final host_step open_host left_host right_host end_host ports_host turn_host run_host by_join decode is_join decode_options is_options are_flags flags_of flag_codes run_call host_lefts host_rights host_outputs run_outputs matches_in written_in entries_of
 carries = (refl, refl)

@@ -35,15 +35,15 @@ use Rattle.hostcalls.proofs.CallLaws.{open_bad, open_through}
 use Rattle.hostcalls.proofs.PromiseLaws.{promises}
 use Rattle.frames.specs.declared.refusals.Refusal.TheVariants.{BadOptions, TooManyCarried, BadRanks}
 use Rattle.frames.proofs.refusals.RefusalLaws.{number_above}
-use Rattle.lists.specs.Lists.{Call, left as nodeLeft, right as nodeRight, end as nodeEnd, ports as nodePorts, turn as nodeTurn, Event, on_left as nodeOnLeft, on_right as nodeOnRight, on_end as nodeOnEnd, on_ports as nodeOnPorts, on_turn as nodeOnTurn, World, start, step, events, final, when, left_frames, right_frames, when_wrote, output_in, outputs, entries_of, written_in, matches_in, is_right_ended, node_done, back_to_back}
-use Rattle.lists.specs.Runs.{turnsOf, answersOf, words_of, lent_by, written_words}
+use Rattle.lists.specs.Lists.{Call, left as node_left, right as node_right, end as node_end, ports as node_ports, turn as node_turn, Event, on_left as node_on_left, on_right as node_on_right, on_end as node_on_end, on_ports as node_on_ports, on_turn as node_on_turn, World, start, step, events, final, when, left_frames, right_frames, when_wrote, output_in, outputs, entries_of, written_in, matches_in, is_right_ended, node_done, back_to_back}
+use Rattle.lists.specs.Runs.{turns_of, answers_of, words_of, lent_by, written_words}
 use Rattle.lists.proofs.ListLaws.{events_append, left_append, right_append, outputs_append, matches_append, take_more, drop_more}
 use Rattle.lists.proofs.OptionsKept.{step_options, final_options}
 use Rattle.lists.proofs.Invariant.{Inv}
 use Rattle.lists.proofs.Steps.{inv_list, inv_start}
 use Rattle.lists.proofs.WholeTableTheorem.{whole_table_theorem}
 use Rattle.hostcalls.specs.hostlists.HostLists.{HostCall, left, right, end, ports, turn, run, HostEvent, on_ports, HostWorld, host_events, host_final, calls_for, node_calls, event_for, node_events, Agree}
-use Rattle.hostcalls.specs.hostlists.HostTable.{host_start, host_left_in, host_right_in, host_output_in, run_outputs, host_lefts, host_rights, host_outputs, returned, has, hostFurther, HostTable, HostTables}
+use Rattle.hostcalls.specs.hostlists.HostTable.{host_start, host_left_in, host_right_in, host_output_in, run_outputs, host_lefts, host_rights, host_outputs, returned, has, host_further, HostTable, HostTables}
 use Rattle.hostcalls.proofs.hostlists.Follow.{host_lists}
 
 -- ---- refusal 0 is acceptance, answer 0 is Wrote
@@ -137,22 +137,22 @@ full_wrote j l r out os f = go (turn_call j l r out).answer refl
     go Idle e = f
     go (TurnRefused n) e = f
 
-turns_full : (outs : List Words) (w : World) → Full (answer_columns w.join.options) (outputs (events w (map nodeTurn outs)))
+turns_full : (outs : List Words) (w : World) → Full (answer_columns w.join.options) (outputs (events w (map node_turn outs)))
 unfolding events outputs step
 turns_full [] w = tt
 turns_full (out ∷ outs) w =
-    full_wrote w.join w.left w.right out _ (rw (step_options w (nodeTurn out)) at (turns_full outs (step w (nodeTurn out)).world))
+    full_wrote w.join w.left w.right out _ (rw (step_options w (node_turn out)) at (turns_full outs (step w (node_turn out)).world))
 
 -- Turns take no frame.
-turns_left : (outs : List Words) (w : World) → left_frames (events w (map nodeTurn outs)) ≡ []
+turns_left : (outs : List Words) (w : World) → left_frames (events w (map node_turn outs)) ≡ []
 unfolding events left_frames step
 turns_left [] w = refl
-turns_left (out ∷ outs) w = turns_left outs (step w (nodeTurn out)).world
+turns_left (out ∷ outs) w = turns_left outs (step w (node_turn out)).world
 
-turns_right : (outs : List Words) (w : World) → right_frames (events w (map nodeTurn outs)) ≡ []
+turns_right : (outs : List Words) (w : World) → right_frames (events w (map node_turn outs)) ≡ []
 unfolding events right_frames step
 turns_right [] w = refl
-turns_right (out ∷ outs) w = turns_right outs (step w (nodeTurn out)).world
+turns_right (out ∷ outs) w = turns_right outs (step w (node_turn out)).world
 
 -- ---- what one call says, in numbers and of the node
 -- The columns of an answer.
@@ -184,7 +184,7 @@ says w (turn out) =
     let e = written_by_lem t.answer _ (t.out ∷ []) ∙ sym (append-nil (when_wrote t.answer (t.out ∷ []))) in
     record { lefts = refl; rights = refl; count = ap length e; matches = ap (matches_in (width_of w)) e }
 says w (run k out) =
-    let os = outputs (answersOf k w out) in
+    let os = outputs (answers_of k w out) in
     record {
       lefts = sym (turns_left (lent_by k w out) w);
       rights = sym (turns_right (lent_by k w out) w);
@@ -247,10 +247,10 @@ not_done (suc zero) h = refl
 not_done (suc (suc x)) h = absurd (omega arith)
 
 -- Turns in numbers are the node's turns.
-turns_are : (outs : List Words) (w : World) → node_calls w (map turn outs) ≡ map nodeTurn outs
+turns_are : (outs : List Words) (w : World) → node_calls w (map turn outs) ≡ map node_turn outs
 unfolding node_calls
 turns_are [] w = refl
-turns_are (out ∷ outs) w = ap (λ (z : List Call). nodeTurn out ∷ z) (turns_are outs (final w (nodeTurn out ∷ [])))
+turns_are (out ∷ outs) w = ap (λ (z : List Call). node_turn out ∷ z) (turns_are outs (final w (node_turn out ∷ [])))
 
 pub host_tables : HostTables
 host_tables h z l r calls =

@@ -14,8 +14,8 @@ use Rattle.ffi.specs.declared.results.HostPorted.{HostPorted}
 use Rattle.ffi.specs.declared.results.HostTurned.{HostTurned}
 use Rattle.ffi.specs.declared.results.HostRan.{HostRan}
 use Rattle.hostcalls.specs.Calls.{left_host, right_host, end_host, ports_host, turn_host, run_host}
-use Rattle.lists.specs.Lists.{Call, left as nodeLeft, right as nodeRight, end as nodeEnd, ports as nodePorts, turn as nodeTurn, Event, on_left as nodeOnLeft, on_right as nodeOnRight, on_end as nodeOnEnd, on_ports as nodeOnPorts, on_turn as nodeOnTurn, World, Step, step, final, outputs}
-use Rattle.lists.specs.Runs.{turnsOf, answersOf, words_of, stop_in}
+use Rattle.lists.specs.Lists.{Call, left as node_left, right as node_right, end as node_end, ports as node_ports, turn as node_turn, Event, on_left as node_on_left, on_right as node_on_right, on_end as node_on_end, on_ports as node_on_ports, on_turn as node_on_turn, World, Step, step, final, outputs}
+use Rattle.lists.specs.Runs.{turns_of, answers_of, words_of, stop_in}
 
 -- ---- what a host does
 -- A call: a left or right frame, the end of right, ports by their codes (any numbers), a turn with its output, a run of at most k turns with its output.
@@ -77,12 +77,12 @@ host_final v (c ∷ cs) = host_final (host_step v c).world cs
 -- ---- the node's calls
 -- What the node is called with: a run is its turns; a port code above 2 reaches no node.
 abbrev pub calls_for : World → HostCall → List Call
-calls_for w (left f) = nodeLeft f ∷ []
-calls_for w (right f) = nodeRight f ∷ []
-calls_for w end = nodeEnd ∷ []
-calls_for w (ports l r s) = cond (is_code l && is_code r && is_code s) (nodePorts (port_of l) (port_of r) (port_of s) ∷ []) []
-calls_for w (turn out) = nodeTurn out ∷ []
-calls_for w (run k out) = turnsOf k w out
+calls_for w (left f) = node_left f ∷ []
+calls_for w (right f) = node_right f ∷ []
+calls_for w end = node_end ∷ []
+calls_for w (ports l r s) = cond (is_code l && is_code r && is_code s) (node_ports (port_of l) (port_of r) (port_of s) ∷ []) []
+calls_for w (turn out) = node_turn out ∷ []
+calls_for w (run k out) = turns_of k w out
 
 -- The node's list.
 unfoldable pub node_calls : World → List HostCall → List Call
@@ -91,11 +91,11 @@ node_calls w (c ∷ cs) = calls_for w c ++ node_calls (final w (calls_for w c)) 
 
 -- An event of the node in numbers, with the join that it leaves.
 abbrev pub encode_event : HostJoin → Event → HostEvent
-encode_event h (nodeOnLeft f a) = on_left f (took_host a h)
-encode_event h (nodeOnRight f a) = on_right f (took_host a h)
-encode_event h (nodeOnEnd a) = on_end (took_host a h)
-encode_event h (nodeOnPorts l r s a) = on_ports (port_code l) (port_code r) (port_code s) (ported_host a h)
-encode_event h (nodeOnTurn a out) = on_turn (turned_host a h) out
+encode_event h (node_on_left f a) = on_left f (took_host a h)
+encode_event h (node_on_right f a) = on_right f (took_host a h)
+encode_event h (node_on_end a) = on_end (took_host a h)
+encode_event h (node_on_ports l r s a) = on_ports (port_code l) (port_code r) (port_code s) (ported_host a h)
+encode_event h (node_on_turn a out) = on_turn (turned_host a h) out
 
 -- From a step of the node.
 abbrev pub encode_step : Step → HostEvent
@@ -104,18 +104,18 @@ encode_step s = encode_event (encode s.world.join) s.event
 -- A run in numbers, by its turns: as many as wrote, their words back to back at the front of the output, and the answer that ended them.
 abbrev pub encode_run : ℕ → World → Words → HostEvent
 encode_run k w out =
-    let es = answersOf k w out in
+    let es = answers_of k w out in
     let ws = words_of k w out in
-    on_run (ran_host (record { turns = length (outputs es); words = length ws; stop = stop_in es }) (encode (final w (turnsOf k w out)).join)) (ws ++ drop (length ws) out)
+    on_run (ran_host (record { turns = length (outputs es); words = length ws; stop = stop_in es }) (encode (final w (turns_of k w out)).join)) (ws ++ drop (length ws) out)
 
 -- What a call in numbers returns, told by the node's calls for it. Ports that cannot be are refused as 2 with the join as it was.
 abbrev pub event_for : World → HostCall → HostEvent
-event_for w (left f) = encode_step (step w (nodeLeft f))
-event_for w (right f) = encode_step (step w (nodeRight f))
-event_for w end = encode_step (step w nodeEnd)
+event_for w (left f) = encode_step (step w (node_left f))
+event_for w (right f) = encode_step (step w (node_right f))
+event_for w end = encode_step (step w node_end)
 event_for w (ports l r s) =
-    cond (is_code l && is_code r && is_code s) (encode_step (step w (nodePorts (port_of l) (port_of r) (port_of s)))) (on_ports l r s (ported_host (PortsRefused BadJoin) (encode w.join)))
-event_for w (turn out) = encode_step (step w (nodeTurn out))
+    cond (is_code l && is_code r && is_code s) (encode_step (step w (node_ports (port_of l) (port_of r) (port_of s)))) (on_ports l r s (ported_host (PortsRefused BadJoin) (encode w.join)))
+event_for w (turn out) = encode_step (step w (node_turn out))
 event_for w (run k out) = encode_run k w out
 
 -- The same of a list.

@@ -93,16 +93,16 @@ module _ (h : HostOptions) (l r : Words) (calls : List HostCall) where
   right_rows = rows_in (right_columns o) (host_rights returned)
 
   -- The rows of as many left frames as outputs were written.
-  abbrev pub writtenRows : Rows
-  writtenRows = rows_in (columns o) (take (length wrote) (host_lefts returned))
+  abbrev pub written_rows : Rows
+  written_rows = rows_in (columns o) (take (length wrote) (host_lefts returned))
 
   -- The frames that wait.
-  abbrev pub hostWaiting : List Words
-  hostWaiting = drop (length wrote) (host_lefts returned)
+  abbrev pub host_waiting : List Words
+  host_waiting = drop (length wrote) (host_lefts returned)
 
   -- The matches written, in call order.
-  abbrev pub hostMatches : List Entry
-  hostMatches = matches_in (answer_columns o) wrote
+  abbrev pub host_matches : List Entry
+  host_matches = matches_in (answer_columns o) wrote
 
   -- The rows accepted on a side, in one table, are sorted; so on both sides.
   abbrev pub HostDeclared : Type 0
@@ -110,20 +110,20 @@ module _ (h : HostOptions) (l r : Words) (calls : List HostCall) where
 
   -- The matches written are those of the whole-table rule, over all right rows that were accepted.
   abbrev pub HostWholeTable : Type 0
-  HostWholeTable = HostDeclared → hostMatches ≡ map (due_over o right_rows) writtenRows
+  HostWholeTable = HostDeclared → host_matches ≡ map (due_over o right_rows) written_rows
 
   -- What further turns return.
-  abbrev pub hostFurther : List Words → List HostEvent
-  hostFurther outs = host_events has (map turn outs)
+  abbrev pub host_further : List Words → List HostEvent
+  host_further outs = host_events has (map turn outs)
 
   -- Where the join says that right has ended and that the node is not done, as many further turns as frames wait, each with output enough, all write, and the
   -- matches are then those of every accepted left row.
   abbrev pub HostRestWritten : Type 0
   HostRestWritten =
-      HostDeclared → has.join.right_ended ≡ 1 → has.join.state < 2 → (outs : List Words) → Each (λ f out. frame_words (row_count f) (answer_columns o) ≤ length out) hostWaiting outs
+      HostDeclared → has.join.right_ended ≡ 1 → has.join.state < 2 → (outs : List Words) → Each (λ f out. frame_words (row_count f) (answer_columns o) ≤ length out) host_waiting outs
       → length (host_lefts returned) < 2 ^ 63
-      → (length (host_outputs (answer_columns o) (hostFurther outs)) ≡ length outs)
-      × (hostMatches ++ matches_in (answer_columns o) (host_outputs (answer_columns o) (hostFurther outs)) ≡ map (due_over o right_rows) left_rows)
+      → (length (host_outputs (answer_columns o) (host_further outs)) ≡ length outs)
+      × (host_matches ++ matches_in (answer_columns o) (host_outputs (answer_columns o) (host_further outs)) ≡ map (due_over o right_rows) left_rows)
 
 -- The two.
 pub record HostTable (h : HostOptions) (l r : Words) (calls : List HostCall) : Type 0 where

@@ -24,7 +24,7 @@ use Rattle.matching.specs.declared.Choice.TheVariants.{Row, Nothing}
 use Rattle.matching.proofs.MayLaws.{may, may_out, is_false}
 use Rattle.matching.proofs.PickedLaw.{picked_row}
 use Rattle.lists.specs.Lists.{Call, Entry, left_frames, rows_in}
-use Rattle.lists.specs.WholeTables.{as_written, due_over, all, lefts, rights, turnedRows}
+use Rattle.lists.specs.WholeTables.{as_written, due_over, all, lefts, rights, turned_rows}
 use Rattle.lists.proofs.WholeTableTheorem.{whole_table_theorem}
 use Rattle.lists.specs.isolation.Isolation.{in_group, of_group, written_for, Own, none, place, own_before, own_at, own, own_choice, Alone, Finished, Isolation}
 use Rattle.lists.proofs.isolation.PlaceLaws.{choice_by, those, choose_those, tolerate_by}
@@ -105,11 +105,11 @@ own_all o g R s (x ∷ xs) = by (in_group o g x) refl (own_all o g R s xs)
 -- What is written is the whole table's, by the whole-table theorem.
 pub alone : (o : Options) → refused_options o ≡ false → (g : List Cell) (l r : Words) (calls : List Call) → Alone o g l r calls
 alone o allowed g l r calls d =
-    ap (λ (m : List Entry). map (own o g (rights o l r calls)) (written_for o g (turnedRows o l r calls) m)) ((whole_table_theorem o allowed l r calls).whole_table d)
-    ∙ own_all o g (rights o l r calls) d.1 (turnedRows o l r calls)
+    ap (λ (m : List Entry). map (own o g (rights o l r calls)) (written_for o g (turned_rows o l r calls) m)) ((whole_table_theorem o allowed l r calls).whole_table d)
+    ∙ own_all o g (rights o l r calls) d.1 (turned_rows o l r calls)
 
 -- All frames turned: the rows turned are those accepted.
-pub all_turned : (o : Options) (l r : Words) (calls : List Call) → Finished o l r calls → turnedRows o l r calls ≡ lefts o l r calls
+pub all_turned : (o : Options) (l r : Words) (calls : List Call) → Finished o l r calls → turned_rows o l r calls ≡ lefts o l r calls
 all_turned o l r calls f = ap (rows_in (columns o)) (rw f.turned (take_all (length (left_frames (all o l r calls))) (left_frames (all o l r calls)) (omega arith)))
 
 pub isolation : Isolation

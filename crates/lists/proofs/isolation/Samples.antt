@@ -11,7 +11,7 @@ use Rattle.order.specs.declared.options.Options.{Options}
 use Rattle.lists.specs.Lists.{Call, left, right, end, turn, events, final, left_frames, right_frames, rows_in, outputs, Entry, entries_of, written_in, matches_in}
 use Rattle.lists.specs.WholeTables.{matches}
 use Rattle.lists.proofs.Script.{left_area, right_area, space, speak_all}
-use Rattle.lists.specs.isolation.Isolation.{of_group, written_for, none, place, foreign, own_at, own, ownMatches}
+use Rattle.lists.specs.isolation.Isolation.{of_group, written_for, none, place, foreign, own_at, own, own_matches}
 
 -- Backward, one by-column.
 abbrev pub o : Options
@@ -57,8 +57,8 @@ unfolding first second speak_all events final left_frames right_frames rows_in o
 numbers = (refl, refl)
 
 -- Among the house's own notices: none, 0 and 1, in both.
-pub places : (ownMatches o house (left_area 60) (right_area 40) first ≡ none ∷ place 0 ∷ place 1 ∷ [])
-    × (ownMatches o house (left_area 60) (right_area 40) second ≡ none ∷ place 0 ∷ place 1 ∷ [])
+pub places : (own_matches o house (left_area 60) (right_area 40) first ≡ none ∷ place 0 ∷ place 1 ∷ [])
+    × (own_matches o house (left_area 60) (right_area 40) second ≡ none ∷ place 0 ∷ place 1 ∷ [])
 unfolding first second speak_all events final left_frames right_frames rows_in outputs matches_in written_in entries_of written_for of_group own own_at cmp_first
 places = (refl, refl)
 

@@ -11,10 +11,10 @@ use Rattle.lists.specs.Elsewhere.{SameLive}
 use Rattle.lists.proofs.Elsewhere.{elsewhere}
 use Rattle.lists.specs.movelists.MoveLists.{moved_to, MoveLists}
 
-moved_live : (w : World) (newLeft newRight : Words) → (move_call w.join w.left w.right newLeft newRight).answer ≡ Accepted → SameLive (moved_to w newLeft newRight) w
-moved_live w newLeft newRight e =
-    let m : MovedSame w.join w.left w.right newLeft newRight = moved_same w.join w.left w.right newLeft newRight e in
-    let g : bad_join w.join w.left w.right ≡ false = move_good w.join w.left w.right newLeft newRight e in
+moved_live : (w : World) (new_left new_right : Words) → (move_call w.join w.left w.right new_left new_right).answer ≡ Accepted → SameLive (moved_to w new_left new_right) w
+moved_live w new_left new_right e =
+    let m : MovedSame w.join w.left w.right new_left new_right = moved_same w.join w.left w.right new_left new_right e in
+    let g : bad_join w.join w.left w.right ≡ false = move_good w.join w.left w.right new_left new_right e in
     record {
       join = rw m.join;
       bad = rw m.join (m.fits ∙ sym g);
@@ -24,6 +24,6 @@ moved_live w newLeft newRight e =
     }
 
 pub move_lists : MoveLists
-move_lists w newLeft newRight e =
-    let s = moved_live w newLeft newRight e in
-    record { same = s; later = elsewhere.list (moved_to w newLeft newRight) w s }
+move_lists w new_left new_right e =
+    let s = moved_live w new_left new_right e in
+    record { same = s; later = elsewhere.list (moved_to w new_left new_right) w s }

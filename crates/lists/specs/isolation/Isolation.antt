@@ -8,7 +8,7 @@ use Rattle.matching.specs.Match.{whole_table}
 use Rattle.matching.specs.declared.Choice.{Choice}
 use Rattle.matching.specs.declared.Choice.TheVariants.{Row, Nothing}
 use Rattle.lists.specs.Lists.{Call, Entry, left_frames, outputs, is_right_ended}
-use Rattle.lists.specs.WholeTables.{all, lefts, rights, turnedRows, matches, Declared}
+use Rattle.lists.specs.WholeTables.{all, lefts, rights, turned_rows, matches, Declared}
 
 -- A group is told by any row g of it. A row is of that group if its by-values are equal.
 abbrev pub in_group : Options → List Cell → List Cell → Bool
@@ -52,20 +52,20 @@ own_choice Nothing = none
 -- One group of a list of calls (SCOPE 15).
 module _ (o : Options) (g : List Cell) (l r : Words) (calls : List Call) where
   -- Its left rows and its right rows, among those that the list accepts.
-  abbrev pub ownLefts : Rows
-  ownLefts = of_group o g (lefts o l r calls)
+  abbrev pub own_lefts : Rows
+  own_lefts = of_group o g (lefts o l r calls)
 
   -- Its own notices.
-  abbrev pub ownRights : Rows
-  ownRights = of_group o g (rights o l r calls)
+  abbrev pub own_rights : Rows
+  own_rights = of_group o g (rights o l r calls)
 
   -- Its matches, each counted by position among its own notices.
-  abbrev pub ownMatches : List Own
-  ownMatches = map (own o g (rights o l r calls)) (written_for o g (turnedRows o l r calls) (matches o l r calls))
+  abbrev pub own_matches : List Own
+  own_matches = map (own o g (rights o l r calls)) (written_for o g (turned_rows o l r calls) (matches o l r calls))
 
   -- Sorted sides: then these are, at any point of the list, the matches of the group's left rows turned over its own notices alone, as if no other group were there.
   abbrev pub Alone : Type 0
-  Alone = Declared o l r calls → ownMatches ≡ map (λ x. own_choice (whole_table o ownRights x)) (of_group o g (turnedRows o l r calls))
+  Alone = Declared o l r calls → own_matches ≡ map (λ x. own_choice (whole_table o own_rights x)) (of_group o g (turned_rows o l r calls))
 
 -- SCOPE 18.2: what is supposed of each of the two lists.
 pub record Finished (o : Options) (l r : Words) (calls : List Call) : Type 0 where
@@ -79,5 +79,5 @@ pub record Isolation : Type 0 where
   pub alone : (o : Options) → refused_options o ≡ false → (g : List Cell) (l r : Words) (calls : List Call) → Alone o g l r calls
   pub same : (o : Options) → refused_options o ≡ false → (g : List Cell) → null_group o g ≡ false
       → (l₁ r₁ : Words) (calls₁ : List Call) → Finished o l₁ r₁ calls₁ → (l₂ r₂ : Words) (calls₂ : List Call) → Finished o l₂ r₂ calls₂
-      → ownLefts o g l₁ r₁ calls₁ ≡ ownLefts o g l₂ r₂ calls₂ → ownRights o g l₁ r₁ calls₁ ≡ ownRights o g l₂ r₂ calls₂
-      → ownMatches o g l₁ r₁ calls₁ ≡ ownMatches o g l₂ r₂ calls₂
+      → own_lefts o g l₁ r₁ calls₁ ≡ own_lefts o g l₂ r₂ calls₂ → own_rights o g l₁ r₁ calls₁ ≡ own_rights o g l₂ r₂ calls₂
+      → own_matches o g l₁ r₁ calls₁ ≡ own_matches o g l₂ r₂ calls₂

@@ -158,14 +158,14 @@ module _ (o : Options) (number w : ℕ) (vs ms : Words) (v : Cell) (m k : ℕ) (
 -- ---- rows from the last one on
 module _ (o : Options) (number w : ℕ) (vs ms : Words) (key : ℕ → Cell) (m n : ℕ) (out : Words) where
   -- The cells of the rows from row i on.
-  abbrev pub cellsOn : ℕ → List Cell
-  cellsOn i = flat (rows_with o number w vs ms key m out i (n - i))
+  abbrev pub cells_on_of : ℕ → List Cell
+  cells_on_of i = flat (rows_with o number w vs ms key m out i (n - i))
 
   -- The output if the rows from row i on are spread.
-  abbrev pub spreadOn : ℕ → Words
-  spreadOn i = lay_cells m (i * answer_columns o) (cellsOn i) out
+  abbrev pub spread_on : ℕ → Words
+  spread_on i = lay_cells m (i * answer_columns o) (cells_on_of i) out
 
-  cells_on : (i : ℕ) → i < n → cellsOn i ≡ row_with o number w vs ms (key i) (choice_at m out i) ++ cellsOn (i + 1)
+  cells_on : (i : ℕ) → i < n → cells_on_of i ≡ row_with o number w vs ms (key i) (choice_at m out i) ++ cells_on_of (i + 1)
   unfolding flat rows_with
   cells_on i h =
       let z : n - i ≡ suc (n - (i + 1)) = omega arith in
@@ -178,52 +178,52 @@ module _ (o : Options) (number w : ℕ) (vs ms : Words) (key : ℕ → Cell) (m 
       length-append (row_with o number w vs ms (key i) (choice_at m out i)) (flat (rows_with o number w vs ms key m out (suc i) k))
       ∙ (let a = row_length o number w vs ms (key i) (choice_at m out i) in let b = flat_wide (suc i) k in omega arith)
 
-  cells_wide : (i : ℕ) → length (cellsOn i) ≡ (n - i) * answer_columns o
+  cells_wide : (i : ℕ) → length (cells_on_of i) ≡ (n - i) * answer_columns o
   cells_wide i = flat_wide i (n - i)
 
-  pub spread_none : spreadOn n ≡ out
+  pub spread_none : spread_on n ≡ out
   unfolding flat rows_with lay_cells
   spread_none = let z : n - n ≡ 0 = omega arith in rw z
 
   module _ (within : n * answer_columns o ≤ m) where
-    fits : (i : ℕ) → i ≤ n → i * answer_columns o + length (cellsOn i) ≤ m
+    fits : (i : ℕ) → i ≤ n → i * answer_columns o + length (cells_on_of i) ≤ m
     fits i h =
         let k : ℕ = n - i in
         let e : n ≡ i + k = omega arith in
         let d : n * answer_columns o ≡ i * answer_columns o + k * answer_columns o = ap (λ (z : ℕ). z * answer_columns o) e ∙ add-mul i k (answer_columns o) in
-        let l : length (cellsOn i) ≡ k * answer_columns o = cells_wide i in
+        let l : length (cells_on_of i) ≡ k * answer_columns o = cells_wide i in
         omega arith
 
     before : (i j : ℕ) → j < i → j < i * answer_columns o
     before i j h = omega (arith, le-mul_of_pos_right {m = answer_columns o} i (columns_some o))
 
     -- The words of the choice of a row before them are as they were.
-    pub number_kept : (i j : ℕ) → i ≤ n → j < i → get_or (spreadOn i) (2 + j) (pos 0) ≡ get_or out (2 + j) (pos 0)
-    number_kept i j h l = lay_keeps m (i * answer_columns o) (cellsOn i) out (2 + j) (value_apart m (i * answer_columns o) (length (cellsOn i)) j (before i j l) (fits i h))
+    pub number_kept : (i j : ℕ) → i ≤ n → j < i → get_or (spread_on i) (2 + j) (pos 0) ≡ get_or out (2 + j) (pos 0)
+    number_kept i j h l = lay_keeps m (i * answer_columns o) (cells_on_of i) out (2 + j) (value_apart m (i * answer_columns o) (length (cells_on_of i)) j (before i j l) (fits i h))
 
-    pub mark_kept : (i j : ℕ) → i ≤ n → j < i → get_or (spreadOn i) (2 + m + j) (pos 0) ≡ get_or out (2 + m + j) (pos 0)
-    mark_kept i j h l = lay_keeps m (i * answer_columns o) (cellsOn i) out (2 + m + j) (mark_apart m (i * answer_columns o) (length (cellsOn i)) j (before i j l) (fits i h))
+    pub mark_kept : (i j : ℕ) → i ≤ n → j < i → get_or (spread_on i) (2 + m + j) (pos 0) ≡ get_or out (2 + m + j) (pos 0)
+    mark_kept i j h l = lay_keeps m (i * answer_columns o) (cells_on_of i) out (2 + m + j) (mark_apart m (i * answer_columns o) (length (cells_on_of i)) j (before i j l) (fits i h))
 
     -- One row more, before them.
-    pub spread_more : (i : ℕ) (now : Words) → i < n → now ≡ spreadOn (i + 1) → lay_cells m (i * answer_columns o) (row_with o number w vs ms (key i) (choice_at m now i)) now ≡ spreadOn i
+    pub spread_more : (i : ℕ) (now : Words) → i < n → now ≡ spread_on (i + 1) → lay_cells m (i * answer_columns o) (row_with o number w vs ms (key i) (choice_at m now i)) now ≡ spread_on i
     spread_more i now h e =
         let c : ℕ = answer_columns o in
         let r : List Cell = row_with o number w vs ms (key i) (choice_at m out i) in
         let k : choice_at m now i ≡ choice_at m out i = rw (e, number_kept (i + 1) i (omega arith) (omega arith), mark_kept (i + 1) i (omega arith) (omega arith)) in
         let l : length r ≡ c = row_length o number w vs ms (key i) (choice_at m out i) in
         let z : (i + 1) * c ≡ i * c + length r = omega arith in
-        let f : (i + 1) * c + length (cellsOn (i + 1)) ≤ m = fits (i + 1) (omega arith) in
+        let f : (i + 1) * c + length (cells_on_of (i + 1)) ≤ m = fits (i + 1) (omega arith) in
         rw (k, e) (
-        sym (lay_order m (i * c) r ((i + 1) * c) (cellsOn (i + 1)) out (omega arith) f)
-        ∙ ap (λ (q : ℕ). lay_cells m q (cellsOn (i + 1)) (lay_cells m (i * c) r out)) z
-        ∙ sym (lay_append m (i * c) r (cellsOn (i + 1)) out)
+        sym (lay_order m (i * c) r ((i + 1) * c) (cells_on_of (i + 1)) out (omega arith) f)
+        ∙ ap (λ (q : ℕ). lay_cells m q (cells_on_of (i + 1)) (lay_cells m (i * c) r out)) z
+        ∙ sym (lay_append m (i * c) r (cells_on_of (i + 1)) out)
         ∙ ap (λ (q : List Cell). lay_cells m (i * c) q out) (sym (cells_on i h))
         )
 
 module _ (o : Options) (n wl : ℕ) (lv lm : Words) (w nr : ℕ) (vs ms : Words) (number m : ℕ) (out : Words) (h : SpreadIn o n wl lv lm w nr vs ms number m out) where
   -- The keys of the left rows.
-  abbrev pub keyIn : ℕ → Cell
-  keyIn i = cell_at (i * wl + o.by) lv lm
+  abbrev pub key_in : ℕ → Cell
+  key_in i = cell_at (i * wl + o.by) lv lm
 
   -- A right number that is there has its words there.
   right_in_lem : (x : Choice) → From number (number + nr) x → RightIn o w vs ms number x
@@ -240,15 +240,15 @@ module _ (o : Options) (n wl : ℕ) (lv lm : Words) (w nr : ℕ) (vs ms : Words)
   right_in_lem Nothing f = tt
 
   -- Row i may be spread, if those behind it are.
-  pub row_asked : (i : ℕ) (now : Words) → i < n → length now ≡ length out → now ≡ spreadOn o number w vs ms keyIn m n out (i + 1) → RowSpread o i wl lv lm w vs ms number m now
+  pub row_asked : (i : ℕ) (now : Words) → i < n → length now ≡ length out → now ≡ spread_on o number w vs ms key_in m n out (i + 1) → RowSpread o i wl lv lm w vs ms number m now
   row_asked i now l g e =
       let c : ℕ = answer_columns o in
       let t : i * c + c ≤ n * c = row_room i n c l in
       let f = h.within in
       let d = h.room in
       let s = h.chosen i l in
-      let v : get_or now (2 + i) (pos 0) ≡ get_or out (2 + i) (pos 0) = rw e (number_kept o number w vs ms keyIn m n out f (i + 1) i (omega arith) (omega arith)) in
-      let z : get_or now (2 + m + i) (pos 0) ≡ get_or out (2 + m + i) (pos 0) = rw e (mark_kept o number w vs ms keyIn m n out f (i + 1) i (omega arith) (omega arith)) in
+      let v : get_or now (2 + i) (pos 0) ≡ get_or out (2 + i) (pos 0) = rw e (number_kept o number w vs ms key_in m n out f (i + 1) i (omega arith) (omega arith)) in
+      let z : get_or now (2 + m + i) (pos 0) ≡ get_or out (2 + m + i) (pos 0) = rw e (mark_kept o number w vs ms key_in m n out f (i + 1) i (omega arith) (omega arith)) in
       let b : i < i * c + c = before_own i in
       let x : i * wl + wl ≤ n * wl = row_room i n wl l in
       let u = h.left in
@@ -265,17 +265,17 @@ module _ (o : Options) (n wl : ℕ) (lv lm : Words) (w nr : ℕ) (vs ms : Words)
       before_own i = omega (arith, le-mul_of_pos_right {m = answer_columns o} i (columns_some o), columns_some o)
 
   -- All rows spread are what is asked for.
-  pub spread_all : (now : Words) → now ≡ spreadOn o number w vs ms keyIn m n out 0 → now ≡ spread o number (rows_of w nr vs ms) (rows_of wl n lv lm) m out
+  pub spread_all : (now : Words) → now ≡ spread_on o number w vs ms key_in m n out 0 → now ≡ spread o number (rows_of w nr vs ms) (rows_of wl n lv lm) m out
   unfolding spread
   spread_all now e =
       let z : n - 0 ≡ n = omega arith in
       let y : 0 * answer_columns o ≡ 0 = omega arith in
       let l = rows_length wl n lv lm in
-      let r = rows_words o number w vs ms nr h.wide h.right.values keyIn m n 0 out (rows_of wl n lv lm) l left_key (λ j a b. numbered_from number nr m out j (h.chosen j (omega arith))) in
+      let r = rows_words o number w vs ms nr h.wide h.right.values key_in m n 0 out (rows_of wl n lv lm) l left_key (λ j a b. numbered_from number nr m out j (h.chosen j (omega arith))) in
       e ∙ rw (z, y, l) (ap (λ (q : Rows). lay_cells m 0 (flat q) out) (sym r))
     where
-      left_key : (j : ℕ) → j < n → key_of o (get_or (rows_of wl n lv lm) j []) ≡ keyIn (0 + j)
+      left_key : (j : ℕ) → j < n → key_of o (get_or (rows_of wl n lv lm) j []) ≡ key_in (0 + j)
       left_key j g =
           let x : j * wl + wl ≤ n * wl = row_room j n wl g in
           let z : j ≡ 0 + j = omega arith in
-          ap (key_of o) (rows_from wl n j lv lm g) ∙ row_cell wl (j * wl) o.by lv lm h.left.wide (omega (arith, h.left.values, h.left.wide)) ∙ ap keyIn z
+          ap (key_of o) (rows_from wl n j lv lm g) ∙ row_cell wl (j * wl) o.by lv lm h.left.wide (omega (arith, h.left.values, h.left.wide)) ∙ ap key_in z

@@ -18,14 +18,14 @@ use Rattle.matching.specs.declared.Choice.{Choice}
 use Rattle.matching.proofs.BestLaws.{match_small}
 use Rattle.matching.proofs.TermLaws.{room_terms, lay_terms}
 use Rattle.matching.proofs.WalkLaws.{run_up, run_within, between_length}
-use Rattle.matching.proofs.LayLaws.{groupsFrom, groups_all, groups_more, groups_end, lay_more, lay_done}
+use Rattle.matching.proofs.LayLaws.{groups_from, groups_all, groups_more, groups_end, lay_more, lay_done}
 use Rattle.matchframe.proofs.match_groups.Statement.{statement}
 use Rattle.matchframe.proofs.match_groups.Tie as tie
 
 abbrev invariant-loop : tie.invariant-loop
 invariant-loop lv lm nl wl rv rm nr wr number o codes rising m out₀ at₀ end₀ i₀ out at end i =
     (i ≤ nl) × (length out ≡ length out₀) × RunAt (with_list o codes rising) wr nr rv rm at end
-    × (lay m 0 (by_runs (with_list o codes rising) number (runs (with_list o codes rising) (rows_of wr nr rv rm)) (runs (with_list o codes rising) (rows_of wl nl lv lm))) out₀ ≡ lay m i (groupsFrom (with_list o codes rising) number m wl nl lv lm wr nr rv rm at i) out)
+    × (lay m 0 (by_runs (with_list o codes rising) number (runs (with_list o codes rising) (rows_of wr nr rv rm)) (runs (with_list o codes rising) (rows_of wl nl lv lm))) out₀ ≡ lay m i (groups_from (with_list o codes rising) number m wl nl lv lm wr nr rv rm at i) out)
 
 abbrev decreases-loop : tie.decreases-loop
 decreases-loop lv lm nl wl rv rm nr wr number o codes rising m out₀ at₀ end₀ i₀ out at end i = nl - i

@@ -33,25 +33,25 @@ passed true n t e = let z : ◌≡◌ {A = ℕ} 0 1 = cc in absurd (omega arith)
 passed false n t e = (refl, e)
 
 -- A join that holds together and whose words and rows have room.
-pub record Fits (j : Join) (left right newLeft newRight : Words) : Type 0 where
+pub record Fits (j : Join) (left right new_left new_right : Words) : Type 0 where
   pub good : Good j left right
-  pub left_room : j.queue_words ≤ length newLeft
-  pub right_room : j.held ≤ capacity (right_width j) newRight
+  pub left_room : j.queue_words ≤ length new_left
+  pub right_room : j.held ≤ capacity (right_width j) new_right
 
-pub fits_by : (j : Join) (left right newLeft newRight : Words) → bad_join j left right ≡ false → no_room_in j newLeft newRight ≡ false → Fits j left right newLeft newRight
-fits_by j left right newLeft newRight e f =
-    let p = or_both (ltb (length newLeft) j.queue_words) (ltb (capacity (right_width j) newRight) j.held) f in
+pub fits_by : (j : Join) (left right new_left new_right : Words) → bad_join j left right ≡ false → no_room_in j new_left new_right ≡ false → Fits j left right new_left new_right
+fits_by j left right new_left new_right e f =
+    let p = or_both (ltb (length new_left) j.queue_words) (ltb (capacity (right_width j) new_right) j.held) f in
     record {
       good = good j left right e;
-      left_room = ltb-false (length newLeft) j.queue_words p.0;
-      right_room = ltb-false (capacity (right_width j) newRight) j.held p.1;
+      left_room = ltb-false (length new_left) j.queue_words p.0;
+      right_room = ltb-false (capacity (right_width j) new_right) j.held p.1;
     }
 
-taken_tests : (j : Join) (left right newLeft newRight : Words) → move_answer j left right newLeft newRight ≡ Accepted → (bad_join j left right ≡ false) × (no_room_in j newLeft newRight ≡ false)
+taken_tests : (j : Join) (left right new_left new_right : Words) → move_answer j left right new_left new_right ≡ Accepted → (bad_join j left right ≡ false) × (no_room_in j new_left new_right ≡ false)
 unfolding move_answer
-taken_tests j left right newLeft newRight e =
+taken_tests j left right new_left new_right e =
     let p = passed (bad_join j left right) BadJoin _ e in
-    let q = passed (no_room_in j newLeft newRight) NoRoom Accepted p.1 in
+    let q = passed (no_room_in j new_left new_right) NoRoom Accepted p.1 in
     (p.0, q.0)
 
 -- The held rows, by their words.
@@ -64,7 +64,7 @@ held_read j r = sym (rows_read (right_width j) j.held (j.held * right_width j) (
 there : (ws area : Words) (at n : ℕ) → length ws ≡ n → at ≤ length area → take n (drop at (written ws at area)) ≡ ws
 there ws area at n e h = rw (← e) (part_copied area at ws (length ws) h (omega arith) ∙ take-length ws)
 
-module _ (j : Join) (left right newLeft newRight : Words) (t : Fits j left right newLeft newRight) where
+module _ (j : Join) (left right new_left new_right : Words) (t : Fits j left right new_left new_right) where
   abbrev c : ℕ
   c = right_width j
 
@@ -73,7 +73,7 @@ module _ (j : Join) (left right newLeft newRight : Words) (t : Fits j left right
 
   -- R of the new right area, in words.
   abbrev half : ℕ
-  half = capacity c newRight * c
+  half = capacity c new_right * c
 
   -- How many words wait, and how many the held values and the held marks are.
   words_long : length (waiting j left) ≡ j.queue_words
@@ -97,57 +97,57 @@ module _ (j : Join) (left right newLeft newRight : Words) (t : Fits j left right
   half_room : n ≤ half
   half_room = mul-le-mul_right c t.right_room
 
-  both_halves : half + half ≤ length newRight
-  both_halves = capacity_room c newRight
+  both_halves : half + half ≤ length new_right
+  both_halves = capacity_room c new_right
 
   -- ---- the left area
-  pub left_long : length (left_moved j left newLeft) ≡ length newLeft
+  pub left_long : length (left_moved j left new_left) ≡ length new_left
   unfolding left_moved
-  left_long = length-paste newLeft 0 (waiting j left) (length (waiting j left)) (omega (arith, words_long, t.left_room)) (omega arith)
+  left_long = length-paste new_left 0 (waiting j left) (length (waiting j left)) (omega (arith, words_long, t.left_room)) (omega arith)
 
-  pub left_waits : waiting (at_front j) (left_moved j left newLeft) ≡ waiting j left
+  pub left_waits : waiting (at_front j) (left_moved j left new_left) ≡ waiting j left
   unfolding left_moved waiting
-  left_waits = there (waiting j left) newLeft 0 j.queue_words words_long (omega arith)
+  left_waits = there (waiting j left) new_left 0 j.queue_words words_long (omega arith)
 
   -- ---- the right area
   abbrev first : Words
-  first = written (held_values j right) 0 newRight
+  first = written (held_values j right) 0 new_right
 
-  first_long : length first ≡ length newRight
-  first_long = length-paste newRight 0 (held_values j right) (length (held_values j right)) (omega (arith, values_long, half_room, both_halves)) (omega arith)
+  first_long : length first ≡ length new_right
+  first_long = length-paste new_right 0 (held_values j right) (length (held_values j right)) (omega (arith, values_long, half_room, both_halves)) (omega arith)
 
-  pub right_long : length (right_moved j right newRight) ≡ length newRight
+  pub right_long : length (right_moved j right new_right) ≡ length new_right
   unfolding right_moved
   right_long =
       length-paste first half (held_marks j right) (length (held_marks j right)) (rw first_long (omega (arith, marks_long, half_room, both_halves))) (omega arith)
       ∙ first_long
 
-  capacity_same : capacity c (right_moved j right newRight) ≡ capacity c newRight
+  capacity_same : capacity c (right_moved j right new_right) ≡ capacity c new_right
   capacity_same = ap (λ (z : ℕ). z / (2 * c)) right_long
 
-  pub right_values : held_values (at_front j) (right_moved j right newRight) ≡ held_values j right
+  pub right_values : held_values (at_front j) (right_moved j right new_right) ≡ held_values j right
   unfolding right_moved held_values
   right_values =
       let ms = held_marks j right in
       let z : 0 * c ≡ 0 = omega arith in
       rw z
       (part_before first half ms (length ms) 0 n (rw first_long (omega (arith, both_halves))) (omega (arith, half_room))
-      ∙ there (held_values j right) newRight 0 n values_long (omega arith))
+      ∙ there (held_values j right) new_right 0 n values_long (omega arith))
 
-  pub right_marks : held_marks (at_front j) (right_moved j right newRight) ≡ held_marks j right
+  pub right_marks : held_marks (at_front j) (right_moved j right new_right) ≡ held_marks j right
   unfolding right_moved held_marks
   right_marks =
-      let z : (capacity c newRight + 0) * c ≡ half = omega arith in
+      let z : (capacity c new_right + 0) * c ≡ half = omega arith in
       rw (capacity_same, z) (there (held_marks j right) first half n marks_long (rw first_long (omega (arith, both_halves))))
 
   -- ---- the join
-  pub front_fits : bad_join (at_front j) (left_moved j left newLeft) (right_moved j right newRight) ≡ false
+  pub front_fits : bad_join (at_front j) (left_moved j left new_left) (right_moved j right new_right) ≡ false
   unfolding bad_join
   front_fits =
       rw (
         t.good.options,
-        le-ltb (capacity c (right_moved j right newRight)) (0 + j.held) (rw capacity_same (omega (arith, t.right_room))),
-        le-ltb (length (left_moved j left newLeft)) (0 + j.queue_words) (rw left_long (omega (arith, t.left_room))),
+        le-ltb (capacity c (right_moved j right new_right)) (0 + j.held) (rw capacity_same (omega (arith, t.right_room))),
+        le-ltb (length (left_moved j left new_left)) (0 + j.queue_words) (rw left_long (omega (arith, t.left_room))),
         le-ltb most_rows (j.pruned + j.held) t.good.rows,
         ne_eqb (j.sequence % 2) 1 (λ (h : j.sequence % 2 ≡ 1). omega (arith, t.good.even)),
       )
@@ -162,60 +162,60 @@ says Accepted done j left right d e = refl
 says (Refused n) done j left right d e = e
 
 -- ---- the call by its tests
-module _ (j : Join) (left right newLeft newRight : Words) where
-  pub move_bad : bad_join j left right ≡ true → move_call j left right newLeft newRight ≡ after (Refused BadJoin) j newLeft newRight []
+module _ (j : Join) (left right new_left new_right : Words) where
+  pub move_bad : bad_join j left right ≡ true → move_call j left right new_left new_right ≡ after (Refused BadJoin) j new_left new_right []
   unfolding move_call move_answer
   move_bad e = rw (e, move_call)
 
-  pub move_short : bad_join j left right ≡ false → no_room_in j newLeft newRight ≡ true → move_call j left right newLeft newRight ≡ after (Refused NoRoom) j newLeft newRight []
+  pub move_short : bad_join j left right ≡ false → no_room_in j new_left new_right ≡ true → move_call j left right new_left new_right ≡ after (Refused NoRoom) j new_left new_right []
   unfolding move_call move_answer
   move_short e f = rw (e, f, move_call)
 
-  pub move_done : bad_join j left right ≡ false → no_room_in j newLeft newRight ≡ false
-      → move_call j left right newLeft newRight ≡ after Accepted (at_front j) (left_moved j left newLeft) (right_moved j right newRight) []
+  pub move_done : bad_join j left right ≡ false → no_room_in j new_left new_right ≡ false
+      → move_call j left right new_left new_right ≡ after Accepted (at_front j) (left_moved j left new_left) (right_moved j right new_right) []
   unfolding move_call move_answer
   move_done e f = rw (e, f, move_call)
 
 -- A move that is accepted passed both tests.
-accepted : (j : Join) (left right newLeft newRight : Words) → (move_call j left right newLeft newRight).answer ≡ Accepted → (bad_join j left right ≡ false) × (no_room_in j newLeft newRight ≡ false)
+accepted : (j : Join) (left right new_left new_right : Words) → (move_call j left right new_left new_right).answer ≡ Accepted → (bad_join j left right ≡ false) × (no_room_in j new_left new_right ≡ false)
 unfolding move_call
-accepted j left right newLeft newRight e =
-    let done = after Accepted (at_front j) (left_moved j left newLeft) (right_moved j right newRight) [] in
-    taken_tests j left right newLeft newRight (says (move_answer j left right newLeft newRight) done j newLeft newRight refl e)
+accepted j left right new_left new_right e =
+    let done = after Accepted (at_front j) (left_moved j left new_left) (right_moved j right new_right) [] in
+    taken_tests j left right new_left new_right (says (move_answer j left right new_left new_right) done j new_left new_right refl e)
 
 -- Only a join that holds together is moved.
-pub move_good : (j : Join) (left right newLeft newRight : Words) → (move_call j left right newLeft newRight).answer ≡ Accepted → bad_join j left right ≡ false
-move_good j left right newLeft newRight e = (accepted j left right newLeft newRight e).0
+pub move_good : (j : Join) (left right new_left new_right : Words) → (move_call j left right new_left new_right).answer ≡ Accepted → bad_join j left right ≡ false
+move_good j left right new_left new_right e = (accepted j left right new_left new_right e).0
 
 pub moved_same : Moved
-moved_same j left right newLeft newRight e =
-    let k = accepted j left right newLeft newRight e in
-    let t = fits_by j left right newLeft newRight k.0 k.1 in
-    let w = move_done j left right newLeft newRight k.0 k.1 in
+moved_same j left right new_left new_right e =
+    let k = accepted j left right new_left new_right e in
+    let t = fits_by j left right new_left new_right k.0 k.1 in
+    let w = move_done j left right new_left new_right k.0 k.1 in
     record {
       join = rw w;
-      waits = rw w (left_waits j left right newLeft newRight t);
-      values = rw w (right_values j left right newLeft newRight t);
-      marks = rw w (right_marks j left right newLeft newRight t);
+      waits = rw w (left_waits j left right new_left new_right t);
+      values = rw w (right_values j left right new_left new_right t);
+      marks = rw w (right_marks j left right new_left new_right t);
       rows =
           rw w
-          (held_read (at_front j) (right_moved j right newRight)
-          ∙ rw (right_values j left right newLeft newRight t, right_marks j left right newLeft newRight t) (sym (held_read j right)));
-      fits = rw w (front_fits j left right newLeft newRight t);
-      left_length = rw w (left_long j left right newLeft newRight t);
-      right_length = rw w (right_long j left right newLeft newRight t);
+          (held_read (at_front j) (right_moved j right new_right)
+          ∙ rw (right_values j left right new_left new_right t, right_marks j left right new_left new_right t) (sym (held_read j right)));
+      fits = rw w (front_fits j left right new_left new_right t);
+      left_length = rw w (left_long j left right new_left new_right t);
+      right_length = rw w (right_long j left right new_left new_right t);
     }
 
 -- ---- for the code
-module _ (j : Join) (left right newLeft newRight : Words) where
-  pub bad_move : bad_join j left right ≡ true → MoveContract j left right newLeft newRight (record { answer = Refused BadJoin; join = j }) newLeft newRight
-  bad_move e = let w = move_bad j left right newLeft newRight e in record { answer = rw w; join = rw w; left_words = rw w; right_words = rw w }
+module _ (j : Join) (left right new_left new_right : Words) where
+  pub bad_move : bad_join j left right ≡ true → MoveContract j left right new_left new_right (record { answer = Refused BadJoin; join = j }) new_left new_right
+  bad_move e = let w = move_bad j left right new_left new_right e in record { answer = rw w; join = rw w; left_words = rw w; right_words = rw w }
 
-  pub no_room_move : bad_join j left right ≡ false → no_room_in j newLeft newRight ≡ true → MoveContract j left right newLeft newRight (record { answer = Refused NoRoom; join = j }) newLeft newRight
-  no_room_move e f = let w = move_short j left right newLeft newRight e f in record { answer = rw w; join = rw w; left_words = rw w; right_words = rw w }
+  pub no_room_move : bad_join j left right ≡ false → no_room_in j new_left new_right ≡ true → MoveContract j left right new_left new_right (record { answer = Refused NoRoom; join = j }) new_left new_right
+  no_room_move e f = let w = move_short j left right new_left new_right e f in record { answer = rw w; join = rw w; left_words = rw w; right_words = rw w }
 
-  pub done_move : (left' right' : Words) → bad_join j left right ≡ false → no_room_in j newLeft newRight ≡ false
-      → left' ≡ written (take j.queue_words (drop j.queue_start left)) 0 newLeft → right' ≡ right_copied (right_width j) j.base j.held right newRight
-      → MoveContract j left right newLeft newRight (record { answer = Accepted; join = at_front j }) left' right'
+  pub done_move : (left' right' : Words) → bad_join j left right ≡ false → no_room_in j new_left new_right ≡ false
+      → left' ≡ written (take j.queue_words (drop j.queue_start left)) 0 new_left → right' ≡ right_copied (right_width j) j.base j.held right new_right
+      → MoveContract j left right new_left new_right (record { answer = Accepted; join = at_front j }) left' right'
   unfolding left_moved right_moved right_copied waiting held_values held_marks
-  done_move left' right' e f x y = let w = move_done j left right newLeft newRight e f in record { answer = rw w; join = rw w; left_words = rw w x; right_words = rw w y }
+  done_move left' right' e f x y = let w = move_done j left right new_left new_right e f in record { answer = rw w; join = rw w; left_words = rw w x; right_words = rw w y }

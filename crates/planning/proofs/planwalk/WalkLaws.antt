@@ -27,7 +27,7 @@ use Rattle.planning.proofs.PlanLaws.{plan_takes, plan_turns, plan_last, plan_lea
 use Rattle.planning.proofs.HeightLaws.{rows_part, heights_at, frames_length}
 use Rattle.planning.proofs.OnePrune.{one_prune}
 use Rattle.planning.specs.declared.planwalk.Walk.{Walk}
-use Rattle.planning.specs.planwalk.Walk.{WalkIn, TablesIn, TurnIn, taken_by, written_by, turned_by, frame_from, held_from, joined, figures_at, held_at, left_at, rightAt, turnsAt, ahead, Stands}
+use Rattle.planning.specs.planwalk.Walk.{WalkIn, TablesIn, TurnIn, taken_by, written_by, turned_by, frame_from, held_from, joined, figures_at, held_at, left_at, right_at, turns_at, ahead, Stands}
 
 -- ---- lists
 drop_take : {A : Type 0} (d k : ℕ) (xs : List A) → drop d (take k xs) ≡ take (k - d) (drop d xs)
@@ -95,7 +95,7 @@ module _ (o : Options) (hl hr : List ℕ) (L R : Rows) where
   pub starts : length L ≡ total hl → length R ≡ total hr → Stands o hl hr L R first
   unfolding plan
   starts a b =
-      let n : turnsAt o hl hr L R first ≡ length (in_frames hl L) + length (in_frames hr R) = omega (arith, frames_length hl L, frames_length hr R) in
+      let n : turns_at o hl hr L R first ≡ length (in_frames hl L) + length (in_frames hr R) = omega (arith, frames_length hl L, frames_length hr R) in
       let p : Figures = plan o (in_frames hl L) (in_frames hr R) in
       record {
         lefts = omega arith;
@@ -118,7 +118,7 @@ module _ (o : Options) (hl hr : List ℕ) (L R : Rows) where
     -- ---- the end
     pub ends : drop s.lefts hl ≡ [] → figures_at s ≡ plan o (in_frames hl L) (in_frames hr R)
     ends e =
-        let a : ahead o hl hr L R s ≡ rest (held_at o hl hr L R s) = rw (frames_end (drop s.lefts hl) (drop s.passed L) e) (plan_none (turnsAt o hl hr L R s) o (held_at o hl hr L R s) (rightAt o hl hr L R s)) in
+        let a : ahead o hl hr L R s ≡ rest (held_at o hl hr L R s) = rw (frames_end (drop s.lefts hl) (drop s.passed L) e) (plan_none (turns_at o hl hr L R s) o (held_at o hl hr L R s) (right_at o hl hr L R s)) in
         figures_same s.most (s.lefts + s.rights) s.rights (max s.most (length (held_at o hl hr L R s))) (s.lefts + s.rights + 0) (s.rights + 0) (omega (arith, held_count, h.most)) (omega arith) (omega arith)
         ∙ ap (joined s) (sym a) ∙ h.whole
 
@@ -149,7 +149,7 @@ module _ (o : Options) (hl hr : List ℕ) (L R : Rows) where
             let e : s.to - s.from + k ≡ s.to + k - s.from = omega (arith, h.held) in
             rw (← at_to, ← e) (sym (take-add (s.to - s.from) k (drop s.from R)))
 
-        right_is : rightAt o hl hr L R s ≡ take k (drop s.to R) ∷ rightAt o hl hr L R (taken_by s k)
+        right_is : right_at o hl hr L R s ≡ take k (drop s.to R) ∷ right_at o hl hr L R (taken_by s k)
         right_is = rw (behind hr s.rights k after at, ← drop-drop k s.to R) (frames_at hr s.rights k after at (drop s.to R))
 
         takes : need_more o frame (held_at o hl hr L R s) ≡ true → Stands o hl hr L R (taken_by s k)
@@ -157,12 +157,12 @@ module _ (o : Options) (hl hr : List ℕ) (L R : Rows) where
             let t = taken_by s k in
             let p : Figures = ahead o hl hr L R t in
             let some = next_in hr s.rights k after at in
-            let u : turnsAt o hl hr L R s ≡ suc (turnsAt o hl hr L R t) = omega (arith, some) in
+            let u : turns_at o hl hr L R s ≡ suc (turns_at o hl hr L R t) = omega (arith, some) in
             let a : ahead o hl hr L R s ≡ after_taking (held_at o hl hr L R s) p
-            = rw (u, right_is, left_is, ← more_held) (plan_takes (turnsAt o hl hr L R t) o (held_at o hl hr L R s) (take k (drop s.to R)) (rightAt o hl hr L R t) frame others q) in
+            = rw (u, right_is, left_is, ← more_held) (plan_takes (turns_at o hl hr L R t) o (held_at o hl hr L R s) (take k (drop s.to R)) (right_at o hl hr L R t) frame others q) in
             let l₁ = held_count in
             let l₂ : length (held_at o hl hr L R t) ≡ s.to + k - s.from = length-take (s.to + k - s.from) (drop s.from R) ∙ omega (arith, length-drop s.from R, right_in_lem, h.held) in
-            let l₃ = plan_least (turnsAt o hl hr L R t) o (held_at o hl hr L R t) (rightAt o hl hr L R t) (left_at o hl hr L R t) in
+            let l₃ = plan_least (turns_at o hl hr L R t) o (held_at o hl hr L R t) (right_at o hl hr L R t) (left_at o hl hr L R t) in
             record {
               lefts = h.lefts;
               rights = omega (arith, some);
@@ -195,13 +195,13 @@ module _ (o : Options) (hl hr : List ℕ) (L R : Rows) where
         left_on_lem : others ≡ left_at o hl hr L R (written_by s n dropped)
         left_on_lem = rw (behind hl s.lefts n later next, drop-drop n s.passed L) refl
 
-        writes_as : (fs : List Rows) → rightAt o hl hr L R s ≡ fs
-            → plan_from (suc (turnsAt o hl hr L R (written_by s n dropped))) o (held_at o hl hr L R s) fs (frame ∷ others) ≡ after_turn (held_at o hl hr L R s) (plan_from (turnsAt o hl hr L R (written_by s n dropped)) o (kept_after o frame (held_at o hl hr L R s)) fs others)
+        writes_as : (fs : List Rows) → right_at o hl hr L R s ≡ fs
+            → plan_from (suc (turns_at o hl hr L R (written_by s n dropped))) o (held_at o hl hr L R s) fs (frame ∷ others) ≡ after_turn (held_at o hl hr L R s) (plan_from (turns_at o hl hr L R (written_by s n dropped)) o (kept_after o frame (held_at o hl hr L R s)) fs others)
             → Stands o hl hr L R (written_by s n dropped)
         writes_as fs same turn =
             let t = written_by s n dropped in
             let p : Figures = ahead o hl hr L R t in
-            let u : turnsAt o hl hr L R s ≡ suc (turnsAt o hl hr L R t) = omega (arith, more) in
+            let u : turns_at o hl hr L R s ≡ suc (turns_at o hl hr L R t) = omega (arith, more) in
             let a : ahead o hl hr L R s ≡ after_turn (held_at o hl hr L R s) p = rw (u, left_is, same, ← left_on_lem) (rw (kept_is) at turn) in
             record {
               lefts = omega (arith, more);
@@ -218,14 +218,14 @@ module _ (o : Options) (hl hr : List ℕ) (L R : Rows) where
         -- No right frame is left; or one is left, and wanted or not.
         turns : (some : Bool) (k : ℕ) (after : List ℕ) → drop s.rights hr ≡ cond some (k ∷ after) [] → Stands o hl hr L R (turned_by o s n some k frame (held_at o hl hr L R s))
         unfolding turned_by
-        turns false k after e = writes_as [] (frames_end (drop s.rights hr) (drop s.to R) e) (plan_last (turnsAt o hl hr L R (written_by s n dropped)) o (held_at o hl hr L R s) frame others)
+        turns false k after e = writes_as [] (frames_end (drop s.rights hr) (drop s.to R) e) (plan_last (turns_at o hl hr L R (written_by s n dropped)) o (held_at o hl hr L R s) frame others)
         turns true k after e = by (need_more o frame (held_at o hl hr L R s)) refl
           where
             by : (t : Bool) → need_more o frame (held_at o hl hr L R s) ≡ t → Stands o hl hr L R (cond t (taken_by s k) (written_by s n dropped))
             by true q = takes k after e q
             by false q =
                 writes_as (take k (drop s.to R) ∷ in_frames after (drop k (drop s.to R))) (frames_at hr s.rights k after e (drop s.to R))
-                (plan_turns (turnsAt o hl hr L R (written_by s n dropped)) o (held_at o hl hr L R s) (take k (drop s.to R)) (in_frames after (drop k (drop s.to R))) frame others q)
+                (plan_turns (turns_at o hl hr L R (written_by s n dropped)) o (held_at o hl hr L R s) (take k (drop s.to R)) (in_frames after (drop k (drop s.to R))) frame others q)
 
 -- Each turn counts as one.
 pub turn_counts : (o : Options) (s : Walk) (n : ℕ) (some : Bool) (k : ℕ) (x held : Rows) → (turned_by o s n some k x held).lefts + (turned_by o s n some k x held).rights ≡ suc (s.lefts + s.rights)

@@ -81,15 +81,15 @@ module _ (o : Options) (hl hr : List ℕ) (L R : Rows) (s : Walk) where
   abbrev pub left_at : List Rows
   left_at = in_frames (drop s.lefts hl) (drop s.passed L)
 
-  abbrev pub rightAt : List Rows
-  rightAt = in_frames (drop s.rights hr) (drop s.to R)
+  abbrev pub right_at : List Rows
+  right_at = in_frames (drop s.rights hr) (drop s.to R)
 
-  abbrev pub turnsAt : ℕ
-  turnsAt = (length hl - s.lefts) + (length hr - s.rights)
+  abbrev pub turns_at : ℕ
+  turns_at = (length hl - s.lefts) + (length hr - s.rights)
 
   -- The figures of what is left.
   abbrev pub ahead : Figures
-  ahead = plan_from turnsAt o held_at rightAt left_at
+  ahead = plan_from turns_at o held_at right_at left_at
 
   -- The cursors stand between frames, and what is counted, joined with the figures of what is left, is the plan of the whole.
   pub record Stands : Type 0 where

@@ -24,7 +24,7 @@ use Rattle.readers.specs.declared.Shown.TheVariants.{Refused}
 use Rattle.readers.specs.Reader.{plain_knows, distance_knows, shown, cell_in, read_distance}
 use Rattle.readers.proofs.ViewLaws.{plain_knows_lem, plain_not, distance_knows_plain, distance_knows_lem}
 use Rattle.readers.proofs.AgreeLaws.{read_known, read_unknown, frame_made}
-use Rattle.readers.specs.readerlaws.Prices.{sharedRow, distance_of, answerFrame, NoDistanceAsPrice, NeverAsPrice, TurnsShown}
+use Rattle.readers.specs.readerlaws.Prices.{shared_row, distance_of, answer_frame, NoDistanceAsPrice, NeverAsPrice, TurnsShown}
 
 -- ---- lists
 seam : (A : List Cell) (d : Cell) (n : ℕ) → length A ≡ n → get_or (A ++ d ∷ []) n null ≡ d
@@ -56,7 +56,7 @@ module _ (o : Options) (i : ℕ) (rights : Rows) where
   abbrev last : Bool → List Cell → Choice → List Cell
   last b x m = cond b (distance_of o i rights x m ∷ []) []
 
-  row_parts : (x : List Cell) (m : Choice) → answer_row o i rights x m ≡ sharedRow o i rights m ++ last o.with_distance x m
+  row_parts : (x : List Cell) (m : Choice) → answer_row o i rights x m ≡ shared_row o i rights m ++ last o.with_distance x m
   unfolding answer_row
   row_parts x (Row k) = refl
   row_parts x Nothing = go o.with_distance
@@ -65,33 +65,33 @@ module _ (o : Options) (i : ℕ) (rights : Rows) where
       go true = nulls_more (shared_columns o)
       go false = sym (append-nil (replicate (shared_columns o) null))
 
-  shared_wide : (m : Choice) → length (sharedRow o i rights m) ≡ shared_columns o
+  shared_wide : (m : Choice) → length (shared_row o i rights m) ≡ shared_columns o
   shared_wide (Row k) = ap suc (cells_wide (columns o) o.carried (get_or rights (k - i) []))
   shared_wide Nothing = nulls_wide (shared_columns o)
 
   -- In the shared columns a row is its shared part.
   cell_shared : (xs : Rows) (ms : List Choice) → length xs ≡ length ms → (row column : ℕ) → column < shared_columns o
-      → cell_in (answer_rows o i rights xs ms) row column ≡ cell_in (map (sharedRow o i rights) ms) row column
+      → cell_in (answer_rows o i rights xs ms) row column ≡ cell_in (map (shared_row o i rights) ms) row column
   unfolding answer_rows
   cell_shared [] [] e row column h = refl
   cell_shared [] (m ∷ ms) e row column h = absurd (omega arith)
   cell_shared (x ∷ xs) [] e row column h = absurd (omega arith)
   cell_shared (x ∷ xs) (m ∷ ms) e zero column h =
-      ap (cell column) (row_parts x m) ∙ get_or-append (sharedRow o i rights m) (last o.with_distance x m) null column (omega (arith, shared_wide m))
+      ap (cell column) (row_parts x m) ∙ get_or-append (shared_row o i rights m) (last o.with_distance x m) null column (omega (arith, shared_wide m))
   cell_shared (x ∷ xs) (m ∷ ms) e (suc row) column h = cell_shared xs ms (omega arith) row column h
 
   -- Without a distance it is nothing else.
-  row_shared : o.with_distance ≡ false → (x : List Cell) (m : Choice) → answer_row o i rights x m ≡ sharedRow o i rights m
+  row_shared : o.with_distance ≡ false → (x : List Cell) (m : Choice) → answer_row o i rights x m ≡ shared_row o i rights m
   row_shared d x m =
-      row_parts x m ∙ ap (λ (b : Bool). sharedRow o i rights m ++ last b x m) d ∙ append-nil (sharedRow o i rights m)
+      row_parts x m ∙ ap (λ (b : Bool). shared_row o i rights m ++ last b x m) d ∙ append-nil (shared_row o i rights m)
 
-  rows_shared : o.with_distance ≡ false → (xs : Rows) (ms : List Choice) → length xs ≡ length ms → answer_rows o i rights xs ms ≡ map (sharedRow o i rights) ms
+  rows_shared : o.with_distance ≡ false → (xs : Rows) (ms : List Choice) → length xs ≡ length ms → answer_rows o i rights xs ms ≡ map (shared_row o i rights) ms
   unfolding answer_rows
   rows_shared d [] [] e = refl
   rows_shared d [] (m ∷ ms) e = absurd (omega arith)
   rows_shared d (x ∷ xs) [] e = absurd (omega arith)
   rows_shared d (x ∷ xs) (m ∷ ms) e =
-      ap (λ (z : List Cell). z ∷ answer_rows o i rights xs ms) (row_shared d x m) ∙ ap (λ (z : Rows). sharedRow o i rights m ∷ z) (rows_shared d xs ms (omega arith))
+      ap (λ (z : List Cell). z ∷ answer_rows o i rights xs ms) (row_shared d x m) ∙ ap (λ (z : Rows). shared_row o i rights m ∷ z) (rows_shared d xs ms (omega arith))
 
   -- With one it stands behind them.
   cell_distance : o.with_distance ≡ true → (xs : Rows) (ms : List Choice) → length xs ≡ length ms → (row : ℕ) → row < length ms
@@ -101,13 +101,13 @@ module _ (o : Options) (i : ℕ) (rights : Rows) where
   cell_distance d [] (m ∷ ms) e row h = absurd (omega arith)
   cell_distance d (x ∷ xs) [] e row h = absurd (omega arith)
   cell_distance d (x ∷ xs) (m ∷ ms) e zero h =
-      ap (cell (shared_columns o)) (row_parts x m) ∙ ap (λ (b : Bool). get_or (sharedRow o i rights m ++ last b x m) (shared_columns o) null) d
-      ∙ seam (sharedRow o i rights m) (distance_of o i rights x m) (shared_columns o) (shared_wide m)
+      ap (cell (shared_columns o)) (row_parts x m) ∙ ap (λ (b : Bool). get_or (shared_row o i rights m ++ last b x m) (shared_columns o) null) d
+      ∙ seam (shared_row o i rights m) (distance_of o i rights x m) (shared_columns o) (shared_wide m)
   cell_distance d (x ∷ xs) (m ∷ ms) e (suc row) h = cell_distance d xs ms (omega arith) row (omega arith)
 
-  cell_past : (ms : List Choice) (row : ℕ) → cell_in (map (sharedRow o i rights) ms) row (shared_columns o) ≡ null
+  cell_past : (ms : List Choice) (row : ℕ) → cell_in (map (shared_row o i rights) ms) row (shared_columns o) ≡ null
   cell_past [] row = refl
-  cell_past (m ∷ ms) zero = past (sharedRow o i rights m) (shared_columns o) (shared_wide m)
+  cell_past (m ∷ ms) zero = past (shared_row o i rights m) (shared_columns o) (shared_wide m)
   cell_past (m ∷ ms) (suc row) = cell_past ms row
 
 -- ---- what the readers show of it
@@ -116,7 +116,7 @@ module _ (o : Options) (i : ℕ) (rights xs : Rows) (ms : List Choice) (small : 
   c = answer_columns o
 
   abbrev f : Words
-  f = answerFrame o i rights xs ms
+  f = answer_frame o i rights xs ms
 
   made : is_frame c f ≡ true
   made = frame_made c (answer_rows o i rights xs ms) (answer_wide o i rights xs ms) (omega (arith, answer_count o i rights xs ms e))

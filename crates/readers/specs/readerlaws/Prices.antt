@@ -17,9 +17,9 @@ use Rattle.readers.specs.Reader.{shown, cell_in, read_plain, read_distance}
 -- ---- the parts of an answer's row, over right rows numbered from i
 module _ (o : Options) (i : ℕ) (rights : Rows) where
   -- The right number and what that row carries; nulls for none.
-  abbrev pub sharedRow : Choice → List Cell
-  sharedRow (Row k) = value (pos k) ∷ carried_of o (get_or rights (k - i) [])
-  sharedRow Nothing = replicate (shared_columns o) null
+  abbrev pub shared_row : Choice → List Cell
+  shared_row (Row k) = value (pos k) ∷ carried_of o (get_or rights (k - i) [])
+  shared_row Nothing = replicate (shared_columns o) null
 
   -- The distance of the left row x from its match, as it is written; null for none.
   abbrev pub distance_of : List Cell → Choice → Cell
@@ -29,21 +29,21 @@ module _ (o : Options) (i : ℕ) (rights : Rows) where
 -- ---- a frame that a join with options o writes for left rows xs by their choices ms
 module _ (o : Options) (i : ℕ) (rights xs : Rows) (ms : List Choice) where
   -- Its words.
-  abbrev pub answerFrame : Words
-  answerFrame = table_of (answer_columns o) (answer_rows o i rights xs ms)
+  abbrev pub answer_frame : Words
+  answer_frame = table_of (answer_columns o) (answer_rows o i rights xs ms)
 
   -- The right numbers and the carried cells in it.
-  abbrev pub sharedRows : Rows
-  sharedRows = map (sharedRow o i rights) ms
+  abbrev pub shared_rows : Rows
+  shared_rows = map (shared_row o i rights) ms
 
   -- The plain reader shows numbers and carried cells alone, or refuses by 13 where a distance stands behind them; the distance reader shows them in the same columns, the distance in the column behind them, and null there where the join added none.
   pub record NoDistanceAsPrice (row column : ℕ) : Type 0 where
-    pub plain_shows : o.with_distance ≡ false → read_plain o.carried answerFrame row column ≡ shown (cell_in sharedRows row column)
-    pub plain_refuses : o.with_distance ≡ true → read_plain o.carried answerFrame row column ≡ Refused BadColumns
-    pub shared_shown : column < shared_columns o → read_distance o.carried answerFrame row column ≡ shown (cell_in sharedRows row column)
+    pub plain_shows : o.with_distance ≡ false → read_plain o.carried answer_frame row column ≡ shown (cell_in shared_rows row column)
+    pub plain_refuses : o.with_distance ≡ true → read_plain o.carried answer_frame row column ≡ Refused BadColumns
+    pub shared_shown : column < shared_columns o → read_distance o.carried answer_frame row column ≡ shown (cell_in shared_rows row column)
     pub distance_shown : o.with_distance ≡ true → row < length ms
-        → read_distance o.carried answerFrame row (shared_columns o) ≡ shown (distance_of o i rights (get_or xs row []) (get_or ms row Nothing))
-    pub none_shown : o.with_distance ≡ false → read_distance o.carried answerFrame row (shared_columns o) ≡ shown null
+        → read_distance o.carried answer_frame row (shared_columns o) ≡ shown (distance_of o i rights (get_or xs row []) (get_or ms row Nothing))
+    pub none_shown : o.with_distance ≡ false → read_distance o.carried answer_frame row (shared_columns o) ≡ shown null
 
 -- SCOPE 19.22: for all options that carry at most 8 columns, as those of every open join do, and frames of at most 4,096 rows, whatever the choices are.
 abbrev pub NeverAsPrice : Type 0

@@ -68,11 +68,11 @@ module _ (o : Options) (w : ℕ) (A : Rows) (k : ℤ) (sales : List Sale) (out :
   pub unsorted : fine_rows o w A ≡ false → RowsContract o w A k sales out (Refused Unsorted) out
   unsorted e = leaves (Refused Unsorted) (answer_unsorted e)
 
-  abbrev rowsBeyond : Bool
-  rowsBeyond = beyond_rows o A || beyond_number k || beyond_amounts (amounts_of sales)
+  abbrev rows_beyond : Bool
+  rows_beyond = beyond_rows o A || beyond_number k || beyond_amounts (amounts_of sales)
 
-  abbrev sumsBeyond : Bool
-  sumsBeyond = ltb most_sales (sales_in (subtotals_of o A) + length (amounts_of sales)) || ltb most_sales (nat_abs k + nulls_of sales)
+  abbrev sums_beyond : Bool
+  sums_beyond = ltb most_sales (sales_in (subtotals_of o A) + length (amounts_of sales)) || ltb most_sales (nat_abs k + nulls_of sales)
 
   sums : sales_in ts ≡ sales_in (subtotals_of o A) + length (amounts_of sales)
   sums = all_sales_lem o (subtotals_of o A) (amounts_of sales) ∙ ap (λ (z : ℕ). sales_in (subtotals_of o A) + z) (one_each sales)
@@ -80,15 +80,15 @@ module _ (o : Options) (w : ℕ) (A : Rows) (k : ℤ) (sales : List Sale) (out :
   module _ (d : fine_rows o w A ≡ true) where
     answer_beyond : beyond_sales o A k sales ≡ true → rows_answer o w A k sales out ≡ Refused Beyond
     unfolding rows_answer result beyond_sales
-    answer_beyond e = rw (d, sums) (twice rowsBeyond sumsBeyond Beyond _ e)
+    answer_beyond e = rw (d, sums) (twice rows_beyond sums_beyond Beyond _ e)
 
     pub beyond : beyond_sales o A k sales ≡ true → RowsContract o w A k sales out (Refused Beyond) out
     beyond e = leaves (Refused Beyond) (answer_beyond e)
 
     module _ (b : beyond_sales o A k sales ≡ false) where
-      within : (rowsBeyond ≡ false) × (sumsBeyond ≡ false)
+      within : (rows_beyond ≡ false) × (sums_beyond ≡ false)
       unfolding beyond_sales
-      within = or_parts rowsBeyond sumsBeyond b
+      within = or_parts rows_beyond sums_beyond b
 
       answer_short : ltb (length out) (frame_words (length ts) (table_width o)) ≡ true → rows_answer o w A k sales out ≡ Refused NoRoom
       unfolding rows_answer result

@@ -23,7 +23,7 @@ use Rattle.sales.specs.salekind.Kinds.{kind_of}
 use Rattle.sales.specs.declared.salekind.Kind.{Kind}
 use Rattle.sales.specs.declared.salekind.Kind.TheVariants.{Unmatched, Nothing, Amount}
 use Rattle.sales.specs.contracts.salekind.Kind.{the_type}
-use Rattle.sales.proofs.salekind.KindLaws.{salesFrom, left_at, answerAt, from_all, from_none, row_unmatched, row_nothing, row_amount, amount_at, beyond_cons, none_sold}
+use Rattle.sales.proofs.salekind.KindLaws.{sales_from, left_at, answer_at, from_all, from_none, row_unmatched, row_nothing, row_amount, amount_at, beyond_cons, none_sold}
 use Rattle.sales.specs.saleinsert.Held.{Held, sub_at, unit_of}
 use Rattle.sales.proofs.saleinsert.InsertLaws.{sums_at, times_least, body_long}
 use Rattle.sales.specs.salepass.Pass.{Written, EachAddable}
@@ -113,7 +113,7 @@ none_held o b₀ = let z : 0 * suc (suc o.by) ≡ 0 = omega arith in record { ro
 
 module _ (o : Options) (n rows d : ℕ) (table lv lm av am b₀ : Words) where
   abbrev U : ℕ → List Subtotal
-  U i = amounts_of (salesFrom o rows d lv lm av am i)
+  U i = amounts_of (sales_from o rows d lv lm av am i)
 
   -- From the table t₀, the sales of rows up to i added: W is the table that they make.
   pub record Running (t₀ : List Subtotal) (m taken i : ℕ) (body : Words) : Type 0 where
@@ -137,7 +137,7 @@ module _ (o : Options) (n rows d : ℕ) (table lv lm av am b₀ : Words) where
       }
 
   abbrev K : ℕ → Kind
-  K i = kind_of o (left_at o rows d lv lm av am i) (answerAt o rows d lv lm av am i)
+  K i = kind_of o (left_at o rows d lv lm av am i) (answer_at o rows d lv lm av am i)
 
   skipped : (t₀ : List Subtotal) (m taken i : ℕ) (body : Words) → U i ≡ U (i + 1) → Running t₀ m taken i body → Running t₀ m taken (i + 1) body
   skipped t₀ m taken i body e r = record { whole = r.whole; written = r.written; left = rw (← e) r.left; bounded = r.bounded; few = rw (← e) r.few; amounts = rw (← e) r.amounts }
@@ -207,7 +207,7 @@ module _ (o : Options) (n rows d : ℕ) (table lv lm av am b₀ : Words) where
   pub running_ends : (t₀ : List Subtotal) (m taken i : ℕ) (body body' : Words) → rows ≤ i → (r : Running t₀ m taken i body)
       → length (add_all o t₀ (U 0)) * suc (suc o.by) + length (add_all o t₀ (U 0)) * suc (suc o.by) ≤ length body
       → body' ≡ paste body (m * suc (suc o.by)) (drop (taken * suc (suc o.by)) table) ((n - taken) * suc (suc o.by))
-      → Held o (m + (n - taken)) (add_all o t₀ (amounts_of (salesFrom o rows d lv lm av am 0))) b₀ body'
+      → Held o (m + (n - taken)) (add_all o t₀ (amounts_of (sales_from o rows d lv lm av am 0))) b₀ body'
   running_ends t₀ m taken i body body' l r k e =
       let z : add_all o r.whole (U i) ≡ r.whole = ap (λ (z : List Sale). add_all o r.whole (amounts_of z)) (from_none o rows d lv lm av am i l) ∙ ap (add_all o r.whole) none_sold.0 ∙ all_none o r.whole in
       rw (← r.left, z) (all_written_lem o n m taken t₀ r.whole table b₀ body r.written (rest_room t₀ m taken i body r k) body' e)

@@ -96,40 +96,40 @@ module _ (o : Options) (x a : List Cell) where
 
 -- ---- the rows from row i on
 module _ (o : Options) (n d : ℕ) (lv lm av am : Words) where
-  abbrev pub salesFrom : ℕ → List Sale
-  salesFrom i = sales_of o (rest (suc o.by) i n lv lm) (rest d i n av am)
+  abbrev pub sales_from : ℕ → List Sale
+  sales_from i = sales_of o (rest (suc o.by) i n lv lm) (rest d i n av am)
 
   abbrev pub left_at : ℕ → List Cell
   left_at i = row_from (suc o.by) (i * suc o.by) lv lm
 
-  abbrev pub answerAt : ℕ → List Cell
-  answerAt i = row_from d (i * d) av am
+  abbrev pub answer_at : ℕ → List Cell
+  answer_at i = row_from d (i * d) av am
 
-  from_more : (i : ℕ) → i < n → salesFrom i ≡ sales_of o (left_at i ∷ rest (suc o.by) (i + 1) n lv lm) (answerAt i ∷ rest d (i + 1) n av am)
+  from_more : (i : ℕ) → i < n → sales_from i ≡ sales_of o (left_at i ∷ rest (suc o.by) (i + 1) n lv lm) (answer_at i ∷ rest d (i + 1) n av am)
   from_more i l = rw (rest_more (suc o.by) i n lv lm l, rest_more d i n av am l)
 
-  pub from_all : salesFrom 0 ≡ sales_of o (rows_of (suc o.by) n lv lm) (rows_of d n av am)
+  pub from_all : sales_from 0 ≡ sales_of o (rows_of (suc o.by) n lv lm) (rows_of d n av am)
   from_all = let z : n - 0 ≡ n = omega arith in let x : 0 * suc o.by ≡ 0 = omega arith in let y : 0 * d ≡ 0 = omega arith in rw (z, x, y)
 
-  pub from_none : (i : ℕ) → n ≤ i → salesFrom i ≡ []
+  pub from_none : (i : ℕ) → n ≤ i → sales_from i ≡ []
   unfolding sales_of
   from_none i l = rw (rest_none (suc o.by) i n lv lm l)
 
-  pub row_unmatched : (i : ℕ) → i < n → kind_of o (left_at i) (answerAt i) ≡ Unmatched → salesFrom i ≡ salesFrom (i + 1)
-  row_unmatched i l e = from_more i l ∙ unmatched_more o (left_at i) (answerAt i) (rest (suc o.by) (i + 1) n lv lm) (rest d (i + 1) n av am) e
+  pub row_unmatched : (i : ℕ) → i < n → kind_of o (left_at i) (answer_at i) ≡ Unmatched → sales_from i ≡ sales_from (i + 1)
+  row_unmatched i l e = from_more i l ∙ unmatched_more o (left_at i) (answer_at i) (rest (suc o.by) (i + 1) n lv lm) (rest d (i + 1) n av am) e
 
-  pub row_nothing : (i : ℕ) → i < n → kind_of o (left_at i) (answerAt i) ≡ Nothing → (amounts_of (salesFrom i) ≡ amounts_of (salesFrom (i + 1))) × (nulls_of (salesFrom i) ≡ suc (nulls_of (salesFrom (i + 1))))
+  pub row_nothing : (i : ℕ) → i < n → kind_of o (left_at i) (answer_at i) ≡ Nothing → (amounts_of (sales_from i) ≡ amounts_of (sales_from (i + 1))) × (nulls_of (sales_from i) ≡ suc (nulls_of (sales_from (i + 1))))
   row_nothing i l e =
-      let p = nothing_more o (left_at i) (answerAt i) (rest (suc o.by) (i + 1) n lv lm) (rest d (i + 1) n av am) e in
+      let p = nothing_more o (left_at i) (answer_at i) (rest (suc o.by) (i + 1) n lv lm) (rest d (i + 1) n av am) e in
       (ap amounts_of (from_more i l) ∙ p.0, ap nulls_of (from_more i l) ∙ p.1)
 
-  pub row_amount : (i : ℕ) → i < n → kind_of o (left_at i) (answerAt i) ≡ Amount → (amounts_of (salesFrom i) ≡ unit o (left_at i) (answerAt i) ∷ amounts_of (salesFrom (i + 1))) × (nulls_of (salesFrom i) ≡ nulls_of (salesFrom (i + 1)))
+  pub row_amount : (i : ℕ) → i < n → kind_of o (left_at i) (answer_at i) ≡ Amount → (amounts_of (sales_from i) ≡ unit o (left_at i) (answer_at i) ∷ amounts_of (sales_from (i + 1))) × (nulls_of (sales_from i) ≡ nulls_of (sales_from (i + 1)))
   row_amount i l e =
-      let p = amount_more o (left_at i) (answerAt i) (rest (suc o.by) (i + 1) n lv lm) (rest d (i + 1) n av am) e in
+      let p = amount_more o (left_at i) (answer_at i) (rest (suc o.by) (i + 1) n lv lm) (rest d (i + 1) n av am) e in
       (ap amounts_of (from_more i l) ∙ p.0, ap nulls_of (from_more i l) ∙ p.1)
 
   -- The amount of row i is its second answer value.
-  pub amount_at : (i : ℕ) → i < n → 2 ≤ d → n * d ≤ length av → length av ≤ length am → pairs_fine av am ≡ true → value_word (cell 1 (answerAt i)) ≡ get_or av (i * d + 1) (pos 0)
+  pub amount_at : (i : ℕ) → i < n → 2 ≤ d → n * d ≤ length av → length av ≤ length am → pairs_fine av am ≡ true → value_word (cell 1 (answer_at i)) ≡ get_or av (i * d + 1) (pos 0)
   amount_at i l w h k f =
       let r = row_room i n d l in
       ap value_word (row_cell d (i * d) 1 av am (omega arith) (omega arith)) ∙ (fine_at av am (i * d + 1) (omega arith) k f).0
@@ -148,7 +148,7 @@ none_sold = (refl, refl, refl)
 -- ---- how far a count has come
 module _ (o : Options) (n d : ℕ) (lv lm av am : Words) where
   abbrev S : ℕ → List Sale
-  S i = salesFrom o n d lv lm av am i
+  S i = sales_from o n d lv lm av am i
 
   pub record Going (i s k : ℕ) : Type 0 where
     pub sales : length (amounts_of (S 0)) ≡ s + length (amounts_of (S i))
@@ -159,7 +159,7 @@ module _ (o : Options) (n d : ℕ) (lv lm av am : Words) where
   going_starts = record { sales = omega arith; nulls = omega arith; beyond = refl }
 
   abbrev K : ℕ → Kind
-  K i = kind_of o (left_at o n d lv lm av am i) (answerAt o n d lv lm av am i)
+  K i = kind_of o (left_at o n d lv lm av am i) (answer_at o n d lv lm av am i)
 
   pub going_unmatched : (i s k : ℕ) → i < n → K i ≡ Unmatched → Going i s k → Going (i + 1) s k
   going_unmatched i s k l e g = let r = row_unmatched o n d lv lm av am i l e in record {
@@ -179,7 +179,7 @@ module _ (o : Options) (n d : ℕ) (lv lm av am : Words) where
     split : beyond_amounts (amounts_of (S 0)) ≡ (ltb most_amount (nat_abs (get_or av (i * d + 1) (pos 0))) || beyond_amounts (amounts_of (S (i + 1))))
     split =
         let r = row_amount o n d lv lm av am i l e in
-        g.beyond ∙ ap beyond_amounts r.0 ∙ beyond_cons (unit o (left_at o n d lv lm av am i) (answerAt o n d lv lm av am i)) (amounts_of (S (i + 1)))
+        g.beyond ∙ ap beyond_amounts r.0 ∙ beyond_cons (unit o (left_at o n d lv lm av am i) (answer_at o n d lv lm av am i)) (amounts_of (S (i + 1)))
         ∙ ap (λ (z : ℤ). ltb most_amount (nat_abs z) || beyond_amounts (amounts_of (S (i + 1)))) (amount_at o n d lv lm av am i l w h m f)
 
     pub going_amount : nat_abs (get_or av (i * d + 1) (pos 0) -ℤ pos 0) ≤ most_amount → Going (i + 1) (s + 1) k

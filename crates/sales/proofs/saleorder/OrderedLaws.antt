@@ -13,12 +13,12 @@ use Rattle.order.proofs.OrderLaws.{cmp_group_is}
 use Rattle.takings.specs.Subtotals.{Subtotal, insert, add_all}
 use Rattle.takings.proofs.SubtotalLaws.{Rising, rising, rising_insert}
 use Rattle.sales.specs.salekind.Kinds.{kind_of}
-use Rattle.sales.proofs.salekind.KindLaws.{left_at, answerAt, unit}
+use Rattle.sales.proofs.salekind.KindLaws.{left_at, answer_at, unit}
 use Rattle.sales.specs.salegroup.Group.{plain}
 use Rattle.sales.specs.saleplace.Place.{cmp_at, Placed}
 use Rattle.sales.proofs.saleplace.PlaceLaws.{placed_within}
 use Rattle.sales.specs.salecount.Counts.{is_there, TableIs, is_amount}
-use Rattle.sales.proofs.salecount.CountLaws.{left_taken, there_taken, there_equal, there_insert, length_insert, table_tells, more_added, soldFrom, kind_at, none_more, one_more, none_left}
+use Rattle.sales.proofs.salecount.CountLaws.{left_taken, there_taken, there_equal, there_insert, length_insert, table_tells, more_added, sold_from, kind_at, none_more, one_more, none_left}
 use Rattle.sales.specs.saleorder.Ordered.{group_side, side_of}
 
 module _ (o : Options) where
@@ -87,13 +87,13 @@ module _ (o : Options) where
 -- ---- row by row
 module _ (o : Options) (n rows d : ℕ) (table lv lm av am : Words) (ts : List Subtotal) (t : TableIs o n ts table) where
   abbrev U : ℕ → List Subtotal
-  U i = soldFrom o rows d lv lm av am i
+  U i = sold_from o rows d lv lm av am i
 
   abbrev L : ℕ → List Cell
   L i = left_at o rows d lv lm av am i
 
   abbrev A : ℕ → List Cell
-  A i = answerAt o rows d lv lm av am i
+  A i = answer_at o rows d lv lm av am i
 
   pub record CountedTo (any : Bool) (l : List Cell) (m i : ℕ) : Type 0 where
     pub whole : List Subtotal

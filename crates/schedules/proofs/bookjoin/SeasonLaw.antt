@@ -6,7 +6,7 @@ use Rattle.frames.specs.Cells.{Rows, Words}
 use Rattle.order.specs.Order.{sorted}
 use Rattle.order.specs.declared.options.Options.{Options}
 use Rattle.lists.specs.Lists.{Call}
-use Rattle.lists.specs.WholeTables.{lefts, rights, turnedRows, matches, due_over, Correct, Each}
+use Rattle.lists.specs.WholeTables.{lefts, rights, turned_rows, matches, due_over, Correct, Each}
 use Rattle.lists.proofs.WholeTableTheorem.{whole_table_theorem}
 use Rattle.books.specs.Merge.{merge}
 use Rattle.books.proofs.MergeLaws.{merge_laws}
@@ -17,6 +17,6 @@ season o fine l r calls house festival h f e s =
     let t = subst (λ (rows : Rows). sorted o rows ≡ true) (sym e) ((merge_laws o house festival).in_order h f) in
     let d = whole_table_theorem o fine l r calls in
     record {
-      whole_table = subst (λ (rows : Rows). matches o l r calls ≡ map (due_over o rows) (turnedRows o l r calls)) e (d.whole_table (s, t));
-      none_exactly = subst (λ (rows : Rows). Each (Correct o rows) (turnedRows o l r calls) (matches o l r calls)) e (d.none_exactly (s, t));
+      whole_table = subst (λ (rows : Rows). matches o l r calls ≡ map (due_over o rows) (turned_rows o l r calls)) e (d.whole_table (s, t));
+      none_exactly = subst (λ (rows : Rows). Each (Correct o rows) (turned_rows o l r calls) (matches o l r calls)) e (d.none_exactly (s, t));
     }

@@ -62,10 +62,10 @@ module _ (o : Options) where
   later_row x n R Nothing = later_none n o.with_distance
 
   -- What is due for x over the right rows R, which stand behind the rows A of a table and before the rows B.
-  abbrev pub dueWithin : Rows → Rows → Rows → List Cell → Entry
-  dueWithin A R B x = as_written (answer_row o 0 ((A ++ R) ++ B) x (later (length A) (whole_table o R x)))
+  abbrev pub due_within : Rows → Rows → Rows → List Cell → Entry
+  due_within A R B x = as_written (answer_row o 0 ((A ++ R) ++ B) x (later (length A) (whole_table o R x)))
 
-  pub later_due : (A R B : Rows) (x : List Cell) → later_entry (length A) (due_over o R x) ≡ dueWithin A R B x
+  pub later_due : (A R B : Rows) (x : List Cell) → later_entry (length A) (due_over o R x) ≡ due_within A R B x
   later_due A R B x =
       let n = length A in
       let m = later n (whole_table o R x) in
@@ -73,13 +73,13 @@ module _ (o : Options) where
       let f : From n (n + length R) m = rw (match_later o x n R) at (table_from o x n R) in
       later_row x n R (whole_table o R x) ∙ ap as_written (rw d at (row_from_lem o n (A ++ R) B x m (rw d f)))
 
-  later_dues : (A R B L : Rows) → map (later_entry (length A)) (map (due_over o R) L) ≡ map (dueWithin A R B) L
-  later_dues A R B L = map-map (later_entry (length A)) (due_over o R) L ∙ map_same (λ x. later_entry (length A) (due_over o R x)) (dueWithin A R B) (later_due A R B) L
+  later_dues : (A R B L : Rows) → map (later_entry (length A)) (map (due_over o R) L) ≡ map (due_within A R B) L
+  later_dues A R B L = map-map (later_entry (length A)) (due_over o R) L ∙ map_same (λ x. later_entry (length A) (due_over o R x)) (due_within A R B) (later_due A R B) L
 
   -- The dues of pairs appended, where n right rows stand before the first.
-  unfoldable pub allDue : ℕ → List Pair → List Entry
-  allDue n [] = []
-  allDue n (p ∷ ps) = map (later_entry n) (map (due_over o p.right) p.left) ++ allDue (n + length p.right) ps
+  unfoldable pub all_due : ℕ → List Pair → List Entry
+  all_due n [] = []
+  all_due n (p ∷ ps) = map (later_entry n) (map (due_over o p.right) p.left) ++ all_due (n + length p.right) ps
 
   -- One cut of a pair that stands behind the right rows A.
   module _ (g : List Cell) (A : Rows) (p : Pair) (s : BothSorted o p) where
@@ -109,32 +109,32 @@ module _ (o : Options) where
     count = length-append A R₁ ∙ ap (λ (k : ℕ). length A + k) (length-take-le b p.right (cut_within o g p.right))
 
     -- For a left row before the cut, and for one behind it.
-    due_before : map (dueWithin A R₁ R₂) (take a p.left) ≡ map (dueWithin A p.right []) (take a p.left)
+    due_before : map (due_within A R₁ R₂) (take a p.left) ≡ map (due_within A p.right []) (take a p.left)
     due_before =
-        map_agree (dueWithin A R₁ R₂) (dueWithin A p.right []) (take a p.left) (all_to (λ x. cmp_group o x g ≡ Less) (λ x. dueWithin A R₁ R₂ x ≡ dueWithin A p.right [] x) (λ x l. rw (whole_before, match_before o g p.right s.1 x l) refl) (take a p.left) (cut_before o g p.left))
+        map_agree (due_within A R₁ R₂) (due_within A p.right []) (take a p.left) (all_to (λ x. cmp_group o x g ≡ Less) (λ x. due_within A R₁ R₂ x ≡ due_within A p.right [] x) (λ x l. rw (whole_before, match_before o g p.right s.1 x l) refl) (take a p.left) (cut_before o g p.left))
 
-    due_behind : map (dueWithin (A ++ R₁) R₂ []) (drop a p.left) ≡ map (dueWithin A p.right []) (drop a p.left)
+    due_behind : map (due_within (A ++ R₁) R₂ []) (drop a p.left) ≡ map (due_within A p.right []) (drop a p.left)
     due_behind =
-        map_agree (dueWithin (A ++ R₁) R₂ []) (dueWithin A p.right []) (drop a p.left)
-        (all_to (λ x. AtMost (cmp_group o) g x) (λ x. dueWithin (A ++ R₁) R₂ [] x ≡ dueWithin A p.right [] x) (λ x h. rw (whole_behind, count, later_twice (length A) b (whole_table o R₂ x), match_behind o g p.right s.1 x h) refl) (drop a p.left) (cut_behind o g p.left (ordered o p.left s.0)))
+        map_agree (due_within (A ++ R₁) R₂ []) (due_within A p.right []) (drop a p.left)
+        (all_to (λ x. AtMost (cmp_group o) g x) (λ x. due_within (A ++ R₁) R₂ [] x ≡ due_within A p.right [] x) (λ x h. rw (whole_behind, count, later_twice (length A) b (whole_table o R₂ x), match_behind o g p.right s.1 x h) refl) (drop a p.left) (cut_behind o g p.left (ordered o p.left s.0)))
 
-    pub due_cut : map (dueWithin A R₁ R₂) (take a p.left) ++ map (dueWithin (A ++ R₁) R₂ []) (drop a p.left) ≡ map (dueWithin A p.right []) p.left
+    pub due_cut : map (due_within A R₁ R₂) (take a p.left) ++ map (due_within (A ++ R₁) R₂ []) (drop a p.left) ≡ map (due_within A p.right []) p.left
     due_cut =
         rw (due_before, due_behind)
-        (sym (map-append (dueWithin A p.right []) (take a p.left) (drop a p.left)) ∙ ap (map (dueWithin A p.right [])) (take-append-drop a p.left))
+        (sym (map-append (due_within A p.right []) (take a p.left) (drop a p.left)) ∙ ap (map (due_within A p.right [])) (take-append-drop a p.left))
 
     pub behind_sorted : BothSorted o (behind o g p)
     behind_sorted = (sorted_drop o a p.left s.0, sorted_drop o b p.right s.1)
 
   -- All cuts.
-  cuts_due : (gs : Rows) (A : Rows) (p : Pair) → BothSorted o p → allDue (length A) (cut_by o gs p) ≡ map (dueWithin A p.right []) p.left
-  unfolding allDue cut_by
+  cuts_due : (gs : Rows) (A : Rows) (p : Pair) → BothSorted o p → all_due (length A) (cut_by o gs p) ≡ map (due_within A p.right []) p.left
+  unfolding all_due cut_by
   cuts_due [] A p s = append-nil (map (later_entry (length A)) (map (due_over o p.right) p.left)) ∙ later_dues A p.right [] p.left
   cuts_due (g ∷ gs) A p s =
       rw (later_dues A (R₁ g A p s) (R₂ g A p s) (take (a g A p s) p.left), ← length-append A (R₁ g A p s), cuts_due gs (A ++ R₁ g A p s) (behind o g p) (behind_sorted g A p s)) (due_cut g A p s)
 
   -- So over the uncut tables.
-  pub uncut_due : (gs : Rows) (p : Pair) → BothSorted o p → allDue 0 (cut_by o gs p) ≡ map (due_over o p.right) p.left
+  pub uncut_due : (gs : Rows) (p : Pair) → BothSorted o p → all_due 0 (cut_by o gs p) ≡ map (due_over o p.right) p.left
   uncut_due gs p s =
       cuts_due gs [] p s
-      ∙ map_same (dueWithin [] p.right []) (due_over o p.right) (λ x. rw (append-nil p.right, later_zero (whole_table o p.right x)) refl) p.left
+      ∙ map_same (due_within [] p.right []) (due_over o p.right) (λ x. rw (append-nil p.right, later_zero (whole_table o p.right x)) refl) p.left

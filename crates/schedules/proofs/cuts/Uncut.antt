@@ -11,7 +11,7 @@ use Rattle.order.specs.declared.options.Options.{Options}
 use Rattle.order.proofs.SortedLaws.{ordered, sorted_drop}
 use Rattle.matching.specs.Match.{whole_table}
 use Rattle.matching.specs.declared.Choice.{Choice}
-use Rattle.lists.specs.WholeTables.{due_over, Each, ends, pairs, lefts, rights, turnedRows}
+use Rattle.lists.specs.WholeTables.{due_over, Each, ends, pairs, lefts, rights, turned_rows}
 use Rattle.lists.specs.Lists.{rows_in}
 use Rattle.lists.proofs.WholeTableTheorem.{whole_table_theorem}
 use Rattle.lists.proofs.isolation.Isolated.{all_turned}
@@ -21,7 +21,7 @@ use Rattle.schedules.specs.cuts.Appended.{later, appended}
 use Rattle.schedules.specs.cuts.Apart.{BothSorted, UncutTables, Job, Joins, written, all_written, UncutCalls}
 use Rattle.schedules.specs.cuts.Scheduled.{Load, Fits, scheduled, all_scheduled, UncutScheduled}
 use Rattle.schedules.proofs.plan.Ends.{writes_all}
-use Rattle.schedules.proofs.cuts.DueLaws.{map_agree, all_to, later_twice, later_zero, allDue, uncut_due}
+use Rattle.schedules.proofs.cuts.DueLaws.{map_agree, all_to, later_twice, later_zero, all_due, uncut_due}
 use Rattle.cutting.proofs.boundaries.PlaceLaws.{cut_within}
 use Rattle.schedules.proofs.cuts.CutLaws.{cut_before, cut_behind, match_before, match_behind}
 
@@ -77,11 +77,11 @@ module _ (o : Options) (allowed : refused_options o ≡ false) where
   job_writes : (p : Pair) (j : Job) → Joins o p j → written o j ≡ map (due_over o p.right) p.left
   job_writes p j w =
       (whole_table_theorem o allowed j.left j.right j.calls).whole_table w.finished.declared
-      ∙ ap (λ (z : Rows). map (due_over o z) (turnedRows o j.left j.right j.calls)) w.right
+      ∙ ap (λ (z : Rows). map (due_over o z) (turned_rows o j.left j.right j.calls)) w.right
       ∙ ap (map (due_over o p.right)) (all_turned o j.left j.right j.calls w.finished ∙ w.left)
 
-  jobs_write : (n : ℕ) {ps : List Pair} {js : List Job} → Each (Joins o) ps js → all_written o n ps js ≡ allDue o n ps
-  unfolding all_written allDue
+  jobs_write : (n : ℕ) {ps : List Pair} {js : List Job} → Each (Joins o) ps js → all_written o n ps js ≡ all_due o n ps
+  unfolding all_written all_due
   jobs_write n ends = refl
   jobs_write n (pairs {a} {b} {xs} {ys} w ws) = rw (job_writes a b w, jobs_write (n + length a.right) ws) refl
 
@@ -98,8 +98,8 @@ module _ (o : Options) where
       writes_all o j.left j.right j.lefts j.rights j.outs h.planned h.room
       ∙ ap (λ (z : Rows). map (due_over o z) (rows_in (columns o) j.lefts)) h.right ∙ ap (map (due_over o p.right)) h.left
 
-  loads_write : (n : ℕ) {ps : List Pair} {js : List Load} → Each (Fits o) ps js → all_scheduled o n ps js ≡ allDue o n ps
-  unfolding all_scheduled allDue
+  loads_write : (n : ℕ) {ps : List Pair} {js : List Load} → Each (Fits o) ps js → all_scheduled o n ps js ≡ all_due o n ps
+  unfolding all_scheduled all_due
   loads_write n ends = refl
   loads_write n (pairs {a} {b} {xs} {ys} h hs) = rw (load_writes a b h, loads_write (n + length a.right) hs) refl
 

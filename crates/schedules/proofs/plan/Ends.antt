@@ -27,7 +27,7 @@ use Rattle.planning.proofs.PlanLaws.{plan_takes, plan_turns, plan_last, plan_lea
 use Rattle.schedules.specs.plan.Plan.{Planned}
 use Rattle.schedules.specs.plan.Written.{Writes}
 use Rattle.schedules.proofs.plan.EventLaws.{snoc_right}
-use Rattle.schedules.proofs.plan.Follow.{At, heldNow, held_count, turn_answers, wants_world, wants_left, wants_rights, wants_at, wants_held, wrote_left, wrote_rights, wrote_at, wrote_held, right_answers, took_left, took_rights, took_at, took_held, end_event, end_left, end_rights, end_at, end_held}
+use Rattle.schedules.proofs.plan.Follow.{At, held_now, held_count, turn_answers, wants_world, wants_left, wants_rights, wants_at, wants_held, wrote_left, wrote_rights, wrote_at, wrote_held, right_answers, took_left, took_rights, took_at, took_held, end_event, end_left, end_rights, end_at, end_held}
 use Rattle.schedules.proofs.plan.Rounds.{each_length, is_nil, cap, F, G, rounds_wrote, rounds_wants}
 use Rattle.schedules.proofs.plan.Planned.{at_first, es₀, w₀, q₀, none_yet}
 
@@ -58,11 +58,11 @@ module _ (o : Options) (l r : Words) (allowed : refused_options o ≡ false) whe
   abbrev pub Hope : ℕ → Type 0
   Hope fuel =
       (es : List Event) (w : World) (e : Bool) (fs ls outs : List Words) → At o l r allowed es w e fs ls outs → e ≡ is_nil fs → length ls + length fs ≤ fuel
-      → (plan_from fuel o (heldNow o l r allowed es w) (map (G o l r allowed) fs) (map (F o l r allowed) ls)).rows ≤ cap o l r allowed → Ended es w fs (rounds fuel w fs outs)
+      → (plan_from fuel o (held_now o l r allowed es w) (map (G o l r allowed) fs) (map (F o l r allowed) ls)).rows ≤ cap o l r allowed → Ended es w fs (rounds fuel w fs outs)
 
   writes : (fuel : ℕ) → Hope fuel → (es : List Event) (w : World) (e : Bool) (fs : List Words) (f : Words) (ls : List Words) (out : Words) (outs : List Words) (a : At o l r allowed es w e fs (f ∷ ls) (out ∷ outs))
       → e ≡ is_nil fs → suc (length ls) + length fs ≤ suc fuel → turn_answer w.join w.left w.right out ≡ Wrote w.join.sequence
-      → (plan_from fuel o (kept_after o (frame_rows (columns o) f) (heldNow o l r allowed es w)) (map (G o l r allowed) fs) (map (F o l r allowed) ls)).rows ≤ cap o l r allowed
+      → (plan_from fuel o (kept_after o (frame_rows (columns o) f) (held_now o l r allowed es w)) (map (G o l r allowed) fs) (map (F o l r allowed) ls)).rows ≤ cap o l r allowed
       → Ended es w fs (rounds (suc fuel) w fs (out ∷ outs))
   writes fuel ih es w e fs f ls out outs a n b q k =
       rw (rounds_wrote fuel w fs out outs w.join.sequence q)
@@ -72,7 +72,7 @@ module _ (o : Options) (l r : Words) (allowed : refused_options o ≡ false) whe
   -- A turn that wants right, and the frame that it gets.
   module _ (fuel : ℕ) (es : List Event) (w : World) (g : Words) (gs : List Words) (f : Words) (ls : List Words) (out : Words) (outs : List Words) (a : At o l r allowed es w false (g ∷ gs) (f ∷ ls) (out ∷ outs))
       (q : turn_answer w.join w.left w.right out ≡ WantsRight)
-      (k : (plan_from fuel o (heldNow o l r allowed es w ++ frame_rows (right_columns o) g) (map (G o l r allowed) gs) (frame_rows (columns o) f ∷ map (F o l r allowed) ls)).rows ≤ cap o l r allowed) where
+      (k : (plan_from fuel o (held_now o l r allowed es w ++ frame_rows (right_columns o) g) (map (G o l r allowed) gs) (frame_rows (columns o) f ∷ map (F o l r allowed) ls)).rows ≤ cap o l r allowed) where
     abbrev es₁ : List Event
     es₁ = es ++ ((step w (turn out)).event ∷ [])
 
@@ -90,7 +90,7 @@ module _ (o : Options) (l r : Words) (allowed : refused_options o ≡ false) whe
 
     fits : u₁.join.held + row_count g ≤ cap o l r allowed
     fits =
-        let hs = heldNow o l r allowed es w in
+        let hs = held_now o l r allowed es w in
         let h₁ : u₁.join.held ≡ w.join.held = ap (λ (z : World). z.join.held) (wants_world o l r allowed es w false (g ∷ gs) f ls out outs a q) in
         omega (arith, k, plan_least fuel o (hs ++ frame_rows (right_columns o) g) (map (G o l r allowed) gs) (frame_rows (columns o) f ∷ map (F o l r allowed) ls), length-append hs (frame_rows (right_columns o) g), held_count o l r allowed es w false (g ∷ gs) (f ∷ ls) (out ∷ outs) a, frame_rows_lem (right_columns o) g a.frames.0, h₁)
 
@@ -100,7 +100,7 @@ module _ (o : Options) (l r : Words) (allowed : refused_options o ≡ false) whe
     a₂ : At o l r allowed es₂ u₂ false gs (f ∷ ls) (out ∷ outs)
     a₂ = took_at o l r allowed es₁ u₁ g gs (f ∷ ls) (out ∷ outs) a₁ taken
 
-    held₂ : heldNow o l r allowed es₂ u₂ ≡ heldNow o l r allowed es w ++ frame_rows (right_columns o) g
+    held₂ : held_now o l r allowed es₂ u₂ ≡ held_now o l r allowed es w ++ frame_rows (right_columns o) g
     held₂ = took_held o l r allowed es₁ u₁ g gs (f ∷ ls) (out ∷ outs) a₁ taken ∙ ap (λ (z : Rows). z ++ frame_rows (right_columns o) g) (wants_held o l r allowed es w false (g ∷ gs) f ls out outs a q)
 
     both : (cs : List Call) → Ended es₂ u₂ gs cs → Ended es w (g ∷ gs) (turn out ∷ right g ∷ cs)
@@ -111,7 +111,7 @@ module _ (o : Options) (l r : Words) (allowed : refused_options o ≡ false) whe
 
   takes : (fuel : ℕ) → Hope fuel → (es : List Event) (w : World) (g : Words) (gs : List Words) (f : Words) (ls : List Words) (out : Words) (outs : List Words) (a : At o l r allowed es w false (g ∷ gs) (f ∷ ls) (out ∷ outs))
       → suc (length ls) + suc (length gs) ≤ suc fuel → (q : turn_answer w.join w.left w.right out ≡ WantsRight)
-      → (plan_from fuel o (heldNow o l r allowed es w ++ frame_rows (right_columns o) g) (map (G o l r allowed) gs) (frame_rows (columns o) f ∷ map (F o l r allowed) ls)).rows ≤ cap o l r allowed
+      → (plan_from fuel o (held_now o l r allowed es w ++ frame_rows (right_columns o) g) (map (G o l r allowed) gs) (frame_rows (columns o) f ∷ map (F o l r allowed) ls)).rows ≤ cap o l r allowed
       → Ended es w (g ∷ gs) ((turn out ∷ right g ∷ end_if gs) ++ rounds fuel (final w (turn out ∷ right g ∷ end_if gs)) gs (out ∷ outs))
   unfolding final
   takes fuel ih es w g [] f ls out outs a b q k =
@@ -131,26 +131,26 @@ module _ (o : Options) (l r : Words) (allowed : refused_options o ≡ false) whe
 
   one_more : (fuel : ℕ) → Hope fuel → (es : List Event) (w : World) (g : Words) (gs : List Words) (f : Words) (ls : List Words) (out : Words) (outs : List Words) → At o l r allowed es w false (g ∷ gs) (f ∷ ls) (out ∷ outs)
       → suc (length ls) + suc (length gs) ≤ suc fuel
-      → (plan_from (suc fuel) o (heldNow o l r allowed es w) (frame_rows (right_columns o) g ∷ map (G o l r allowed) gs) (frame_rows (columns o) f ∷ map (F o l r allowed) ls)).rows ≤ cap o l r allowed
+      → (plan_from (suc fuel) o (held_now o l r allowed es w) (frame_rows (right_columns o) g ∷ map (G o l r allowed) gs) (frame_rows (columns o) f ∷ map (F o l r allowed) ls)).rows ≤ cap o l r allowed
       → Ended es w (g ∷ gs) (rounds (suc fuel) w (g ∷ gs) (out ∷ outs))
-  one_more fuel ih es w g gs f ls out outs a b k = by (need_more o (frame_rows (columns o) f) (heldNow o l r allowed es w)) refl
+  one_more fuel ih es w g gs f ls out outs a b k = by (need_more o (frame_rows (columns o) f) (held_now o l r allowed es w)) refl
     where
-      by : (t : Bool) → need_more o (frame_rows (columns o) f) (heldNow o l r allowed es w) ≡ t → Ended es w (g ∷ gs) (rounds (suc fuel) w (g ∷ gs) (out ∷ outs))
+      by : (t : Bool) → need_more o (frame_rows (columns o) f) (held_now o l r allowed es w) ≡ t → Ended es w (g ∷ gs) (rounds (suc fuel) w (g ∷ gs) (out ∷ outs))
       by true t =
           let q : turn_answer w.join w.left w.right out ≡ WantsRight = turn_answers o l r allowed es w false (g ∷ gs) f ls out outs a ∙ rw t refl in
-          let p = ap (λ (z : Figures). z.rows) (plan_takes fuel o (heldNow o l r allowed es w) (frame_rows (right_columns o) g) (map (G o l r allowed) gs) (frame_rows (columns o) f) (map (F o l r allowed) ls) t) in
+          let p = ap (λ (z : Figures). z.rows) (plan_takes fuel o (held_now o l r allowed es w) (frame_rows (right_columns o) g) (map (G o l r allowed) gs) (frame_rows (columns o) f) (map (F o l r allowed) ls) t) in
           rw (rounds_wants fuel w g gs out outs q) (takes fuel ih es w g gs f ls out outs a b q (omega (arith, p, k)))
       by false t =
           let q : turn_answer w.join w.left w.right out ≡ Wrote w.join.sequence = turn_answers o l r allowed es w false (g ∷ gs) f ls out outs a ∙ rw t refl in
-          let p = ap (λ (z : Figures). z.rows) (plan_turns fuel o (heldNow o l r allowed es w) (frame_rows (right_columns o) g) (map (G o l r allowed) gs) (frame_rows (columns o) f) (map (F o l r allowed) ls) t) in
+          let p = ap (λ (z : Figures). z.rows) (plan_turns fuel o (held_now o l r allowed es w) (frame_rows (right_columns o) g) (map (G o l r allowed) gs) (frame_rows (columns o) f) (map (F o l r allowed) ls) t) in
           writes fuel ih es w false (g ∷ gs) f ls out outs a refl b q (omega (arith, p, k))
 
   none_more : (fuel : ℕ) → Hope fuel → (es : List Event) (w : World) (f : Words) (ls : List Words) (out : Words) (outs : List Words) → At o l r allowed es w true [] (f ∷ ls) (out ∷ outs)
-      → suc (length ls) + 0 ≤ suc fuel → (plan_from (suc fuel) o (heldNow o l r allowed es w) [] (frame_rows (columns o) f ∷ map (F o l r allowed) ls)).rows ≤ cap o l r allowed
+      → suc (length ls) + 0 ≤ suc fuel → (plan_from (suc fuel) o (held_now o l r allowed es w) [] (frame_rows (columns o) f ∷ map (F o l r allowed) ls)).rows ≤ cap o l r allowed
       → Ended es w [] (rounds (suc fuel) w [] (out ∷ outs))
   none_more fuel ih es w f ls out outs a b k =
       let q : turn_answer w.join w.left w.right out ≡ Wrote w.join.sequence = turn_answers o l r allowed es w true [] f ls out outs a in
-      let p = ap (λ (z : Figures). z.rows) (plan_last fuel o (heldNow o l r allowed es w) (frame_rows (columns o) f) (map (F o l r allowed) ls)) in
+      let p = ap (λ (z : Figures). z.rows) (plan_last fuel o (held_now o l r allowed es w) (frame_rows (columns o) f) (map (F o l r allowed) ls)) in
       writes fuel ih es w true [] f ls out outs a refl b q (omega (arith, p, k))
 
   nothing : (fuel : ℕ) (es : List Event) (w : World) (e : Bool) (fs : List Words) → At o l r allowed es w e fs [] [] → e ≡ is_nil fs → Ended es w fs (rounds fuel w fs [])

@@ -73,8 +73,8 @@ module _ (o : Options) (l r : Words) (allowed : refused_options o ≡ false) whe
     pub short : length (left_frames es) < 2 ^ 63
 
   -- The rows held.
-  abbrev pub heldNow : List Event → World → Rows
-  heldNow es w = drop w.join.pruned (rows_in (right_columns o) (right_frames es))
+  abbrev pub held_now : List Event → World → Rows
+  held_now es w = drop w.join.pruned (rows_in (right_columns o) (right_frames es))
 
   module _ (es : List Event) (w : World) (e : Bool) (fs ls outs : List Words) (a : At es w e fs ls outs) where
     abbrev j : Join
@@ -89,7 +89,7 @@ module _ (o : Options) (l r : Words) (allowed : refused_options o ≡ false) whe
     pub not_done : is_done j.state ≡ false
     not_done = a.inv.flags.done ∙ a.undone
 
-    pub held_count : length (heldNow es w) ≡ j.held
+    pub held_count : length (held_now es w) ≡ j.held
     held_count = length-drop j.pruned (rows_in (right_columns o) (right_frames es)) ∙ omega (arith, a.inv.stock.rows)
 
     -- What a call leaves, where it moves no left frame.
@@ -115,7 +115,7 @@ module _ (o : Options) (l r : Words) (allowed : refused_options o ≡ false) whe
 
   -- ---- a turn
   module _ (es : List Event) (w : World) (e : Bool) (fs : List Words) (f : Words) (ls : List Words) (out : Words) (outs : List Words) (a : At es w e fs (f ∷ ls) (out ∷ outs)) where
-    pub turn_answers : turn_answer w.join w.left w.right out ≡ cond (not e && need_more o (frame_rows (columns o) f) (heldNow es w)) WantsRight (Wrote w.join.sequence)
+    pub turn_answers : turn_answer w.join w.left w.right out ≡ cond (not e && need_more o (frame_rows (columns o) f) (held_now es w)) WantsRight (Wrote w.join.sequence)
     unfolding rows held
     turn_answers =
         let i = a.inv in
@@ -159,7 +159,7 @@ module _ (o : Options) (l r : Words) (allowed : refused_options o ≡ false) whe
           moved_on es w e fs (f ∷ ls) (out ∷ outs) a (turn out) e fs (f ∷ ls) (out ∷ outs) wants_left (ap (λ (z : List Words). z ++ fs) wants_rights) (rw (eo, wants_left) a.waits) a.room
           (rw wants_event (snoc_ended es ev ∙ or-false (is_right_ended es) ∙ a.ended)) (rw wants_event (snoc_done es ev ∙ or-false (node_done es) ∙ a.undone)) a.frames a.codes
 
-      pub wants_held : heldNow (es ++ ((step w (turn out)).event ∷ [])) (step w (turn out)).world ≡ heldNow es w
+      pub wants_held : held_now (es ++ ((step w (turn out)).event ∷ [])) (step w (turn out)).world ≡ held_now es w
       wants_held = rw (wants_world, wants_rights) refl
 
     -- It writes: the frame leaves, and what is pruned is dropped.
@@ -177,7 +177,7 @@ module _ (o : Options) (l r : Words) (allowed : refused_options o ≡ false) whe
       pub wrote_rights : right_frames (es ++ ((step w (turn out)).event ∷ [])) ≡ right_frames es
       wrote_rights = rw wrote_event (snoc_right es (on_turn (Wrote w.join.sequence) (turned w.join w.left w.right out).out) ∙ append-nil (right_frames es))
 
-      wrote_pruned : (step w (turn out)).world.join.pruned ≡ w.join.pruned + (first_prune o x (heldNow es w) + last_prune o x (heldNow es w))
+      wrote_pruned : (step w (turn out)).world.join.pruned ≡ w.join.pruned + (first_prune o x (held_now es w) + last_prune o x (held_now es w))
       unfolding rows held left_by dequeued dropped
       wrote_pruned = ap (λ s. s.world.join.pruned) wrote_step ∙ ap (λ s. s.join.pruned) (turned_is o l r allowed es w a.inv f ls a.waits out)
 
@@ -192,9 +192,9 @@ module _ (o : Options) (l r : Words) (allowed : refused_options o ≡ false) whe
           moved_on es w e fs (f ∷ ls) (out ∷ outs) a (turn out) e fs ls outs wrote_left (ap (λ (z : List Words). z ++ fs) wrote_rights) (rw (eo, wrote_left) (drop_next (length (outputs es)) (left_frames es) f ls a.waits)) (tail_room o a.room)
           (rw wrote_event (snoc_ended es ev ∙ or-false (is_right_ended es) ∙ a.ended)) (rw wrote_event (snoc_done es ev ∙ or-false (node_done es) ∙ a.undone)) a.frames a.codes
 
-      pub wrote_held : heldNow (es ++ ((step w (turn out)).event ∷ [])) (step w (turn out)).world ≡ kept_after o x (heldNow es w)
+      pub wrote_held : held_now (es ++ ((step w (turn out)).event ∷ [])) (step w (turn out)).world ≡ kept_after o x (held_now es w)
       wrote_held =
-          let n = first_prune o x (heldNow es w) + last_prune o x (heldNow es w) in
+          let n = first_prune o x (held_now es w) + last_prune o x (held_now es w) in
           rw (wrote_pruned, wrote_rights) (sym (drop-drop n w.join.pruned (rows_in (right_columns o) (right_frames es))))
 
   -- ---- a right frame
@@ -253,7 +253,7 @@ module _ (o : Options) (l r : Words) (allowed : refused_options o ≡ false) whe
           moved_on es w false (f ∷ fs) ls outs a (right f) false fs ls outs took_left (rw took_rights (append_assoc (right_frames es) (f ∷ []) fs)) (rw (eo, took_left) a.waits) a.room
           (rw took_event (snoc_ended es ev ∙ or-false (is_right_ended es) ∙ a.ended)) (rw took_event (snoc_done es ev ∙ or-false (node_done es) ∙ a.undone)) a.frames.1 codes_parts.1
 
-      pub took_held : heldNow (es ++ ((step w (right f)).event ∷ [])) (step w (right f)).world ≡ heldNow es w ++ frame_rows (right_columns o) f
+      pub took_held : held_now (es ++ ((step w (right f)).event ∷ [])) (step w (right f)).world ≡ held_now es w ++ frame_rows (right_columns o) f
       unfolding pushed_right rows_in
       took_held =
           let p : (step w (right f)).world.join.pruned ≡ w.join.pruned = ap (λ s. s.world.join.pruned) took_step in
@@ -290,5 +290,5 @@ module _ (o : Options) (l r : Words) (allowed : refused_options o ≡ false) whe
         moved_on es w false [] ls outs a end true [] ls outs end_left (ap (λ (z : List Words). z ++ []) end_rights) (rw (eo, end_left) a.waits) a.room
         (rw end_event (snoc_ended es ev ∙ rw a.ended refl)) (rw end_event (snoc_done es ev ∙ or-false (node_done es) ∙ a.undone)) tt a.codes
 
-    pub end_held : heldNow (es ++ ((step w end).event ∷ [])) (step w end).world ≡ heldNow es w
+    pub end_held : held_now (es ++ ((step w end).event ∷ [])) (step w end).world ≡ held_now es w
     end_held = let p : (step w end).world.join.pruned ≡ w.join.pruned = ap (λ s. s.world.join.pruned) end_step in rw (p, end_rights) refl

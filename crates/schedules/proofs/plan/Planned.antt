@@ -30,7 +30,7 @@ use Rattle.planning.specs.declared.Figures.{Figures}
 use Rattle.planning.specs.Plan.{plan_from, plan}
 use Rattle.schedules.specs.plan.Plan.{AllFrames, Planned, figures, Holds, Plans}
 use Rattle.schedules.proofs.plan.EventLaws.{snoc_left, snoc_right, snoc_out, snoc_ended, snoc_done}
-use Rattle.schedules.proofs.plan.Follow.{At, heldNow, end_event, end_at}
+use Rattle.schedules.proofs.plan.Follow.{At, held_now, end_event, end_at}
 use Rattle.schedules.proofs.plan.Rounds.{each_length, same_figures, adding, before, meets_later, Result, all_rounds}
 
 all_frames : (c : ℕ) (fs : List Words) → AllFrames c fs → Frames c fs
@@ -167,7 +167,7 @@ module _ (o : Options) (l r : Words) (allowed : refused_options o ≡ false) whe
       short = rw q₀.lefts h.few_lefts;
     }
 
-    pub none_yet : (es : List Event) (w : World) → right_frames es ≡ [] → heldNow o l r allowed es w ≡ []
+    pub none_yet : (es : List Event) (w : World) → right_frames es ≡ [] → held_now o l r allowed es w ≡ []
     unfolding rows_in
     none_yet es w e = dropped_none w.join.pruned (rows_in (right_columns o) (right_frames es)) (rw e refl)
 

@@ -25,7 +25,7 @@ use Rattle.planning.specs.declared.Figures.{Figures}
 use Rattle.planning.specs.Plan.{rest, after_turn, after_taking, kept_after, plan_from}
 use Rattle.planning.proofs.PlanLaws.{plan_takes, plan_turns, plan_least, plan_last}
 use Rattle.schedules.proofs.plan.EventLaws.{most_least}
-use Rattle.schedules.proofs.plan.Follow.{At, heldNow, held_count, turn_answers, wants_event, wants_world, wants_at, wants_held, wrote_event, wrote_at, wrote_held, right_answers, refused_event, took_event, took_at, took_held, end_step, end_event, end_at, end_held}
+use Rattle.schedules.proofs.plan.Follow.{At, held_now, held_count, turn_answers, wants_event, wants_world, wants_at, wants_held, wrote_event, wrote_at, wrote_held, right_answers, refused_event, took_event, took_at, took_held, end_step, end_event, end_at, end_held}
 
 pub each_length : {A B : Type 0} {P : A → B → Type 0} {xs : List A} {ys : List B} → Each P xs ys → length xs ≡ length ys
 each_length ends = refl
@@ -164,7 +164,7 @@ module _ (o : Options) (l r : Words) (allowed : refused_options o ≡ false) whe
   G g = frame_rows (right_columns o) g
 
   abbrev pub Goal : ℕ → List Event → World → List Words → List Words → List Words → Type 0
-  Goal fuel es w fs ls outs = Result w (rounds fuel w fs outs) (plan_from fuel o (heldNow o l r allowed es w) (map G fs) (map F ls)) (length outs)
+  Goal fuel es w fs ls outs = Result w (rounds fuel w fs outs) (plan_from fuel o (held_now o l r allowed es w) (map G fs) (map F ls)) (length outs)
 
   abbrev pub Hyp : ℕ → Type 0
   Hyp fuel =
@@ -173,21 +173,21 @@ module _ (o : Options) (l r : Words) (allowed : refused_options o ≡ false) whe
   -- A turn that writes.
   writes : (fuel : ℕ) → Hyp fuel → (es : List Event) (w : World) (e : Bool) (fs : List Words) (f : Words) (ls : List Words) (out : Words) (outs : List Words) (a : At o l r allowed es w e fs (f ∷ ls) (out ∷ outs))
       → e ≡ is_nil fs → suc (length ls) + length fs ≤ suc fuel → turn_answer w.join w.left w.right out ≡ Wrote w.join.sequence
-      → Result w (rounds (suc fuel) w fs (out ∷ outs)) (after_turn (heldNow o l r allowed es w) (plan_from fuel o (kept_after o (F f) (heldNow o l r allowed es w)) (map G fs) (map F ls))) (suc (length outs))
+      → Result w (rounds (suc fuel) w fs (out ∷ outs)) (after_turn (held_now o l r allowed es w) (plan_from fuel o (kept_after o (F f) (held_now o l r allowed es w)) (map G fs) (map F ls))) (suc (length outs))
   writes fuel ih es w e fs f ls out outs a n b q =
       let es' = es ++ ((step w (turn out)).event ∷ []) in
       let w' = (step w (turn out)).world in
       let g : Goal fuel es' w' fs ls outs = ih es' w' e fs ls outs (wrote_at o l r allowed es w e fs f ls out outs a q) n (omega arith) in
       let k = rw (wrote_held o l r allowed es w e fs f ls out outs a q) at g in
       rw (rounds_wrote fuel w fs out outs w.join.sequence q)
-      (turns_on w out (rounds fuel w' fs outs) (heldNow o l r allowed es w) (plan_from fuel o (kept_after o (F f) (heldNow o l r allowed es w)) (map G fs) (map F ls)) (length outs) w.join.sequence (turned w.join w.left w.right out).out
+      (turns_on w out (rounds fuel w' fs outs) (held_now o l r allowed es w) (plan_from fuel o (kept_after o (F f) (held_now o l r allowed es w)) (map G fs) (map F ls)) (length outs) w.join.sequence (turned w.join w.left w.right out).out
       (wrote_event o l r allowed es w e fs f ls out outs a q) (held_count o l r allowed es w e fs (f ∷ ls) (out ∷ outs) a) (within es w e fs (f ∷ ls) (out ∷ outs) a) k)
 
   -- A turn that wants right.
   module _ (fuel : ℕ) (ih : Hyp fuel) (es : List Event) (w : World) (g : Words) (gs : List Words) (f : Words) (ls : List Words) (out : Words) (outs : List Words) (a : At o l r allowed es w false (g ∷ gs) (f ∷ ls) (out ∷ outs))
       (b : suc (length ls) + suc (length gs) ≤ suc fuel) (q : turn_answer w.join w.left w.right out ≡ WantsRight) where
     abbrev hs : Rows
-    hs = heldNow o l r allowed es w
+    hs = held_now o l r allowed es w
 
     abbrev es₁ : List Event
     es₁ = es ++ ((step w (turn out)).event ∷ [])
@@ -229,7 +229,7 @@ module _ (o : Options) (l r : Words) (allowed : refused_options o ≡ false) whe
       a₂ : At o l r allowed es₂ u₂ false gs (f ∷ ls) (out ∷ outs)
       a₂ = took_at o l r allowed es₁ u₁ g gs (f ∷ ls) (out ∷ outs) a₁ taken
 
-      held₂ : heldNow o l r allowed es₂ u₂ ≡ hs ++ G g
+      held₂ : held_now o l r allowed es₂ u₂ ≡ hs ++ G g
       held₂ = took_held o l r allowed es₁ u₁ g gs (f ∷ ls) (out ∷ outs) a₁ taken ∙ ap (λ (z : Rows). z ++ G g) (wants_held o l r allowed es w false (g ∷ gs) f ls out outs a q)
 
       took : (step u₁ (right g)).event ≡ on_right g Accepted
@@ -244,13 +244,13 @@ module _ (o : Options) (l r : Words) (allowed : refused_options o ≡ false) whe
   takes : (fuel : ℕ) (ih : Hyp fuel) (es : List Event) (w : World) (g : Words) (gs : List Words) (f : Words) (ls : List Words) (out : Words) (outs : List Words) (a : At o l r allowed es w false (g ∷ gs) (f ∷ ls) (out ∷ outs))
       (b : suc (length ls) + suc (length gs) ≤ suc fuel) (q : turn_answer w.join w.left w.right out ≡ WantsRight)
       → Result w ((turn out ∷ right g ∷ end_if gs) ++ rounds fuel (final w (turn out ∷ right g ∷ end_if gs)) gs (out ∷ outs))
-      (after_taking (heldNow o l r allowed es w) (plan_from fuel o (heldNow o l r allowed es w ++ G g) (map G gs) (F f ∷ map F ls))) (suc (length outs))
+      (after_taking (held_now o l r allowed es w) (plan_from fuel o (held_now o l r allowed es w ++ G g) (map G gs) (F f ∷ map F ls))) (suc (length outs))
   unfolding final
   takes fuel ih es w g [] f ls out outs a b q = by (dec_lt cap ((u₁ fuel ih es w g [] f ls out outs a b q).join.held + row_count g))
     where
       by : Dec (cap < (u₁ fuel ih es w g [] f ls out outs a b q).join.held + row_count g)
           → Result w (turn out ∷ right g ∷ end ∷ rounds fuel (step (step (step w (turn out)).world (right g)).world end).world [] (out ∷ outs))
-          (after_taking (heldNow o l r allowed es w) (plan_from fuel o (heldNow o l r allowed es w ++ G g) [] (F f ∷ map F ls))) (suc (length outs))
+          (after_taking (held_now o l r allowed es w) (plan_from fuel o (held_now o l r allowed es w ++ G g) [] (F f ∷ map F ls))) (suc (length outs))
       by (yes h) = no_room_lem fuel ih es w g [] f ls out outs a b q h (end ∷ rounds fuel (step (step (step w (turn out)).world (right g)).world end).world [] (out ∷ outs))
       by (no h) =
           let x₂ = a₂ fuel ih es w g [] f ls out outs a b q h in
@@ -259,46 +259,46 @@ module _ (o : Options) (l r : Words) (allowed : refused_options o ≡ false) whe
           let x₃ = end_at o l r allowed e₂ z₂ (f ∷ ls) (out ∷ outs) x₂ in
           let i = ih (e₂ ++ ((step z₂ end).event ∷ [])) (step z₂ end).world true [] (f ∷ ls) (out ∷ outs) x₃ refl (omega arith) in
           let k = rw (end_held o l r allowed e₂ z₂ (f ∷ ls) (out ∷ outs) x₂ ∙ held₂ fuel ih es w g [] f ls out outs a b q h) at i in
-          ends_on w out g (rounds fuel (step z₂ end).world [] (out ∷ outs)) (heldNow o l r allowed es w) (plan_from fuel o (heldNow o l r allowed es w ++ G g) [] (F f ∷ map F ls)) (suc (length outs))
+          ends_on w out g (rounds fuel (step z₂ end).world [] (out ∷ outs)) (held_now o l r allowed es w) (plan_from fuel o (held_now o l r allowed es w ++ G g) [] (F f ∷ map F ls)) (suc (length outs))
           (wanted fuel ih es w g [] f ls out outs a b q h) (took fuel ih es w g [] f ls out outs a b q h) (end_event o l r allowed e₂ z₂ (f ∷ ls) (out ∷ outs) x₂) (hs_count fuel ih es w g [] f ls out outs a b q)
           (same_held fuel ih es w g [] f ls out outs a b q) (ap (λ s. s.world.join.held) (end_step o l r allowed e₂ z₂ (f ∷ ls) (out ∷ outs) x₂)) (room_now fuel ih es w g [] f ls out outs a b q h) k
   takes fuel ih es w g (m ∷ gs) f ls out outs a b q = by (dec_lt cap ((u₁ fuel ih es w g (m ∷ gs) f ls out outs a b q).join.held + row_count g))
     where
       by : Dec (cap < (u₁ fuel ih es w g (m ∷ gs) f ls out outs a b q).join.held + row_count g)
           → Result w (turn out ∷ right g ∷ rounds fuel (step (step w (turn out)).world (right g)).world (m ∷ gs) (out ∷ outs))
-          (after_taking (heldNow o l r allowed es w) (plan_from fuel o (heldNow o l r allowed es w ++ G g) (G m ∷ map G gs) (F f ∷ map F ls))) (suc (length outs))
+          (after_taking (held_now o l r allowed es w) (plan_from fuel o (held_now o l r allowed es w ++ G g) (G m ∷ map G gs) (F f ∷ map F ls))) (suc (length outs))
       by (yes h) = no_room_lem fuel ih es w g (m ∷ gs) f ls out outs a b q h (rounds fuel (step (step w (turn out)).world (right g)).world (m ∷ gs) (out ∷ outs))
       by (no h) =
           let x₂ = a₂ fuel ih es w g (m ∷ gs) f ls out outs a b q h in
           let i = ih (es₂ fuel ih es w g (m ∷ gs) f ls out outs a b q) (u₂ fuel ih es w g (m ∷ gs) f ls out outs a b q) false (m ∷ gs) (f ∷ ls) (out ∷ outs) x₂ refl (omega arith) in
           let k = rw (held₂ fuel ih es w g (m ∷ gs) f ls out outs a b q h) at i in
-          takes_on w out g (rounds fuel (step (step w (turn out)).world (right g)).world (m ∷ gs) (out ∷ outs)) (heldNow o l r allowed es w) (plan_from fuel o (heldNow o l r allowed es w ++ G g) (G m ∷ map G gs) (F f ∷ map F ls)) (suc (length outs))
+          takes_on w out g (rounds fuel (step (step w (turn out)).world (right g)).world (m ∷ gs) (out ∷ outs)) (held_now o l r allowed es w) (plan_from fuel o (held_now o l r allowed es w ++ G g) (G m ∷ map G gs) (F f ∷ map F ls)) (suc (length outs))
           (wanted fuel ih es w g (m ∷ gs) f ls out outs a b q h) (took fuel ih es w g (m ∷ gs) f ls out outs a b q h) (hs_count fuel ih es w g (m ∷ gs) f ls out outs a b q)
           (same_held fuel ih es w g (m ∷ gs) f ls out outs a b q) (room_now fuel ih es w g (m ∷ gs) f ls out outs a b q h) k
 
   -- By the turn's answer.
   one_more : (fuel : ℕ) → Hyp fuel → (es : List Event) (w : World) (g : Words) (gs : List Words) (f : Words) (ls : List Words) (out : Words) (outs : List Words) → At o l r allowed es w false (g ∷ gs) (f ∷ ls) (out ∷ outs)
       → suc (length ls) + suc (length gs) ≤ suc fuel → Goal (suc fuel) es w (g ∷ gs) (f ∷ ls) (out ∷ outs)
-  one_more fuel ih es w g gs f ls out outs a b = by (need_more o (F f) (heldNow o l r allowed es w)) refl
+  one_more fuel ih es w g gs f ls out outs a b = by (need_more o (F f) (held_now o l r allowed es w)) refl
     where
-      by : (t : Bool) → need_more o (F f) (heldNow o l r allowed es w) ≡ t → Goal (suc fuel) es w (g ∷ gs) (f ∷ ls) (out ∷ outs)
+      by : (t : Bool) → need_more o (F f) (held_now o l r allowed es w) ≡ t → Goal (suc fuel) es w (g ∷ gs) (f ∷ ls) (out ∷ outs)
       by true t =
           let q : turn_answer w.join w.left w.right out ≡ WantsRight = turn_answers o l r allowed es w false (g ∷ gs) f ls out outs a ∙ rw t refl in
-          rw (rounds_wants fuel w g gs out outs q, plan_takes fuel o (heldNow o l r allowed es w) (G g) (map G gs) (F f) (map F ls) t) (takes fuel ih es w g gs f ls out outs a b q)
+          rw (rounds_wants fuel w g gs out outs q, plan_takes fuel o (held_now o l r allowed es w) (G g) (map G gs) (F f) (map F ls) t) (takes fuel ih es w g gs f ls out outs a b q)
       by false t =
           let q : turn_answer w.join w.left w.right out ≡ Wrote w.join.sequence = turn_answers o l r allowed es w false (g ∷ gs) f ls out outs a ∙ rw t refl in
-          rw (plan_turns fuel o (heldNow o l r allowed es w) (G g) (map G gs) (F f) (map F ls) t) (writes fuel ih es w false (g ∷ gs) f ls out outs a refl b q)
+          rw (plan_turns fuel o (held_now o l r allowed es w) (G g) (map G gs) (F f) (map F ls) t) (writes fuel ih es w false (g ∷ gs) f ls out outs a refl b q)
 
   none_more : (fuel : ℕ) → Hyp fuel → (es : List Event) (w : World) (f : Words) (ls : List Words) (out : Words) (outs : List Words) → At o l r allowed es w true [] (f ∷ ls) (out ∷ outs)
       → suc (length ls) + 0 ≤ suc fuel → Goal (suc fuel) es w [] (f ∷ ls) (out ∷ outs)
   none_more fuel ih es w f ls out outs a b =
       let q : turn_answer w.join w.left w.right out ≡ Wrote w.join.sequence = turn_answers o l r allowed es w true [] f ls out outs a in
-      rw (plan_last fuel o (heldNow o l r allowed es w) (F f) (map F ls)) (writes fuel ih es w true [] f ls out outs a refl b q)
+      rw (plan_last fuel o (held_now o l r allowed es w) (F f) (map F ls)) (writes fuel ih es w true [] f ls out outs a refl b q)
 
   nothing : (fuel : ℕ) (es : List Event) (w : World) (e : Bool) (fs : List Words) → At o l r allowed es w e fs [] [] → Goal fuel es w fs [] []
   unfolding rounds plan_from
-  nothing zero es w e fs a = none_left w (heldNow o l r allowed es w) (held_count o l r allowed es w e fs [] [] a) (within es w e fs [] [] a)
-  nothing (suc fuel) es w e fs a = none_left w (heldNow o l r allowed es w) (held_count o l r allowed es w e fs [] [] a) (within es w e fs [] [] a)
+  nothing zero es w e fs a = none_left w (held_now o l r allowed es w) (held_count o l r allowed es w e fs [] [] a) (within es w e fs [] [] a)
+  nothing (suc fuel) es w e fs a = none_left w (held_now o l r allowed es w) (held_count o l r allowed es w e fs [] [] a) (within es w e fs [] [] a)
 
   at_none : Hyp zero
   at_none es w e fs [] [] a n b = nothing zero es w e fs a

@@ -22,25 +22,25 @@ cut_into c table hs = frames_by c (heights_of hs) (values_in c table) (marks_in 
 
 module _ (o : Options) (left right hl hr l r : Words) (outs : List Words) where
   -- The frames of both tables.
-  abbrev pub leftCut : List Words
-  leftCut = cut_into (columns o) left hl
+  abbrev pub left_cut : List Words
+  left_cut = cut_into (columns o) left hl
 
-  abbrev pub rightCut : List Words
-  rightCut = cut_into (right_columns o) right hr
+  abbrev pub right_cut : List Words
+  right_cut = cut_into (right_columns o) right hr
 
   -- Left words and output enough; and the counts that no memory reaches.
   pub record Lent : Type 0 where
-    pub left_room : length (back_to_back leftCut) ≤ length l
-    pub outputs : Each (λ f out. frame_words (row_count f) (answer_columns o) ≤ length out) leftCut outs
+    pub left_room : length (back_to_back left_cut) ≤ length l
+    pub outputs : Each (λ f out. frame_words (row_count f) (answer_columns o) ≤ length out) left_cut outs
     pub few_rights : row_count right ≤ most_rows
     pub few_lefts : length hl < 2 ^ 63
 
   -- The schedule over these frames: with R at least the first figure, with less, and what it writes.
   pub record Told (p : Figures) : Type 0 where
-    pub enough : p.rows ≤ capacity (right_columns o) r → Holds o l r leftCut rightCut outs p
-    pub short : capacity (right_columns o) r < p.rows → Short o l r leftCut rightCut outs
+    pub enough : p.rows ≤ capacity (right_columns o) r → Holds o l r left_cut right_cut outs p
+    pub short : capacity (right_columns o) r < p.rows → Short o l r left_cut right_cut outs
     pub written : p.rows ≤ capacity (right_columns o) r
-        → matches_in (answer_columns o) (outputs (events (start o l r) (schedule o l r leftCut rightCut outs))) ≡ map (due_over o (frame_rows (right_columns o) right)) (frame_rows (columns o) left)
+        → matches_in (answer_columns o) (outputs (events (start o l r) (schedule o l r left_cut right_cut outs))) ≡ map (due_over o (frame_rows (right_columns o) right)) (frame_rows (columns o) left)
 
 -- SCOPE 19.25: whatever figures the call answers are told so.
 abbrev pub TablePlans : Type 0

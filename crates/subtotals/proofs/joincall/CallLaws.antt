@@ -75,11 +75,11 @@ module _ (o : Options) (w : ℕ) (A : Rows) (k : ℤ) (B : Rows) (l : ℤ) (out 
   pub unsorted_second : fine_rows o w B ≡ false → RowsContract o w A k B l out (Refused Unsorted) out
   unsorted_second e = leaves (Refused Unsorted) (answer_unsorted (and_no (fine_rows o w A) (fine_rows o w B) e))
 
-  abbrev rowsBeyond : Bool
-  rowsBeyond = beyond_rows o A || beyond_rows o B || beyond_number k || beyond_number l
+  abbrev rows_beyond : Bool
+  rows_beyond = beyond_rows o A || beyond_rows o B || beyond_number k || beyond_number l
 
-  abbrev sumsBeyond : Bool
-  sumsBeyond = ltb most_sales (sales_in (subtotals_of o A) + sales_in (subtotals_of o B)) || ltb most_sales (nat_abs k + nat_abs l)
+  abbrev sums_beyond : Bool
+  sums_beyond = ltb most_sales (sales_in (subtotals_of o A) + sales_in (subtotals_of o B)) || ltb most_sales (nat_abs k + nat_abs l)
 
   module _ (d : fine_rows o w A ≡ true) (f : fine_rows o w B ≡ true) where
     sums : sales_in ts ≡ sales_in (subtotals_of o A) + sales_in (subtotals_of o B)
@@ -87,15 +87,15 @@ module _ (o : Options) (w : ℕ) (A : Rows) (k : ℤ) (B : Rows) (l : ℤ) (out 
 
     answer_beyond : beyond_accounts o A k B l ≡ true → rows_answer o w A k B l out ≡ Refused Beyond
     unfolding rows_answer result beyond_accounts
-    answer_beyond e = rw (d, f, sums) (twice rowsBeyond sumsBeyond Beyond _ e)
+    answer_beyond e = rw (d, f, sums) (twice rows_beyond sums_beyond Beyond _ e)
 
     pub beyond : beyond_accounts o A k B l ≡ true → RowsContract o w A k B l out (Refused Beyond) out
     beyond e = leaves (Refused Beyond) (answer_beyond e)
 
     module _ (b : beyond_accounts o A k B l ≡ false) (n : ℕ) (c : n ≡ length ts) where
-      within : (rowsBeyond ≡ false) × (sumsBeyond ≡ false)
+      within : (rows_beyond ≡ false) × (sums_beyond ≡ false)
       unfolding beyond_accounts
-      within = or_parts rowsBeyond sumsBeyond b
+      within = or_parts rows_beyond sums_beyond b
 
       answer_short : ltb (length out) (frame_words n (table_width o)) ≡ true → rows_answer o w A k B l out ≡ Refused NoRoom
       unfolding rows_answer result

@@ -86,13 +86,13 @@ pair_within total count sum r e l h = record {
 
 -- ---- the rows' totals and counts, one by one
 module _ (b w : ℕ) (vs : Words) where
-  abbrev pub beyondFrom : ℕ → ℕ → Bool
-  beyondFrom i n = beyond_words b w (n - i) (drop (i * w) vs)
+  abbrev pub beyond_from : ℕ → ℕ → Bool
+  beyond_from i n = beyond_words b w (n - i) (drop (i * w) vs)
 
-  abbrev pub countFrom : ℕ → ℕ → ℕ
-  countFrom i n = count_words b w (n - i) (drop (i * w) vs)
+  abbrev pub count_from : ℕ → ℕ → ℕ
+  count_from i n = count_words b w (n - i) (drop (i * w) vs)
 
-  beyond_more : (i n : ℕ) → i < n → beyondFrom i n ≡ (beyond_pair (get_or vs (i * w + b) (pos 0)) (get_or vs (i * w + b + 1) (pos 0)) || beyondFrom (i + 1) n)
+  beyond_more : (i n : ℕ) → i < n → beyond_from i n ≡ (beyond_pair (get_or vs (i * w + b) (pos 0)) (get_or vs (i * w + b + 1) (pos 0)) || beyond_from (i + 1) n)
   unfolding beyond_words
   beyond_more i n h =
       let e : n - i ≡ suc (n - (i + 1)) = omega arith in
@@ -100,7 +100,7 @@ module _ (b w : ℕ) (vs : Words) where
       let x : i * w + b + 1 ≡ i * w + (b + 1) = omega arith in
       rw (e, z, x, ← drop-drop w (i * w) vs, ← get_or-drop (i * w) vs b (pos 0), ← get_or-drop (i * w) vs (b + 1) (pos 0))
 
-  count_more : (i n : ℕ) → i < n → countFrom i n ≡ nat_abs (get_or vs (i * w + b + 1) (pos 0)) + countFrom (i + 1) n
+  count_more : (i n : ℕ) → i < n → count_from i n ≡ nat_abs (get_or vs (i * w + b + 1) (pos 0)) + count_from (i + 1) n
   unfolding count_words
   count_more i n h =
       let e : n - i ≡ suc (n - (i + 1)) = omega arith in
@@ -111,8 +111,8 @@ module _ (b w : ℕ) (vs : Words) where
   -- What a walk that has come to row i, with the sum s, knows.
   pub record Walked (n sum i s : ℕ) : Type 0 where
     pub few : s ≤ most_sales
-    pub beyond : beyondFrom 0 n ≡ beyondFrom i n
-    pub counted : sum + countFrom 0 n ≡ s + countFrom i n
+    pub beyond : beyond_from 0 n ≡ beyond_from i n
+    pub counted : sum + count_from 0 n ≡ s + count_from i n
 
   pub walk_starts : (n sum : ℕ) → sum ≤ most_sales → Walked n sum 0 sum
   walk_starts n sum h = record { few = h; beyond = refl; counted = refl }
@@ -122,7 +122,7 @@ module _ (b w : ℕ) (vs : Words) where
       let p = q.within h in
       record { few = h; beyond = k.beyond ∙ beyond_more i n l ∙ rw p.0; counted = omega (arith, k.counted, count_more i n l, p.1) }
 
-  all_words : (n : ℕ) → (beyondFrom 0 n ≡ beyond_words b w n vs) × (countFrom 0 n ≡ count_words b w n vs)
+  all_words : (n : ℕ) → (beyond_from 0 n ≡ beyond_words b w n vs) × (count_from 0 n ≡ count_words b w n vs)
   all_words n =
       let z : n - 0 ≡ n = omega arith in
       let x : 0 * w ≡ 0 = omega arith in
@@ -135,7 +135,7 @@ module _ (b w : ℕ) (vs : Words) where
       by (inl d) = inl (sym (all_words n).0 ∙ k.beyond ∙ beyond_more i n l ∙ rw d)
       by (inr d) = inr (omega (arith, (all_words n).1, k.counted, count_more i n l))
 
-  none_left : (n : ℕ) → (beyondFrom n n ≡ false) × (countFrom n n ≡ 0)
+  none_left : (n : ℕ) → (beyond_from n n ≡ false) × (count_from n n ≡ 0)
   unfolding beyond_words count_words
   none_left n = let z : n - n ≡ 0 = omega arith in (rw z, rw z)
 
@@ -144,6 +144,6 @@ module _ (b w : ℕ) (vs : Words) where
       let z = none_left n in
       let f = k.few in
       record {
-        within = λ g. (sym (all_words n).0 ∙ k.beyond ∙ rw l z.0, omega (arith, (all_words n).1, k.counted, ap (λ (j : ℕ). countFrom j n) l, z.1));
+        within = λ g. (sym (all_words n).0 ∙ k.beyond ∙ rw l z.0, omega (arith, (all_words n).1, k.counted, ap (λ (j : ℕ). count_from j n) l, z.1));
         beyond = λ g. absurd (omega arith);
       }

@@ -80,14 +80,14 @@ module _ (o : Options) where
 
 -- ---- two tables
 module _ (o : Options) (table other : Words) where
-  abbrev noTables : Bool
-  noTables = not (is_table (table_width o) table && is_table (table_width o) other)
+  abbrev no_tables : Bool
+  no_tables = not (is_table (table_width o) table && is_table (table_width o) other)
 
   abbrev lacking : Bool
   lacking = lacks_code o (rows_in o table) || lacks_code o (rows_in o other)
 
   abbrev pub tables_rest : Took
-  tables_rest = three (λ n. Refused n) noTables lacking (eqb o.carried 0) Accepted
+  tables_rest = three (λ n. Refused n) no_tables lacking (eqb o.carried 0) Accepted
 
   pub tables_shut : (r : Refusal) → open_answer o ≡ Refused r → tables_judged o table other ≡ Refused r
   unfolding tables_judged
@@ -102,13 +102,13 @@ module _ (o : Options) (table other : Words) where
     pub allowed : Allowed o
     pub table_is : is_table (table_width o) table ≡ true
     pub other_is : is_table (table_width o) other ≡ true
-    pub past : (w : Taken) → unless (λ n. NotTaken n) o (three (λ n. NotTaken n) noTables lacking (eqb o.carried 0) w) ≡ w
+    pub past : (w : Taken) → unless (λ n. NotTaken n) o (three (λ n. NotTaken n) no_tables lacking (eqb o.carried 0) w) ≡ w
 
   pub tables_fine : tables_judged o table other ≡ Accepted → TablesFine
   unfolding tables_judged
   tables_fine e =
       let p = chain_open (bad_options o) (many_carried o) (bad_ranked o) _ e in
-      let q = three_open noTables lacking (eqb o.carried 0) p.3 in
+      let q = three_open no_tables lacking (eqb o.carried 0) p.3 in
       let b = and-true (is_table (table_width o) table) (is_table (table_width o) other) (not-false (is_table (table_width o) table && is_table (table_width o) other) q.0) in
       record {
         allowed = allowed_parts o (good_allowed o p.0 p.1 p.2);
@@ -119,7 +119,7 @@ module _ (o : Options) (table other : Words) where
 
   pub tables_refused : (k l : ℤ) (out : Words) (r : Refusal) → tables_judged o table other ≡ Refused r → join_answer o table k other l out ≡ NotTaken r
   unfolding tables_judged join_answer
-  tables_refused k l out r e = all_shut (λ n. NotTaken n) (bad_options o) (many_carried o) (bad_ranked o) noTables lacking (eqb o.carried 0) _ r e
+  tables_refused k l out r e = all_shut (λ n. NotTaken n) (bad_options o) (many_carried o) (bad_ranked o) no_tables lacking (eqb o.carried 0) _ r e
 
 -- ---- a frame of the columns that it says
 no_table : (c : ℕ) (f : Words) → is_table c f ≡ false → is_frame c f ≡ false
@@ -157,23 +157,23 @@ module _ (o : Options) (table left answer : Words) where
   abbrev frames : Bool
   frames = is_frame (columns o) left && any_frame answer && eqb (row_count left) (row_count answer)
 
-  abbrev notAll : Bool
-  notAll = not (is_table (table_width o) table && frames)
+  abbrev not_all : Bool
+  not_all = not (is_table (table_width o) table && frames)
 
   abbrev wanting : Bool
   wanting = lacks_code o (rows_in o table) || lacks_code o (frame_rows (columns o) left)
 
-  abbrev pub salesRest : Took
-  salesRest = three (λ n. Refused n) notAll wanting (not (known_columns o (columns_in answer))) Accepted
+  abbrev pub sales_rest : Took
+  sales_rest = three (λ n. Refused n) not_all wanting (not (known_columns o (columns_in answer))) Accepted
 
   pub sales_shut : (r : Refusal) → open_answer o ≡ Refused r → sales_judged o table left answer ≡ Refused r
   unfolding sales_judged
   sales_shut r e = open_shut o _ r e
 
-  grouped : not (is_table (table_width o) table && is_frame (columns o) left && any_frame answer && eqb (row_count left) (row_count answer)) ≡ notAll
+  grouped : not (is_table (table_width o) table && is_frame (columns o) left && any_frame answer && eqb (row_count left) (row_count answer)) ≡ not_all
   grouped = ap not (and_left (is_table (table_width o) table) (is_frame (columns o) left) (any_frame answer) (eqb (row_count left) (row_count answer)))
 
-  pub sales_open : open_answer o ≡ Accepted → sales_judged o table left answer ≡ salesRest
+  pub sales_open : open_answer o ≡ Accepted → sales_judged o table left answer ≡ sales_rest
   unfolding sales_judged
   sales_open e = open_past o _ e ∙ ap (λ (z : Bool). three (λ n. Refused n) z wanting (not (known_columns o (columns_in answer))) Accepted) grouped
 

@@ -4,12 +4,12 @@ use native.Mathlib.Omega.{arith}
 use lib.ListN.{length}
 use Rattle.order.specs.options.Options.{without_list}
 use Rattle.order.specs.Requires.{cell_at}
-use Rattle.matchframe.proofs.carrying.SpreadLaws.{spreadOn, spread_none, spread_more, spread_all, row_asked}
+use Rattle.matchframe.proofs.carrying.SpreadLaws.{spread_on, spread_none, spread_more, spread_all, row_asked}
 use Rattle.matchframe.proofs.carrying.spread_rows.Statement.{statement}
 use Rattle.matchframe.proofs.carrying.spread_rows.Tie as tie
 
 abbrev invariant-loop : tie.invariant-loop
-invariant-loop n lv lm wl rv rm nr wr number o m out₀ i₀ out i = (i ≤ n) × (length out ≡ length out₀) × (out ≡ spreadOn (without_list o) number wr rv rm (λ j. cell_at (j * wl + o.by) lv lm) m n out₀ i)
+invariant-loop n lv lm wl rv rm nr wr number o m out₀ i₀ out i = (i ≤ n) × (length out ≡ length out₀) × (out ≡ spread_on (without_list o) number wr rv rm (λ j. cell_at (j * wl + o.by) lv lm) m n out₀ i)
 
 abbrev decreases-loop : tie.decreases-loop
 decreases-loop n lv lm wl rv rm nr wr number o m out₀ i₀ out i = i
@@ -24,12 +24,12 @@ sub-i c = omega arith
 behind : (c : tie.In-loop invariant-loop decreases-loop) →
     let l = c.before.loop in
     let a = c.before.before.args in
-    l.out ≡ spreadOn (without_list a.o) a.number a.wr a.rv.now a.rm.now (λ j. cell_at (j * a.wl + a.o.by) a.lv.now a.lm.now) a.m a.n a.out.now (l.i - 1 + 1)
+    l.out ≡ spread_on (without_list a.o) a.number a.wr a.rv.now a.rm.now (λ j. cell_at (j * a.wl + a.o.by) a.lv.now a.lm.now) a.m a.n a.out.now (l.i - 1 + 1)
 behind c =
     let l = c.before.loop in
     let a = c.before.before.args in
     let z : l.i ≡ l.i - 1 + 1 = omega (arith, c.loop-test.true) in
-    subst (λ (k : ℕ). l.out ≡ spreadOn (without_list a.o) a.number a.wr a.rv.now a.rm.now (λ j. cell_at (j * a.wl + a.o.by) a.lv.now a.lm.now) a.m a.n a.out.now k) z l.invariant.2
+    subst (λ (k : ℕ). l.out ≡ spread_on (without_list a.o) a.number a.wr a.rv.now a.rm.now (λ j. cell_at (j * a.wl + a.o.by) a.lv.now a.lm.now) a.m a.n a.out.now k) z l.invariant.2
 
 spread-row-requires : tie.Need-spread-row-requires invariant-loop decreases-loop
 spread-row-requires c κs =
@@ -61,7 +61,7 @@ returns c =
     let s = c.before.before in
     let a = s.args in
     let z : l.i ≡ 0 = omega (arith, c.loop-test.false) in
-    let e : l.out ≡ spreadOn (without_list a.o) a.number a.wr a.rv.now a.rm.now (λ j. cell_at (j * a.wl + a.o.by) a.lv.now a.lm.now) a.m a.n a.out.now 0 = l.invariant.2 ∙ ap (spreadOn (without_list a.o) a.number a.wr a.rv.now a.rm.now (λ j. cell_at (j * a.wl + a.o.by) a.lv.now a.lm.now) a.m a.n a.out.now) z in
+    let e : l.out ≡ spread_on (without_list a.o) a.number a.wr a.rv.now a.rm.now (λ j. cell_at (j * a.wl + a.o.by) a.lv.now a.lm.now) a.m a.n a.out.now 0 = l.invariant.2 ∙ ap (spread_on (without_list a.o) a.number a.wr a.rv.now a.rm.now (λ j. cell_at (j * a.wl + a.o.by) a.lv.now a.lm.now) a.m a.n a.out.now) z in
     spread_all (without_list a.o) a.n a.wl a.lv.now a.lm.now a.wr a.nr a.rv.now a.rm.now a.number a.m a.out.now s.requires l.out e
 
 pub spread_rows_spec : {M : Type 1} → statement M

@@ -17,7 +17,7 @@ use Rattle.takings.specs.Subtotals.{Subtotal, add_all}
 use Rattle.takings.specs.Sales.{amounts_of}
 use Rattle.sales.specs.salekind.Kinds.{kind_of}
 use Rattle.sales.specs.declared.salekind.Kind.TheVariants.{Amount}
-use Rattle.sales.proofs.salekind.KindLaws.{salesFrom, from_all, group_told}
+use Rattle.sales.proofs.salekind.KindLaws.{sales_from, from_all, group_told}
 use Rattle.sales.proofs.saleplace.PlaceLaws.{at_least}
 use Rattle.sales.specs.saleadd.Adds.{Starts}
 use Rattle.sales.proofs.saleadd.AddLaws.{Running, running_starts, running_skip, running_amount, running_ends, rest_room, has_place, small, rows_addable, held_addable, source_words, not_amount}
@@ -85,7 +85,7 @@ amount-is c =
     back (get_or a.av.now (l.z + 1) (pos 0)) c.add-sale-arg2.given ∙ rw l.invariant.2
 
 -- Twice the rows of the result have room.
-room : (c : tie.At-loop invariant-loop decreases-loop) → let s = c.before.before.before in let a = s.args in let T = add_all (O s) s.requires.ts (amounts_of (salesFrom (O s) a.rows a.d a.lv.now a.lm.now a.av.now a.am.now 0)) in
+room : (c : tie.At-loop invariant-loop decreases-loop) → let s = c.before.before.before in let a = s.args in let T = add_all (O s) s.requires.ts (amounts_of (sales_from (O s) a.rows a.d a.lv.now a.lm.now a.av.now a.am.now 0)) in
     length T * suc (suc a.o.by) + length T * suc (suc a.o.by) ≤ length c.loop.body
 room c = let s = c.before.before.before in let a = s.args in rw (from_all (O s) a.rows a.d a.lv.now a.lm.now a.av.now a.am.now) (omega (arith, s.requires.starts.room, c.loop.invariant.3))
 

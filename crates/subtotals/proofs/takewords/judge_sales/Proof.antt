@@ -14,7 +14,7 @@ use Rattle.frames.specs.declared.outcomes.Took.TheVariants.{Accepted}
 use Rattle.callrules.specs.Judged.{open_answer}
 use Rattle.takings.specs.Calls.{table_width, any_frame}
 use Rattle.subtotals.specs.takewords.Judged.{sales_judged}
-use Rattle.subtotals.proofs.takewords.JudgeLaws.{open_allowed, salesRest, sales_shut, sales_open, frames_parts}
+use Rattle.subtotals.proofs.takewords.JudgeLaws.{open_allowed, sales_rest, sales_shut, sales_open, frames_parts}
 use borrow.Author.Rules.{rules}
 use Rattle.subtotals.proofs.takewords.judge_sales.Statement.{statement}
 use Rattle.subtotals.proofs.takewords.judge_sales.Tie as tie
@@ -36,7 +36,7 @@ opened : (c : tie.After-enum-told2) → let a = c.before.before.before.before.ar
 opened c = sym c.before.before.judge-open.ensures ∙ c.enum-told2.given.1
 
 judged : (c : tie.After-enum-told2) → let a = c.before.before.before.before.args in
-    sales_judged (with_list a.o a.codes.now a.rising.now) a.table.now a.left.now a.answer.now ≡ salesRest (with_list a.o a.codes.now a.rising.now) a.table.now a.left.now a.answer.now
+    sales_judged (with_list a.o a.codes.now a.rising.now) a.table.now a.left.now a.answer.now ≡ sales_rest (with_list a.o a.codes.now a.rising.now) a.table.now a.left.now a.answer.now
 judged c = sales_open _ _ _ _ (opened c)
 
 allowed : (c : tie.After-enum-told2) → let a = c.before.before.before.before.args in Allowed (with_list a.o a.codes.now a.rising.now)
