@@ -12,80 +12,68 @@ use borrow.Author.Rules.{rules}
 use Rattle.callrules.proofs.consistency.bad_numbers.Statement.{statement}
 use Rattle.callrules.proofs.consistency.bad_numbers.Tie as tie
 
-refused-options-requires : tie.Need-refused-options-requires
+refused-options-requires : tie.Need-refused_options-requires
 refused-options-requires c κs = search rules
 
-returns : tie.Need-returns
+returns : tie.Need-returns-then-refused_options
 unfolding bad_numbers
-returns c = simp (← c.before.refused-options.ensures, c.if1.true)
+returns c = simp (← c.refused_options.ensures, c.if-refused_options.true)
 
 -- The options are not refused, so they have few columns.
-fine : (c : tie.Else1) → let a = c.before.before.before.args in refused_options (with_list a.o a.codes.now a.rising.now) ≡ false
-fine c = sym c.before.refused-options.ensures ∙ c.if1.false
+fine : (c : tie.Else-refused_options) → let a = c.args in refused_options (with_list a.o a.codes.now a.rising.now) ≡ false
+fine c = sym c.refused_options.ensures ∙ c.if-refused_options.false
 
-allowed : (c : tie.Else1) → let a = c.before.before.before.args in Allowed (with_list a.o a.codes.now a.rising.now)
+allowed : (c : tie.Else-refused_options) → let a = c.args in Allowed (with_list a.o a.codes.now a.rising.now)
 allowed c = allowed_parts _ (fine c)
 
 -- The first sum that is tested is that of the held rows.
-rows : (c : tie.After-above) → let a = c.before.before.before.before.before.args in c.above.result ≡ ltb (capacity (right_columns (with_list a.o a.codes.now a.rising.now)) a.right.now) (a.base + a.held)
-rows c = rw c.before.right-columns.ensures at c.above.ensures
+rows : (c : tie.After-above) → let a = c.args in c.above.result ≡ ltb (capacity (right_columns (with_list a.o a.codes.now a.rising.now)) a.right.now) (a.base + a.held)
+rows c = rw c.right_columns-c.ensures at c.above.ensures
 
-right-columns-requires : tie.Need-right-columns-requires
+right-columns-requires : tie.Need-right_columns-c-requires
 right-columns-requires c κs = ((allowed c).by, (allowed c).carried)
 
-mul-above : tie.Need-overflow-mul-above
-mul-above c = omega (arith, c.right-columns.ensures, (allowed c.before).by, (allowed c.before).carried)
+mul-above : tie.Need-overflow_mul-c
+mul-above c = omega (arith, c.right_columns-c.ensures, (allowed c.before).by, (allowed c.before).carried)
 
-div-above : tie.Need-nonzero-div-above
+div-above : tie.Need-nonzero_div-right
 div-above c = search rules
 
 above-requires : tie.Need-above-requires
 above-requires c κs = search rules
 
-returns-2 : tie.Need-returns-2
+returns-2 : tie.Need-returns-then-above
 unfolding bad_numbers
-returns-2 c = simp (fine c.before.before.before, ← rows c.before, c.if2.true)
+returns-2 c = simp (fine c.before.before.before, ← rows c.before, c.if-above.true)
 
 above-requires-2 : tie.Need-above-requires-2
 above-requires-2 c κs = search rules
 
-returns-3 : tie.Need-returns-3
+returns-3 : tie.Need-returns-then-above-2
 unfolding bad_numbers
 returns-3 c =
-    let a = c.before.before.before in
-    simp (fine a.before.before, ← rows a, c.before.before.if2.false, ← c.before.above2.ensures, c.if3.true)
+    let a = c in
+    simp (fine a.before.before.before.before.before, ← rows a.before.before.before, c.if-above.false, ← c.above-2.ensures, c.if-above-2.true)
 
 above-requires-3 : tie.Need-above-requires-3
 above-requires-3 c κs = search rules
 
-returns-4 : tie.Need-returns-4
+returns-4 : tie.Need-returns-then-above-3
 unfolding bad_numbers
 returns-4 c =
-    let b = c.before.before.before in
-    let a = b.before.before in
-    simp (fine a.before.before, ← rows a, b.before.if2.false, ← b.above2.ensures, c.before.before.if3.false, ← c.before.above3.ensures, c.if4.true)
+    let b = c in
+    let a = b in
+    simp (fine a.before.before.before.before.before.before.before, ← rows a.before.before.before.before.before, b.if-above.false, ← b.above-2.ensures, c.if-above-2.false, ← c.above-3.ensures, c.if-above-3.true)
 
-returns-5 : tie.Need-returns-5
+returns-5 : tie.Need-returns
 unfolding bad_numbers
 returns-5 c =
-    let d = c.before in
-    let b = d.before.before in
-    let a = b.before.before in
-    simp (fine a.before.before, ← rows a, b.before.if2.false, ← b.above2.ensures, d.before.if3.false, ← d.above3.ensures, c.if4.false)
+    let d = c in
+    let b = d in
+    let a = b in
+    simp (fine a.before.before.before.before.before.before.before, ← rows a.before.before.before.before.before, b.if-above.false, ← b.above-2.ensures, d.if-above-2.false, ← d.above-3.ensures, c.if-above-3.false)
 
 pub bad_numbers_spec : {M : Type 1} → statement M
 bad_numbers_spec =
     tie.close
-    (tie.spec
-    refused-options-requires
-    returns
-    right-columns-requires
-    mul-above
-    div-above
-    above-requires
-    returns-2
-    above-requires-2
-    returns-3
-    above-requires-3
-    returns-4
-    returns-5)
+    (tie.spec refused-options-requires returns right-columns-requires mul-above div-above above-requires returns-2 above-requires-2 returns-3 above-requires-3 returns-4 returns-5)

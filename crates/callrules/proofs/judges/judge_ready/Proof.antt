@@ -3,32 +3,29 @@ use Rattle.callrules.specs.Judged.{ready_judged}
 use borrow.Author.Rules.{rules}
 use Rattle.callrules.proofs.judges.judge_ready.Statement.{statement}
 use Rattle.callrules.proofs.judges.judge_ready.Tie as tie
-use Rattle.callrules.proofs.judges.judge_ready.Reads as reads
-use Rattle.callrules.proofs.judges.judge_ready.Lts as lts
-use Rattle.frames.proofs.outcomes.is_done.Reads as is-done-reads
 
-returns : tie.Need-returns
+returns : tie.Need-returns-then-bad
 unfolding ready_judged
-returns c = simp c.if1.true
+returns c = simp c.if-bad.true
 
-returns-2 : tie.Need-returns-2
+returns-2 : tie.Need-returns-then-failed
 unfolding ready_judged
-returns-2 c = simp (c.before.if1.false, c.if2.true)
+returns-2 c = simp (c.if-bad.false, c.if-failed.true)
 
-is-done-requires : tie.Need-is-done-requires
+is-done-requires : tie.Need-is_done-requires
 is-done-requires c κs = search rules
 
-returns-3 : tie.Need-returns-3
+returns-3 : tie.Need-returns-then-is_done
 unfolding ready_judged
-returns-3 c = let e = c.before.before in simp (e.before.if1.false, e.if2.false, ← c.before.is-done.ensures, c.if3.true)
+returns-3 c = let e = c in simp (e.if-bad.false, e.if-failed.false, ← c.is_done.ensures, c.if-is_done.true)
 
-returns-4 : tie.Need-returns-4
+returns-4 : tie.Need-returns-then-words-eq0
 unfolding ready_judged
-returns-4 c = let d = c.before in let e = d.before.before in simp (e.before.if1.false, e.if2.false, ← d.before.is-done.ensures, d.if3.false, eq-eqb _ _ c.if4.true)
+returns-4 c = let d = c in let e = d in simp (e.if-bad.false, e.if-failed.false, ← d.is_done.ensures, d.if-is_done.false, eq-eqb _ _ c.if-words-eq0.true)
 
-returns-5 : tie.Need-returns-5
+returns-5 : tie.Need-returns
 unfolding ready_judged
-returns-5 c = let d = c.before in let e = d.before.before in simp (e.before.if1.false, e.if2.false, ← d.before.is-done.ensures, d.if3.false, ne_eqb _ _ c.if4.false)
+returns-5 c = let d = c in let e = d in simp (e.if-bad.false, e.if-failed.false, ← d.is_done.ensures, d.if-is_done.false, ne_eqb _ _ c.if-words-eq0.false)
 
 pub judge_ready_spec : {M : Type 1} → statement M
 judge_ready_spec = tie.close (tie.spec returns returns-2 is-done-requires returns-3 returns-4 returns-5)

@@ -8,18 +8,18 @@ use borrow.Author.Rules.{rules}
 use Rattle.callrules.proofs.listed.is_listed.Statement.{statement}
 use Rattle.callrules.proofs.listed.is_listed.Tie as tie
 
-returns : tie.Need-returns
+returns : tie.Need-returns-then-v-known
 returns c =
-    let s = c.before.before in
-    let e : s.args.v ≡ s.args.known = sym (to_z-of_z s.ranges.v) ∙ ap (to_z w64) c.if1.true ∙ to_z-of_z s.ranges.known in
+    let s = c in
+    let e : s.args.v ≡ s.args.known = sym (to_z-of_z s.ranges.v) ∙ ap (to_z w64) c.if-v-known.true ∙ to_z-of_z s.ranges.known in
     rw e (sym s.requires.1)
 
-place-of-requires : tie.Need-place-of-requires
+place-of-requires : tie.Need-place_of-requires
 place-of-requires c κs = search rules
 
-returns-2 : tie.Need-returns-2
+returns-2 : tie.Need-returns
 returns-2 c =
-    let s = c.before.before.before in
+    let s = c in
     rw (c.place_of.ensures, to_z-of_z s.ranges.v) (sym (listed_place s.args.codes.now s.args.v))
 
 pub is_listed_spec : {M : Type 1} → statement M

@@ -1,5 +1,5 @@
 -- `listed::lacks_code` meets its contract. Assumes nothing.
-use mathlib.Core.Path.{◌≡◌, refl, sym, ◌∙◌}
+use mathlib.Core.Path.{◌≡◌, refl, sym}
 use Prim.Native.Nat.{◌+◌, ◌*◌}
 use native.Mathlib.Omega.{arith}
 use borrow.Author.Rules.{rules}
@@ -19,95 +19,80 @@ use Rattle.callrules.proofs.listed.lacks_code.Tie as tie
 abbrev whole : tie.Start → Options
 whole s = with_list s.args.o s.args.codes.now s.args.rising.now
 
-returns : tie.Need-returns
+returns : tie.Need-returns-then-not-o
 returns c =
-    let s = c.before.before.before in
-    sym (unranked_lacks (whole s) s.args.c s.args.table.now (not-true s.args.o.given c.if1.true))
+    let s = c in
+    sym (unranked_lacks (whole s.before.before.before) s.args.c s.args.table.now (not-true s.args.o.given c.if-not-o.true))
 
-row-count-requires : tie.Need-row-count-requires
-row-count-requires c κs = let s = c.before.before.before in table_count s.args.c s.args.table.now s.requires.2
+row-count-requires : tie.Need-row_count-n-requires
+row-count-requires c κs = let s = c in table_count s.args.c s.args.table.now s.requires.2
 
 -- The table's words, told by its rows.
-fit : (c : tie.After-row-count) → let a = c.before.before.before.before.args in 2 + 2 * (c.row_count.result * a.c) ≡ length a.table.now
-fit c = let s = c.before.before.before.before in parts_fit s.args.c s.args.table.now s.requires.2 c.row_count.result c.row_count.ensures
+fit : (c : tie.After-row_count-n) → let a = c.args in 2 + 2 * (c.row_count-n.result * a.c) ≡ length a.table.now
+fit c = let s = c in parts_fit s.args.c s.args.table.now s.requires.2 c.row_count-n.result c.row_count-n.ensures
 
-mul-e : tie.Need-overflow-mul-e
+mul-e : tie.Need-overflow_mul-e
 mul-e c = omega (arith, fit c)
 
-add-e : tie.Need-overflow-add-e
+add-e : tie.Need-overflow_add-e
 add-e c = omega (arith, fit c)
 
-sub-any-unlisted : tie.Need-overflow-sub-any-unlisted
+sub-any-unlisted : tie.Need-slice_bounds-any_unlisted-count
 sub-any-unlisted c = search rules
 
-part-any-unlisted-start : tie.Need-slice-bounds-any-unlisted-start
+part-any-unlisted-start : tie.Need-slice_bounds-any_unlisted-start
 part-any-unlisted-start c = search rules
 
-part-any-unlisted-end : tie.Need-slice-bounds-any-unlisted-end
+part-any-unlisted-end : tie.Need-slice_bounds-any_unlisted-end
 part-any-unlisted-end c = omega (arith, fit c)
 
-mul-any-unlisted : tie.Need-overflow-mul-any-unlisted
+mul-any-unlisted : tie.Need-offset_bounds-table-e
 mul-any-unlisted c = omega (arith, fit c.before)
 
-sub-any-unlisted-2 : tie.Need-overflow-sub-any-unlisted-2
+sub-any-unlisted-2 : tie.Need-slice_bounds-any_unlisted-count-2
 sub-any-unlisted-2 c = omega (arith, fit c.before)
 
-part-any-unlisted-start-2 : tie.Need-slice-bounds-any-unlisted-start-2
+part-any-unlisted-start-2 : tie.Need-slice_bounds-any_unlisted-start-2
 part-any-unlisted-start-2 c = omega (arith, fit c.before)
 
-part-any-unlisted-end-2 : tie.Need-slice-bounds-any-unlisted-end-2
+part-any-unlisted-end-2 : tie.Need-slice_bounds-any_unlisted-end-2
 part-any-unlisted-end-2 c = search rules
 
 -- The list is given: it is a good one, and all its words are there.
-good : (c : tie.After-row-count) → let s = c.before.before.before.before in Good s.args.o.by (whole s).ranks
-good c = let s = c.before.before.before.before in list_good (whole s) s.requires.0 (not-false s.args.o.given c.before.if1.false)
+good : (c : tie.After-row_count-n) → let s = c in Good s.args.o.by (whole s.before.before.before.before).ranks
+good c = let s = c in list_good (whole s.before.before.before.before) s.requires.0 (not-false s.args.o.given c.if-not-o.false)
 
-list : (c : tie.After-row-count) → Kept (whole c.before.before.before.before).ranks
-list c = let s = c.before.before.before.before in list_kept (whole s) s.requires.0 (not-false s.args.o.given c.before.if1.false)
+list : (c : tie.After-row_count-n) → Kept (whole c.before.before.before.before).ranks
+list c = let s = c in list_kept (whole s.before.before.before.before) s.requires.0 (not-false s.args.o.given c.if-not-o.false)
 
-slice-aggregate-any-unlisted : tie.Need-slice-aggregate-any-unlisted
+slice-aggregate-any-unlisted : tie.Need-slice_bounds-any_unlisted-end-3
 slice-aggregate-any-unlisted c =
-    let r = c.before.before.before in
-    let s = r.before.before.before.before in
-    sym (length-take-le s.args.o.count s.args.codes.now (list r).codes)
+    let r = c in
+    let s = r in
+    sym (length-take-le s.args.o.count s.args.codes.now (list r.before.before).codes)
 
-slice-aggregate-any-unlisted-2 : tie.Need-slice-aggregate-any-unlisted-2
+slice-aggregate-any-unlisted-2 : tie.Need-slice_bounds-any_unlisted-end-4
 slice-aggregate-any-unlisted-2 c =
-    let r = c.before.before.before.before in
-    let s = r.before.before.before.before in
-    sym (length-take-le s.args.o.count s.args.rising.now (list r).places)
+    let r = c in
+    let s = r in
+    sym (length-take-le s.args.o.count s.args.rising.now (list r.before.before).places)
 
-any-unlisted-requires : tie.Need-any-unlisted-requires
+any-unlisted-requires : tie.Need-any_unlisted-requires
 any-unlisted-requires c κs =
-    let r = c.before.before.before.before in
-    let s = r.before.before.before.before in (
-      column_there (whole s) s.args.c s.args.table.now s.requires.1 s.requires.2 (good r) r.row_count.result _ r.row_count.ensures refl,
-      (list r).indexed,
-      rw (length-take-le s.args.o.count s.args.codes.now (list r).codes) (good r).some,
+    let r = c in
+    let s = r in (
+      column_there (whole s.before.before.before.before.before.before) s.args.c s.args.table.now s.requires.1 s.requires.2 (good r.before.before) r.row_count-n.result _ r.row_count-n.ensures refl,
+      (list r.before.before).indexed,
+      rw (length-take-le s.args.o.count s.args.codes.now (list r.before.before).codes) (good r.before.before).some,
     )
 
-returns-2 : tie.Need-returns-2
+returns-2 : tie.Need-returns
 returns-2 c =
-    let r = c.before.before.before.before.before in
-    let s = r.before.before.before.before in
-    rw (ranked_lacks (whole s) s.args.c s.args.table.now (not-false s.args.o.given r.before.if1.false) r.row_count.result _ r.row_count.ensures refl) c.any-unlisted.ensures
+    let r = c in
+    let s = r in
+    rw (ranked_lacks (whole s.before.before.before.before.before.before.before) s.args.c s.args.table.now (not-false s.args.o.given r.if-not-o.false) r.row_count-n.result _ r.row_count-n.ensures refl) c.any_unlisted.ensures
 
 pub lacks_code_spec : {M : Type 1} → statement M
 lacks_code_spec =
     tie.close
-    (tie.spec
-    returns
-    row-count-requires
-    mul-e
-    add-e
-    sub-any-unlisted
-    part-any-unlisted-start
-    part-any-unlisted-end
-    mul-any-unlisted
-    sub-any-unlisted-2
-    part-any-unlisted-start-2
-    part-any-unlisted-end-2
-    slice-aggregate-any-unlisted
-    slice-aggregate-any-unlisted-2
-    any-unlisted-requires
-    returns-2)
+    (tie.spec returns row-count-requires mul-e add-e sub-any-unlisted part-any-unlisted-start part-any-unlisted-end mul-any-unlisted sub-any-unlisted-2 part-any-unlisted-start-2 part-any-unlisted-end-2 slice-aggregate-any-unlisted slice-aggregate-any-unlisted-2 any-unlisted-requires returns-2)
