@@ -1,4 +1,4 @@
-// The exported functions, over structs of 64-bit numbers and the words that the host passes. Each calls one function of hostjoin, hosttables or ffi.
+// The calls for C, over structs of 64-bit numbers and the words that the host passes. Each calls one function of hostjoin, hosttables or ffi; crates/host_c exports them.
 #![tactic(auto)]
 
 ghost use Rattle.std.specs.Prelude.{◌≡◌, length};
@@ -36,16 +36,14 @@ use hosttables::takehost::{add_host, join_host};
 pub use tables::tableresults::HostWritten;
 
 // Opens a join. The join of a refused opening holds the options that came, and every call but a run of no turns answers 2 to it.
-#[unsafe(no_mangle)]
-pub extern "C" fn rowkeeper_open(h: HostOptions) -> HostTook
+pub fn rowkeeper_open(h: HostOptions) -> HostTook
     ensures { HostOpenContract h result }
 {
     host_open(h)
 }
 
 // Takes a left frame into the left area, behind those that wait.
-#[unsafe(no_mangle)]
-pub extern "C" fn rowkeeper_left(
+pub fn rowkeeper_left(
     h: HostJoin,
     left: &mut [i64],
     right: &[i64],
@@ -57,8 +55,7 @@ pub extern "C" fn rowkeeper_left(
 }
 
 // Takes a right frame's rows into the right area, behind the held ones.
-#[unsafe(no_mangle)]
-pub extern "C" fn rowkeeper_right(
+pub fn rowkeeper_right(
     h: HostJoin,
     left: &[i64],
     right: &mut [i64],
@@ -70,16 +67,14 @@ pub extern "C" fn rowkeeper_right(
 }
 
 // Ends right: no right frame comes any more.
-#[unsafe(no_mangle)]
-pub extern "C" fn rowkeeper_end_right(h: HostJoin, left: &[i64], right: &[i64]) -> HostTook
+pub fn rowkeeper_end_right(h: HostJoin, left: &[i64], right: &[i64]) -> HostTook
     ensures { HostEndContract h left.now right.now result }
 {
     host_end_right(h, left, right)
 }
 
 // Moves a join with what waits and what is held to new areas, of any lengths. The old ones are only read.
-#[unsafe(no_mangle)]
-pub extern "C" fn rowkeeper_move(
+pub fn rowkeeper_move(
     h: HostJoin,
     left: &[i64],
     right: &[i64],
@@ -92,8 +87,7 @@ pub extern "C" fn rowkeeper_move(
 }
 
 // A port call: l, r and s are what left, right and send come with.
-#[unsafe(no_mangle)]
-pub extern "C" fn rowkeeper_ports(
+pub fn rowkeeper_ports(
     h: HostJoin,
     left: &[i64],
     right: &[i64],
@@ -107,8 +101,7 @@ pub extern "C" fn rowkeeper_ports(
 }
 
 // One turn: the front of the queue is matched with the held rows, and its matches are written into the output.
-#[unsafe(no_mangle)]
-pub extern "C" fn rowkeeper_turn(
+pub fn rowkeeper_turn(
     h: HostJoin,
     left: &[i64],
     right: &[i64],
@@ -120,8 +113,7 @@ pub extern "C" fn rowkeeper_turn(
 }
 
 // At most k turns, each writing behind the one before; the first that does not write ends it.
-#[unsafe(no_mangle)]
-pub extern "C" fn rowkeeper_run(
+pub fn rowkeeper_run(
     h: HostJoin,
     k: usize,
     left: &[i64],
@@ -134,16 +126,14 @@ pub extern "C" fn rowkeeper_run(
 }
 
 // The version of this library as a number: major × 1,000,000 + minor × 1,000 + patch.
-#[unsafe(no_mangle)]
-pub extern "C" fn rowkeeper_version() -> u64
+pub fn rowkeeper_version() -> u64
     ensures { result ≡ version_now }
 {
     version_now()
 }
 
 // Lists which points each interval covers; lower and upper tell whether a bound is inclusive. No join has a part in it.
-#[unsafe(no_mangle)]
-pub extern "C" fn rowkeeper_spans(
+pub fn rowkeeper_spans(
     points: &[i64],
     intervals: &[i64],
     lower: u64,
@@ -156,8 +146,7 @@ pub extern "C" fn rowkeeper_spans(
 }
 
 // Merges two sorted books into one sorted table: every row of both, and of rows that compare equal the house's first. No join has a part in it.
-#[unsafe(no_mangle)]
-pub extern "C" fn rowkeeper_merge(
+pub fn rowkeeper_merge(
     h: HostOptions,
     house: &[i64],
     festival: &[i64],
@@ -169,8 +158,7 @@ pub extern "C" fn rowkeeper_merge(
 }
 
 // Says of each row of a sorted book: 1 if it stands, else 0, and the row that it names; the carried column of that place tells which notices withdraw. No join has a part in it.
-#[unsafe(no_mangle)]
-pub extern "C" fn rowkeeper_standing(
+pub fn rowkeeper_standing(
     h: HostOptions,
     book: &[i64],
     place: usize,
@@ -182,24 +170,21 @@ pub extern "C" fn rowkeeper_standing(
 }
 
 // The plain reader's view of an answer frame, given the p of the join that wrote it: its rows and columns. No join has a part in it.
-#[unsafe(no_mangle)]
-pub extern "C" fn rowkeeper_view_plain(p: usize, frame: &[i64]) -> HostViewed
+pub fn rowkeeper_view_plain(p: usize, frame: &[i64]) -> HostViewed
     ensures { result ≡ viewed_host (view_plain p frame.now) }
 {
     view_plain_host(p, frame)
 }
 
 // The distance reader's view. No join has a part in it.
-#[unsafe(no_mangle)]
-pub extern "C" fn rowkeeper_view_distance(p: usize, frame: &[i64]) -> HostViewed
+pub fn rowkeeper_view_distance(p: usize, frame: &[i64]) -> HostViewed
     ensures { result ≡ viewed_host (view_distance p frame.now) }
 {
     view_distance_host(p, frame)
 }
 
 // The two words of a place, by the rows and columns that a view told. No join has a part in it.
-#[unsafe(no_mangle)]
-pub extern "C" fn rowkeeper_view_cell(
+pub fn rowkeeper_view_cell(
     rows: usize,
     columns: usize,
     frame: &[i64],
@@ -212,8 +197,7 @@ pub extern "C" fn rowkeeper_view_cell(
 }
 
 // What the plain reader shows of one place. No join has a part in it.
-#[unsafe(no_mangle)]
-pub extern "C" fn rowkeeper_read_plain(
+pub fn rowkeeper_read_plain(
     p: usize,
     frame: &[i64],
     row: usize,
@@ -225,8 +209,7 @@ pub extern "C" fn rowkeeper_read_plain(
 }
 
 // What the distance reader shows of one place. No join has a part in it.
-#[unsafe(no_mangle)]
-pub extern "C" fn rowkeeper_read_distance(
+pub fn rowkeeper_read_distance(
     p: usize,
     frame: &[i64],
     row: usize,
@@ -238,8 +221,7 @@ pub extern "C" fn rowkeeper_read_distance(
 }
 
 // Works out how large a right area two sorted tables want, cut in frames of these heights: the most right rows held at once, the turn calls, the right frames taken. Nothing is written. No join has a part in it.
-#[unsafe(no_mangle)]
-pub extern "C" fn rowkeeper_plan(
+pub fn rowkeeper_plan(
     h: HostOptions,
     left: &[i64],
     right: &[i64],
@@ -252,8 +234,7 @@ pub extern "C" fn rowkeeper_plan(
 }
 
 // Tells where a sorted table, of left rows (right 0) or of right ones (right 1), is cut for each boundary: before the first row whose group is not less. No join has a part in it.
-#[unsafe(no_mangle)]
-pub extern "C" fn rowkeeper_cut(
+pub fn rowkeeper_cut(
     h: HostOptions,
     right: u64,
     table: &[i64],
@@ -266,8 +247,7 @@ pub extern "C" fn rowkeeper_cut(
 }
 
 // Joins two sorted tables, cut at boundaries: the answer of the pairs, appended as one table. The areas are only measured. No join has a part in it.
-#[unsafe(no_mangle)]
-pub extern "C" fn rowkeeper_join_cut(
+pub fn rowkeeper_join_cut(
     h: HostOptions,
     left: &[i64],
     right: &[i64],
@@ -282,8 +262,7 @@ pub extern "C" fn rowkeeper_join_cut(
 }
 
 // Adds a frame's matched sales to a table of takings by group: the first carried column, summed and counted. No join has a part in it.
-#[unsafe(no_mangle)]
-pub extern "C" fn rowkeeper_takings_add(
+pub fn rowkeeper_takings_add(
     h: HostOptions,
     table: &[i64],
     number: i64,
@@ -297,8 +276,7 @@ pub extern "C" fn rowkeeper_takings_add(
 }
 
 // Joins two tables of takings by group. No join has a part in it.
-#[unsafe(no_mangle)]
-pub extern "C" fn rowkeeper_takings_join(
+pub fn rowkeeper_takings_join(
     h: HostOptions,
     table: &[i64],
     number: i64,

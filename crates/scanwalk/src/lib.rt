@@ -157,8 +157,7 @@ fn call(walked: bool, strategy: u8, left: &[i64], right: &[i64], out: &mut [i64]
 }
 
 // Scans the right frame for each left row.
-#[unsafe(no_mangle)]
-pub extern "C" fn scanwalk_scan(
+pub fn scanwalk_scan(
     strategy: u8,
     left: &[i64],
     right: &[i64],
@@ -174,8 +173,7 @@ pub extern "C" fn scanwalk_scan(
 }
 
 // Walks both frames, one cursor each.
-#[unsafe(no_mangle)]
-pub extern "C" fn scanwalk_walk(
+pub fn scanwalk_walk(
     strategy: u8,
     left: &[i64],
     right: &[i64],
