@@ -1,17 +1,16 @@
 -- What the call answers and leaves, from what its parts do. Assumes nothing.
 use mathlib.Core.Path.{◌≡◌, refl, sym, ap, ◌∙◌}
-use mathlib.Core.Bool.{Bool, true, false, cond, not, ◌&&◌}
+use mathlib.Core.Bool.{true, false, ◌&&◌}
 use Prim.Native.Nat.{ℕ, ◌+◌, ◌*◌, ◌≤◌, ◌<◌}
 use native.Mathlib.Omega.{arith}
 use borrow.Author.Tests.{lt-ltb, le-ltb}
-use lib.Dec.{ltb}
 use lib.IntN.{pos}
 use lib.ListN.{length, set}
 use Rattle.frames.specs.Cells.{Rows, Words, rows_of}
 use Rattle.frames.specs.Frame.{frame_words, row_count, is_frame, frame_rows, values_in, marks_in}
-use Rattle.frames.proofs.FrameLaws.{values_length, marks_length, frame_length}
+use Rattle.frames.proofs.FrameLaws.{values_length, marks_length}
 use Rattle.frames.proofs.FrontLaws.{frame_few}
-use Rattle.tables.specs.Table.{After, leave, laid, table_of}
+use Rattle.tables.specs.Table.{leave, laid, table_of}
 use Rattle.tables.specs.Lay.{flat, lay_cells}
 use Rattle.frames.specs.declared.refusals.Refusal.TheVariants.{BadFrame, BadPoints, NoRoom}
 use Rattle.tables.specs.declared.Written.{Written}

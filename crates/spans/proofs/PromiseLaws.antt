@@ -1,23 +1,22 @@
 -- The promises of the call. Assumes nothing.
 use mathlib.Core.Path.{◌≡◌, refl, sym, ap, ◌∙◌}
 use mathlib.Core.Bool.{Bool, true, false, cond, not, ◌&&◌}
-use mathlib.Core.List.{List, [], ◌∷◌, ◌++◌, map}
-use Prim.Native.Nat.{ℕ, zero, suc, ◌+◌, ◌*◌, ◌≤◌, ◌<◌}
+use mathlib.Core.List.{List, [], ◌∷◌, map}
+use Prim.Native.Nat.{ℕ, suc, ◌*◌, ◌≤◌, ◌<◌}
 use native.Mathlib.Omega.{arith}
 use borrow.Author.Tests.{ltb-true, ltb-false}
 use lib.Dec.{ltb}
-use lib.ListN.{length, take, drop, length-append, length-map}
+use lib.ListN.{length, drop, length-append, length-map}
 use Rattle.frames.specs.Cells.{Cell, Rows, Words}
-use Rattle.frames.specs.Frame.{is_frame, row_count, frame_rows, frame_words, values_in, marks_in, is_table}
-use Rattle.order.proofs.SortedLaws.{All, all_join}
+use Rattle.frames.specs.Frame.{is_frame, row_count, frame_rows, frame_words, values_in, marks_in}
+use Rattle.order.proofs.SortedLaws.{all_join}
 use Rattle.frames.proofs.WordLaws.{rows_length, part_behind}
-use Rattle.tables.specs.Table.{table_rows, table_of, laid, leave}
-use Rattle.frames.specs.declared.refusals.Refusal.{Refusal}
+use Rattle.tables.specs.Table.{table_of, laid, leave}
 use Rattle.frames.specs.declared.refusals.Refusal.TheVariants.{BadFrame, BadPoints, NoRoom}
 use Rattle.tables.specs.declared.Written.{Written}
 use Rattle.tables.specs.declared.Written.TheVariants.{Rows as Wrote, Refused}
 use Rattle.tables.proofs.TableLaws.{Wide, table_is, table_rows_lem, table_length, laid_take}
-use Rattle.spans.specs.Span.{covers_row, covered, pair_row, pairs_from, pairs, ascending_points}
+use Rattle.spans.specs.Span.{covers_row, covered, pair_row, pairs_from, ascending_points}
 use Rattle.spans.specs.Calls.{pairs_in, span_answer, span_call}
 use Rattle.spans.specs.Promises.{Listed, Promises}
 use Rattle.spans.specs.declared.Bounds.{Bounds}

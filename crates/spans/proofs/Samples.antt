@@ -1,16 +1,14 @@
 -- Passes over small spans, by computation. Assumes nothing.
 use mathlib.Core.Path.{◌≡◌, refl}
 use mathlib.Core.Bool.{Bool, true, false}
-use mathlib.Core.List.{List, [], ◌∷◌, map}
-use Prim.Native.Nat.{ℕ}
-use lib.IntN.{pos, negsuc}
-use Rattle.frames.specs.Cells.{Cell, null, value, Rows, Words, rows_of, cells_of}
+use mathlib.Core.List.{[], ◌∷◌}
+use lib.IntN.{pos}
+use Rattle.frames.specs.Cells.{null, value, Rows, rows_of, cells_of}
 use Rattle.frames.specs.Frame.{is_frame, frame_rows, pairs_fine, is_table}
 use Rattle.order.proofs.Samples.{row, keys, frame_of}
 use Rattle.searching.specs.Search.{find, search, search_for}
-use Rattle.tables.specs.Table.{words_of, table_of, laid, After}
+use Rattle.tables.specs.Table.{words_of, table_of, laid}
 use Rattle.frames.specs.declared.refusals.Refusal.TheVariants.{BadFrame, BadPoints, NoRoom}
-use Rattle.tables.specs.declared.Written.{Written}
 use Rattle.tables.specs.declared.Written.TheVariants.{Rows as Wrote, Refused}
 use Rattle.spans.specs.Span.{covered, pair_row, pairs_from, pairs, ascending_points}
 use Rattle.spans.specs.declared.Bounds.{Bounds}

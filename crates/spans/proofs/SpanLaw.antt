@@ -1,7 +1,7 @@
 -- Over sorted points without null the points between the two searches are those inside the bounds. Assumes nothing.
 use mathlib.Core.Path.{◌≡◌, refl, sym, ap, ◌∙◌}
 use mathlib.Core.Bool.{Bool, true, false, cond, not, ◌&&◌}
-use mathlib.Core.List.{List, [], ◌∷◌, ◌++◌, map}
+use mathlib.Core.List.{List, [], ◌∷◌}
 use Prim.Native.Nat.{ℕ, zero, suc, ◌+◌, ◌-◌, ◌≤◌, ◌<◌, max, min}
 use native.Mathlib.Omega.{arith}
 use native.Mathlib.Decide.{dec_lt}
@@ -21,9 +21,9 @@ use Rattle.frames.proofs.BoolLaws.{and-true}
 use Rattle.searching.specs.Search.{find, meets}
 use Rattle.searching.specs.declared.Seek.{Seek}
 use Rattle.searching.specs.declared.Seek.TheVariants.{AtLeast, Above}
-use Rattle.searching.proofs.SearchLaws.{Cut, search_cut, before_or}
+use Rattle.searching.proofs.SearchLaws.{Cut, search_cut}
 use Rattle.searching.proofs.Bounds.{meets_later}
-use Rattle.spans.specs.Span.{covers, covers_row, covered, pair_row, pairs_from, ascending_points}
+use Rattle.spans.specs.Span.{covers, covers_row, covered, pairs_from, ascending_points}
 use Rattle.spans.specs.Port.{seek_lower, seek_upper, search_sorted, up_from, stretch, matches_of, ported_from, PortedIsAll}
 use Rattle.spans.specs.declared.Bounds.{Bounds}
 

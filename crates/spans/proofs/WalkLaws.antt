@@ -2,32 +2,25 @@
 use mathlib.Core.Path.{◌≡◌, refl, sym, ap, ◌∙◌}
 use mathlib.Core.Bool.{Bool, true, false, cond, not, ◌&&◌}
 use mathlib.Core.List.{List, [], ◌∷◌, ◌++◌, map}
-use Prim.Native.Nat.{ℕ, zero, suc, ◌+◌, ◌-◌, ◌*◌, ◌^◌, ◌≤◌, ◌<◌}
+use Prim.Native.Nat.{ℕ, zero, suc, ◌+◌, ◌-◌, ◌*◌, ◌≤◌, ◌<◌}
 use native.Mathlib.Nat.{mul-le-mul_right}
 use native.Mathlib.Numerals.{add-one}
 use native.Mathlib.Omega.{arith}
-use borrow.Author.Tests.{lt-ltb, le-ltb}
-use lib.Dec.{ltb}
 use lib.IntN.{ℤ, pos}
-use lib.ListN.{length, drop, get_or, set, length-append, length-map}
+use lib.ListN.{length, drop, set, length-append, length-map}
 use lib.Seq.{drop-drop}
 use Rattle.frames.specs.Cells.{Cell, null, value, is_zero, cell_of, rows_of, row_from, cell, is_null, Rows, Words}
-use Rattle.frames.specs.Frame.{frame_words}
 use Rattle.order.specs.options.Options.{key_rule}
 use Rattle.order.specs.Order.{cmp_cell, is_greater}
 use Rattle.order.specs.Requires.{cell_at}
 use Rattle.order.proofs.RowLaws.{row_cell}
 use Rattle.searching.specs.declared.Stretch.{Stretch}
-use Rattle.tables.specs.Table.{laid, table_of, leave}
 use Rattle.tables.specs.Lay.{flat, lay_cells}
-use Rattle.frames.specs.declared.refusals.Refusal.TheVariants.{BadPoints, NoRoom}
-use Rattle.tables.specs.declared.Written.TheVariants.{Rows as Wrote, Refused}
-use Rattle.tables.proofs.LayLaws.{flat_append, lay_none, lay_append, lay_table}
-use Rattle.spans.specs.Span.{pair_row, pairs, ascending_points}
+use Rattle.tables.proofs.LayLaws.{flat_append, lay_none, lay_append}
+use Rattle.spans.specs.Span.{pair_row, ascending_points}
 use Rattle.spans.specs.Port.{seek_lower, seek_upper, search_sorted, up_from, matches_of, ported_from}
 use Rattle.spans.specs.Requires.{Matched, ported}
 use Rattle.spans.specs.declared.Bounds.{Bounds}
-use Rattle.spans.proofs.SpanLaw.{ported_is_all}
 
 -- ---- the rows from place p on, n of them
 abbrev pub rest : ℕ → ℕ → ℕ → Words → Words → Rows

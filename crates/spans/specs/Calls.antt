@@ -1,5 +1,5 @@
 -- The call over points and intervals: what it answers, and the words of its output. Assumes nothing.
-use Rattle.std.specs.Prelude.{◌≡◌, Bool, cond, not, ◌&&◌, ℕ, ltb, length}
+use Rattle.std.specs.Prelude.{◌≡◌, cond, not, ◌&&◌, ltb, length}
 use Rattle.frames.specs.Cells.{Rows, Words}
 use Rattle.frames.specs.Frame.{is_frame, frame_rows, frame_words}
 use Rattle.tables.specs.Table.{After, leave}

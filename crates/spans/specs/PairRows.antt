@@ -2,7 +2,7 @@
 use Rattle.std.specs.Prelude.{◌≡◌, cond, not, ℕ, ltb, length}
 use Rattle.frames.specs.Cells.{Rows, Words, rows_of}
 use Rattle.frames.specs.Frame.{frame_words}
-use Rattle.tables.specs.Table.{After, leave}
+use Rattle.tables.specs.Table.{leave}
 use Rattle.frames.specs.declared.refusals.Refusal.TheVariants.{BadPoints, NoRoom}
 use Rattle.tables.specs.declared.Written.{Written}
 use Rattle.tables.specs.declared.Written.TheVariants.{Rows as Wrote, Refused}

@@ -1,5 +1,5 @@
 -- The matching as `compute_and_emit_task` of range_join.rs does it, ascending: two searches for each interval row, and the points between them. Assumes nothing.
-use Rattle.std.specs.Prelude.{◌≡◌, Bool, true, false, cond, List, [], ◌∷◌, ◌++◌, map, ℕ, zero, suc, ◌-◌, ℤ, length}
+use Rattle.std.specs.Prelude.{◌≡◌, true, cond, List, [], ◌∷◌, ◌++◌, map, ℕ, zero, suc, ◌-◌, ℤ, length}
 use Rattle.frames.specs.Cells.{Cell, null, value, cell, Rows}
 use Rattle.order.specs.options.Options.{key_rule}
 use Rattle.searching.specs.Search.{find}

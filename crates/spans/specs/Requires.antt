@@ -1,7 +1,6 @@
 -- What the functions over points and pairs ask of what they are handed, and what they answer: small records. Assumes nothing.
-use Rattle.std.specs.Prelude.{◌≡◌, List, map, ℕ, ◌+◌, ◌-◌, ◌*◌, ◌^◌, ◌≤◌, ◌<◌, length}
+use Rattle.std.specs.Prelude.{◌≡◌, ℕ, ◌+◌, ◌-◌, ◌*◌, ◌^◌, ◌≤◌, ◌<◌, length}
 use Rattle.frames.specs.Cells.{Cell, Rows, Words, rows_of}
-use Rattle.order.specs.Requires.{cell_at}
 use Rattle.searching.specs.declared.Stretch.{Stretch}
 use Rattle.spans.specs.Port.{up_from, matches_of, ported_from}
 use Rattle.spans.specs.declared.Bounds.{Bounds}
