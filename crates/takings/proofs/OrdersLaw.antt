@@ -9,7 +9,7 @@ use native.Mathlib.Omega.{arith}
 use borrow.Author.Tests.{ltb-false, le-ltb, not-true}
 use lib.Dec.{ltb, eqb}
 use lib.IntN.{ℤ, pos, nat_abs, ◌+ℤ◌, +ℤ_assoc, +ℤ_comm, +ℤ_idl, +ℤ_idr}
-use lib.ListN.{length, take, get_or, length-append, length-map, get_or-append}
+use lib.ListN.{length, take, length-append, length-map, get_or-append}
 use lib.Seq.{take_at, get_or_at, get_or-append-add, get_or-take, length-take-le}
 use Rattle.frames.specs.Cells.{Cell, null, value, cell, is_null, Rows, Words}
 use Rattle.frames.specs.Frame.{row_count, frame_words, is_frame, frame_rows, is_table}
@@ -20,15 +20,15 @@ use Rattle.frames.proofs.BoolLaws.{and-true}
 use Rattle.frames.proofs.FrameLaws.{frame_rows_lem, frame_wide}
 use Rattle.order.specs.Listed.{lacks_code}
 use Rattle.tables.specs.Options.{unless}
-use Rattle.tables.specs.Table.{table_of, laid}
+use Rattle.tables.specs.Table.{laid}
 use Rattle.tables.proofs.TableLaws.{Wide, table_rows_lem, table_is, laid_take}
 use Rattle.frames.specs.declared.refusals.Refusal.{Refusal}
 use Rattle.frames.specs.declared.refusals.Refusal.TheVariants.{BadOptions, TooManyCarried, BadRanks, BadFrame, UnknownCode, BadColumns, Unsorted, Beyond, NoRoom}
 use Rattle.rows.specs.nulls.Nulls.{any_null}
-use Rattle.takings.specs.Subtotals.{Subtotal, add_all, total_for, count_for, row_of, subtotals_of, most_amount, most_sales, beyond_row, beyond_rows, sales_in, beyond_number, Tells}
+use Rattle.takings.specs.Subtotals.{Subtotal, add_all, total_for, count_for, row_of, subtotals_of, most_amount, most_sales, beyond_row, beyond_rows, sales_in, beyond_number}
 use Rattle.takings.specs.Sales.{Sale, sales_of, with_amount, amounts_of, nulls_of, beyond_amounts, matched}
-use Rattle.takings.specs.Calls.{After, table_width, table_words, columns_in, any_frame, known_columns, rows_in, subtotals_in, fine_subtotals, sales_by, result, leave, add_answer, add_call, join_answer, join_call}
-use Rattle.takings.specs.Orders.{Account, Calls, fresh, adding, joining, empty_account, took_by, took, after, given, all_sales, Permuted, empty, next, swap, then, Sums, HandedOn, AllOrders}
+use Rattle.takings.specs.Calls.{table_width, table_words, columns_in, any_frame, known_columns, rows_in, subtotals_in, fine_subtotals, sales_by, result, leave, add_answer, add_call, join_answer, join_call}
+use Rattle.takings.specs.Orders.{Account, Calls, fresh, adding, joining, empty_account, took, after, given, all_sales, Permuted, empty, next, swap, then, HandedOn, AllOrders}
 use Rattle.takings.specs.declared.Taken.{Taken}
 use Rattle.takings.specs.declared.Taken.TheVariants.{Table, Refused}
 use Rattle.takings.proofs.SubtotalLaws.{Every, Fine, Unit-fine, Bounded, bounded_all, every_all, rising_ascending, count_more, total_more, count_all, total_all, fine_all, fine_units, only_table, fine_tells}

@@ -1,33 +1,32 @@
 -- The promises of the calls over takings. Assumes nothing.
-use mathlib.Core.Path.{◌≡◌, refl, sym, ap, ◌∙◌}
-use mathlib.Core.Bool.{Bool, true, false, not, ◌&&◌, ◌||◌}
+use mathlib.Core.Path.{◌≡◌, refl, ◌∙◌}
+use mathlib.Core.Bool.{true, not, ◌&&◌}
 use mathlib.Core.List.{List, [], ◌∷◌, map}
 use Prim.Native.Nat.{ℕ, ◌+◌, ◌*◌, ◌≤◌}
 use native.Mathlib.Omega.{arith}
 use lib.Dec.{eqb}
 use lib.IntN.{ℤ}
-use lib.ListN.{length, take, drop, length-map, length-drop}
+use lib.ListN.{length, drop, length-map, length-drop}
 use lib.Seq.{length-take-le}
-use Rattle.frames.specs.Cells.{Cell, Rows, Words}
+use Rattle.frames.specs.Cells.{Rows, Words}
 use Rattle.frames.specs.Frame.{row_count, frame_words, is_frame, is_table, frame_rows, values_in, marks_in}
 use Rattle.frames.proofs.FrameLaws.{table_parts}
 use Rattle.frames.proofs.BoolLaws.{and-true}
 use Rattle.frames.proofs.WordLaws.{part_behind}
 use Rattle.order.specs.options.Options.{columns}
 use Rattle.order.specs.declared.options.Options.{Options}
-use Rattle.tables.specs.Table.{table_of, laid}
+use Rattle.tables.specs.Table.{laid}
 use Rattle.tables.proofs.TableLaws.{Wide, table_length}
 use Rattle.tables.proofs.CellLaws.{rows_are_wide}
-use Rattle.frames.specs.declared.refusals.Refusal.{Refusal}
 use Rattle.frames.specs.declared.refusals.Refusal.TheVariants.{BadFrame}
 use Rattle.takings.specs.Subtotals.{Subtotal, add_all, row_of, subtotals_of}
 use Rattle.takings.specs.Sales.{amounts_of}
-use Rattle.takings.specs.Calls.{After, table_width, table_words, any_frame, rows_in, subtotals_in, sales_by, leave, add_answer, add_call, join_answer, join_call}
+use Rattle.takings.specs.Calls.{table_width, table_words, any_frame, rows_in, subtotals_in, sales_by, leave, add_answer, add_call, join_answer, join_call}
 use Rattle.takings.specs.Promises.{Kept, Promises}
 use Rattle.takings.specs.declared.Taken.{Taken}
 use Rattle.takings.specs.declared.Taken.TheVariants.{Table, Refused}
 use Rattle.takings.proofs.SubtotalLaws.{Every, every_map, every_all, Unit-fine}
-use Rattle.takings.proofs.OrdersLaw.{passed, not-false, past, Result, add_told, join_told, rows_wide, by_fine}
+use Rattle.takings.proofs.OrdersLaw.{passed, not-false, past, add_told, join_told, rows_wide, by_fine}
 
 -- The subtotals of rows that are wide enough have groups of `by` cells.
 groups_wide : (o : Options) (rs : Rows) → Wide (table_width o) rs → Every (λ t. length t.group ≡ o.by) (subtotals_of o rs)

@@ -2,7 +2,7 @@
 use mathlib.Core.Path.{◌≡◌, refl}
 use mathlib.Core.Bool.{true, false}
 use mathlib.Core.List.{[], ◌∷◌, map}
-use mathlib.Core.Option.{none, some}
+use mathlib.Core.Option.{some}
 use Prim.Native.Nat.{ℕ}
 use lib.IntN.{pos, negsuc}
 use lib.ListN.{replicate}
@@ -20,7 +20,7 @@ use Rattle.rows.specs.nulls.Nulls.{any_null}
 use Rattle.takings.specs.Subtotals.{insert, add_all, ascending, subtotals_of, beyond_row, beyond_rows, sales_in}
 use Rattle.takings.specs.Sales.{sales_of, amounts_of, nulls_of, beyond_amounts}
 use Rattle.takings.specs.Calls.{fine_subtotals, sales_by, result, add_answer, add_call, join_answer, join_call}
-use Rattle.takings.specs.Orders.{Account, Calls, fresh, adding, joining, given}
+use Rattle.takings.specs.Orders.{Account, fresh, adding, joining, given}
 use Rattle.takings.specs.declared.Taken.{Taken}
 use Rattle.takings.specs.declared.Taken.TheVariants.{Table, Refused}
 

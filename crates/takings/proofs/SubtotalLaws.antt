@@ -1,23 +1,22 @@
 -- The laws of subtotals: what an insertion adds to a group's count and total; that it keeps group order; and that a table in group order is the only one
 -- that says what it says of every group. Assumes nothing.
 use mathlib.Core.Path.{◌≡◌, refl, sym, ap, ◌∙◌}
-use mathlib.Core.Bool.{Bool, true, false, cond, ◌&&◌}
-use mathlib.Core.List.{List, [], ◌∷◌, ◌++◌}
+use mathlib.Core.Bool.{Bool, true, false, cond}
+use mathlib.Core.List.{List, [], ◌∷◌}
 use mathlib.Core.Logic.{◌⊎◌, inl, inr}
-use Prim.Native.Nat.{ℕ, zero, suc, ◌+◌, ◌-◌, ◌*◌, ◌≤◌, ◌<◌}
+use Prim.Native.Nat.{ℕ, suc, ◌+◌, ◌-◌, ◌*◌, ◌≤◌, ◌<◌}
 use native.Mathlib.Omega.{arith}
 use native.Mathlib.Decide.{dec_lt}
 use borrow.Author.Tests.{lt-ltb, le-ltb}
-use lib.Dec.{ltb}
 use lib.IntN.{ℤ, pos, negsuc, nat_abs, sub_ℕ, ◌+ℤ◌, ◌-ℤ◌, +ℤ_assoc, +ℤ_comm, +ℤ_idl, +ℤ_idr, +ℤ-neg_ℤ_cancel}
-use lib.ListN.{length, get_or}
+use lib.ListN.{length}
 use lib.Seq.{ext_get_or}
 use Rattle.frames.specs.Cells.{Cell, null}
 use Rattle.order.specs.Order.{cmp_group, is_less, is_equal}
 use Rattle.order.specs.declared.options.Options.{Options}
 use Rattle.order.specs.declared.Order.{Order}
 use Rattle.order.specs.declared.Order.TheVariants.{Less, Equal, Greater}
-use Rattle.order.proofs.OrderLaws.{flip, cmp_group_is, greater_less, less_greater, three, group_equal}
+use Rattle.order.proofs.OrderLaws.{cmp_group_is, greater_less, less_greater, three, group_equal}
 use Rattle.frames.proofs.BoolLaws.{and-true}
 use Rattle.takings.specs.Subtotals.{Subtotal, cmp_sub, plus, insert, add_all, total_for, count_for, ascending, each_sold, sales_in, most_amount, Tells}
 

@@ -1,5 +1,5 @@
 -- The two calls: a frame's sales added to a table, and two tables of subtotals joined. Assumes nothing.
-use Rattle.std.specs.Prelude.{Bool, true, false, cond, not, ◌&&◌, ◌||◌, List, map, ℕ, suc, ◌+◌, ltb, eqb, ℤ, pos, nat_abs, length, get_or}
+use Rattle.std.specs.Prelude.{Bool, cond, not, ◌&&◌, ◌||◌, List, map, ℕ, suc, ◌+◌, ltb, eqb, ℤ, pos, nat_abs, length, get_or}
 use Rattle.frames.specs.Cells.{Rows, Words}
 use Rattle.frames.specs.Frame.{row_count, frame_words, is_frame, frame_rows, is_table}
 use Rattle.order.specs.options.Options.{columns}

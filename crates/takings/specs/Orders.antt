@@ -1,5 +1,5 @@
 -- That the order of adding and joining does not matter: the account is what the sales add up to. The statement. Assumes nothing.
-use Rattle.std.specs.Prelude.{◌≡◌, true, false, List, [], ◌∷◌, ◌++◌, ℕ, ℤ, pos, take}
+use Rattle.std.specs.Prelude.{◌≡◌, true, false, List, [], ◌∷◌, ◌++◌, ℤ, pos, take}
 use Rattle.std.proofs.Math.Option.{Option, none, some}
 use Rattle.frames.specs.Cells.{Words}
 use Rattle.frames.specs.Frame.{frame_words, is_table}

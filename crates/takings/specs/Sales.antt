@@ -1,5 +1,5 @@
 -- The matched sales of a left frame and its answer frame. Assumes nothing.
-use Rattle.std.specs.Prelude.{Bool, true, false, cond, not, ◌&&◌, ◌||◌, List, [], ◌∷◌, ℕ, suc, ltb, ℤ, pos, nat_abs, take}
+use Rattle.std.specs.Prelude.{Bool, false, cond, not, ◌&&◌, ◌||◌, List, [], ◌∷◌, ℕ, suc, ltb, nat_abs, take}
 use Rattle.frames.specs.Cells.{Cell, null, value, cell, is_null, Rows}
 use Rattle.order.specs.Order.{null_group}
 use Rattle.order.specs.declared.options.Options.{Options}

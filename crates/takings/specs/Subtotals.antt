@@ -1,7 +1,7 @@
 -- Subtotals: a group's total and sale count; a table of them in group order. Assumes nothing.
-use Rattle.std.specs.Prelude.{◌≡◌, Bool, true, false, cond, not, ◌&&◌, ◌||◌, List, [], ◌∷◌, ◌++◌, ℕ, zero, suc, ◌+◌, ◌*◌, ◌^◌, ◌≤◌, ltb, ℤ, pos, nat_abs, ◌+ℤ◌, take}
+use Rattle.std.specs.Prelude.{◌≡◌, Bool, true, false, cond, ◌&&◌, ◌||◌, List, [], ◌∷◌, ◌++◌, ℕ, suc, ◌+◌, ◌*◌, ◌^◌, ltb, ℤ, pos, nat_abs, ◌+ℤ◌, take}
 use Rattle.std.specs.Int.Signed.{lt_z}
-use Rattle.frames.specs.Cells.{Cell, null, value, cell, is_null, Rows}
+use Rattle.frames.specs.Cells.{Cell, null, value, cell, Rows}
 use Rattle.order.specs.Order.{cmp_group, is_less, is_equal}
 use Rattle.order.specs.declared.options.Options.{Options}
 use Rattle.order.specs.declared.Order.{Order}
