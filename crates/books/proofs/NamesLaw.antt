@@ -2,7 +2,6 @@
 use mathlib.Core.Path.{◌≡◌, refl, sym, ap, ◌∙◌}
 use mathlib.Core.Bool.{Bool, true, false, cond, not, ◌||◌}
 use mathlib.Core.List.{List, [], ◌∷◌}
-use mathlib.Core.Logic.{◌⊎◌, inl, inr}
 use Prim.Native.Nat.{ℕ, zero, suc, ◌+◌, ◌-◌, ◌<◌, ◌≤◌}
 use native.Mathlib.Omega.{arith}
 use borrow.Author.Tests.{eq-eqb, ne_eqb}
@@ -10,7 +9,7 @@ use lib.Dec.{eqb}
 use lib.ListN.{length, drop, get_or, length-drop}
 use lib.Seq.{get_or-drop}
 use Rattle.frames.specs.Cells.{Cell, Rows}
-use Rattle.order.specs.Order.{cmp_row, is_equal}
+use Rattle.order.specs.Order.{is_equal}
 use Rattle.order.specs.declared.options.Options.{Options}
 use Rattle.order.proofs.OrderLaws.{cmp_row_is}
 use Rattle.books.specs.Standing.{corrects, corrected, last_of, LastIs, named_by, NamesLast}

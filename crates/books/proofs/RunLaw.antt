@@ -1,6 +1,6 @@
 -- On a sorted table the rows of a group and key stand together: a row is corrected exactly where the next row corrects it, and the last row of its group
 -- and key is then that of the next row. So one walk from the last row back lists all notices. Assumes nothing.
-use mathlib.Core.Path.{◌≡◌, refl, sym, ap, ◌∙◌}
+use mathlib.Core.Path.{◌≡◌, refl, ap}
 use mathlib.Core.Bool.{Bool, true, false, cond, ◌||◌}
 use mathlib.Core.List.{List, [], ◌∷◌}
 use Prim.Native.Nat.{ℕ, suc}
@@ -9,7 +9,7 @@ use Rattle.order.specs.Order.{cmp_row, is_equal}
 use Rattle.order.specs.declared.options.Options.{Options}
 use Rattle.order.specs.declared.Order.{Order}
 use Rattle.order.specs.declared.Order.TheVariants.{Less, Equal, Greater}
-use Rattle.order.proofs.OrderLaws.{AtMost, cmp_row_is, same_right, at_most_equal, equal_at_most, equal_flip, at_most}
+use Rattle.order.proofs.OrderLaws.{AtMost, cmp_row_is, same_right, at_most_equal, equal_at_most, at_most}
 use Rattle.order.proofs.SortedLaws.{All, Ordered}
 use Rattle.matching.proofs.MayLaws.{is_false, never}
 use Rattle.books.specs.Standing.{corrects, corrected, last_of}

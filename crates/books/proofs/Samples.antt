@@ -4,7 +4,7 @@ use mathlib.Core.Bool.{true, false}
 use mathlib.Core.List.{List, [], ◌∷◌, map}
 use Prim.Native.Nat.{ℕ}
 use lib.IntN.{pos, negsuc}
-use Rattle.frames.specs.Cells.{Cell, null, value, cell, Rows, Words, rows_of, cells_of}
+use Rattle.frames.specs.Cells.{Cell, null, value, Rows, Words, rows_of, cells_of}
 use Rattle.frames.specs.Frame.{frame_rows, pairs_fine, is_table}
 use Rattle.order.specs.ranks.Ranks.{bad_ranks, rises, rises_behind, below, placed, listed as in_list}
 use Rattle.order.specs.options.Options.{bad_options}
@@ -13,15 +13,14 @@ use Rattle.order.specs.declared.options.Options.{Options}
 use Rattle.order.specs.Listed.{unlisted_in}
 use Rattle.order.proofs.Samples.{options, carrying, ranking, ranks_by, row, frame_of}
 use Rattle.matching.specs.Match.{whole_table, match_table, choose, tolerate, fits, takes_over}
-use Rattle.matching.specs.declared.Choice.TheVariants.{Row, Nothing}
-use Rattle.frames.specs.refusals.Refusals.{number}
-use Rattle.tables.specs.Table.{words_of, table_of, laid, After}
-use Rattle.frames.specs.declared.refusals.Refusal.TheVariants.{BadOptions, TooManyCarried, BadRanks, BadFrame, UnknownCode, BadColumns, Unsorted, NoRoom}
+use Rattle.matching.specs.declared.Choice.TheVariants.{Row}
+use Rattle.tables.specs.Table.{words_of, table_of, laid}
+use Rattle.frames.specs.declared.refusals.Refusal.TheVariants.{TooManyCarried, BadFrame, UnknownCode, BadColumns, Unsorted, NoRoom}
 use Rattle.tables.specs.declared.Written.{Written}
 use Rattle.tables.specs.declared.Written.TheVariants.{Rows as Wrote, Refused}
 use Rattle.books.specs.Merge.{merge}
 use Rattle.books.specs.Standing.{notices, notice_of, stands, corrected, last_of, standing, places, translated}
-use Rattle.books.specs.Calls.{merge_answer, merge_call, stand_answer, stand_call}
+use Rattle.books.specs.Calls.{merge_answer, merge_call, stand_answer}
 
 -- Groups of one by-column, Backward.
 abbrev one : ℕ → Options

@@ -1,18 +1,17 @@
 -- If nothing is withdrawn, leaving out the notices that do not stand changes no match of Backward or Nearest: a notice that is corrected later is never
 -- picked, since its correction takes its place. Rows may stand in any order. Assumes nothing.
-use mathlib.Core.Path.{◌≡◌, refl, sym, ap, ◌∙◌, subst}
+use mathlib.Core.Path.{◌≡◌, refl, sym, ◌∙◌, subst}
 use mathlib.Core.Bool.{Bool, true, false, cond, not, ◌&&◌, ◌||◌}
 use mathlib.Core.List.{List, [], ◌∷◌, ◌++◌, append_assoc}
 use mathlib.Core.Logic.{◌⊎◌, inl, inr}
-use Prim.Native.Nat.{ℕ, zero, suc, ◌+◌}
+use Prim.Native.Nat.{ℕ, suc}
 use native.Mathlib.Omega.{arith}
 use borrow.Author.Tests.{le-ltb, eq-eqb, not-true}
-use lib.Dec.{ltb, eqb}
 use lib.ListN.{length, get_or, length-append}
 use lib.Seq.{get_or-append_seam}
 use Rattle.frames.specs.Cells.{Cell, Rows}
 use Rattle.order.specs.options.Options.{strategy_of, key_rule}
-use Rattle.order.specs.Order.{cmp_row, cmp_group, cmp_cell, is_equal, key_of, null_key, null_group, distance}
+use Rattle.order.specs.Order.{cmp_row, cmp_group, is_equal, key_of, distance}
 use Rattle.order.specs.declared.options.Options.{Options}
 use Rattle.order.specs.declared.Order.{Order}
 use Rattle.order.specs.declared.Order.TheVariants.{Less, Equal, Greater}
@@ -21,11 +20,10 @@ use Rattle.order.specs.declared.options.Strategy.TheVariants.{Backward, Forward,
 use Rattle.order.proofs.OrderLaws.{cmp_cell_is, cmp_group_is, row_equal}
 use Rattle.frames.proofs.BoolLaws.{and-true}
 use Rattle.order.proofs.KeyLaws.{null_group_lem}
-use Rattle.matching.specs.Match.{Hit, nobody, hit, on_side, fits, takes_over, meet, choose, too_far, tolerate, match_table, whole_table}
-use Rattle.matching.specs.declared.Choice.{Choice}
+use Rattle.matching.specs.Match.{Hit, nobody, hit, takes_over, meet, choose, too_far, tolerate, match_table, whole_table}
 use Rattle.matching.specs.declared.Choice.TheVariants.{Row, Nothing}
 use Rattle.matching.proofs.ChoiceLaws.{cond_ind}
-use Rattle.matching.proofs.MayLaws.{may, May, may_out, may_in, never, is_false, over_then, over_or}
+use Rattle.matching.proofs.MayLaws.{may, may_out, may_in, over_then, over_or}
 use Rattle.books.specs.Standing.{withdrawn, corrects, corrected, nameless, stands, standing, places, none_withdrawn, translated, SamePicks}
 
 -- ---- tests

@@ -1,5 +1,5 @@
 -- What the judges of books answer, test by test; and what their answer says of the calls over books. Assumes nothing.
-use mathlib.Core.Path.{◌≡◌, refl, sym, ◌∙◌}
+use mathlib.Core.Path.{◌≡◌, refl, ◌∙◌}
 use mathlib.Core.Bool.{Bool, true, false, cond, not, ◌&&◌, ◌||◌}
 use Prim.Native.Nat.{ℕ, ◌+◌, ◌*◌, ◌≤◌, ◌<◌}
 use native.Mathlib.Omega.{arith}
@@ -13,7 +13,7 @@ use Rattle.frames.proofs.FrameLaws.{table_parts}
 use Rattle.frames.proofs.BoolLaws.{and-true}
 use Rattle.order.specs.options.Options.{bad_options, many_carried, bad_ranked, Few}
 use Rattle.order.specs.declared.options.Options.{Options}
-use Rattle.order.proofs.options.OptionLaws.{or_both, Allowed, allowed_parts, good_allowed}
+use Rattle.order.proofs.options.OptionLaws.{Allowed, allowed_parts, good_allowed}
 use Rattle.order.specs.Listed.{lacks_code}
 use Rattle.tables.specs.Options.{unless}
 use Rattle.tables.specs.Table.{leave}

@@ -1,21 +1,19 @@
 -- The promises of the merge. Assumes nothing.
 use mathlib.Core.Path.{◌≡◌, refl, sym, ap, ◌∙◌}
 use mathlib.Core.Bool.{Bool, true, false, cond, not, ◌&&◌, ◌||◌}
-use Prim.Native.Nat.{ℕ, ◌+◌, ◌*◌, ◌≤◌, ◌<◌}
+use Prim.Native.Nat.{ℕ, ◌+◌, ◌≤◌, ◌<◌}
 use native.Mathlib.Omega.{arith}
 use borrow.Author.Tests.{ltb-true, ltb-false, not-false}
 use lib.Dec.{ltb}
 use lib.ListN.{length, take, drop}
 use Rattle.frames.specs.Cells.{Rows, Words}
-use Rattle.frames.specs.Frame.{row_count, frame_rows, frame_words, values_in, marks_in, is_table}
+use Rattle.frames.specs.Frame.{row_count, frame_rows, frame_words, values_in, marks_in}
 use Rattle.frames.proofs.BoolLaws.{and-true}
 use Rattle.frames.proofs.WordLaws.{rows_length, part_behind}
 use Rattle.order.specs.options.Options.{bad_options, many_carried, bad_ranked, right_columns}
 use Rattle.order.specs.declared.options.Options.{Options}
 use Rattle.order.specs.Order.{sorted}
 use Rattle.order.specs.Listed.{lacks_code}
-use Rattle.order.proofs.SortedLaws.{All}
-use Rattle.tables.specs.Options.{unless}
 use Rattle.tables.specs.Table.{table_of, laid, leave}
 use Rattle.frames.specs.declared.refusals.Refusal.{Refusal}
 use Rattle.frames.specs.declared.refusals.Refusal.TheVariants.{BadOptions, TooManyCarried, BadRanks, BadFrame, UnknownCode, Unsorted, NoRoom}
@@ -23,7 +21,7 @@ use Rattle.tables.specs.declared.Written.{Written}
 use Rattle.tables.specs.declared.Written.TheVariants.{Rows as Wrote, Refused}
 use Rattle.tables.proofs.TableLaws.{Wide, table_is, table_rows_lem, table_length, laid_take}
 use Rattle.tables.proofs.CellLaws.{rows_are_wide}
-use Rattle.books.specs.Merge.{merge, Merged}
+use Rattle.books.specs.Merge.{merge}
 use Rattle.books.specs.Calls.{is_book, rows_in, merge_answer, merge_call}
 use Rattle.books.proofs.MergeLaws.{merge_laws}
 use Rattle.books.proofs.WalkLaws.{merge_all, merge_length}

@@ -1,9 +1,9 @@
 -- The notices, from the last row back. Assumes nothing.
 use mathlib.Core.Path.{◌≡◌, refl, sym, ap, subst, ◌∙◌}
-use mathlib.Core.Bool.{Bool, true, false, cond, not, ◌&&◌, ◌||◌}
+use mathlib.Core.Bool.{Bool, true, false, cond, not, ◌&&◌}
 use mathlib.Core.List.{List, [], ◌∷◌, ◌++◌}
-use mathlib.Core.Logic.{◌⊎◌, inl, inr, ⊎_elim}
-use Prim.Native.Nat.{ℕ, zero, suc, ◌+◌, ◌-◌, ◌*◌, ◌^◌, ◌≤◌, ◌<◌}
+use mathlib.Core.Logic.{◌⊎◌, ⊎_elim}
+use Prim.Native.Nat.{ℕ, suc, ◌+◌, ◌-◌, ◌*◌, ◌^◌, ◌≤◌, ◌<◌}
 use native.Mathlib.Numerals.{add-one}
 use native.Mathlib.Omega.{arith}
 use denote.Enum.Declared.{tag_of}
@@ -29,10 +29,10 @@ use Rattle.order.proofs.RowLaws.{row_cell}
 use Rattle.frames.proofs.WordLaws.{rows_drop, rows_length}
 use Rattle.tables.specs.Requires.{rest}
 use Rattle.tables.specs.Lay.{flat, lay_cells}
-use Rattle.tables.proofs.LayLaws.{lay_append, lay_order, lay_none, lay_length}
+use Rattle.tables.proofs.LayLaws.{lay_append, lay_order, lay_none}
 use Rattle.tables.proofs.CellLaws.{rest_more, rest_none, flat_length}
 use Rattle.tables.proofs.TableLaws.{Wide}
-use Rattle.books.specs.Standing.{is_one, nameless, withdrawn, corrected, corrects, last_of, stands, notice_of, notices}
+use Rattle.books.specs.Standing.{is_one, nameless, withdrawn, corrects, last_of, stands, notice_of, notices}
 use Rattle.books.proofs.NamesLaw.{corrected_last}
 use Rattle.books.proofs.RunLaw.{last_next}
 use Rattle.books.specs.notices.Requires.{notice_by, last_by}

@@ -1,10 +1,10 @@
 -- Two books by their rows: what their merge asks, answers and writes. Assumes nothing.
 use Rattle.std.specs.Prelude.{◌≡◌, cond, not, ◌&&◌, ℕ, ◌+◌, ◌≤◌, ltb, length}
-use Rattle.frames.specs.Cells.{Rows, Words, rows_of}
+use Rattle.frames.specs.Cells.{Rows, Words}
 use Rattle.frames.specs.Frame.{frame_words}
 use Rattle.order.specs.declared.options.Options.{Options}
 use Rattle.order.specs.Order.{sorted}
-use Rattle.tables.specs.Table.{After, leave}
+use Rattle.tables.specs.Table.{leave}
 use Rattle.frames.specs.declared.refusals.Refusal.TheVariants.{Unsorted, NoRoom}
 use Rattle.tables.specs.declared.Written.{Written}
 use Rattle.tables.specs.declared.Written.TheVariants.{Rows as Wrote, Refused}

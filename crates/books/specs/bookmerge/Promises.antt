@@ -1,11 +1,10 @@
 -- What a host can lean on, told of the merge. Assumes nothing.
 use Rattle.std.specs.Prelude.{◌≡◌, true, ℕ, ◌+◌, ◌≤◌, length, take, drop}
 use Rattle.frames.specs.Cells.{Words}
-use Rattle.frames.specs.Frame.{row_count, frame_words, is_table}
+use Rattle.frames.specs.Frame.{row_count, frame_words}
 use Rattle.order.specs.options.Options.{right_columns}
 use Rattle.order.specs.declared.options.Options.{Options}
 use Rattle.order.specs.Order.{sorted}
-use Rattle.tables.specs.Table.{table_rows}
 use Rattle.books.specs.Merge.{Merged}
 use Rattle.books.specs.Calls.{is_book, rows_in, merge_call}
 use Rattle.frames.specs.declared.refusals.Refusal.{Refusal}

@@ -6,7 +6,7 @@ use Rattle.order.specs.options.Options.{right_columns}
 use Rattle.order.specs.declared.options.Options.{Options}
 use Rattle.order.specs.Order.{sorted}
 use Rattle.order.specs.Requires.{RowsIn}
-use Rattle.tables.specs.Table.{After, leave}
+use Rattle.tables.specs.Table.{leave}
 use Rattle.frames.specs.declared.refusals.Refusal.TheVariants.{BadColumns, Unsorted, NoRoom}
 use Rattle.tables.specs.declared.Written.{Written}
 use Rattle.tables.specs.declared.Written.TheVariants.{Rows as Wrote, Refused}

@@ -1,5 +1,5 @@
 -- A notice by the last row of its group and key; what the functions over notices ask of what they are handed. Assumes nothing.
-use Rattle.std.specs.Prelude.{◌≡◌, true, cond, not, ◌&&◌, List, [], ◌∷◌, ℕ, suc, ◌+◌, ◌*◌, ◌^◌, ◌≤◌, ◌<◌, eqb, pos, length}
+use Rattle.std.specs.Prelude.{◌≡◌, true, cond, not, ◌&&◌, List, [], ◌∷◌, ℕ, ◌+◌, ◌*◌, ◌^◌, ◌≤◌, ◌<◌, eqb, pos, length}
 use Rattle.frames.specs.Cells.{Cell, null, value, Rows, Words, rows_of}
 use Rattle.order.specs.options.Options.{columns}
 use Rattle.order.specs.declared.options.Options.{Options}

@@ -1,7 +1,7 @@
 -- `noticecall::list_notices` meets its contract. Assumes nothing.
 use mathlib.Core.Path.{◌≡◌, sym, ◌∙◌}
 use mathlib.Core.Bool.{true}
-use Prim.Native.Nat.{◌+◌, ◌*◌, ◌^◌, ◌≤◌, ◌<◌}
+use Prim.Native.Nat.{◌^◌, ◌≤◌, ◌<◌}
 use native.Mathlib.Omega.{arith}
 use borrow.Author.Tests.{not-true, not-false}
 use lib.ListN.{length}
@@ -22,78 +22,68 @@ rows s = rows_of s.args.w s.args.n s.args.values.now s.args.marks.now
 counted : (s : tie.Start) → s.args.n ≡ length (rows s)
 counted s = sym (rows_length s.args.w s.args.n s.args.values.now s.args.marks.now)
 
-returns : tie.Need-returns
-returns c = let s = c.before.before.before in no_column (with_list s.args.o s.args.codes.now s.args.rising.now) s.args.column (rows s) s.args.out.now c.if1.true
+returns : tie.Need-returns-then-o-column
+returns c = let s = c in no_column (with_list s.args.o s.args.codes.now s.args.rising.now) s.args.column (rows s.before.before.before) s.args.out.now c.if-o-column.true
 
-is-sorted-requires : tie.Need-is-sorted-requires
+is-sorted-requires : tie.Need-is_sorted-requires
 is-sorted-requires c κs = search rules
 
-returns-2 : tie.Need-returns-2
+returns-2 : tie.Need-returns-then-not-is_sorted
 returns-2 c =
-    let e = c.before.before in
-    let s = e.before.before.before in
-    unsorted (with_list s.args.o s.args.codes.now s.args.rising.now) s.args.column (rows s) s.args.out.now e.if1.false (sym c.before.is_sorted.ensures ∙ not-true c.before.is_sorted.result c.if2.true)
+    let e = c in
+    let s = e in
+    unsorted (with_list s.args.o s.args.codes.now s.args.rising.now) s.args.column (rows s.before.before.before.before.before) s.args.out.now e.if-o-column.false (sym c.is_sorted.ensures ∙ not-true c.is_sorted.result c.if-not-is_sorted.true-raw)
 
-in_order : (c : tie.Else2) → let s = c.before.before.before.before.before in sorted (with_list s.args.o s.args.codes.now s.args.rising.now) (rows s) ≡ true
-in_order c = sym c.before.is_sorted.ensures ∙ not-false c.before.is_sorted.result c.if2.false
+in_order : (c : tie.Else-not-is_sorted) → let s = c in sorted (with_list s.args.o s.args.codes.now s.args.rising.now) (rows s.before.before.before.before.before) ≡ true
+in_order c = sym c.is_sorted.ensures ∙ not-false c.is_sorted.result c.if-not-is_sorted.false-raw
 
-has-room-requires : tie.Need-has-room-requires
+has-room-requires : tie.Need-has_room-requires
 has-room-requires c κs = search rules
 
-returns-3 : tie.Need-returns-3
+returns-3 : tie.Need-returns-then-not-has_room
 returns-3 c =
-    let d = c.before.before in
-    let e = d.before.before in
-    let s = e.before.before.before in
-    no_room_lem (with_list s.args.o s.args.codes.now s.args.rising.now) s.args.column (rows s) s.args.out.now e.if1.false (in_order d) s.args.n (counted s)
-    (sym c.before.has_room.ensures ∙ not-true c.before.has_room.result c.if3.true)
+    let d = c in
+    let e = d in
+    let s = e in
+    no_room_lem (with_list s.args.o s.args.codes.now s.args.rising.now) s.args.column (rows s.before.before.before.before.before.before.before) s.args.out.now e.if-o-column.false (in_order d.before.before) s.args.n (counted s.before.before.before.before.before.before.before)
+    (sym c.has_room.ensures ∙ not-true c.has_room.result c.if-not-has_room.true-raw)
 
-room : (c : tie.Else3) → let a = c.before.before.before.before.before.before.before.args in frame_words a.n 2 ≤ length a.out.now
+room : (c : tie.Else-not-has_room) → let a = c.args in frame_words a.n 2 ≤ length a.out.now
 room c =
-    let a = c.before.before.before.before.before.before.before.args in
-    room_there a.n 2 (length a.out.now) (sym c.before.has_room.ensures ∙ not-false c.before.has_room.result c.if3.false)
+    let a = c.args in
+    room_there a.n 2 (length a.out.now) (sym c.has_room.ensures ∙ not-false c.has_room.result c.if-not-has_room.false-raw)
 
-few : (c : tie.Else3) → c.before.before.before.before.before.before.before.args.n < 2 ^ 60
-few c = let g = c.before.before.before.before.before.before.before.well-formed.1.1.1.1.1.1.1.1.0 in omega (arith, g.0, g.1, room c)
+few : (c : tie.Else-not-has_room) → c.args.n < 2 ^ 60
+few c = let g = c.well_formed.1.1.1.1.1.1.1.1.0 in omega (arith, g.0, g.1, room c)
 
-mul-put-notices : tie.Need-overflow-mul-put-notices
+mul-put-notices : tie.Need-overflow_mul-n
 mul-put-notices c = omega (arith, few c)
 
-put-notices-requires : tie.Need-put-notices-requires
+put-notices-requires : tie.Need-put_notices-requires
 put-notices-requires c κs =
-    let r = c.before in
-    let d = r.before.before in
-    let e = d.before.before in
-    let s = e.before.before.before in
-    record { rows = s.requires.rows; wide = omega (arith, s.requires.width, e.if1.false); in_order = in_order d; counted = omega arith; room = omega (arith, room r) }
+    let r = c in
+    let d = r in
+    let e = d in
+    let s = e in
+    record { rows = s.requires.rows; wide = omega (arith, s.requires.width, e.if-o-column.false); in_order = in_order d.before.before.before; counted = omega arith; room = omega (arith, room r.before) }
 
-put-head-requires : tie.Need-put-head-requires
+put-head-requires : tie.Need-put_head-requires
 put-head-requires c κs =
-    let r = c.before.before.before.before in
-    record { rows = omega (arith, few r); columns = omega arith; room = omega (arith, room r, c.before.before.put-notices.auto.1.1.1.1.1.1.1.1.1.0) }
+    let r = c in
+    record { rows = omega (arith, few r.before.before.before.before); columns = omega arith; room = omega (arith, room r.before.before.before.before, c.put_notices.auto.out) }
 
-same_length : tie.Need-same-length
+same_length : tie.Need-shape_of-out
 same_length c = search rules
 
-returns-4 : tie.Need-returns-4
+returns-4 : tie.Need-returns
 returns-4 c =
-    let r = c.before.before.before.before.before.before in
-    let d = r.before.before in
-    let e = d.before.before in
-    let s = e.before.before.before in
-    wrote (with_list s.args.o s.args.codes.now s.args.rising.now) s.args.column (rows s) s.args.out.now e.if1.false (in_order d) s.args.n (counted s) (room r) _ _ c.before.before.before.before.put-notices.ensures c.before.put-head.ensures
+    let r = c in
+    let d = r in
+    let e = d in
+    let s = e in
+    wrote (with_list s.args.o s.args.codes.now s.args.rising.now) s.args.column (rows s.before.before.before.before.before.before.before.before.before.before.before.before.before) s.args.out.now e.if-o-column.false (in_order d.before.before.before.before.before.before.before.before) s.args.n (counted s.before.before.before.before.before.before.before.before.before.before.before.before.before) (room r.before.before.before.before.before.before) _ _ c.put_notices.ensures c.put_head.ensures
 
 pub list_notices_spec : {M : Type 1} → statement M
 list_notices_spec =
     tie.close
-    (tie.spec
-    returns
-    is-sorted-requires
-    returns-2
-    has-room-requires
-    returns-3
-    mul-put-notices
-    put-notices-requires
-    put-head-requires
-    same_length
-    returns-4)
+    (tie.spec returns is-sorted-requires returns-2 has-room-requires returns-3 mul-put-notices put-notices-requires put-head-requires same_length returns-4)
