@@ -157,12 +157,7 @@ fn call(walked: bool, strategy: u8, left: &[i64], right: &[i64], out: &mut [i64]
 }
 
 // Scans the right frame for each left row.
-pub fn scanwalk_scan(
-    strategy: u8,
-    left: &[i64],
-    right: &[i64],
-    out: &mut [i64],
-) -> Driven
+pub fn scanwalk_scan(strategy: u8, left: &[i64], right: &[i64], out: &mut [i64]) -> Driven
     ensures { let ls = left.now in
         let rs = right.now in
         let refusal = refusal_of false strategy ls rs (length out.old) in
@@ -173,12 +168,7 @@ pub fn scanwalk_scan(
 }
 
 // Walks both frames, one cursor each.
-pub fn scanwalk_walk(
-    strategy: u8,
-    left: &[i64],
-    right: &[i64],
-    out: &mut [i64],
-) -> Driven
+pub fn scanwalk_walk(strategy: u8, left: &[i64], right: &[i64], out: &mut [i64]) -> Driven
     ensures { let ls = left.now in
         let rs = right.now in
         let refusal = refusal_of true strategy ls rs (length out.old) in
