@@ -64,7 +64,7 @@ class MadeOnce(Case):
         maker = rowkeeper.library.maker()
         self.sources = sys.modules[maker.__name__.rpartition('.')[0] + '.sources']
         text = self.read(os.path.join(self.copy, 'dist', 'SOURCE'))
-        old, new = maker.said_of_source()['source'], self.sources.source_sum('host', self.copy)
+        old, new = maker.said_of_source()['source'], self.sources.source_sum('host_c', self.copy)
         with open(os.path.join(self.copy, 'dist', 'SOURCE'), 'w', encoding='utf-8') as file:
             file.write(text.replace(old, new))
         self.compiler = self.file('cc', f'#!/bin/sh\n: >{self.mark}\nexit 1\n')
@@ -121,7 +121,7 @@ class MadeOnce(Case):
         """Files of a crate that the library does not contain, touched and altered, and a crate that is listed nowhere; of one that it does
         contain, touched, and what only the checker reads altered: nothing is made and nothing is said. A source that is altered is told, and
         the library is the one from before."""
-        before, inside = self.first(), self.sources.crates_of('host', self.copy)
+        before, inside = self.first(), self.sources.crates_of('host_c', self.copy)
         outside = [name for name in self.sources.listed(self.copy) if name not in inside and self.sources.files_of(name, self.copy)]
         self.assertGreater(min(len(inside), len(outside)), 3)
         for name in outside:

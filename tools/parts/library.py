@@ -110,7 +110,7 @@ def judge_text(name):
 
 def stale():
     """The line that is due if crates of the library were edited and dist/ was not made again; else nothing."""
-    if said_of_source().get('source') == source_sum('host'):
+    if said_of_source().get('source') == source_sum('host_c'):
         return ''
     return 'crates of the library were edited and dist/ was not made again: this is the library from before; run tools/dist'
 
@@ -247,14 +247,16 @@ def wasm():
 
 
 def crate_archive(crate):
-    """The path of another crate's archive, by the Rattle kit: for programs that measure what is inside the library."""
-    total = source_sum(crate)
+    """The path of another crate's archive, by the Rattle kit, which makes it of the crate's exports, CRATE_c: for programs that
+    measure what is inside the library."""
+    exports = f'{crate}_c'
+    folder, total = os.path.join(ROOT, 'crates', exports), source_sum(exports)
     if not shutil.which('rt'):
         raise Missing(f'the archive of {crate} is not in dist/, and the Rattle kit\'s command rt is not on the path')
     total += ' ' + output_of(['rt', 'version'], 'rt version')
     path = os.path.join(BUILD, 'crates', f'lib{crate}.a')
     if not is_from(path, total):
-        ran = subprocess.run(['rt', 'staticlib', crate], cwd=ROOT, stdout=subprocess.PIPE, stderr=subprocess.STDOUT)
+        ran = subprocess.run(['rt', 'lib'], cwd=folder, stdout=subprocess.PIPE, stderr=subprocess.STDOUT)
         if ran.returncode != 0:
-            raise Missing(f'rt staticlib {crate}: ' + ran.stdout.decode('utf-8', 'replace').strip().split('\n')[-1])
-    return make(path, total, lambda new: [['cp', os.path.join(ROOT, 'target', 'staticlib', f'lib{crate}.a'), new]])
+            raise Missing(f'rt lib of {exports}: ' + ran.stdout.decode('utf-8', 'replace').strip().split('\n')[-1])
+    return make(path, total, lambda new: [['cp', os.path.join(folder, 'out', f'lib{exports}.a'), new]])

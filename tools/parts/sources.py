@@ -16,7 +16,7 @@ def listed(root=ROOT):
         for line in file:
             name, colon, uses = line.split('#')[0].partition(':')
             if colon:
-                crates[name.strip()] = uses.split()
+                crates[name.split()[0]] = uses.split()
     return crates
 
 

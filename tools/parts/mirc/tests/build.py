@@ -30,7 +30,7 @@ def array(kind, count):
 
 def named(symbol):
     """A struct or an enumeration."""
-    return {'Named': {'name': symbol, 'args': []}}
+    return {'Named': [{'name': symbol, 'lifetimes': []}, []]}
 
 
 def at(local, *steps):
@@ -63,9 +63,14 @@ def put(place, value):
     return [{'Assign': [place, value if whole else {'Opd': value}]}]
 
 
+def callee(symbol):
+    """A function without type parameters."""
+    return {'Fn': [symbol, {'types': [], 'dicts': []}]}
+
+
 def call(symbol, given, goal):
     """A call."""
-    return [{'Call': [{'Direct': symbol}, given, at(goal)]}]
+    return [{'Call': [callee(symbol), given, at(goal)]}]
 
 
 def when(condition, then, other):

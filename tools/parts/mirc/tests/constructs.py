@@ -11,7 +11,7 @@ from ..exports import calls_of
 from ..mir import KITS, Unknown
 from ..names import Names
 from ..whole import comment, file_text, translated
-from .build import (BOOL, PTR, RETURN, U8, U64, UNIT, array, at, c_of, call, copy, function, loop,
+from .build import (BOOL, PTR, RETURN, U8, U64, UNIT, array, at, c_of, call, callee, copy, function, loop,
                     named, number, op2, program, put, ref, seq, when, words)
 
 ROW = ('one::Row', {'Fields': [U64, U8]})
@@ -249,7 +249,7 @@ class Folding(unittest.TestCase):
         """The pointer through which a call stores is read before the call."""
         kinds = [UNIT, ref(ref(U64)), words(), ref(U64)]
         more = {'one::g': function(1, [U64, words()], seq(put(0, number(1)), RETURN))}
-        goal = {'Call': [{'Direct': 'one::g'}, [copy(2)], at(3, ('*', U64))]}
+        goal = {'Call': [callee('one::g'), [copy(2)], at(3, ('*', U64))]}
         body = seq(put(3, copy(1, ('*', ref(U64)))), [goal], RETURN)
         lines, _ = c_of({'one::f': function(2, kinds, body), **more})
         self.assertEqual(lines[2:-1], ['    uint64_t *t3 = (*p0);', '    *t3 = one__g(p1);'])
@@ -339,6 +339,9 @@ class Refused(unittest.TestCase):
         self.refused('a statement', [U64, U64], 1, seq([{'Drop': 1}], RETURN))
         self.refused('a statement', [U64, U64], 1, ['Unreachable'])
         self.refused('a callee', [U64, U64], 1, seq([{'Call': [{'Indirect': 1}, [], at(0)]}], RETURN))
+        generic = {'Fn': ['one::f', {'types': [U64], 'dicts': []}]}
+        self.refused('a callee', [U64, U64], 1, seq([{'Call': [generic, [copy(1)], at(0)]}], RETURN))
+        self.refused('a type', [{'Named': [{'name': 'one::Row', 'lifetimes': []}, [U64]]}, U64], 1, give)
         self.refused('behind its end', [U64, U64], 1, [*give, 'Return'])
         self.refused('another form', [U64, U64], 1, seq([{'Assign': [at(0)]}], RETURN))
 
