@@ -13,7 +13,6 @@ use Rattle.frames.specs.Cells.{Cell, null, value, is_zero, rows_of, Rows, Words}
 use Rattle.frames.proofs.WordLaws.{rows_length}
 use Rattle.order.specs.options.Options.{answer_columns}
 use Rattle.order.specs.declared.options.Options.{Options}
-use Rattle.tables.specs.Table.{laid}
 use Rattle.tables.specs.Lay.{flat, lay_cells}
 use Rattle.tables.proofs.TableLaws.{Wide}
 use Rattle.tables.proofs.LayLaws.{lay_keeps, lay_over, lay_table, value_apart, mark_apart}

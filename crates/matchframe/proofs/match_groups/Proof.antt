@@ -22,68 +22,68 @@ use Rattle.matching.proofs.LayLaws.{groups_from, groups_all, groups_more, groups
 use Rattle.matchframe.proofs.match_groups.Statement.{statement}
 use Rattle.matchframe.proofs.match_groups.Tie as tie
 
-abbrev invariant-loop : tie.invariant-loop
+abbrev invariant-loop : tie.invariant-loop-i
 invariant-loop lv lm nl wl rv rm nr wr number o codes rising m out₀ at₀ end₀ i₀ out at end i =
     (i ≤ nl) × (length out ≡ length out₀) × RunAt (with_list o codes rising) wr nr rv rm at end
     × (lay m 0 (by_runs (with_list o codes rising) number (runs (with_list o codes rising) (rows_of wr nr rv rm)) (runs (with_list o codes rising) (rows_of wl nl lv lm))) out₀ ≡ lay m i (groups_from (with_list o codes rising) number m wl nl lv lm wr nr rv rm at i) out)
 
-abbrev decreases-loop : tie.decreases-loop
+abbrev decreases-loop : tie.decreases-loop-i
 decreases-loop lv lm nl wl rv rm nr wr number o codes rising m out₀ at₀ end₀ i₀ out at end i = nl - i
 
 -- the left run at row i has a row and ends within the rows
-ahead : (c : tie.After-run-end2 invariant-loop decreases-loop) → (c.before.before.loop.i < c.run-end2.result) × (c.run-end2.result ≤ c.before.before.before.before.before.args.nl)
+ahead : (c : tie.After-run_end-e invariant-loop decreases-loop) → (c.loop-i.i < c.run_end-e.result) × (c.run_end-e.result ≤ c.args.nl)
 ahead c =
-    let a = c.before.before.before.before.before.args in
-    let i = c.before.before.loop.i in
-    let u = run_up (with_list a.o a.codes.now a.rising.now) a.wl a.nl a.lv.now a.lm.now i c.before.loop-test.true in
-    let v = run_within (with_list a.o a.codes.now a.rising.now) a.wl a.nl a.lv.now a.lm.now i c.before.loop-test.true in
-    let q = c.run-end2.ensures in
+    let a = c.args in
+    let i = c.loop-i.i in
+    let u = run_up (with_list a.o a.codes.now a.rising.now) a.wl a.nl a.lv.now a.lm.now i c.loop-i-test.true in
+    let v = run_within (with_list a.o a.codes.now a.rising.now) a.wl a.nl a.lv.now a.lm.now i c.loop-i-test.true in
+    let q = c.run_end-e.ensures in
     (omega arith, omega arith)
 
-room : (c : tie.After-run-end2 invariant-loop decreases-loop) → let a = c.before.before.before.before.before.args in c.before.before.loop.i * a.wl + a.wl ≤ a.nl * a.wl
-room c = let a = c.before.before.before.before.before.args in row_room c.before.before.loop.i a.nl a.wl c.before.loop-test.true
+room : (c : tie.After-run_end-e invariant-loop decreases-loop) → let a = c.args in c.loop-i.i * a.wl + a.wl ≤ a.nl * a.wl
+room c = let a = c.args in row_room c.loop-i.i a.nl a.wl c.loop-i-test.true
 
-run-end-requires : tie.Need-run-end-requires invariant-loop decreases-loop
-run-end-requires c κs = record { rows = c.before.requires.right; within = omega arith }
+run-end-requires : tie.Need-run_end-end-requires invariant-loop decreases-loop
+run-end-requires c κs = record { rows = c.requires.right; within = omega arith }
 
-loop-holds : tie.Need-loop-init invariant-loop decreases-loop
+loop-holds : tie.Need-loop-i-init invariant-loop decreases-loop
 loop-holds c =
-    let s = c.before.before in
+    let s = c in
     let a = s.args in (
       omega arith,
       refl,
-      record { rows = s.requires.right; within = omega arith; run = c.run-end.ensures },
+      record { rows = s.requires.right; within = omega arith; run = c.run_end-end.ensures },
       ap (λ (ks : List Choice). lay a.m 0 ks a.out.now) (groups_all (with_list a.o a.codes.now a.rising.now) a.number a.m a.wl a.nl a.lv.now a.lm.now a.wr a.nr a.rv.now a.rm.now),
     )
 
-run-end-requires-2 : tie.Need-run-end-requires-2 invariant-loop decreases-loop
-run-end-requires-2 c κs = record { rows = c.before.before.before.before.requires.left; within = c.before.loop.invariant.0 }
+run-end-requires-2 : tie.Need-run_end-e-requires invariant-loop decreases-loop
+run-end-requires-2 c κs = record { rows = c.requires.left; within = c.loop-i.invariant.0 }
 
-mul-serve : tie.Need-overflow-mul-serve invariant-loop decreases-loop
-mul-serve c = let r = room c in let p = c.before.before.before.before.before.requires.left in omega arith
+mul-serve : tie.Need-overflow_mul-i invariant-loop decreases-loop
+mul-serve c = let r = room c in let p = c.requires.left in omega arith
 
-serve-requires : tie.Need-serve-requires invariant-loop decreases-loop
+serve-requires : tie.Need-serve-r-requires invariant-loop decreases-loop
 serve-requires c κs =
     let r = room c in
-    let p = c.before.before.before.before.before.requires.left in
-    record { left = record { few = p.few; values = omega arith; marks = omega arith }; right = c.before.before.loop.invariant.2 }
+    let p = c.requires.left in
+    record { left = record { few = p.few; values = omega arith; marks = omega arith }; right = c.loop-i.invariant.2 }
 
 -- what a run needs to be matched
-run_room : (c : tie.After-serve invariant-loop decreases-loop) →
-    let e = c.before in
-    let l = e.before.before.loop in
-    let a = e.before.before.before.before.before.args in
-    let r = c.serve.result in
-    RunRoom (without_list a.o) a.wl a.m a.lv.now a.lm.now l.i e.run-end2.result a.wr a.rv.now a.rm.now r.at r.used a.number l.out
+run_room : (c : tie.After-serve-r invariant-loop decreases-loop) →
+    let e = c in
+    let l = e.loop-i in
+    let a = e.args in
+    let r = c.serve-r.result in
+    RunRoom (without_list a.o) a.wl a.m a.lv.now a.lm.now l.i e.run_end-e.result a.wr a.rv.now a.rm.now r.at r.used a.number l.out
 run_room c =
-    let e = c.before in
-    let l = e.before.before.loop in
-    let s = e.before.before.before.before.before in
+    let e = c in
+    let l = e.loop-i in
+    let s = e in
     let p = s.requires in
-    let g = c.serve.ensures.0 in
-    let u = ahead e in
-    let h = mul-le-mul_right {m = c.serve.result.used} {n = s.args.nr} s.args.wr g.within in
-    let k = mul-le-mul_right {m = e.run-end2.result} {n = s.args.nl} s.args.wl u.1 in
+    let g = c.serve-r.ensures.0 in
+    let u = ahead e.before in
+    let h = mul-le-mul_right {m = c.serve-r.result.used} {n = s.args.nr} s.args.wr g.within in
+    let k = mul-le-mul_right {m = e.run_end-e.result} {n = s.args.nl} s.args.wl u.1 in
     let a = s.args in
     room_terms a.o a.codes.now a.rising.now a.wl a.m a.lv.now a.lm.now _ _ a.wr a.rv.now a.rm.now _ _ a.number _
     (record {
@@ -97,125 +97,107 @@ run_room c =
     })
 
 -- once the choices of a run are laid, what is left of the runs is still due
-again : (c : tie.After-serve invariant-loop decreases-loop) (out : Words) →
-    let e = c.before in
-    let l = e.before.before.loop in
-    let a = e.before.before.before.before.before.args in
-    let r = c.serve.result in
+again : (c : tie.After-serve-r invariant-loop decreases-loop) (out : Words) →
+    let e = c in
+    let l = e.loop-i in
+    let a = e.args in
+    let r = c.serve-r.result in
     length out ≡ length l.out
-    → out ≡ lay a.m l.i (map (match_in (without_list a.o) (a.number + r.at) (between a.wr r.at r.used a.rv.now a.rm.now)) (between a.wl l.i e.run-end2.result a.lv.now a.lm.now)) l.out
-    → invariant-loop a.lv.now a.lm.now a.nl a.wl a.rv.now a.rm.now a.nr a.wr a.number a.o a.codes.now a.rising.now a.m a.out.now 0 0 0 out r.at r.end e.run-end2.result
+    → out ≡ lay a.m l.i (map (match_in (without_list a.o) (a.number + r.at) (between a.wr r.at r.used a.rv.now a.rm.now)) (between a.wl l.i e.run_end-e.result a.lv.now a.lm.now)) l.out
+    → invariant-loop a.lv.now a.lm.now a.nl a.wl a.rv.now a.rm.now a.nr a.wr a.number a.o a.codes.now a.rising.now a.m a.out.now 0 0 0 out r.at r.end e.run_end-e.result
 again c out long laid =
-    let e = c.before in
-    let l = e.before.before.loop in
-    let s = e.before.before.before.before.before in
+    let e = c in
+    let l = e.loop-i in
+    let s = e in
     let a = s.args in
-    let g = c.serve in
-    let m = groups_more (with_list a.o a.codes.now a.rising.now) a.number a.m a.wl a.nl a.lv.now a.lm.now a.wr a.nr a.rv.now a.rm.now l.at l.i e.run-end2.result g.result l.out e.before.loop-test.true e.run-end2.ensures (g.ensures.1 a.wl s.requires.left.wide) in (
-      (ahead e).1,
+    let g = c.serve-r in
+    let m = groups_more (with_list a.o a.codes.now a.rising.now) a.number a.m a.wl a.nl a.lv.now a.lm.now a.wr a.nr a.rv.now a.rm.now l.at l.i e.run_end-e.result g.result l.out e.loop-i-test.true e.run_end-e.ensures (g.ensures.1 a.wl s.requires.left.wide) in (
+      (ahead e.before).1,
       long ∙ l.invariant.1,
       g.ensures.0.run,
-      l.invariant.3 ∙ rw (laid ∙ lay_terms a.o a.codes.now a.rising.now a.m l.i (a.number + g.result.at) (between a.wr g.result.at g.result.used a.rv.now a.rm.now) (between a.wl l.i e.run-end2.result a.lv.now a.lm.now) l.out) m,
+      l.invariant.3 ∙ rw (laid ∙ lay_terms a.o a.codes.now a.rising.now a.m l.i (a.number + g.result.at) (between a.wr g.result.at g.result.used a.rv.now a.rm.now) (between a.wl l.i e.run_end-e.result a.lv.now a.lm.now) l.out) m,
     )
 
-is-short-requires : tie.Need-is-short-requires invariant-loop decreases-loop
+is-short-requires : tie.Need-is_short-requires invariant-loop decreases-loop
 is-short-requires c κs = let p = run_room c in (p.upward, p.run)
 
 -- a short run has one row
-one : (c : tie.Then1 invariant-loop decreases-loop) → let e = c.before.before.before in e.run-end2.result ≡ e.before.before.loop.i + 1
+one : (c : tie.Then-is_short invariant-loop decreases-loop) → let e = c in e.run_end-e.result ≡ e.loop-i.i + 1
 one c =
-    let e = c.before.before.before in
-    let u = ahead e in
-    let r = c.before.before.serve.result in
-    let b = and-true (leb (e.run-end2.result - e.before.before.loop.i) 1) (leb (r.used - r.at) 8) (sym c.before.is-short.ensures ∙ c.if1.true) in
-    let l = leb-true (e.run-end2.result - e.before.before.loop.i) 1 b.0 in
+    let e = c in
+    let u = ahead e.before.before.before in
+    let r = c.serve-r.result in
+    let b = and-true (leb (e.run_end-e.result - e.loop-i.i) 1) (leb (r.used - r.at) 8) (sym c.is_short.ensures ∙ c.if-is_short.true) in
+    let l = leb-true (e.run_end-e.result - e.loop-i.i) 1 b.0 in
     omega (arith, u.0, l)
 
 -- its choice
-choice : (c : tie.After-match-row invariant-loop decreases-loop) →
-    let g = c.before.before.before in
-    let l = g.before.before.before.loop in
-    let a = g.before.before.before.before.before.before.args in
-    let r = g.serve.result in
-    c.match-row.result ≡ match_in (without_list a.o) (a.number + r.at) (between a.wr r.at r.used a.rv.now a.rm.now) (row_from a.wl (l.i * a.wl) a.lv.now a.lm.now)
+choice : (c : tie.After-match_row-choice invariant-loop decreases-loop) →
+    let g = c in
+    let l = g.loop-i in
+    let a = g.args in
+    let r = g.serve-r.result in
+    c.match_row-choice.result ≡ match_in (without_list a.o) (a.number + r.at) (between a.wr r.at r.used a.rv.now a.rm.now) (row_from a.wl (l.i * a.wl) a.lv.now a.lm.now)
 choice c =
-    let s = c.before.before.before.before.before.before.before.before.before in
-    c.match-row.ensures s.args.wl s.requires.left.wide
+    let s = c in
+    c.match_row-choice.ensures s.args.wl s.requires.left.wide
 
-mul-match-row : tie.Need-overflow-mul-match-row invariant-loop decreases-loop
-mul-match-row c = let r = room c.before.before.before in let p = c.before.before.before.before.before.before.before.before.requires.left in omega arith
+mul-match-row : tie.Need-overflow_mul-from invariant-loop decreases-loop
+mul-match-row c = let r = room c.before.before.before in let p = c.requires.left in omega arith
 
-match-row-requires : tie.Need-match-row-requires invariant-loop decreases-loop
+match-row-requires : tie.Need-match_row-choice-requires invariant-loop decreases-loop
 match-row-requires c κs =
     let r = room c.before.before.before in
     let p = run_room c.before.before in
-    let l = c.before.before.before.before.before.before.before.before.requires.left in
+    let l = c.requires.left in
     record { left = record { few = p.left.few; values = omega (arith, r, l.values, l.wide); marks = omega (arith, r, l.marks, l.wide) }; right = p.right; upward = p.run; numbers = p.numbers }
 
 put-requires : tie.Need-put-requires invariant-loop decreases-loop
 put-requires c κs =
-    let g = c.before.before.before.before in
-    let a = g.before.before.before.before.before.before.args in
-    let p = run_room g in
-    let u = ahead g.before in
-    let e = between_length a.wr a.rv.now a.rm.now g.serve.result.at g.serve.result.used in
-    (record { there = omega (arith, u.0, p.within); room = p.room }, rw (choice c.before) (match_small (without_list a.o) (a.number + g.serve.result.at) _ _ (omega (arith, p.run, p.numbers))))
+    let g = c in
+    let a = g.args in
+    let p = run_room g.before.before.before.before in
+    let u = ahead g.before.before.before.before.before in
+    let e = between_length a.wr a.rv.now a.rm.now g.serve-r.result.at g.serve-r.result.used in
+    (record { there = omega (arith, u.0, p.within); room = p.room }, rw (choice c.before) (match_small (without_list a.o) (a.number + g.serve-r.result.at) _ _ (omega (arith, p.run, p.numbers))))
 
-loop-less : tie.Need-loop-smaller invariant-loop decreases-loop
-loop-less c = let e = c.before.before.before.before.before.before.before in let u = ahead e in let t = e.before.loop-test.true in omega arith
+loop-less : tie.Need-loop-i-smaller-then-is_short invariant-loop decreases-loop
+loop-less c = let e = c in let u = ahead e.before.before.before.before.before.before.before in let t = e.loop-i-test.true in omega arith
 
-loop-again : tie.Need-loop-preserved invariant-loop decreases-loop
+loop-again : tie.Need-loop-i-preserved-then-is_short invariant-loop decreases-loop
 loop-again c =
-    let g = c.before.before.before.before.before.before in
-    let a = g.before.before.before.before.before.before.args in
-    let l = g.before.before.before.loop in
-    let r = g.serve.result in
-    let e = g.before.run-end2.result in
+    let g = c in
+    let a = g.args in
+    let l = g.loop-i in
+    let r = g.serve-r.result in
+    let e = g.run_end-e.result in
     let f = match_in (without_list a.o) (a.number + r.at) (between a.wr r.at r.used a.rv.now a.rm.now) in
     let n = one c.before.before.before.before in
-    let u = ahead g.before in
-    let laid : c.before.put.new.0 ≡ lay a.m l.i (map f (between a.wl l.i e a.lv.now a.lm.now)) l.out =
-    sym (lay_more a.m f a.wl a.lv.now a.lm.now l.i e l.out u.0 ∙ rw (n, c.before.put.ensures, choice c.before.before.before) (lay_done a.m f a.wl a.lv.now a.lm.now (l.i + 1) _)) in
-    again g c.before.put.new.0 c.before.put.auto.0 laid
+    let u = ahead g.before.before.before.before.before.before.before in
+    let laid : c.put.new.out ≡ lay a.m l.i (map f (between a.wl l.i e a.lv.now a.lm.now)) l.out =
+    sym (lay_more a.m f a.wl a.lv.now a.lm.now l.i e l.out u.0 ∙ rw (n, c.put.ensures, choice c.before.before.before) (lay_done a.m f a.wl a.lv.now a.lm.now (l.i + 1) _)) in
+    again g.before.before.before.before.before.before c.put.new.out c.put.auto.out laid
 
-match-run-requires : tie.Need-match-run-requires invariant-loop decreases-loop
+match-run-requires : tie.Need-match_run-requires invariant-loop decreases-loop
 match-run-requires c κs = run_room c.before.before.before
 
-loop-less-2 : tie.Need-loop-smaller-2 invariant-loop decreases-loop
-loop-less-2 c = let e = c.before.before.before.before.before.before in let u = ahead e in let t = e.before.loop-test.true in omega arith
+loop-less-2 : tie.Need-loop-i-smaller invariant-loop decreases-loop
+loop-less-2 c = let e = c in let u = ahead e.before.before.before.before.before.before in let t = e.loop-i-test.true in omega arith
 
-loop-again-2 : tie.Need-loop-preserved-2 invariant-loop decreases-loop
-loop-again-2 c = again c.before.before.before.before.before _ c.before.match-run.auto.1.1.1.1.1.1.1.1.1.1.1.1.1.0 c.before.match-run.ensures
+loop-again-2 : tie.Need-loop-i-preserved invariant-loop decreases-loop
+loop-again-2 c = again c.before.before.before.before.before _ c.match_run.auto.out c.match_run.ensures
 
-same_length : tie.Need-same-length invariant-loop decreases-loop
-same_length c = c.before.loop.invariant.1
+same_length : tie.Need-shape_of-out invariant-loop decreases-loop
+same_length c = c.loop-i.invariant.1
 
 returns : tie.Need-returns invariant-loop decreases-loop
 returns c =
-    let l = c.before.loop in
-    let a = c.before.before.before.before.args in
-    let e : l.i ≡ a.nl = omega (arith, c.loop-test.false, l.invariant.0) in
+    let l = c.loop-i in
+    let a = c.args in
+    let e : l.i ≡ a.nl = omega (arith, c.loop-i-test.false, l.invariant.0) in
     sym (l.invariant.3 ∙ rw e (groups_end (with_list a.o a.codes.now a.rising.now) a.number a.m a.wl a.nl a.lv.now a.lm.now a.wr a.nr a.rv.now a.rm.now l.at l.out))
 
 pub match_groups_spec : {M : Type 1} → statement M
 match_groups_spec =
     tie.close
-    (tie.spec
-    invariant-loop
-    decreases-loop
-    run-end-requires
-    loop-holds
-    run-end-requires-2
-    mul-serve
-    serve-requires
-    is-short-requires
-    mul-match-row
-    match-row-requires
-    put-requires
-    loop-less
-    loop-again
-    match-run-requires
-    loop-less-2
-    loop-again-2
-    same_length
-    returns)
+    (tie.spec invariant-loop decreases-loop run-end-requires loop-holds run-end-requires-2 mul-serve serve-requires is-short-requires mul-match-row match-row-requires put-requires loop-less loop-again match-run-requires loop-less-2 loop-again-2 same_length returns)

@@ -11,34 +11,34 @@ use borrow.Author.Rules.{rules}
 use Rattle.matchframe.proofs.match_rows.Statement.{statement}
 use Rattle.matchframe.proofs.match_rows.Tie as tie
 
-match-all-requires : tie.Need-match-all-requires
+match-all-requires : tie.Need-match_all-requires
 match-all-requires c κs =
-    let s = c.before.before.before.before in
+    let s = c in
     let a = s.args in
     let p = s.requires in
     room_terms a.o a.codes.now a.rising.now a.wl a.m a.lv.now a.lm.now 0 a.nl a.wr a.rv.now a.rm.now 0 a.nr a.number a.out.now
     (record { left = p.left; upward = omega arith; within = p.within; right = p.right; run = omega arith; numbers = p.numbers; room = p.room })
 
-match-groups-requires : tie.Need-match-groups-requires
+match-groups-requires : tie.Need-match_groups-requires
 match-groups-requires c κs = search rules
 
-same_length : tie.Need-same-length
+same_length : tie.Need-shape_of-out-then-o-eq0
 same_length c = search rules
 
-returns : tie.Need-returns
+returns : tie.Need-returns-then-o-eq0
 returns c =
-    let a = c.before.before.before.before.before.before.args in
-    c.before.match-all.ensures
+    let a = c.args in
+    c.match_all.ensures
     ∙ lay_terms a.o a.codes.now a.rising.now a.m 0 (a.number + 0) (between a.wr 0 a.nr a.rv.now a.rm.now) (between a.wl 0 a.nl a.lv.now a.lm.now) a.out.now
-    ∙ ap (λ (ks : List Choice). lay a.m 0 ks a.out.now) (frame_plain (with_list a.o a.codes.now a.rising.now) a.number a.m a.wl a.nl a.lv.now a.lm.now a.wr a.nr a.rv.now a.rm.now c.before.before.before.if1.true)
+    ∙ ap (λ (ks : List Choice). lay a.m 0 ks a.out.now) (frame_plain (with_list a.o a.codes.now a.rising.now) a.number a.m a.wl a.nl a.lv.now a.lm.now a.wr a.nr a.rv.now a.rm.now c.if-o-eq0.true)
 
-same-length-2 : tie.Need-same-length-2
+same-length-2 : tie.Need-shape_of-out-else-o-eq0
 same-length-2 c = search rules
 
-returns-2 : tie.Need-returns-2
+returns-2 : tie.Need-returns-else-o-eq0
 returns-2 c =
-    let a = c.before.before.before.before.before.before.args in
-    c.before.match-groups.ensures ∙ ap (λ (ks : List Choice). lay a.m 0 ks a.out.now) (frame_grouped (with_list a.o a.codes.now a.rising.now) a.number a.m a.wl a.nl a.lv.now a.lm.now a.wr a.nr a.rv.now a.rm.now c.before.before.before.if1.false)
+    let a = c.args in
+    c.match_groups.ensures ∙ ap (λ (ks : List Choice). lay a.m 0 ks a.out.now) (frame_grouped (with_list a.o a.codes.now a.rising.now) a.number a.m a.wl a.nl a.lv.now a.lm.now a.wr a.nr a.rv.now a.rm.now c.if-o-eq0.false)
 
 pub match_rows_spec : {M : Type 1} → statement M
 match_rows_spec =

@@ -7,41 +7,41 @@ use borrow.Author.Rules.{rules}
 use Rattle.matchframe.proofs.sortedrows.answer_sorted.Statement.{statement}
 use Rattle.matchframe.proofs.sortedrows.answer_sorted.Tie as tie
 
-match-rows-requires : tie.Need-match-rows-requires
+match-rows-requires : tie.Need-match_rows-requires
 match-rows-requires c κs =
-    let s = c.before.before in
+    let s = c in
     let a = s.args in
     (frame_room (with_list a.o a.codes.now a.rising.now) a.wl a.nl a.lv.now a.lm.now a.wr a.nr a.rv.now a.rm.now a.number a.m a.out.now s.requires.0, s.requires.1)
 
-same_length : tie.Need-same-length
+same_length : tie.Need-shape_of-out-then-answer_columns-eq1
 same_length c = search rules
 
-answer-columns-requires : tie.Need-answer-columns-requires
+answer-columns-requires : tie.Need-answer_columns-requires
 answer-columns-requires c κs = search rules
 
-returns : tie.Need-returns
+returns : tie.Need-returns-then-answer_columns-eq1
 returns c =
-    let s = c.before.before.before.before.before.before in
+    let s = c in
     let a = s.args in
-    answer_plain (with_list a.o a.codes.now a.rising.now) a.wl a.nl a.lv.now a.lm.now a.wr a.nr a.rv.now a.rm.now a.number a.m a.out.now s.requires.0 _ (sym c.before.answer-columns.ensures ∙ c.if1.true) c.before.before.before.match-rows.ensures
+    answer_plain (with_list a.o a.codes.now a.rising.now) a.wl a.nl a.lv.now a.lm.now a.wr a.nr a.rv.now a.rm.now a.number a.m a.out.now s.requires.0 _ (sym c.answer_columns.ensures ∙ c.if-answer_columns-eq1.true) c.match_rows.ensures
 
-spread-rows-requires : tie.Need-spread-rows-requires
+spread-rows-requires : tie.Need-spread_rows-requires
 spread-rows-requires c κs =
-    let f = c.before.before.before.before in
-    let s = f.before.before.before in
+    let f = c in
+    let s = f in
     let a = s.args in
     spread_in_terms a.o a.codes.now a.rising.now a.nl a.wl a.lv.now a.lm.now a.wr a.nr a.rv.now a.rm.now a.number a.m _
-    (spread_in (with_list a.o a.codes.now a.rising.now) a.wl a.nl a.lv.now a.lm.now a.wr a.nr a.rv.now a.rm.now a.number a.m a.out.now s.requires.0 _ f.match-rows.auto.1.1.1.1.1.1.1.1.1.1.1.1.1.0 f.match-rows.ensures)
+    (spread_in (with_list a.o a.codes.now a.rising.now) a.wl a.nl a.lv.now a.lm.now a.wr a.nr a.rv.now a.rm.now a.number a.m a.out.now s.requires.0 _ f.match_rows.auto.out f.match_rows.ensures)
 
-same-length-2 : tie.Need-same-length-2
+same-length-2 : tie.Need-shape_of-out
 same-length-2 c = search rules
 
-returns-2 : tie.Need-returns-2
+returns-2 : tie.Need-returns
 returns-2 c =
-    let f = c.before.before.before.before.before.before in
-    let s = f.before.before.before in
+    let f = c in
+    let s = f in
     let a = s.args in
-    answer_spread (with_list a.o a.codes.now a.rising.now) a.wl a.nl a.lv.now a.lm.now a.wr a.nr a.rv.now a.rm.now a.number a.m a.out.now s.requires.0 _ _ f.match-rows.ensures (c.before.spread-rows.ensures ∙ spread_terms a.o a.codes.now a.rising.now a.number (rows_of a.wr a.nr a.rv.now a.rm.now) (rows_of a.wl a.nl a.lv.now a.lm.now) a.m _)
+    answer_spread (with_list a.o a.codes.now a.rising.now) a.wl a.nl a.lv.now a.lm.now a.wr a.nr a.rv.now a.rm.now a.number a.m a.out.now s.requires.0 _ _ f.match_rows.ensures (c.spread_rows.ensures ∙ spread_terms a.o a.codes.now a.rising.now a.number (rows_of a.wr a.nr a.rv.now a.rm.now) (rows_of a.wl a.nl a.lv.now a.lm.now) a.m _)
 
 pub answer_sorted_spec : {M : Type 1} → statement M
 answer_sorted_spec =

@@ -12,12 +12,12 @@ use Rattle.matchframe.proofs.sortedrows.RowsLaws.{all_keys}
 use Rattle.matchframe.proofs.sortedrows.match_rows.Statement.{statement}
 use Rattle.matchframe.proofs.sortedrows.match_rows.Tie as tie
 
-walk-run-requires : tie.Need-walk-run-requires
+walk-run-requires : tie.Need-walk_run-moved-requires
 walk-run-requires c κs =
-    let s = c.before.before.before.before in
+    let s = c in
     let a = s.args in
     let p = s.requires.0 in
-    let e = c.before.if1.true in
+    let e = c.if-o-eq0.true in
     record {
       room = room_terms a.o a.codes.now a.rising.now a.wl a.m a.lv.now a.lm.now 0 a.nl a.wr a.rv.now a.rm.now 0 a.nr a.number a.out.now
           (record { left = p.left; upward = omega arith; within = p.within; right = p.right; run = omega arith; numbers = p.numbers; room = p.room });
@@ -25,26 +25,26 @@ walk-run-requires c κs =
       right = all_keys a.o a.codes.now a.rising.now e a.wr a.nr a.rv.now a.rm.now s.requires.1.right;
     }
 
-match-runs-requires : tie.Need-match-runs-requires
+match-runs-requires : tie.Need-match_runs-requires
 match-runs-requires c κs = search rules
 
-same_length : tie.Need-same-length
+same_length : tie.Need-shape_of-out-then-o-eq0
 same_length c = search rules
 
-returns : tie.Need-returns
+returns : tie.Need-returns-then-o-eq0
 returns c =
-    let a = c.before.before.before.before.before.before.args in
-    c.before.walk-run.ensures.1
+    let a = c.args in
+    c.walk_run-moved.ensures.1
     ∙ lay_terms a.o a.codes.now a.rising.now a.m 0 (a.number + 0) (between a.wr 0 a.nr a.rv.now a.rm.now) (between a.wl 0 a.nl a.lv.now a.lm.now) a.out.now
-    ∙ ap (λ (ks : List Choice). lay a.m 0 ks a.out.now) (frame_plain (with_list a.o a.codes.now a.rising.now) a.number a.m a.wl a.nl a.lv.now a.lm.now a.wr a.nr a.rv.now a.rm.now c.before.before.before.if1.true)
+    ∙ ap (λ (ks : List Choice). lay a.m 0 ks a.out.now) (frame_plain (with_list a.o a.codes.now a.rising.now) a.number a.m a.wl a.nl a.lv.now a.lm.now a.wr a.nr a.rv.now a.rm.now c.if-o-eq0.true)
 
-same-length-2 : tie.Need-same-length-2
+same-length-2 : tie.Need-shape_of-out-else-o-eq0
 same-length-2 c = search rules
 
-returns-2 : tie.Need-returns-2
+returns-2 : tie.Need-returns-else-o-eq0
 returns-2 c =
-    let a = c.before.before.before.before.before.before.args in
-    c.before.match-runs.ensures ∙ ap (λ (ks : List Choice). lay a.m 0 ks a.out.now) (frame_grouped (with_list a.o a.codes.now a.rising.now) a.number a.m a.wl a.nl a.lv.now a.lm.now a.wr a.nr a.rv.now a.rm.now c.before.before.before.if1.false)
+    let a = c.args in
+    c.match_runs.ensures ∙ ap (λ (ks : List Choice). lay a.m 0 ks a.out.now) (frame_grouped (with_list a.o a.codes.now a.rising.now) a.number a.m a.wl a.nl a.lv.now a.lm.now a.wr a.nr a.rv.now a.rm.now c.if-o-eq0.false)
 
 pub match_rows_spec : {M : Type 1} → statement M
 match_rows_spec =

@@ -21,67 +21,67 @@ use Rattle.matching.proofs.LayLaws.{groups_from, groups_all, groups_more, groups
 use Rattle.matchframe.proofs.sortedrows.match_runs.Statement.{statement}
 use Rattle.matchframe.proofs.sortedrows.match_runs.Tie as tie
 
-abbrev invariant-loop : tie.invariant-loop
+abbrev invariant-loop : tie.invariant-loop-i
 invariant-loop lv lm nl wl rv rm nr wr number o codes rising m out₀ at₀ end₀ i₀ out at end i =
     (i ≤ nl) × (length out ≡ length out₀) × RunAt (with_list o codes rising) wr nr rv rm at end
     × (lay m 0 (by_runs (with_list o codes rising) number (runs (with_list o codes rising) (rows_of wr nr rv rm)) (runs (with_list o codes rising) (rows_of wl nl lv lm))) out₀ ≡ lay m i (groups_from (with_list o codes rising) number m wl nl lv lm wr nr rv rm at i) out)
 
-abbrev decreases-loop : tie.decreases-loop
+abbrev decreases-loop : tie.decreases-loop-i
 decreases-loop lv lm nl wl rv rm nr wr number o codes rising m out₀ at₀ end₀ i₀ out at end i = nl - i
 
 -- the left run at row i has a row and ends within the rows
-ahead : (c : tie.After-sorted-end2 invariant-loop decreases-loop) → (c.before.before.loop.i < c.sorted-end2.result) × (c.sorted-end2.result ≤ c.before.before.before.before.before.args.nl)
+ahead : (c : tie.After-sorted_end-e invariant-loop decreases-loop) → (c.loop-i.i < c.sorted_end-e.result) × (c.sorted_end-e.result ≤ c.args.nl)
 ahead c =
-    let a = c.before.before.before.before.before.args in
-    let i = c.before.before.loop.i in
-    let u = run_up (with_list a.o a.codes.now a.rising.now) a.wl a.nl a.lv.now a.lm.now i c.before.loop-test.true in
-    let v = run_within (with_list a.o a.codes.now a.rising.now) a.wl a.nl a.lv.now a.lm.now i c.before.loop-test.true in
-    let q = c.sorted-end2.ensures in
+    let a = c.args in
+    let i = c.loop-i.i in
+    let u = run_up (with_list a.o a.codes.now a.rising.now) a.wl a.nl a.lv.now a.lm.now i c.loop-i-test.true in
+    let v = run_within (with_list a.o a.codes.now a.rising.now) a.wl a.nl a.lv.now a.lm.now i c.loop-i-test.true in
+    let q = c.sorted_end-e.ensures in
     (omega arith, omega arith)
 
-room : (c : tie.After-sorted-end2 invariant-loop decreases-loop) → let a = c.before.before.before.before.before.args in c.before.before.loop.i * a.wl + a.wl ≤ a.nl * a.wl
-room c = let a = c.before.before.before.before.before.args in row_room c.before.before.loop.i a.nl a.wl c.before.loop-test.true
+room : (c : tie.After-sorted_end-e invariant-loop decreases-loop) → let a = c.args in c.loop-i.i * a.wl + a.wl ≤ a.nl * a.wl
+room c = let a = c.args in row_room c.loop-i.i a.nl a.wl c.loop-i-test.true
 
-sorted-end-requires : tie.Need-sorted-end-requires invariant-loop decreases-loop
-sorted-end-requires c κs = (record { rows = c.before.requires.0.right; in_order = c.before.requires.1.right }, omega arith)
+sorted-end-requires : tie.Need-sorted_end-end-requires invariant-loop decreases-loop
+sorted-end-requires c κs = (record { rows = c.requires.0.right; in_order = c.requires.1.right }, omega arith)
 
-loop-holds : tie.Need-loop-init invariant-loop decreases-loop
+loop-holds : tie.Need-loop-i-init invariant-loop decreases-loop
 loop-holds c =
-    let s = c.before.before in
+    let s = c in
     let a = s.args in (
       omega arith,
       refl,
-      record { rows = s.requires.0.right; within = omega arith; run = c.sorted-end.ensures },
+      record { rows = s.requires.0.right; within = omega arith; run = c.sorted_end-end.ensures },
       ap (λ (ks : List Choice). lay a.m 0 ks a.out.now) (groups_all (with_list a.o a.codes.now a.rising.now) a.number a.m a.wl a.nl a.lv.now a.lm.now a.wr a.nr a.rv.now a.rm.now),
     )
 
-sorted-end-requires-2 : tie.Need-sorted-end-requires-2 invariant-loop decreases-loop
-sorted-end-requires-2 c κs = let s = c.before.before.before.before in (record { rows = s.requires.0.left; in_order = s.requires.1.left }, c.before.loop.invariant.0)
+sorted-end-requires-2 : tie.Need-sorted_end-e-requires invariant-loop decreases-loop
+sorted-end-requires-2 c κs = let s = c in (record { rows = s.requires.0.left; in_order = s.requires.1.left }, c.loop-i.invariant.0)
 
-mul-serve-sorted : tie.Need-overflow-mul-serve-sorted invariant-loop decreases-loop
-mul-serve-sorted c = let r = room c in let p = c.before.before.before.before.before.requires.0.left in omega arith
+mul-serve-sorted : tie.Need-overflow_mul-i invariant-loop decreases-loop
+mul-serve-sorted c = let r = room c in let p = c.requires.0.left in omega arith
 
-serve-sorted-requires : tie.Need-serve-sorted-requires invariant-loop decreases-loop
+serve-sorted-requires : tie.Need-serve_sorted-r-requires invariant-loop decreases-loop
 serve-sorted-requires c κs =
     let r = room c in
-    let p = c.before.before.before.before.before.requires.0.left in
-    let q = c.before.before.before.before.before.requires in
-    (record { left = record { few = p.few; values = omega arith; marks = omega arith }; right = c.before.before.loop.invariant.2 }, record { rows = q.0.right; in_order = q.1.right })
+    let p = c.requires.0.left in
+    let q = c.requires in
+    (record { left = record { few = p.few; values = omega arith; marks = omega arith }; right = c.loop-i.invariant.2 }, record { rows = q.0.right; in_order = q.1.right })
 
-match-known-requires : tie.Need-match-known-requires invariant-loop decreases-loop
+match-known-requires : tie.Need-match_known-requires invariant-loop decreases-loop
 match-known-requires c κs =
-    let e = c.before.before in
-    let l = e.before.before.loop in
-    let s = e.before.before.before.before.before in
+    let e = c in
+    let l = e.loop-i in
+    let s = e in
     let p = s.requires.0 in
-    let g = c.before.serve-sorted.ensures.0 in
-    let u = ahead e in
-    let h = mul-le-mul_right {m = c.before.serve-sorted.result.used} {n = s.args.nr} s.args.wr g.within in
-    let k = mul-le-mul_right {m = e.sorted-end2.result} {n = s.args.nl} s.args.wl u.1 in
+    let g = c.serve_sorted-r.ensures.0 in
+    let u = ahead e.before.before in
+    let h = mul-le-mul_right {m = c.serve_sorted-r.result.used} {n = s.args.nr} s.args.wr g.within in
+    let k = mul-le-mul_right {m = e.sorted_end-e.result} {n = s.args.nl} s.args.wl u.1 in
     let a = s.args in
-    let known : null_group (without_list a.o) (row_from a.wl (l.i * a.wl) a.lv.now a.lm.now) ≡ false → keys_sorted (without_list a.o) (between a.wl l.i e.sorted-end2.result a.lv.now a.lm.now) ≡ true = λ n.
-    sorted_terms a.o a.codes.now a.rising.now (between a.wl l.i e.sorted-end2.result a.lv.now a.lm.now)
-    ∙ run_keys (with_list a.o a.codes.now a.rising.now) a.wl a.nl a.lv.now a.lm.now s.requires.1.left l.i e.sorted-end2.result e.before.loop-test.true e.sorted-end2.ensures n in (
+    let known : null_group (without_list a.o) (row_from a.wl (l.i * a.wl) a.lv.now a.lm.now) ≡ false → keys_sorted (without_list a.o) (between a.wl l.i e.sorted_end-e.result a.lv.now a.lm.now) ≡ true = λ n.
+    sorted_terms a.o a.codes.now a.rising.now (between a.wl l.i e.sorted_end-e.result a.lv.now a.lm.now)
+    ∙ run_keys (with_list a.o a.codes.now a.rising.now) a.wl a.nl a.lv.now a.lm.now s.requires.1.left l.i e.sorted_end-e.result e.loop-i-test.true e.sorted_end-e.ensures n in (
       room_terms a.o a.codes.now a.rising.now a.wl a.m a.lv.now a.lm.now _ _ a.wr a.rv.now a.rm.now _ _ a.number _
           (record {
             left = record { few = p.left.few; wide = p.left.wide; values = omega (arith, k, p.left.values); marks = omega (arith, k, p.left.marks) };
@@ -94,49 +94,37 @@ match-known-requires c κs =
           }),
       u.0,
       known,
-      c.before.serve-sorted.ensures.1,
+      c.serve_sorted-r.ensures.1,
     )
 
-loop-less : tie.Need-loop-smaller invariant-loop decreases-loop
-loop-less c = let u = ahead c.before.before.before.before in let t = c.before.before.before.before.before.loop-test.true in omega arith
+loop-less : tie.Need-loop-i-smaller invariant-loop decreases-loop
+loop-less c = let u = ahead c.before.before.before.before in let t = c.loop-i-test.true in omega arith
 
-loop-again : tie.Need-loop-preserved invariant-loop decreases-loop
+loop-again : tie.Need-loop-i-preserved invariant-loop decreases-loop
 loop-again c =
-    let e = c.before.before.before.before in
-    let l = e.before.before.loop in
-    let s = e.before.before.before.before.before in
+    let e = c in
+    let l = e.loop-i in
+    let s = e in
     let a = s.args in
-    let g = c.before.before.before.serve-sorted in
-    let m = groups_more (with_list a.o a.codes.now a.rising.now) a.number a.m a.wl a.nl a.lv.now a.lm.now a.wr a.nr a.rv.now a.rm.now l.at l.i e.sorted-end2.result g.result l.out e.before.loop-test.true e.sorted-end2.ensures (g.ensures.2 a.wl s.requires.0.left.wide) in (
-      (ahead e).1,
-      c.before.match-known.auto.1.1.1.1.1.1.1.1.1.1.1.1.1.0 ∙ l.invariant.1,
+    let g = c.serve_sorted-r in
+    let m = groups_more (with_list a.o a.codes.now a.rising.now) a.number a.m a.wl a.nl a.lv.now a.lm.now a.wr a.nr a.rv.now a.rm.now l.at l.i e.sorted_end-e.result g.result l.out e.loop-i-test.true e.sorted_end-e.ensures (g.ensures.2 a.wl s.requires.0.left.wide) in (
+      (ahead e.before.before.before.before).1,
+      c.match_known.auto.out ∙ l.invariant.1,
       g.ensures.0.run,
-      l.invariant.3 ∙ rw (c.before.match-known.ensures ∙ lay_terms a.o a.codes.now a.rising.now a.m l.i (a.number + g.result.at) (between a.wr g.result.at g.result.used a.rv.now a.rm.now) (between a.wl l.i e.sorted-end2.result a.lv.now a.lm.now) l.out) m,
+      l.invariant.3 ∙ rw (c.match_known.ensures ∙ lay_terms a.o a.codes.now a.rising.now a.m l.i (a.number + g.result.at) (between a.wr g.result.at g.result.used a.rv.now a.rm.now) (between a.wl l.i e.sorted_end-e.result a.lv.now a.lm.now) l.out) m,
     )
 
-same_length : tie.Need-same-length invariant-loop decreases-loop
-same_length c = c.before.loop.invariant.1
+same_length : tie.Need-shape_of-out invariant-loop decreases-loop
+same_length c = c.loop-i.invariant.1
 
 returns : tie.Need-returns invariant-loop decreases-loop
 returns c =
-    let l = c.before.loop in
-    let a = c.before.before.before.before.args in
-    let e : l.i ≡ a.nl = omega (arith, c.loop-test.false, l.invariant.0) in
+    let l = c.loop-i in
+    let a = c.args in
+    let e : l.i ≡ a.nl = omega (arith, c.loop-i-test.false, l.invariant.0) in
     sym (l.invariant.3 ∙ rw e (groups_end (with_list a.o a.codes.now a.rising.now) a.number a.m a.wl a.nl a.lv.now a.lm.now a.wr a.nr a.rv.now a.rm.now l.at l.out))
 
 pub match_runs_spec : {M : Type 1} → statement M
 match_runs_spec =
     tie.close
-    (tie.spec
-    invariant-loop
-    decreases-loop
-    sorted-end-requires
-    loop-holds
-    sorted-end-requires-2
-    mul-serve-sorted
-    serve-sorted-requires
-    match-known-requires
-    loop-less
-    loop-again
-    same_length
-    returns)
+    (tie.spec invariant-loop decreases-loop sorted-end-requires loop-holds sorted-end-requires-2 mul-serve-sorted serve-sorted-requires match-known-requires loop-less loop-again same_length returns)

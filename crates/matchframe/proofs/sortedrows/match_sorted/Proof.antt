@@ -9,60 +9,54 @@ use borrow.Author.Rules.{rules}
 use Rattle.matchframe.proofs.sortedrows.match_sorted.Statement.{statement}
 use Rattle.matchframe.proofs.sortedrows.match_sorted.Tie as tie
 
-answer-columns-requires : tie.Need-answer-columns-requires
+answer-columns-requires : tie.Need-answer_columns-c-requires
 answer-columns-requires c κs = search rules
 
 -- there is room for the cells that the code counts
-room : (c : tie.After-answer-columns) →
-    let a = c.before.before.args in
-    AnswerRoom (with_list a.o a.codes.now a.rising.now) a.wl a.nl a.lv.now a.lm.now a.wr a.nr a.rv.now a.rm.now a.number (a.nl * c.answer-columns.result) a.out.now
+room : (c : tie.After-answer_columns-c) →
+    let a = c.args in
+    AnswerRoom (with_list a.o a.codes.now a.rising.now) a.wl a.nl a.lv.now a.lm.now a.wr a.nr a.rv.now a.rm.now a.number (a.nl * c.answer_columns-c.result) a.out.now
 room c =
-    let a = c.before.before.args in
-    subst (λ (z : ℕ). AnswerRoom (with_list a.o a.codes.now a.rising.now) a.wl a.nl a.lv.now a.lm.now a.wr a.nr a.rv.now a.rm.now a.number (a.nl * z) a.out.now) (sym c.answer-columns.ensures) c.before.before.requires.0
+    let a = c.args in
+    subst (λ (z : ℕ). AnswerRoom (with_list a.o a.codes.now a.rising.now) a.wl a.nl a.lv.now a.lm.now a.wr a.nr a.rv.now a.rm.now a.number (a.nl * z) a.out.now) (sym c.answer_columns-c.ensures) c.requires.0
 
 -- and the number of rows is that of a word
-rows_fit : (c : tie.After-answer-columns) → c.before.before.args.nl < 2 ^ 63
+rows_fit : (c : tie.After-answer_columns-c) → c.args.nl < 2 ^ 63
 rows_fit c =
-    let a = c.before.before.args in
-    let f = frame_room (with_list a.o a.codes.now a.rising.now) a.wl a.nl a.lv.now a.lm.now a.wr a.nr a.rv.now a.rm.now a.number (a.nl * c.answer-columns.result) a.out.now (room c) in
+    let a = c.args in
+    let f = frame_room (with_list a.o a.codes.now a.rising.now) a.wl a.nl a.lv.now a.lm.now a.wr a.nr a.rv.now a.rm.now a.number (a.nl * c.answer_columns-c.result) a.out.now (room c) in
     let n = f.within in
     let r = f.room in
     omega arith
 
-mul-answer-sorted : tie.Need-overflow-mul-answer-sorted
+mul-answer-sorted : tie.Need-overflow_mul-nl
 mul-answer-sorted c = let r = (room c).room in omega arith
 
-answer-sorted-requires : tie.Need-answer-sorted-requires
-answer-sorted-requires c κs = (room c.before, c.before.before.before.requires.1)
+answer-sorted-requires : tie.Need-answer_sorted-requires
+answer-sorted-requires c κs = (room c.before, c.requires.1)
 
-put-head-requires : tie.Need-put-head-requires
+put-head-requires : tie.Need-put_head-requires
 put-head-requires c κs =
-    let e = c.before.before.before.before in
-    let a = e.before.before.args in
+    let e = c in
+    let a = e.args in
     let o = with_list a.o a.codes.now a.rising.now in
-    let r = room e in
+    let r = room e.before.before.before.before in
     let w = columns_few o in
-    let k : e.answer-columns.result ≤ a.o.carried + 2 = subst (λ (z : ℕ). z ≤ a.o.carried + 2) (sym e.answer-columns.ensures) w in
+    let k : e.answer_columns-c.result ≤ a.o.carried + 2 = subst (λ (z : ℕ). z ≤ a.o.carried + 2) (sym e.answer_columns-c.ensures) w in
     let p : a.o.carried ≤ 8 = r.carried in
-    record { rows = rows_fit e; columns = omega (arith, k, p); room = omega (arith, r.room, c.before.before.answer-sorted.auto.1.1.1.1.1.1.1.1.1.1.1.1.1.0) }
+    record { rows = rows_fit e.before.before.before.before; columns = omega (arith, k, p); room = omega (arith, r.room, c.answer_sorted.auto.out) }
 
-same_length : tie.Need-same-length
+same_length : tie.Need-shape_of-out
 same_length c = search rules
 
 returns : tie.Need-returns
 returns c =
-    let e = c.before.before.before.before.before.before in
-    let a = e.before.before.args in
-    let k = e.answer-columns.result in
-    answer_whole (with_list a.o a.codes.now a.rising.now) a.wl a.nl a.lv.now a.lm.now a.wr a.nr a.rv.now a.rm.now a.number (a.nl * k) a.out.now (room e) k _ _ refl e.answer-columns.ensures c.before.before.before.before.answer-sorted.ensures c.before.put-head.ensures
+    let e = c in
+    let a = e.args in
+    let k = e.answer_columns-c.result in
+    answer_whole (with_list a.o a.codes.now a.rising.now) a.wl a.nl a.lv.now a.lm.now a.wr a.nr a.rv.now a.rm.now a.number (a.nl * k) a.out.now (room e.before.before.before.before.before.before) k _ _ refl e.answer_columns-c.ensures c.answer_sorted.ensures c.put_head.ensures
 
 pub match_sorted_spec : {M : Type 1} → statement M
 match_sorted_spec =
     tie.close
-    (tie.spec
-    answer-columns-requires
-    mul-answer-sorted
-    answer-sorted-requires
-    put-head-requires
-    same_length
-    returns)
+    (tie.spec answer-columns-requires mul-answer-sorted answer-sorted-requires put-head-requires same_length returns)

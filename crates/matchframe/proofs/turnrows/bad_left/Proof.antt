@@ -1,4 +1,4 @@
-use mathlib.Core.Path.{◌≡◌, sym, ◌∙◌}
+use mathlib.Core.Path.{◌≡◌, ◌∙◌}
 use borrow.Author.Tests.{not-true, not-false}
 use Rattle.frames.specs.Cells.{rows_of}
 use Rattle.order.specs.options.Options.{with_list, columns}
@@ -15,63 +15,56 @@ use Rattle.matchframe.proofs.turnrows.bad_left.Tie as tie
 checks-requires : tie.Need-checks-requires
 checks-requires c κs = search rules
 
-returns : tie.Need-returns
+returns : tie.Need-returns-then-not-checks
 unfolding bad_left
-returns c = simp (← c.before.checks.ensures, not-true c.before.checks.result c.if1.true)
+returns c = simp (← c.checks.ensures, not-true c.checks.result c.if-not-checks.true-raw)
 
-first-left-requires : tie.Need-first-left-requires
+first-left-requires : tie.Need-first_left-first-requires
 first-left-requires c κs =
-    let s = c.before.before.before in
+    let s = c in
     let a = s.args in
     let p = s.requires in
     keys_terms a.o a.codes.now a.rising.now a.c a.n a.lm.now (record { few = p.few; wide = p.wide; marks = p.marks })
 
 -- the row that is compared is one of the frame's
-first : (c : tie.After-first-left) → let a = c.before.before.before.before.args in c.first-left.result ≡ first_left (with_list a.o a.codes.now a.rising.now) (rows_of a.c a.n a.lv.now a.lm.now)
+first : (c : tie.After-first_left-first) → let a = c.args in c.first_left-first.result ≡ first_left (with_list a.o a.codes.now a.rising.now) (rows_of a.c a.n a.lv.now a.lm.now)
 first c =
-    let s = c.before.before.before.before in
+    let s = c in
     let a = s.args in
-    c.first-left.ensures a.lv.now s.requires.values ∙ first_left_terms a.o a.codes.now a.rising.now (rows_of a.c a.n a.lv.now a.lm.now)
+    c.first_left-first.ensures a.lv.now s.requires.values ∙ first_left_terms a.o a.codes.now a.rising.now (rows_of a.c a.n a.lv.now a.lm.now)
 
-among : (c : tie.After-first-left) → FoundAmong c.first-left.result c.before.before.before.before.args.n
-among c = let a = c.before.before.before.before.args in first_left_among (with_list a.o a.codes.now a.rising.now) a.c a.n a.lv.now a.lm.now c.first-left.result (first c)
+among : (c : tie.After-first_left-first) → FoundAmong c.first_left-first.result c.args.n
+among c = let a = c.args in first_left_among (with_list a.o a.codes.now a.rising.now) a.c a.n a.lv.now a.lm.now c.first_left-first.result (first c)
 
-out-of-order-requires : tie.Need-out-of-order-requires
+out-of-order-requires : tie.Need-out_of_order-requires
 out-of-order-requires c κs =
-    let s = c.before.before.before.before in
+    let s = c in
     let a = s.args in
-    found_in_lem (with_list a.o a.codes.now a.rising.now) a.c a.n c.first-left.result a.lv.now a.lm.now s.requires (among c)
+    found_in_lem (with_list a.o a.codes.now a.rising.now) a.c a.n c.first_left-first.result a.lv.now a.lm.now s.requires (among c)
 
 -- whether it comes before the remembered row
-fault : (c : tie.After-out-of-order) → let a = c.before.before.before.before.before.args in
+fault : (c : tie.After-out_of_order) → let a = c.args in
     let rows = rows_of a.c a.n a.lv.now a.lm.now in
     c.out_of_order.result ≡ out_of_order (with_list a.o a.codes.now a.rising.now) (recall (columns (with_list a.o a.codes.now a.rising.now)) a.m) (row_at rows (first_left (with_list a.o a.codes.now a.rising.now) rows))
-fault c = let k = c.before in rw (← (first k)) (c.out_of_order.ensures k.before.before.before.before.args.n (among k))
+fault c = let k = c in rw (← (first k.before)) (c.out_of_order.ensures k.args.n (among k.before))
 
-returns-2 : tie.Need-returns-2
+returns-2 : tie.Need-returns-then-out_of_order
 unfolding bad_left
 returns-2 c =
-    let k = c.before.before.before in
-    simp (← k.before.checks.ensures, not-false k.before.checks.result k.if1.false, ← fault c.before, c.if2.true)
+    let k = c in
+    simp (← k.checks.ensures, not-false k.checks.result k.if-not-checks.false-raw, ← fault c.before, c.if-out_of_order.true)
 
-is-sorted-requires : tie.Need-is-sorted-requires
+is-sorted-requires : tie.Need-is_sorted-requires
 is-sorted-requires c κs = search rules
 
-returns-3 : tie.Need-returns-3
+returns-3 : tie.Need-returns
 unfolding bad_left
 returns-3 c =
-    let d = c.before in
-    let k = d.before.before.before in
-    simp (← k.before.checks.ensures, not-false k.before.checks.result k.if1.false, ← fault d.before, d.if2.false, ← c.is_sorted.ensures)
+    let d = c in
+    let k = d in
+    simp (← k.checks.ensures, not-false k.checks.result k.if-not-checks.false-raw, ← fault d.before.before, d.if-out_of_order.false, ← c.is_sorted.ensures)
 
 pub bad_left_spec : {M : Type 1} → statement M
 bad_left_spec =
     tie.close
-    (tie.spec
-    checks-requires
-    returns
-    first-left-requires
-    out-of-order-requires
-    returns-2
-    is-sorted-requires
-    returns-3)
+    (tie.spec checks-requires returns first-left-requires out-of-order-requires returns-2 is-sorted-requires returns-3)

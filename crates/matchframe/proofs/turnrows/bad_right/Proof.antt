@@ -4,50 +4,37 @@ use Rattle.matchframe.specs.turnrows.Prunes.{bad_right_at}
 use borrow.Author.Rules.{rules}
 use Rattle.matchframe.proofs.turnrows.bad_right.Statement.{statement}
 use Rattle.matchframe.proofs.turnrows.bad_right.Tie as tie
-use Rattle.matchframe.proofs.turnrows.bad_right.Reads as reads
-use Rattle.matchframe.proofs.turnrows.bad_right.Lts as lts
-use Rattle.buffer.proofs.splitcheck.bad_split.Reads as bad-split-reads
-use Rattle.groups.proofs.neighbours.is_sorted.Reads as is-sorted-reads
-use Rattle.order.proofs.options.checks.Reads as checks-reads
 
 checks-requires : tie.Need-checks-requires
 checks-requires c κs = search rules
 
-returns : tie.Need-returns
+returns : tie.Need-returns-then-not-checks
 unfolding bad_right_at
-returns c = simp (← c.before.checks.ensures, not-true c.before.checks.result c.if1.true)
+returns c = simp (← c.checks.ensures, not-true c.checks.result c.if-not-checks.true-raw)
 
-is-sorted-requires : tie.Need-is-sorted-requires
+is-sorted-requires : tie.Need-is_sorted-requires
 is-sorted-requires c κs = search rules
 
-returns-2 : tie.Need-returns-2
+returns-2 : tie.Need-returns-then-not-is_sorted
 unfolding bad_right_at
-returns-2 c = let e = c.before.before in simp (← e.before.checks.ensures, not-false e.before.checks.result e.if1.false, ← c.before.is_sorted.ensures, c.if2.true)
+returns-2 c = let e = c in simp (← e.checks.ensures, not-false e.checks.result e.if-not-checks.false-raw, ← c.is_sorted.ensures, c.if-not-is_sorted.true-raw)
 
-returns-3 : tie.Need-returns-3
+returns-3 : tie.Need-returns-then-n-eq0
 unfolding bad_right_at
-returns-3 c = let d = c.before in let e = d.before.before in simp (← e.before.checks.ensures, not-false e.before.checks.result e.if1.false, ← d.before.is_sorted.ensures, d.if2.false, eq-eqb _ _ c.if3.true)
+returns-3 c = let d = c in let e = d in simp (← e.checks.ensures, not-false e.checks.result e.if-not-checks.false-raw, ← d.is_sorted.ensures, d.if-not-is_sorted.false-raw, eq-eqb _ _ c.if-n-eq0.true)
 
-returns-4 : tie.Need-returns-4
+returns-4 : tie.Need-returns-then-held-eq0
 unfolding bad_right_at
-returns-4 c = let f = c.before in let d = f.before in let e = d.before.before in simp (← e.before.checks.ensures, not-false e.before.checks.result e.if1.false, ← d.before.is_sorted.ensures, d.if2.false, ne_eqb _ _ f.if3.false, rows_length, eq-eqb _ _ c.if4.true)
+returns-4 c = let f = c in let d = f in let e = d in simp (← e.checks.ensures, not-false e.checks.result e.if-not-checks.false-raw, ← d.is_sorted.ensures, d.if-not-is_sorted.false-raw, ne_eqb _ _ f.if-n-eq0.false, rows_length, eq-eqb _ _ c.if-held-eq0.true)
 
-bad-split-requires : tie.Need-bad-split-requires
+bad-split-requires : tie.Need-bad_split-requires
 bad-split-requires c κs = search rules
 
-returns-5 : tie.Need-returns-5
+returns-5 : tie.Need-returns
 unfolding bad_right_at
-returns-5 c = let g = c.before in let f = g.before in let d = f.before in let e = d.before.before in simp (← e.before.checks.ensures, not-false e.before.checks.result e.if1.false, ← d.before.is_sorted.ensures, d.if2.false, ne_eqb _ _ f.if3.false, rows_length, ne_eqb _ _ g.if4.false, ← c.bad-split.ensures)
+returns-5 c = let g = c in let f = g in let d = f in let e = d in simp (← e.checks.ensures, not-false e.checks.result e.if-not-checks.false-raw, ← d.is_sorted.ensures, d.if-not-is_sorted.false-raw, ne_eqb _ _ f.if-n-eq0.false, rows_length, ne_eqb _ _ g.if-held-eq0.false, ← c.bad_split.ensures)
 
 pub bad_right_spec : {M : Type 1} → statement M
 bad_right_spec =
     tie.close
-    (tie.spec
-    checks-requires
-    returns
-    is-sorted-requires
-    returns-2
-    returns-3
-    returns-4
-    bad-split-requires
-    returns-5)
+    (tie.spec checks-requires returns is-sorted-requires returns-2 returns-3 returns-4 bad-split-requires returns-5)

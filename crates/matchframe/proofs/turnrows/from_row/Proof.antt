@@ -3,26 +3,24 @@ use Rattle.buffer.proofs.area.AreaLaws.{to_end}
 use borrow.Author.Rules.{rules}
 use Rattle.matchframe.proofs.turnrows.from_row.Statement.{statement}
 use Rattle.matchframe.proofs.turnrows.from_row.Tie as tie
-use Rattle.matchframe.proofs.turnrows.from_row.Reads as reads
-use Rattle.matchframe.proofs.turnrows.from_row.Lts as lts
 
-mul-p : tie.Need-overflow-mul-p
+mul-p : tie.Need-overflow_mul-p
 mul-p c = search rules
 
-mul-result : tie.Need-overflow-mul-result
+mul-result : tie.Need-offset_bounds-words-p
 mul-result c = search rules
 
-sub-result : tie.Need-overflow-sub-result
+sub-result : tie.Need-slice_bounds-result-count
 sub-result c = search rules
 
-part-result-start : tie.Need-slice-bounds-result-start
+part-result-start : tie.Need-slice_bounds-result-start
 part-result-start c = search rules
 
-part-result-end : tie.Need-slice-bounds-result-end
+part-result-end : tie.Need-slice_bounds-result-end
 part-result-end c = search rules
 
 returns : tie.Need-returns
-returns c = let a = c.before.args in to_end (a.i * a.w) a.words.now
+returns c = let a = c.args in to_end (a.i * a.w) a.words.now
 
 pub from_row_spec : {M : Type 1} → statement M
 from_row_spec =

@@ -9,32 +9,32 @@ use borrow.Author.Rules.{rules}
 use Rattle.matchframe.proofs.turnrows.last_left.Statement.{statement}
 use Rattle.matchframe.proofs.turnrows.last_left.Tie as tie
 
-is-strict-requires : tie.Need-is-strict-requires
+is-strict-requires : tie.Need-is_strict-requires
 is-strict-requires c κs = search rules
 
-last-keyed-requires : tie.Need-last-keyed-requires
+last-keyed-requires : tie.Need-last_keyed-requires
 last-keyed-requires c κs = search rules
 
-returns : tie.Need-returns
+returns : tie.Need-returns-then-not-is_strict
 returns c = λ vs h.
-    let a = c.before.before.before.args in
-    let e = sym c.before.before.is-strict.ensures ∙ not-true c.before.before.is-strict.result c.before.if1.true in
-    c.last-keyed.ensures vs h ∙ sym (last_loose (without_list a.o) (rows_of a.c a.n vs a.marks.now) e)
+    let a = c.args in
+    let e = sym c.is_strict.ensures ∙ not-true c.is_strict.result c.if-not-is_strict.true-raw in
+    c.last_keyed.ensures vs h ∙ sym (last_loose (without_list a.o) (rows_of a.c a.n vs a.marks.now) e)
 
-returns-2 : tie.Need-returns-2
+returns-2 : tie.Need-returns-then-n-eq0
 returns-2 c = λ vs h.
-    let a = c.before.before.before.args in
-    let e = sym c.before.before.is-strict.ensures ∙ not-false c.before.before.is-strict.result c.before.if1.false in
-    sym (last_none (without_list a.o) a.c vs a.marks.now e a.n c.if2.true)
+    let a = c.args in
+    let e = sym c.is_strict.ensures ∙ not-false c.is_strict.result c.if-not-is_strict.false-raw in
+    sym (last_none (without_list a.o) a.c vs a.marks.now e a.n c.if-n-eq0.true)
 
-sub-t8 : tie.Need-overflow-sub-t8
+sub-t8 : tie.Need-overflow_sub-result
 sub-t8 c = search rules
 
-returns-3 : tie.Need-returns-3
+returns-3 : tie.Need-returns
 returns-3 c = λ vs h.
-    let a = c.before.before.before.args in
-    let e = sym c.before.before.is-strict.ensures ∙ not-false c.before.before.is-strict.result c.before.if1.false in
-    sym (last_some (without_list a.o) a.c vs a.marks.now e a.n (omega (arith, c.if2.false)))
+    let a = c.args in
+    let e = sym c.is_strict.ensures ∙ not-false c.is_strict.result c.if-not-is_strict.false-raw in
+    sym (last_some (without_list a.o) a.c vs a.marks.now e a.n (omega (arith, c.if-n-eq0.false)))
 
 pub last_left_spec : {M : Type 1} → statement M
 last_left_spec =

@@ -4,21 +4,18 @@ use Rattle.searching.specs.Reach.{prune_by}
 use borrow.Author.Rules.{rules}
 use Rattle.matchframe.proofs.turnrows.last_prune.Statement.{statement}
 use Rattle.matchframe.proofs.turnrows.last_prune.Tie as tie
-use Rattle.matchframe.proofs.turnrows.last_prune.Reads as reads
-use Rattle.matchframe.proofs.turnrows.last_prune.Lts as lts
-use Rattle.buffer.proofs.pruning.prune_by.Reads as prune-by-reads
 
-returns : tie.Need-returns
+returns : tie.Need-returns-then-n-eq0
 unfolding prune_by
-returns c = simp (rows_length, eq-eqb _ _ c.if1.true)
+returns c = simp (rows_length, eq-eqb _ _ c.if-n-eq0.true)
 
-sub-prune-by : tie.Need-overflow-sub-prune-by
+sub-prune-by : tie.Need-overflow_sub-n
 sub-prune-by c = search rules
 
-prune-by-requires : tie.Need-prune-by-requires
+prune-by-requires : tie.Need-prune_by-requires
 prune-by-requires c κs = search rules
 
-returns-2 : tie.Need-returns-2
+returns-2 : tie.Need-returns
 returns-2 c = search rules
 
 pub last_prune_spec : {M : Type 1} → statement M

@@ -13,37 +13,37 @@ use Rattle.matchframe.proofs.turnrows.remembered.Tie as tie
 checks-requires : tie.Need-checks-requires
 checks-requires c κs = search rules
 
-returns : tie.Need-returns
+returns : tie.Need-returns-then-not-checks
 unfolding remembered remember_last
-returns c = simp (← c.before.checks.ensures, not-true c.before.checks.result c.if1.true)
+returns c = simp (← c.checks.ensures, not-true c.checks.result c.if-not-checks.true-raw)
 
-last-keyed-requires : tie.Need-last-keyed-requires
+last-keyed-requires : tie.Need-last_keyed-last-requires
 last-keyed-requires c κs = search rules
 
 -- the row that is remembered is one of them
-last : (c : tie.After-last-keyed) → let a = c.before.before.before.args in c.last-keyed.result ≡ last_keyed (without_list a.o) (rows_of a.w a.n a.values.now a.marks.now)
-last c = let s = c.before.before.before in c.last-keyed.ensures s.args.values.now s.requires.values
+last : (c : tie.After-last_keyed-last) → let a = c.args in c.last_keyed-last.result ≡ last_keyed (without_list a.o) (rows_of a.w a.n a.values.now a.marks.now)
+last c = let s = c in c.last_keyed-last.ensures s.args.values.now s.requires.values
 
-among : (c : tie.After-last-keyed) → FoundAmong c.last-keyed.result c.before.before.before.args.n
-among c = let a = c.before.before.before.args in last_among (without_list a.o) a.w a.n c.last-keyed.result a.values.now a.marks.now (last c)
+among : (c : tie.After-last_keyed-last) → FoundAmong c.last_keyed-last.result c.args.n
+among c = let a = c.args in last_among (without_list a.o) a.w a.n c.last_keyed-last.result a.values.now a.marks.now (last c)
 
-remember-found-requires : tie.Need-remember-found-requires
+remember-found-requires : tie.Need-remember_found-requires
 remember-found-requires c κs =
-    let s = c.before.before.before in
+    let s = c in
     let a = s.args in
-    found_in_lem (without_list a.o) a.w a.n c.last-keyed.result a.values.now a.marks.now s.requires (among c)
+    found_in_lem (without_list a.o) a.w a.n c.last_keyed-last.result a.values.now a.marks.now s.requires (among c)
 
 -- what is remembered by it
-by-it : (c : tie.After-remember-found) → let a = c.before.before.before.before.args in
+by-it : (c : tie.After-remember_found) → let a = c.args in
     let rows = rows_of a.w a.n a.values.now a.marks.now in
-    c.remember-found.result ≡ remember_at (without_list a.o) a.m rows (last_keyed (without_list a.o) rows)
-by-it c = let k = c.before in rw (← (last k)) (c.remember-found.ensures k.before.before.before.args.n (among k))
+    c.remember_found.result ≡ remember_at (without_list a.o) a.m rows (last_keyed (without_list a.o) rows)
+by-it c = let k = c in rw (← (last k.before)) (c.remember_found.ensures k.args.n (among k.before))
 
-returns-2 : tie.Need-returns-2
+returns-2 : tie.Need-returns
 unfolding remembered remember_last
 returns-2 c =
-    let k = c.before.before in
-    simp (← k.before.checks.ensures, not-false k.before.checks.result k.if1.false, ← by-it c)
+    let k = c in
+    simp (← k.checks.ensures, not-false k.checks.result k.if-not-checks.false-raw, ← by-it c)
 
 pub remembered_spec : {M : Type 1} → statement M
 remembered_spec =

@@ -14,37 +14,37 @@ use Rattle.matchframe.proofs.turnrows.remembered_left.Tie as tie
 checks-requires : tie.Need-checks-requires
 checks-requires c κs = search rules
 
-returns : tie.Need-returns
+returns : tie.Need-returns-then-not-checks
 unfolding remembered_left
-returns c = simp (← c.before.checks.ensures, not-true c.before.checks.result c.if1.true)
+returns c = simp (← c.checks.ensures, not-true c.checks.result c.if-not-checks.true-raw)
 
-last-left-requires : tie.Need-last-left-requires
+last-left-requires : tie.Need-last_left-last-requires
 last-left-requires c κs = search rules
 
 -- the row that is remembered is one of them
-last : (c : tie.After-last-left) → let a = c.before.before.before.args in c.last_left.result ≡ last_left_at (without_list a.o) (rows_of a.c a.n a.lv.now a.lm.now)
-last c = let s = c.before.before.before in c.last_left.ensures s.args.lv.now s.requires.values
+last : (c : tie.After-last_left-last) → let a = c.args in c.last_left-last.result ≡ last_left_at (without_list a.o) (rows_of a.c a.n a.lv.now a.lm.now)
+last c = let s = c in c.last_left-last.ensures s.args.lv.now s.requires.values
 
-among : (c : tie.After-last-left) → FoundAmong c.last_left.result c.before.before.before.args.n
-among c = let a = c.before.before.before.args in last_left_among (without_list a.o) a.c a.n a.lv.now a.lm.now c.last_left.result (last c)
+among : (c : tie.After-last_left-last) → FoundAmong c.last_left-last.result c.args.n
+among c = let a = c.args in last_left_among (without_list a.o) a.c a.n a.lv.now a.lm.now c.last_left-last.result (last c)
 
-remember-found-requires : tie.Need-remember-found-requires
+remember-found-requires : tie.Need-remember_found-requires
 remember-found-requires c κs =
-    let s = c.before.before.before in
+    let s = c in
     let a = s.args in
-    found_in_lem (without_list a.o) a.c a.n c.last_left.result a.lv.now a.lm.now s.requires (among c)
+    found_in_lem (without_list a.o) a.c a.n c.last_left-last.result a.lv.now a.lm.now s.requires (among c)
 
 -- what is remembered by it
-by-it : (c : tie.After-remember-found) → let a = c.before.before.before.before.args in
+by-it : (c : tie.After-remember_found) → let a = c.args in
     let rows = rows_of a.c a.n a.lv.now a.lm.now in
-    c.remember-found.result ≡ remember_at (without_list a.o) a.m rows (last_left_at (without_list a.o) rows)
-by-it c = let k = c.before in rw (← (last k)) (c.remember-found.ensures k.before.before.before.args.n (among k))
+    c.remember_found.result ≡ remember_at (without_list a.o) a.m rows (last_left_at (without_list a.o) rows)
+by-it c = let k = c in rw (← (last k.before)) (c.remember_found.ensures k.args.n (among k.before))
 
-returns-2 : tie.Need-returns-2
+returns-2 : tie.Need-returns
 unfolding remembered_left
 returns-2 c =
-    let k = c.before.before in
-    simp (← k.before.checks.ensures, not-false k.before.checks.result k.if1.false, ← by-it c)
+    let k = c in
+    simp (← k.checks.ensures, not-false k.checks.result k.if-not-checks.false-raw, ← by-it c)
 
 pub remembered_left_spec : {M : Type 1} → statement M
 remembered_left_spec =
