@@ -121,7 +121,7 @@ def compare_structs(crates, d, texts):
     described = {f'Host{camel(struct.name)}': struct for struct in d.structs}
     seen = set()
     for path, text in texts.items():
-        for name, body in re.findall(r'#\[repr\(C\)\]\s*pub struct (Host\w+) \{([^}]*)\}', text):
+        for name, body in re.findall(r'#\[repr\(C\)\]\s*(?:#\[derive\([^)]*\)\]\s*)?pub struct (Host\w+) \{([^}]*)\}', text):
             seen.add(name)
             if name not in described:
                 crates.differs(path, f'{name}: it is not described')
@@ -146,13 +146,13 @@ def signature(call):
 def compare_calls(crates, d, texts):
     """The exported functions: their parameters in order, and what they give."""
     described, seen = {f'rowkeeper_{call.name}': call for call in d.calls}, set()
-    pattern = r'#\[no_mangle\]\s*pub extern "C" fn (\w+)\(([^)]*)\)(?: -> (\w+))?'
+    pattern = r'#\[unsafe\(no_mangle\)\]\s*pub extern "C" fn (\w+)\(([^)]*)\)(?: -> (\w+))?'
     for path, text in texts.items():
         for name, takes, gives in re.findall(pattern, text):
             seen.add(name)
             if name not in described:
                 # A crate beside the library may export functions of its own, for a program that measures it.
-                if path.startswith('host/'):
+                if path.startswith('host_c/'):
                     crates.differs(path, f'{name}: it is not described')
                 continue
             kinds = [each.split(':', 1)[1].strip() for each in takes.split(',') if each.strip()]
@@ -161,7 +161,7 @@ def compare_calls(crates, d, texts):
             if not same or gives not in given:
                 crates.differs(path, f'{name}: ({", ".join(kinds)}) -> {gives}; described otherwise')
     for name in set(described) - seen:
-        crates.differs('host/src/lib.rt', f'{name}: it is described, and is not exported')
+        crates.differs('host_c/src/lib.rt', f'{name}: it is described, and is not exported')
 
 
 def compare(d, root):
