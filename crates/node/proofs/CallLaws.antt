@@ -1,8 +1,8 @@
 -- The calls by their answers: what a refused call leaves and what an accepted one does, over plain values. Assumes nothing.
-use mathlib.Core.Path.{◌≡◌, refl, sym, ◌∙◌}
+use mathlib.Core.Path.{◌≡◌, refl, ◌∙◌}
 use mathlib.Core.Bool.{Bool, true, false}
 use Rattle.frames.specs.Cells.{Words}
-use Rattle.node.specs.State.{join_of, queue_at, held_at, state_at, left_width, right_width, bad_join}
+use Rattle.node.specs.State.{join_of, queue_at, held_at, state_at, bad_join}
 use Rattle.node.specs.Calls.{left_answer, left_call, queued, right_answer, right_call, pushed_right, end_answer, end_call, ports_state, ports_answer, ports_call}
 use Rattle.node.specs.CallContracts.{LeftContract, RightContract, EndContract, PortsContract}
 use Rattle.callrules.specs.Judged.{left_judged, end_judged, right_judged, EndFed, LeftFed, RightFed}

@@ -1,11 +1,10 @@
 -- What is known of a join that is not bad, and of a frame that is accepted. Assumes nothing.
 use mathlib.Core.Path.{◌≡◌, refl}
 use mathlib.Core.Bool.{Bool, true, false, cond, not, ◌||◌}
-use Prim.Native.Nat.{ℕ, ◌+◌, ◌-◌, ◌%◌, ◌≤◌}
+use Prim.Native.Nat.{ℕ, ◌+◌, ◌%◌, ◌≤◌}
 use native.Mathlib.Omega.{arith}
 use borrow.Author.Tests.{ltb-false, eqb-false, not-false}
 use lib.Dec.{ltb}
-use lib.Signed.{lt_z}
 use lib.ListN.{length}
 use Rattle.callrules.specs.Judged.{left_judged, end_judged, right_judged}
 use Rattle.frames.specs.Cells.{Words}

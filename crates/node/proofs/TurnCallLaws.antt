@@ -2,28 +2,22 @@
 use mathlib.Core.Path.{◌≡◌, refl, sym, ap, ◌∙◌}
 use mathlib.Core.Bool.{Bool, true, false, cond, not}
 use mathlib.Core.List.{List, [], ◌∷◌, ◌++◌}
-use Prim.Native.Nat.{ℕ, ◌+◌, ◌-◌, ◌^◌, ◌≤◌, ◌<◌}
+use Prim.Native.Nat.{ℕ, ◌+◌}
 use native.Mathlib.Omega.{arith}
-use lib.Dec.{ltb, eqb}
-use lib.ListN.{length, take, drop, length-take}
-use lib.Seq.{take-take}
+use lib.Dec.{eqb}
+use lib.ListN.{length, take, drop}
 use Rattle.frames.specs.Cells.{Rows, Words}
-use Rattle.frames.specs.Frame.{frame_words, is_frame, frame_rows, front}
+use Rattle.frames.specs.Frame.{is_frame, frame_rows, front}
 use Rattle.frames.specs.Front.{front_of}
 use Rattle.order.specs.declared.options.Options.{Options}
-use Rattle.order.specs.options.Options.{answer_columns}
 use Rattle.frames.specs.declared.Front.{Front}
 use Rattle.frames.specs.declared.Front.TheVariants.{Words as Long, Nothing}
-use Rattle.frames.proofs.FrontLaws.{Fronted, front_told}
 use Rattle.order.specs.Listed.{lacks_code}
-use Rattle.buffer.specs.area.Area.{capacity, held_rows}
-use Rattle.searching.specs.Reach.{need_more}
-use Rattle.buffer.proofs.area.PushLaws.{capacity_room}
-use Rattle.buffer.proofs.area.AreaLaws.{rows_words}
+use Rattle.buffer.specs.area.Area.{held_rows}
 use Rattle.matching.specs.Answer.{frame_answer, answered}
 use Rattle.matching.proofs.ChoiceLaws.{cond_ind}
 use Rattle.node.specs.State.{marked_failed, left_width, right_width, bad_join, held_of, waiting}
-use Rattle.frames.specs.outcomes.Answers.{is_done, last_sequence, wrote}
+use Rattle.frames.specs.outcomes.Answers.{is_done, wrote}
 use Rattle.node.specs.Calls.{after, turn_answer, dropped, dequeued, turned, spoiled, turn_call}
 use Rattle.matchframe.specs.turnrows.Prunes.{first_prune, bad_left, bad_right, kept_rows, last_prune}
 use Rattle.node.specs.TurnPart.{ready_answer, part_of, join_with}
@@ -34,7 +28,7 @@ use Rattle.matchframe.proofs.turnrows.PruneLaws.{split_known}
 use Rattle.node.specs.declared.Join.{Join}
 use Rattle.frames.specs.refusals.Refusals.{marks_failed}
 use Rattle.frames.specs.declared.refusals.Refusal.{Refusal}
-use Rattle.frames.specs.declared.refusals.Refusal.TheVariants.{BadJoin, Failed, Closed, BadFrame, UnknownCode, NoRoom, UsedUp, LeftOrder, RightOrder}
+use Rattle.frames.specs.declared.refusals.Refusal.TheVariants.{BadJoin, Failed, Closed, BadFrame, UnknownCode}
 use Rattle.frames.specs.declared.outcomes.Answer.{Answer}
 use Rattle.frames.specs.declared.outcomes.Answer.TheVariants.{Wrote, WantsRight, Idle, Refused}
 use Rattle.frames.specs.refusals.Tests.{Test, test, first_of}
@@ -44,7 +38,7 @@ use Rattle.callrules.specs.Judged.{ready_tests, ready_judged}
 use Rattle.node.specs.turnparts.Part.{room_tests, order_tests, room_answer, order_answer, left_part, failed_part}
 use Rattle.node.specs.declared.turnparts.Part.{Part}
 use Rattle.node.specs.turnfront.Turns.{left as unmoved, rows_answer, rows_turn, spoiled_part, RowsTurned}
-use Rattle.node.specs.turncall.Queue.{waiting_in, listed_turn, front_turn, queue_turn, QueueTurned}
+use Rattle.node.specs.turncall.Queue.{listed_turn, front_turn, queue_turn, QueueTurned}
 use Rattle.node.proofs.turncall.QueueLaws.{front_here, front_frame}
 use Rattle.node.specs.declared.turnfront.TurnedPart.{TurnedPart}
 

@@ -1,15 +1,15 @@
 -- Words copied from one area to another: to its front, by an append to nothing; and behind a place, by a copy to the front of the part from there on. Assumes nothing.
 use mathlib.Core.Path.{◌≡◌, refl, sym, ap, ◌∙◌}
 use mathlib.Core.Bool.{Bool, true, false, cond}
-use mathlib.Core.List.{[], ◌∷◌, ◌++◌, append-nil, append_assoc}
+use mathlib.Core.List.{[], ◌++◌, append-nil, append_assoc}
 use Prim.Native.Nat.{ℕ, ◌+◌, ◌-◌, ◌*◌, ◌≤◌}
 use native.Mathlib.Nat.{mul-le-mul_right}
 use native.Mathlib.Omega.{arith}
 use lib.Dec.{ltb}
 use lib.ListN.{length, take, drop, length-drop}
-use lib.Seq.{paste, paste-zero, drop-drop, take_all, length-take-le, length-paste, drop-length}
+use lib.Seq.{paste-zero, drop-drop, take_all, length-take-le, drop-length}
 use Rattle.frames.specs.Cells.{Words}
-use Rattle.buffer.specs.area.Area.{capacity, moved, written, new_base}
+use Rattle.buffer.specs.area.Area.{capacity, written}
 use Rattle.buffer.specs.area.Requires.{Appended}
 use Rattle.buffer.proofs.area.PushLaws.{capacity_room}
 use Rattle.node.specs.moves.Requires.{BothFit, RightIn, right_copied}

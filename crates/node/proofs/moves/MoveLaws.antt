@@ -1,6 +1,6 @@
 -- A move by its answer: what an accepted one leaves, word for word, and what a refused one does. Assumes nothing.
 use mathlib.Core.Path.{◌≡◌, refl, sym, ap, ◌∙◌}
-use mathlib.Core.Bool.{Bool, true, false, cond, ◌||◌}
+use mathlib.Core.Bool.{Bool, true, false, cond}
 use mathlib.Core.List.{[]}
 use Prim.Native.Nat.{ℕ, ◌+◌, ◌*◌, ◌/◌, ◌%◌, ◌≤◌}
 use native.Mathlib.Nat.{mul-le-mul_right}
@@ -9,7 +9,7 @@ use borrow.Author.Tests.{ltb-false, le-ltb, ne_eqb}
 use lib.Dec.{ltb}
 use lib.ListN.{length, take, drop, length-drop}
 use lib.Seq.{length-paste, take-length, length-take-le}
-use Rattle.frames.specs.Cells.{Rows, Words, rows_of}
+use Rattle.frames.specs.Cells.{Words, rows_of}
 use Rattle.frames.proofs.WordLaws.{part_copied, part_before, rows_read}
 use Rattle.buffer.specs.area.Area.{capacity, held_rows, written}
 use Rattle.buffer.proofs.area.PushLaws.{capacity_room}
@@ -22,9 +22,8 @@ use Rattle.frames.specs.declared.outcomes.Took.TheVariants.{Accepted, Refused}
 use Rattle.node.specs.State.{right_width, bad_join, held_of, waiting, held_values, held_marks}
 use Rattle.node.specs.Calls.{After, after}
 use Rattle.node.specs.declared.Join.{Join}
-use Rattle.node.specs.declared.TookJoin.{TookJoin}
 use Rattle.node.proofs.Good.{Good, good}
-use Rattle.node.specs.moves.Moves.{no_room_in, move_answer, at_front, left_moved, right_moved, move_call, MoveContract, MovedSame, Moved}
+use Rattle.node.specs.moves.Moves.{no_room_in, move_answer, at_front, left_moved, right_moved, move_call, MoveContract, Moved}
 use Rattle.node.specs.moves.Requires.{right_copied}
 
 -- ---- what is accepted

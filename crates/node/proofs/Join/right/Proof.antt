@@ -1,70 +1,56 @@
 -- `node::Join::right` meets its contract. Assumes nothing.
 use mathlib.Core.Path.{◌≡◌, sym, ◌∙◌}
 use native.Mathlib.Omega.{arith}
-use lib.ListN.{length, length-map}
+use lib.ListN.{length}
 use Rattle.node.proofs.Good.{good, few_told, bad_told}
 use Rattle.node.proofs.CallLaws.{right_leaves}
 use borrow.Author.Rules.{rules}
 use Rattle.node.proofs.Join.right.Statement.{statement}
 use Rattle.node.proofs.Join.right.Tie as tie
-use Rattle.node.proofs.Join.right.Reads as reads
-use Rattle.node.proofs.Join.right.Lts as lts
-use Rattle.callrules.proofs.consistency.bad_numbers.Reads as bad-numbers-reads
-use Rattle.callrules.proofs.intake.feed_right.Reads as feed-right-reads
-use Rattle.order.proofs.options.terms_of.Reads as terms-of-reads
 
-terms-of-requires : tie.Need-terms-of-requires
+terms-of-requires : tie.Need-terms_of-terms-requires
 terms-of-requires c κs = search rules
 
 -- The lengths of the list's arrays, from what the join's type says of its fields.
 codes-long : (s : tie.Start) → length s.args.self.options.ranks.codes ≡ 64
-codes-long s = let g = s.well-formed.0.1.1.0.1.1.1.1.1.1.1.1.1.1.0 in sym (length-map s.args.self.options.ranks.codes (λ v. v)) ∙ g.1.1.1.1.1.0.1.0.1
+codes-long s = let g = s.well_formed.0.1.1.0.1.1.1.1.1.1.1.1.1.1.0 in g.1.1.1.1.1.0.1.0.1
 
 rising_long : (s : tie.Start) → length s.args.self.options.ranks.rising ≡ 64
-rising_long s = let g = s.well-formed.0.1.1.0.1.1.1.1.1.1.1.1.1.1.0 in sym (length-map s.args.self.options.ranks.rising (λ v. v)) ∙ g.1.1.1.1.1.1.0.1.0.1
+rising_long s = let g = s.well_formed.0.1.1.0.1.1.1.1.1.1.1.1.1.1.0 in g.1.1.1.1.1.1.0.1.0.1
 
-slice-aggregate-bad-numbers : tie.Need-slice-aggregate-bad-numbers
+slice-aggregate-bad-numbers : tie.Need-slice_bounds-bad_numbers-end
 slice-aggregate-bad-numbers c = sym (codes-long c.before.before.before.before.before)
 
-slice-aggregate-bad-numbers-2 : tie.Need-slice-aggregate-bad-numbers-2
+slice-aggregate-bad-numbers-2 : tie.Need-slice_bounds-bad_numbers-end-2
 slice-aggregate-bad-numbers-2 c = sym (rising_long c.before.before.before.before.before.before)
 
-bad-numbers-requires : tie.Need-bad-numbers-requires
-bad-numbers-requires c κs = let s = c.before.before.before.before.before.before.before in (omega (arith, codes-long s), omega (arith, rising_long s))
+bad-numbers-requires : tie.Need-bad_numbers-bad-requires
+bad-numbers-requires c κs = let s = c in (omega (arith, codes-long s.before.before.before.before.before.before), omega (arith, rising_long s.before.before.before.before.before.before))
 
-slice-aggregate-feed-right : tie.Need-slice-aggregate-feed-right
-slice-aggregate-feed-right c = sym (codes-long c.before.before.before.before.before.before.before.before.before)
+slice-aggregate-feed-right : tie.Need-slice_bounds-feed_right-end
+slice-aggregate-feed-right c = sym (codes-long c.before.before.before.before.before.before.before.before)
 
-slice-aggregate-feed-right-2 : tie.Need-slice-aggregate-feed-right-2
-slice-aggregate-feed-right-2 c = sym (rising_long c.before.before.before.before.before.before.before.before.before.before)
+slice-aggregate-feed-right-2 : tie.Need-slice_bounds-feed_right-end-2
+slice-aggregate-feed-right-2 c = sym (rising_long c.before.before.before.before.before.before.before.before.before)
 
 -- A join that is not bad holds together.
-feed-right-requires : tie.Need-feed-right-requires
+feed-right-requires : tie.Need-feed_right-fed-requires
 feed-right-requires c κs = λ e.
-    let s = c.before.before.before.before.before.before.before.before.before.before.before in
-    let t = c.before.before.before.before.before.before.before.terms-of.ensures in
-    let g = good _ _ _ (sym (bad_told s.args.self _ _ _ _ t c.before.before.before.bad-numbers.ensures) ∙ e) in
-    rw t (record { few = few_told _ _ _ g (codes-long s) (rising_long s); carried = g.carried; room = g.right_room; rows = g.rows })
+    let s = c in
+    let t = c.terms_of-terms.ensures in
+    let g = good _ _ _ (sym (bad_told s.args.self _ _ _ _ t c.bad_numbers-bad.ensures) ∙ e) in
+    rw t (record { few = few_told _ _ _ g (codes-long s.before.before.before.before.before.before.before.before.before.before) (rising_long s.before.before.before.before.before.before.before.before.before.before); carried = g.carried; room = g.right_room; rows = g.rows })
 
-same_length : tie.Need-same-length
+same_length : tie.Need-shape_of-right
 same_length c = search rules
 
 returns : tie.Need-returns
 returns c =
-    let s = c.before.before.before.before.before.before.before.before.before.before.before.before.before in
-    let t = c.before.before.before.before.before.before.before.before.before.terms-of.ensures in
-    right_leaves _ _ _ _ _ (bad_told s.args.self _ _ _ _ t c.before.before.before.before.before.bad-numbers.ensures) _ _ (rw t at c.before.feed-right.ensures)
+    let s = c in
+    let t = c.terms_of-terms.ensures in
+    right_leaves _ _ _ _ _ (bad_told s.args.self _ _ _ _ t c.bad_numbers-bad.ensures) _ _ (rw t at c.feed_right-fed.ensures)
 
 pub right_spec : {M : Type 1} → statement M
 right_spec =
     tie.close
-    (tie.spec
-    terms-of-requires
-    slice-aggregate-bad-numbers
-    slice-aggregate-bad-numbers-2
-    bad-numbers-requires
-    slice-aggregate-feed-right
-    slice-aggregate-feed-right-2
-    feed-right-requires
-    same_length
-    returns)
+    (tie.spec terms-of-requires slice-aggregate-bad-numbers slice-aggregate-bad-numbers-2 bad-numbers-requires slice-aggregate-feed-right slice-aggregate-feed-right-2 feed-right-requires same_length returns)

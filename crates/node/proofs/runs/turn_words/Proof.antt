@@ -5,24 +5,24 @@ use borrow.Author.Rules.{rules}
 use Rattle.node.proofs.runs.turn_words.Statement.{statement}
 use Rattle.node.proofs.runs.turn_words.Tie as tie
 
-row-count-requires : tie.Need-row-count-requires
+row-count-requires : tie.Need-row_count-requires
 row-count-requires c κs = search rules
 
 -- At most 4,096 rows of at most ten cells.
-few : (c : tie.After-row-count) → c.row_count.result * c.before.args.c ≤ 40960
+few : (c : tie.After-row_count) → c.row_count.result * c.args.c ≤ 40960
 few c =
-    let a = c.before.args in
-    let n : c.row_count.result ≤ 4096 = omega (arith, c.row_count.ensures, c.before.requires.1) in
+    let a = c.args in
+    let n : c.row_count.result ≤ 4096 = omega (arith, c.row_count.ensures, c.requires.1) in
     let m : c.row_count.result * a.c ≤ 4096 * a.c = mul-le-mul_right {m = c.row_count.result} {n = 4096} a.c n in
-    omega (arith, c.before.requires.2)
+    omega (arith, c.requires.2)
 
-mul-result : tie.Need-overflow-mul-result
+mul-result : tie.Need-overflow_mul-result
 mul-result c = omega (arith, few c)
 
-mul-result-2 : tie.Need-overflow-mul-result-2
+mul-result-2 : tie.Need-overflow_mul-result-2
 mul-result-2 c = omega (arith, few c)
 
-add-result : tie.Need-overflow-add-result
+add-result : tie.Need-overflow_add-result
 add-result c = omega (arith, few c)
 
 returns : tie.Need-returns

@@ -9,48 +9,38 @@ use Rattle.node.proofs.turnfront.TurnLaws.{first_in, first_words, kept_in, kept_
 use borrow.Author.Rules.{rules}
 use Rattle.node.proofs.turnfront.turn_pruned.Statement.{statement}
 use Rattle.node.proofs.turnfront.turn_pruned.Tie as tie
-use Rattle.node.proofs.turnfront.turn_pruned.Reads as reads
-use Rattle.node.proofs.turnfront.turn_pruned.Lts as lts
-use Rattle.node.proofs.turnparts.fail.Reads as fail-reads
-use Rattle.matchframe.proofs.turnrows.first_prune.Reads as first-prune-reads
-use Rattle.matchframe.proofs.turnrows.from_row.Reads as from-row-reads
-use Rattle.frames.proofs.outcomes.goes_on.Reads as goes-on-reads
-use Rattle.node.proofs.turnparts.judge_order.Reads as judge-order-reads
-use Rattle.matchframe.proofs.turnrows.last_prune.Reads as last-prune-reads
-use Rattle.node.proofs.turnfront.unturned.Reads as unturned-reads
-use Rattle.node.proofs.turnparts.write_turn.Reads as write-turn-reads
 
-first-prune-requires : tie.Need-first-prune-requires
+first-prune-requires : tie.Need-first_prune-first-requires
 first-prune-requires c κs = search rules
 
-from-row-requires : tie.Need-from-row-requires
-from-row-requires c κs = let p = c.before.before.requires.0 in first_words p _ c.first-prune.ensures c.before.before.args.rv.now p.right.values
+from-row-requires : tie.Need-from_row-kv-requires
+from-row-requires c κs = let p = c.requires.0 in first_words p _ c.first_prune-first.ensures c.args.rv.now p.right.values
 
-from-row-requires-2 : tie.Need-from-row-requires-2
-from-row-requires-2 c κs = let f = c.before in let p = f.before.before.requires.0 in first_words p _ f.first-prune.ensures f.before.before.args.rm.now p.right.marks
+from-row-requires-2 : tie.Need-from_row-km-requires
+from-row-requires-2 c κs = let f = c in let p = f.requires.0 in first_words p _ f.first_prune-first.ensures f.args.rm.now p.right.marks
 
-sub-last-prune : tie.Need-overflow-sub-last-prune
-sub-last-prune c = let f = c.before.before.before in first_in f.before.before.requires.0 _ f.first-prune.ensures
+sub-last-prune : tie.Need-overflow_sub-j
+sub-last-prune c = let f = c in first_in f.requires.0 _ f.first_prune-first.ensures
 
-last-prune-requires : tie.Need-last-prune-requires
-last-prune-requires c κs = let f = c.before.before.before in let p = f.before.before.requires.0 in (p.left, kept_in p _ f.first-prune.ensures _ _ c.before.before.from_row.ensures c.before.from-row2.ensures)
+last-prune-requires : tie.Need-last_prune-last-requires
+last-prune-requires c κs = let f = c in let p = f.requires.0 in (p.left, kept_in p _ f.first_prune-first.ensures _ _ c.from_row-kv.ensures c.from_row-km.ensures)
 
 -- The split is that of the prune by the last row, and is among the held rows.
-split : (c : tie.After-last-prune) → let a = c.before.before.before.before.before.before.args in
-    c.last-prune.result ≡ last_prune (with_list a.o a.codes.now a.rising.now) (rows_of a.c a.n a.lv.now a.lm.now) (rows_of a.w a.j.held a.rv.now a.rm.now)
+split : (c : tie.After-last_prune-last) → let a = c.args in
+    c.last_prune-last.result ≡ last_prune (with_list a.o a.codes.now a.rising.now) (rows_of a.c a.n a.lv.now a.lm.now) (rows_of a.w a.j.held a.rv.now a.rm.now)
 split c =
-    let f = c.before.before.before.before in
-    last_is f.before.before.requires.0 _ f.first-prune.ensures _ _ c.before.before.before.from_row.ensures c.before.before.from-row2.ensures _ c.last-prune.ensures
+    let f = c in
+    last_is f.requires.0 _ f.first_prune-first.ensures _ _ c.from_row-kv.ensures c.from_row-km.ensures _ c.last_prune-last.ensures
 
-within : (c : tie.After-last-prune) → let a = c.before.before.before.before.before.before.args in c.before.before.before.before.first-prune.result + c.last-prune.result ≤ a.j.held
+within : (c : tie.After-last_prune-last) → let a = c.args in c.first_prune-first.result + c.last_prune-last.result ≤ a.j.held
 within c =
-    let f = c.before.before.before.before in
-    both_in f.before.before.requires.0 _ f.first-prune.ensures _ _ c.before.before.before.from_row.ensures c.before.before.from-row2.ensures _ c.last-prune.ensures
+    let f = c in
+    both_in f.requires.0 _ f.first_prune-first.ensures _ _ c.from_row-kv.ensures c.from_row-km.ensures _ c.last_prune-last.ensures
 
-judge-order-requires : tie.Need-judge-order-requires
-judge-order-requires c κs = let f = c.before.before.before.before in let p = f.before.before.requires.0 in (p, omega (arith, within c))
+judge-order-requires : tie.Need-judge_order-order-requires
+judge-order-requires c κs = let f = c in let p = f.requires.0 in (p, omega (arith, within c))
 
-goes-on-requires : tie.Need-goes-on-requires
+goes-on-requires : tie.Need-goes_on-requires
 goes-on-requires c κs = search rules
 
 fail-requires : tie.Need-fail-requires
@@ -59,52 +49,39 @@ fail-requires c κs = search rules
 unturned-requires : tie.Need-unturned-requires
 unturned-requires c κs = search rules
 
-returns : tie.Need-returns
+returns : tie.Need-returns-then-not-goes_on
 returns c =
-    let i = c.before.before in
-    let q = i.before.before in
-    let l = q.before in
-    let f = l.before.before.before.before in
-    let x = f.before.before in
-    rw (c.unturned.ensures, c.before.fail.ensures) (order_stops _ _ _ _ _ x.args.out.now x.requires.1 _ (split l) _ q.judge-order.ensures (sym i.before.goes_on.ensures ∙ not-true i.before.goes_on.result i.if1.true))
+    let i = c in
+    let q = i in
+    let l = q in
+    let f = l in
+    let x = f in
+    rw (c.unturned.ensures, c.fail.ensures) (order_stops _ _ _ _ _ x.args.out.now x.requires.1 _ (split l.before.before.before.before.before) _ q.judge_order-order.ensures (sym i.goes_on.ensures ∙ not-true i.goes_on.result i.if-not-goes_on.true-raw))
 
-write-turn-requires : tie.Need-write-turn-requires
+write-turn-requires : tie.Need-write_turn-requires
 write-turn-requires c κs =
-    let i = c.before in
-    let q = i.before.before in
-    let l = q.before in
-    let f = l.before.before.before.before in
-    let x = f.before.before in
-    write_in x.requires.0 _ f.first-prune.ensures _ _ l.before.before.before.from_row.ensures l.before.before.from-row2.ensures _ l.last-prune.ensures x.args.out.now x.requires.1
-    _ q.judge-order.ensures (sym i.before.goes_on.ensures ∙ not-false i.before.goes_on.result i.if1.false)
+    let i = c in
+    let q = i in
+    let l = q in
+    let f = l in
+    let x = f in
+    write_in x.requires.0 _ f.first_prune-first.ensures _ _ l.from_row-kv.ensures l.from_row-km.ensures _ l.last_prune-last.ensures x.args.out.now x.requires.1
+    _ q.judge_order-order.ensures (sym i.goes_on.ensures ∙ not-false i.goes_on.result i.if-not-goes_on.false-raw)
 
-same_length : tie.Need-same-length
+same_length : tie.Need-shape_of-out
 same_length c = search rules
 
-returns-2 : tie.Need-returns-2
+returns-2 : tie.Need-returns
 returns-2 c =
-    let i = c.before.before.before in
-    let q = i.before.before in
-    let l = q.before in
-    let f = l.before.before.before.before in
-    let x = f.before.before in
-    order_goes _ _ _ _ _ x.args.out.now x.requires.1 _ (split l) _ q.judge-order.ensures (sym i.before.goes_on.ensures ∙ not-false i.before.goes_on.result i.if1.false)
-    _ _ _ _ (kept_are x.requires.0 _ f.first-prune.ensures _ _ l.before.before.before.from_row.ensures l.before.before.from-row2.ensures) f.first-prune.ensures c.before.write-turn.ensures
+    let i = c in
+    let q = i in
+    let l = q in
+    let f = l in
+    let x = f in
+    order_goes _ _ _ _ _ x.args.out.now x.requires.1 _ (split l.before.before.before.before.before.before) _ q.judge_order-order.ensures (sym i.goes_on.ensures ∙ not-false i.goes_on.result i.if-not-goes_on.false-raw)
+    _ _ _ _ (kept_are x.requires.0 _ f.first_prune-first.ensures _ _ l.from_row-kv.ensures l.from_row-km.ensures) f.first_prune-first.ensures c.write_turn.ensures
 
 pub turn_pruned_spec : {M : Type 1} → statement M
 turn_pruned_spec =
     tie.close
-    (tie.spec
-    first-prune-requires
-    from-row-requires
-    from-row-requires-2
-    sub-last-prune
-    last-prune-requires
-    judge-order-requires
-    goes-on-requires
-    fail-requires
-    unturned-requires
-    returns
-    write-turn-requires
-    same_length
-    returns-2)
+    (tie.spec first-prune-requires from-row-requires from-row-requires-2 sub-last-prune last-prune-requires judge-order-requires goes-on-requires fail-requires unturned-requires returns write-turn-requires same_length returns-2)

@@ -8,51 +8,47 @@ use Rattle.node.proofs.turnparts.PartLaws.{cells_few}
 use borrow.Author.Rules.{rules}
 use Rattle.node.proofs.turnparts.judge_room.Statement.{statement}
 use Rattle.node.proofs.turnparts.judge_room.Tie as tie
-use Rattle.node.proofs.turnparts.judge_room.Reads as reads
-use Rattle.node.proofs.turnparts.judge_room.Lts as lts
-use Rattle.order.proofs.options.answer_columns.Reads as answer-columns-reads
-use Rattle.node.proofs.turnparts.wants_right.Reads as wants-right-reads
 
-wants-right-requires : tie.Need-wants-right-requires
+wants-right-requires : tie.Need-wants_right-requires
 wants-right-requires c κs = search rules
 
-returns : tie.Need-returns
+returns : tie.Need-returns-then-wants_right
 unfolding room_answer
-returns c = simp (← c.before.wants-right.ensures, c.if1.true)
+returns c = simp (← c.wants_right.ensures, c.if-wants_right.true)
 
-answer-columns-requires : tie.Need-answer-columns-requires
+answer-columns-requires : tie.Need-answer_columns-requires
 answer-columns-requires c κs = search rules
 
 -- the answer's cells are few
-few : (c : tie.After-answer-columns) → c.before.before.before.before.args.n * c.answer-columns.result ≤ 10 * frame_limit
-few c = rw c.answer-columns.ensures (cells_few c.before.before.before.before.requires)
+few : (c : tie.After-answer_columns) → c.args.n * c.answer_columns.result ≤ 10 * frame_limit
+few c = rw c.answer_columns.ensures (cells_few c.requires)
 
-mul-if2 : tie.Need-overflow-mul-if2
+mul-if2 : tie.Need-overflow_mul-n
 mul-if2 c = omega (arith, few c)
 
-mul-if2-2 : tie.Need-overflow-mul-if2-2
+mul-if2-2 : tie.Need-overflow_mul-n-2
 mul-if2-2 c = omega (arith, few c)
 
-add-if2 : tie.Need-overflow-add-if2
+add-if2 : tie.Need-overflow_add-n
 add-if2 c = omega (arith, few c)
 
-returns-2 : tie.Need-returns-2
+returns-2 : tie.Need-returns-then-room-n
 unfolding room_answer
 returns-2 c =
-    let d = c.before in
-    simp (← d.before.before.wants-right.ensures, d.before.if1.false, rows_length, ← d.answer-columns.ensures, lt-ltb _ _ c.if2.true)
+    let d = c in
+    simp (← d.wants_right.ensures, d.if-wants_right.false, rows_length, ← d.answer_columns.ensures, lt-ltb _ _ c.if-room-n.true)
 
-returns-3 : tie.Need-returns-3
+returns-3 : tie.Need-returns-then-j-eq-LAST_SEQUENCE
 unfolding room_answer
 returns-3 c =
-    let d = c.before.before.before in
-    simp (← d.before.before.wants-right.ensures, d.before.if1.false, rows_length, ← d.answer-columns.ensures, le-ltb _ _ c.before.before.if2.false, eq-eqb _ _ c.if3.true)
+    let d = c in
+    simp (← d.wants_right.ensures, d.if-wants_right.false, rows_length, ← d.answer_columns.ensures, le-ltb _ _ c.if-room-n.false, eq-eqb _ _ c.if-j-eq-LAST_SEQUENCE.true)
 
-returns-4 : tie.Need-returns-4
+returns-4 : tie.Need-returns
 unfolding room_answer
 returns-4 c =
-    let d = c.before.before.before in
-    simp (← d.before.before.wants-right.ensures, d.before.if1.false, rows_length, ← d.answer-columns.ensures, le-ltb _ _ c.before.before.if2.false, ne_eqb _ _ c.if3.false)
+    let d = c in
+    simp (← d.wants_right.ensures, d.if-wants_right.false, rows_length, ← d.answer_columns.ensures, le-ltb _ _ c.if-room-n.false, ne_eqb _ _ c.if-j-eq-LAST_SEQUENCE.false)
 
 pub judge_room_spec : {M : Type 1} → statement M
 judge_room_spec =
