@@ -2,7 +2,7 @@
 use mathlib.Core.Path.{◌≡◌, refl, sym, ap, ◌∙◌, subst}
 use mathlib.Core.Bool.{Bool, true, false, cond, not, ◌||◌}
 use mathlib.Core.List.{List, [], ◌∷◌, ◌++◌, map}
-use Prim.Native.Nat.{ℕ, ◌+◌, ◌-◌, ◌*◌, ◌/◌, ◌%◌, ◌≤◌, min}
+use Prim.Native.Nat.{ℕ, ◌+◌, ◌-◌, ◌*◌, ◌/◌, ◌%◌, ◌≤◌}
 use native.Mathlib.Omega.{arith}
 use borrow.Author.Tests.{le-ltb, ne_eqb}
 use lib.Dec.{ltb, eqb}
@@ -15,7 +15,7 @@ use Rattle.order.specs.declared.Row.{Row}
 use Rattle.frames.specs.Frame.{row_count, values_in, marks_in, frame_rows, frame_words, is_frame, front}
 use Rattle.frames.proofs.WordLaws.{drop_take, rows_read, rows_length}
 use Rattle.order.specs.Listed.{lacks_code}
-use Rattle.buffer.specs.area.Area.{capacity, held_rows, new_base, moved, written, pushed}
+use Rattle.buffer.specs.area.Area.{capacity, held_rows, new_base, pushed}
 use Rattle.searching.specs.Reach.{prune_by}
 use Rattle.buffer.proofs.area.PushLaws.{new_base_room, append_length, append_part, pushed_length, pushed_values, pushed_marks}
 use Rattle.node.specs.declared.Join.{Join}

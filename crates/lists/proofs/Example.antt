@@ -1,7 +1,7 @@
 -- One list of calls with refused ones, a want, a prune and a late right frame: its rows are sorted as declared, and what was written is the whole table's, by
 -- computation. It ends with the node done and no frame waiting; RestWitness has a list that meets the premises of rest-written. Assumes nothing.
 use mathlib.Core.Path.{◌≡◌, refl}
-use mathlib.Core.Bool.{Bool, true, false}
+use mathlib.Core.Bool.{true}
 use mathlib.Core.List.{List, [], ◌∷◌, map}
 use Prim.Native.Nat.{ℕ}
 use lib.IntN.{pos}
@@ -14,7 +14,7 @@ use Rattle.matching.specs.Match.{choose, takes_over, fits, tolerate, match_table
 use Rattle.frames.specs.declared.outcomes.PortState.TheVariants.{Ready, Done as PortDone}
 use Rattle.lists.specs.Lists.{Call, left, right, end, ports, turn, start, events, final, left_frames, right_frames, rows_in, outputs, Entry, entries_of, written_in, matches_in}
 use Rattle.lists.specs.WholeTables.{due_over, lefts, rights, turned_rows, matches}
-use Rattle.lists.proofs.Script.{Said, ok, refused, wrote, wants, idle, ports as said-ports, left_area, right_area, space, says, speak_all}
+use Rattle.lists.proofs.Script.{ok, refused, wrote, wants, idle, ports as said-ports, left_area, right_area, space, says, speak_all}
 
 abbrev pub o : Options
 o = plain 0 true

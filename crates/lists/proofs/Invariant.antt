@@ -2,17 +2,15 @@
 use mathlib.Core.Path.{◌≡◌, refl, sym, ap, ◌∙◌}
 use mathlib.Core.Bool.{Bool, true, false, cond, not, ◌&&◌, ◌||◌, or-false, or-true}
 use mathlib.Core.List.{List, [], ◌∷◌, ◌++◌, append-nil}
-use mathlib.Core.Logic.{◌⊎◌, inl, inr}
-use Prim.Native.Nat.{ℕ, zero, suc, ◌+◌, ◌-◌, ◌*◌, ◌%◌, ◌≤◌, ◌<◌}
+use Prim.Native.Nat.{ℕ, suc, ◌+◌, ◌%◌, ◌≤◌}
 use native.Mathlib.Omega.{arith}
-use borrow.Author.Tests.{ltb-true, ltb-false, eqb-true, eqb-false, le-ltb, ne_eqb, eq-eqb, not-false, not-true}
+use borrow.Author.Tests.{le-ltb, ne_eqb, not-false, not-true}
 use lib.Dec.{ltb, eqb}
-use lib.IntN.{ℤ}
-use lib.ListN.{length, take, drop, length-append, length-drop}
+use lib.ListN.{length, drop, length-append, length-drop}
 use Rattle.callrules.specs.Judged.{left_judged, end_judged, right_judged}
 use Rattle.frames.proofs.BoolLaws.{and_true_right}
-use Rattle.frames.specs.Cells.{Rows, Words}
-use Rattle.frames.specs.Frame.{row_count, is_frame, frame_rows, front}
+use Rattle.frames.specs.Cells.{Words}
+use Rattle.frames.specs.Frame.{row_count, is_frame, frame_rows}
 use Rattle.order.specs.options.Options.{columns, right_columns, refused_options}
 use Rattle.order.specs.declared.options.Options.{Options}
 use Rattle.order.specs.declared.options.Check.TheVariants.{Strict}
@@ -24,21 +22,18 @@ use Rattle.node.specs.declared.Join.{Join}
 use Rattle.frames.specs.declared.outcomes.NodeState.{NodeState}
 use Rattle.frames.specs.declared.outcomes.NodeState.TheVariants.{Running, Flush, Done}
 use Rattle.frames.specs.declared.outcomes.PortState.{PortState}
-use Rattle.frames.specs.declared.outcomes.PortState.TheVariants.{Blocked, Ready, Done as PortDone}
 use Rattle.frames.specs.declared.refusals.Refusal.{Refusal}
-use Rattle.frames.specs.declared.refusals.Refusal.TheVariants.{BadOptions, BadJoin, Failed, Closed, BadFrame, UnknownCode, NoRoom, UsedUp, LeftOrder, RightOrder}
-use Rattle.frames.specs.declared.outcomes.Answer.{Answer}
-use Rattle.frames.specs.declared.outcomes.Answer.TheVariants.{Wrote, WantsRight, Idle, Refused as TurnRefused}
+use Rattle.frames.specs.declared.refusals.Refusal.TheVariants.{Failed, Closed, BadFrame, UnknownCode, NoRoom, UsedUp}
 use Rattle.frames.specs.declared.outcomes.Took.{Took}
 use Rattle.frames.specs.declared.outcomes.Took.TheVariants.{Accepted, Refused}
 use Rattle.frames.specs.declared.outcomes.Ported.{Ported}
 use Rattle.frames.specs.declared.outcomes.Ported.TheVariants.{Ports, Refused as PortsRefused}
-use Rattle.node.specs.State.{fresh, ended_right, state_at, left_width, right_width, bad_join, over_right, over_left, over_rows, odd_sequence, held_of, waiting}
+use Rattle.node.specs.State.{ended_right, state_at, left_width, right_width, bad_join, over_right, over_left, over_rows, odd_sequence}
 use Rattle.frames.specs.outcomes.Answers.{is_running, is_done, most_rows}
 use Rattle.frames.specs.refusals.Refusals.{number}
-use Rattle.node.specs.Calls.{After, left_answer, left_call, queued, right_answer, right_call, pushed_right, end_answer, end_call, ports_answer, ports_call, ports_state}
+use Rattle.node.specs.Calls.{left_answer, left_call, queued, right_answer, right_call, pushed_right, end_answer, end_call, ports_answer, ports_call, ports_state}
 use Rattle.callrules.specs.ports.Ports.{ports_in, to_flush, to_done, port_done, ports_judged}
-use Rattle.lists.specs.Lists.{Call, left, right, end, ports, turn, Event, on_left, on_right, on_end, on_ports, on_turn, World, start, step, left_in, right_in, left_frames, right_frames, rows_in, output_in, outputs, ends_right, is_right_ended, left_done, left_ended, frames_waiting, back_to_back, done_by, node_done, refusal_in, took_refusal, ports_refusal, refused_with, turn_in, turns_in}
+use Rattle.lists.specs.Lists.{left, right, end, ports, Event, on_left, on_right, on_end, on_ports, World, step, left_in, right_in, left_frames, right_frames, output_in, outputs, ends_right, is_right_ended, left_done, left_ended, frames_waiting, back_to_back, done_by, node_done, refusal_in, took_refusal, ports_refusal, refused_with, turn_in, turns_in}
 use Rattle.lists.proofs.ListLaws.{left_append, right_append, outputs_append, turns_append, ended_append, left_ended_append, refused_append, done_snoc}
 use Rattle.lists.proofs.Turned.{turned_of, turned_more, Together}
 use Rattle.lists.proofs.Stock.{Frames, frames_drop, Stock, stock_same, stock_left, stock_right, waiting_length}

@@ -1,15 +1,14 @@
 -- Lists of calls and of events, one after the other: what is read off a list with one more event at its end. Assumes nothing.
-use mathlib.Core.Path.{◌≡◌, refl, sym, ap, ◌∙◌}
-use mathlib.Core.Bool.{Bool, true, false, ◌||◌, or-false, or_assoc}
-use mathlib.Core.List.{List, [], ◌∷◌, ◌++◌, append-nil, append_assoc, map}
-use Prim.Native.Nat.{ℕ, zero, suc, ◌+◌, ◌-◌, ◌*◌, ◌≤◌, ◌<◌}
+use mathlib.Core.Path.{◌≡◌, refl, sym, ap}
+use mathlib.Core.Bool.{Bool, false, ◌||◌, or-false, or_assoc}
+use mathlib.Core.List.{List, [], ◌∷◌, ◌++◌, append-nil, append_assoc}
+use Prim.Native.Nat.{ℕ, zero, suc, ◌≤◌}
 use native.Mathlib.Omega.{arith}
 use lib.Dec.{eqb}
-use lib.IntN.{ℤ}
-use lib.ListN.{length, take, drop, length-append}
-use Rattle.frames.specs.Cells.{Rows, Words}
+use lib.ListN.{length, take, drop}
+use Rattle.frames.specs.Cells.{Words}
 use Rattle.frames.specs.Frame.{frame_rows}
-use Rattle.lists.specs.Lists.{Call, Event, World, step, events, final, left_in, right_in, left_frames, right_frames, rows_in, output_in, outputs, Entry, written_in, matches_in, ends_right, is_right_ended, left_done, left_ended, done_by, done_after, back_to_back, refusal_in, refused_with, turn_in, turns_in}
+use Rattle.lists.specs.Lists.{Call, Event, World, step, events, final, left_in, right_in, left_frames, right_frames, rows_in, output_in, outputs, written_in, matches_in, ends_right, is_right_ended, left_done, left_ended, done_by, done_after, back_to_back, refusal_in, refused_with, turn_in, turns_in}
 
 -- ---- calls
 pub events_append : (w : World) (cs ds : List Call) → events w (cs ++ ds) ≡ events w cs ++ events (final w cs) ds

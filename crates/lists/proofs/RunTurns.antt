@@ -14,7 +14,7 @@ use Rattle.node.specs.runs.Run.{Ran, run_call, turn_words}
 use Rattle.frames.specs.declared.outcomes.Answer.{Answer}
 use Rattle.frames.specs.declared.outcomes.Answer.TheVariants.{Wrote, WantsRight, Idle, Refused}
 use Rattle.node.proofs.runs.RunLaws.{turn_fits, turn_length, turn_untouched, turn_areas, turn_options}
-use Rattle.lists.specs.Lists.{turn, World, step, events, final, when_wrote, outputs, back_to_back}
+use Rattle.lists.specs.Lists.{World, step, events, final, when_wrote, outputs, back_to_back}
 use Rattle.lists.specs.Runs.{lent_by, stop_in, written_words, answers_of, words_of, ran_from, RunIsTurns, Runs}
 
 -- A turn's output is kept where it wrote, and only there.

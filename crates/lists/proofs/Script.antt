@@ -23,7 +23,7 @@ use Rattle.matching.specs.Answer.{cells_from, answer_row, answer_rows, answered}
 use Rattle.node.specs.State.{bad_join, held_of, waiting, left_width}
 use Rattle.frames.specs.outcomes.Answers.{state_code, port_code}
 use Rattle.frames.specs.refusals.Refusals.{number}
-use Rattle.node.specs.Calls.{left_answer, queued, left_call, right_answer, pushed_right, right_call, end_answer, end_call, ports_answer, ports_call, turn_answer, dropped, dequeued, turned, turn_call}
+use Rattle.node.specs.Calls.{queued, left_call, pushed_right, right_call, end_call, ports_call, turn_answer, dropped, dequeued, turned, turn_call}
 use Rattle.callrules.specs.Judged.{open_answer, left_judged, end_judged, right_judged}
 use Rattle.matchframe.specs.turnrows.Prunes.{bad_left, bad_right, first_prune, remembered, remembered_left}
 use Rattle.lists.specs.Lists.{Call, Event, on_left, on_right, on_end, on_ports, on_turn, World, start, step}

@@ -1,11 +1,10 @@
 -- What the join and the areas hold, told by the frames accepted and the outputs written; each call that changes them keeps it. Assumes nothing.
 use mathlib.Core.Path.{◌≡◌, refl, sym, ap, ◌∙◌}
-use mathlib.Core.Bool.{Bool, true, false}
-use mathlib.Core.List.{List, [], ◌∷◌, ◌++◌, map, append-nil, append_assoc}
-use Prim.Native.Nat.{ℕ, zero, suc, ◌+◌, ◌-◌, ◌*◌, ◌/◌, ◌≤◌, ◌<◌}
+use mathlib.Core.Bool.{true, false}
+use mathlib.Core.List.{List, [], ◌∷◌, ◌++◌, map, append-nil}
+use Prim.Native.Nat.{ℕ, zero, suc, ◌+◌, ◌-◌, ◌*◌, ◌/◌, ◌≤◌}
 use native.Mathlib.Nat.{mul-le-mul_right}
 use native.Mathlib.Omega.{arith}
-use lib.IntN.{ℤ, pos}
 use lib.ListN.{length, take, drop, length-append, length-drop, length-map, take-append-drop}
 use lib.Seq.{drop-append-le, drop-drop, drop_at, take_at, length-take-le}
 use Rattle.frames.specs.Cells.{Rows, Words, rows_of}
@@ -15,17 +14,17 @@ use Rattle.order.specs.declared.options.Options.{Options}
 use Rattle.order.specs.Listed.{lacks_code}
 use Rattle.order.proofs.ListedLaws.{lacks_both, lacks_parts}
 use Rattle.order.specs.declared.Row.{Row}
-use Rattle.frames.proofs.WordLaws.{map-append, drop_take, rows_read, rows_append, rows_drop, rows_length}
+use Rattle.frames.proofs.WordLaws.{map-append, drop_take, rows_read, rows_append, rows_drop}
 use Rattle.frames.proofs.FrameLaws.{frame_length, values_length, marks_length, frame_rows_lem, count_append}
 use Rattle.buffer.specs.area.Area.{capacity, held_rows, new_base, pushed, moved, written}
 use Rattle.buffer.proofs.area.PushLaws.{new_base_room, append_length, append_part, pushed_length, pushed_values, pushed_marks}
 use Rattle.tables.proofs.TableLaws.{Wide}
 use Rattle.matching.specs.Answer.{answered}
 use Rattle.node.specs.declared.Join.{Join}
-use Rattle.node.specs.State.{queue_at, held_at, next_turn, held_of, held_values, held_marks, waiting}
+use Rattle.node.specs.State.{next_turn, held_of, held_values, held_marks, waiting}
 use Rattle.frames.specs.outcomes.Answers.{most_rows}
 use Rattle.node.specs.Calls.{dropped, dequeued, queued, pushed_right}
-use Rattle.lists.specs.Lists.{World, rows_in, written_in, matches_in, back_to_back}
+use Rattle.lists.specs.Lists.{rows_in, written_in, matches_in, back_to_back}
 use Rattle.lists.specs.WholeTables.{as_written}
 use Rattle.lists.proofs.ListLaws.{words_append, rows_in_append, matches_append, drop_more, take_more, take_next, drop_next}
 use Rattle.lists.proofs.EntryLaws.{written_back}

@@ -1,24 +1,21 @@
 -- A turn over the stock: what it answers and leaves, told by the accepted frames; and that it keeps the invariant. Assumes nothing.
 use mathlib.Core.Path.{◌≡◌, refl, sym, ap, ◌∙◌}
-use mathlib.Core.Bool.{Bool, true, false, cond, not, ◌&&◌, ◌||◌, or-false, or-true}
+use mathlib.Core.Bool.{Bool, true, false, cond, not, ◌&&◌, or-false, or-true}
 use mathlib.Core.List.{List, [], ◌∷◌, ◌++◌, append-nil}
-use mathlib.Core.Logic.{◌⊎◌, inl, inr}
-use Prim.Native.Nat.{ℕ, zero, suc, ◌+◌, ◌-◌, ◌≤◌, ◌<◌}
+use Prim.Native.Nat.{ℕ, ◌+◌, ◌≤◌}
 use native.Mathlib.Omega.{arith}
-use borrow.Author.Tests.{ltb-false, ne_eqb, eq-eqb, not-true}
+use borrow.Author.Tests.{ne_eqb, eq-eqb}
 use lib.Dec.{ltb, eqb}
-use lib.IntN.{ℤ}
-use lib.ListN.{length, take, drop, length-append, length-drop}
+use lib.ListN.{length, take, drop, length-drop}
 use Rattle.frames.proofs.BoolLaws.{and_true_right}
-use Rattle.frames.specs.Cells.{Cell, Rows, Words}
+use Rattle.frames.specs.Cells.{Rows, Words}
 use Rattle.frames.specs.Frame.{row_count, frame_words, is_frame, frame_rows, front}
-use Rattle.order.specs.options.Options.{columns, right_columns, answer_columns, refused_options, is_on}
+use Rattle.order.specs.options.Options.{columns, right_columns, answer_columns, refused_options}
 use Rattle.order.specs.declared.options.Options.{Options}
 use Rattle.order.specs.declared.options.Check.TheVariants.{Strict}
 use Rattle.frames.proofs.FrameLaws.{frame_length, frame_rows_lem}
 use Rattle.order.proofs.KeyedLaws.{wide_enough}
-use Rattle.searching.specs.Reach.{need_more, prune_by, no_prune, split_at}
-use Rattle.searching.proofs.SplitLaw.{split_within}
+use Rattle.searching.specs.Reach.{need_more}
 use Rattle.matching.specs.Groups.{match_frame}
 use Rattle.matching.specs.Answer.{frame_answer, answered}
 use Rattle.matching.proofs.ChoiceLaws.{cond_ind}
@@ -36,16 +33,16 @@ use Rattle.frames.specs.declared.outcomes.Answer.{Answer}
 use Rattle.frames.specs.declared.outcomes.Answer.TheVariants.{Wrote, WantsRight, Idle, Refused as TurnRefused}
 use Rattle.node.specs.State.{next_turn, marked_failed, bad_join, held_of, waiting}
 use Rattle.frames.specs.outcomes.Answers.{is_running, is_done, last_sequence}
-use Rattle.node.specs.Calls.{After, after, turn_answer, turn_call, turned, dropped, dequeued, spoiled}
+use Rattle.node.specs.Calls.{after, turn_answer, turn_call, turned, dropped, dequeued, spoiled}
 use Rattle.matchframe.specs.turnrows.Prunes.{bad_left, bad_right, first_prune, remembered, remembered_left, kept_rows, last_prune}
 use Rattle.matchframe.proofs.turnrows.PruneLaws.{drops_within}
 use Rattle.frames.specs.refusals.Tests.{test, first_of}
 use Rattle.node.specs.turnparts.Part.{room_tests, order_tests}
-use Rattle.lists.specs.Lists.{turn, Event, on_turn, World, step, left_in, right_in, left_frames, right_frames, rows_in, output_in, outputs, back_to_back, frames_waiting, done_by, refused_with, turn_refusal}
+use Rattle.lists.specs.Lists.{turn, Event, on_turn, World, step, left_frames, right_frames, rows_in, output_in, outputs, back_to_back, done_by, refused_with, turn_refusal}
 use Rattle.lists.proofs.ListLaws.{left_append, right_append, outputs_append}
 use Rattle.lists.proofs.Turned.{frame_cells, turned_of, turned_after, Together, together_more}
-use Rattle.lists.proofs.Stock.{Stock, stock_same, stock_turn, waiting_length, next_frame, front_next, waits_front, front_room, held_rows_lem, next_codes}
-use Rattle.lists.proofs.Invariant.{Inv, Adds, SameFlags, adds_same, flags_add, good, keep, nothing_waits}
+use Rattle.lists.proofs.Stock.{Stock, stock_same, stock_turn, waiting_length, next_frame, front_next, front_room, held_rows_lem, next_codes}
+use Rattle.lists.proofs.Invariant.{Inv, Adds, SameFlags, adds_same, flags_add, good, keep}
 
 -- ---- the turn's answer and what it leaves, told by the frame's rows and the held rows
 unfoldable pub judged : Options → Join → Rows → Rows → Words → Answer

@@ -1,13 +1,10 @@
 -- Free words are unread: over areas that are alike one join holds the same, so all answers are the same (Elsewhere); and since the areas are as long, so are the places.
 -- Assumes nothing.
-use mathlib.Core.Path.{◌≡◌, refl, sym, ap, ◌∙◌}
-use mathlib.Core.Bool.{Bool}
+use mathlib.Core.Path.{◌≡◌, refl, sym, ◌∙◌}
 use mathlib.Core.List.{List, [], ◌∷◌}
-use Prim.Native.Nat.{ℕ, ◌+◌, ◌≤◌}
 use lib.ListN.{length}
 use Rattle.callrules.specs.Judged.{left_judged, right_judged}
 use Rattle.frames.specs.Cells.{Words}
-use Rattle.frames.specs.Frame.{row_count}
 use Rattle.buffer.specs.area.Area.{new_base}
 use Rattle.buffer.proofs.area.PushLaws.{new_base_room, append_length, pushed_length}
 use Rattle.node.specs.declared.Join.{Join}
@@ -18,7 +15,7 @@ use Rattle.frames.specs.declared.outcomes.Took.{Took}
 use Rattle.frames.specs.declared.outcomes.Took.TheVariants.{Accepted, Refused}
 use Rattle.frames.specs.declared.outcomes.Ported.{Ported}
 use Rattle.frames.specs.declared.outcomes.Ported.TheVariants.{Ports, Refused as PortsRefused}
-use Rattle.node.specs.State.{ended_right, right_width, bad_join, waiting, held_values, held_marks}
+use Rattle.node.specs.State.{ended_right, right_width, bad_join}
 use Rattle.node.specs.Calls.{After, after, left_answer, left_call, queued, right_answer, right_call, pushed_right, end_answer, end_call, ports_answer, ports_call, turn_answer, turn_call, turned}
 use Rattle.node.proofs.Good.{left_taken, right_taken}
 use Rattle.lists.specs.Lists.{Call, left, right, end, ports, turn, World, step, events, final}

@@ -1,6 +1,6 @@
 -- The whole-table theorem, proved: the statement of specs/WholeTables.antt, for all options that are not refused, areas and lists of calls. Assumes nothing.
 use mathlib.Core.Path.{◌≡◌, refl, sym, ap, ◌∙◌}
-use mathlib.Core.Bool.{Bool, true, false, cond, not, ◌&&◌, ◌||◌, or-false}
+use mathlib.Core.Bool.{Bool, true, false, ◌||◌, or-false}
 use mathlib.Core.List.{List, [], ◌∷◌, ◌++◌, append-nil, append_assoc, map}
 use Prim.Native.Nat.{ℕ, zero, suc, ◌+◌, ◌-◌, ◌^◌, ◌≤◌, ◌<◌}
 use native.Mathlib.Omega.{arith}
@@ -8,34 +8,32 @@ use borrow.Author.Tests.{le-ltb, ne_eqb}
 use lib.Dec.{ltb, eqb}
 use lib.IntN.{ℤ, pos}
 use lib.ListN.{length, take, drop, replicate, take-append-drop, length-append, length-drop}
-use lib.Seq.{take_all, drop_at}
+use lib.Seq.{drop_at}
 use Rattle.frames.specs.Cells.{Cell, null, value_word, mark_word, Rows, Words}
-use Rattle.frames.specs.Frame.{row_count, frame_words, is_frame, frame_rows, front}
+use Rattle.frames.specs.Frame.{row_count, frame_words, front}
 use Rattle.order.specs.options.Options.{columns, right_columns, answer_columns, refused_options}
 use Rattle.order.specs.Order.{sorted}
 use Rattle.order.specs.declared.options.Options.{Options}
 use Rattle.frames.proofs.FrameLaws.{frame_length, count_append}
 use Rattle.order.proofs.SortedLaws.{sorted_cut}
 use Rattle.matching.specs.Match.{match_table, whole_table}
-use Rattle.matching.specs.Answer.{answer_row, answered}
+use Rattle.matching.specs.Answer.{answer_row}
 use Rattle.matching.specs.declared.Choice.{Choice}
 use Rattle.matching.specs.declared.Choice.TheVariants.{Row, Nothing}
 use Rattle.matching.proofs.PickedLaw.{picked_none, picked_row}
 use Rattle.node.specs.declared.Join.{Join}
-use Rattle.frames.specs.declared.outcomes.Answer.{Answer}
-use Rattle.frames.specs.declared.outcomes.Answer.TheVariants.{Wrote, WantsRight, Idle, Refused as TurnRefused}
+use Rattle.frames.specs.declared.outcomes.Answer.TheVariants.{Wrote}
 use Rattle.node.specs.State.{waiting}
 use Rattle.frames.specs.outcomes.Answers.{last_sequence, is_done}
 use Rattle.node.specs.Calls.{turn_answer, turn_call, turned}
 use Rattle.matchframe.specs.turnrows.Prunes.{bad_left, bad_right}
-use Rattle.lists.specs.Lists.{Call, turn, Event, on_turn, World, start, step, events, final, left_frames, right_frames, rows_in, output_in, outputs, Entry, matches_in, is_right_ended, node_done, done_by, refused_with, back_to_back, frames_in, queue_rows}
-use Rattle.lists.specs.WholeTables.{as_written, due_over, Correct, is_none, is_row, Each, ends, pairs, ListHolds, WholeTableTheorem}
+use Rattle.lists.specs.Lists.{turn, Event, on_turn, World, start, step, events, final, left_frames, right_frames, rows_in, output_in, outputs, matches_in, is_right_ended, node_done, done_by, refused_with, back_to_back, frames_in, queue_rows}
+use Rattle.lists.specs.WholeTables.{as_written, due_over, Correct, is_none, is_row, Each, ends, pairs, WholeTableTheorem}
 use Rattle.lists.proofs.ListLaws.{rows_in_append, matches_append, drop_next, left_append, right_append, outputs_append, ended_append, done_snoc}
 use Rattle.lists.proofs.Stock.{Frames, frames_drop, front_is}
 use Rattle.lists.proofs.Invariant.{Inv}
-use Rattle.lists.proofs.Turn.{judged, left_by, matched_by, held, rows, answer_is, turned_is, rows_count}
+use Rattle.lists.proofs.Turn.{judged, held, rows, answer_is, rows_count}
 use Rattle.lists.proofs.Turned.{turned_of, turned_sorted, next_sorted}
-use Rattle.lists.proofs.Sound.{Sound}
 use Rattle.lists.proofs.Steps.{SoundAt, no_left_fault, no_right_fault, inv_step, sound_step, inv_list, sound_list, inv_start, sound_start}
 
 -- ---- 2. the whole-table rule picks the row that qualifies and that none is better than
@@ -224,6 +222,8 @@ or_false_both false b e = (refl, e)
 each_map : {A B : Type 0} {P Q : A → B → Type 0} → ((a : A) (b : B) → P a b → Q a b) → (xs : List A) (ys : List B) → Each P xs ys → Each Q xs ys
 each_map f [] [] ends = ends
 each_map f (a ∷ xs) (b ∷ ys) (pairs p e) = pairs (f a b p) (each_map f xs ys e)
+each_map f [] (b ∷ ys) e = elim e [ ]
+each_map f (a ∷ xs) [] e = elim e [ ]
 
 -- The whole-table theorem.
 pub whole_table_theorem : WholeTableTheorem

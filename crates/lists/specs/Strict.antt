@@ -1,5 +1,5 @@
 -- SCOPE 15.22, 15.23: what refusal 8 of a strict turn says, and what was written before it. The statements; their proofs are in proofs/. Assumes nothing.
-use Rattle.std.specs.Prelude.{◌≡◌, Bool, true, false, not, ◌||◌, List, ◌++◌, map, eqb, take}
+use Rattle.std.specs.Prelude.{◌≡◌, Bool, true, false, not, List, ◌++◌, map, eqb, take}
 use Rattle.frames.specs.Cells.{Rows, Words}
 use Rattle.order.specs.options.Options.{columns, refused_options}
 use Rattle.order.specs.declared.options.Options.{Options}
@@ -9,7 +9,7 @@ use Rattle.frames.specs.refusals.Refusals.{marks_failed}
 use Rattle.frames.specs.declared.outcomes.Answer.{Answer}
 use Rattle.frames.specs.declared.outcomes.Answer.TheVariants.{Wrote, WantsRight, Idle, Refused}
 use Rattle.node.specs.Calls.{turn_call}
-use Rattle.lists.specs.Lists.{Call, World, start, final, rows_in, turn_refusal}
+use Rattle.lists.specs.Lists.{Call, start, final, rows_in, turn_refusal}
 use Rattle.lists.specs.WholeTables.{rights, turned_rows, waiting_frames, matches, due, Correct, Each}
 
 -- The answer is 8.

@@ -1,5 +1,5 @@
 -- A move changes no later answer: what it leaves holds the same (moved_same), and where that stands is not told (elsewhere). Assumes nothing.
-use mathlib.Core.Path.{◌≡◌, refl, sym, ◌∙◌}
+use mathlib.Core.Path.{◌≡◌, sym, ◌∙◌}
 use mathlib.Core.Bool.{false}
 use Rattle.frames.specs.Cells.{Words}
 use Rattle.frames.specs.declared.outcomes.Took.TheVariants.{Accepted}

@@ -12,7 +12,7 @@ use Rattle.frames.specs.declared.refusals.Refusal.TheVariants.{NoRoom}
 use Rattle.frames.specs.declared.outcomes.Took.TheVariants.{Accepted, Refused}
 use Rattle.node.specs.State.{held_values, held_marks}
 use Rattle.node.specs.moves.Moves.{move_answer, left_moved, right_moved, move_call}
-use Rattle.lists.specs.Lists.{Call, left, right, turn, World, start, final}
+use Rattle.lists.specs.Lists.{left, right, turn, World, start, final}
 use Rattle.lists.proofs.Script.{wrote, looks, areas, left_area, right_area, space, speak_all, tells}
 use Rattle.lists.specs.movelists.MoveLists.{moved_to}
 
