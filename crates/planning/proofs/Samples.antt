@@ -4,7 +4,6 @@ use mathlib.Core.Bool.{true, false}
 use mathlib.Core.List.{List, [], ◌∷◌, map}
 use Prim.Native.Nat.{ℕ}
 use lib.IntN.{pos, negsuc}
-use lib.ListN.{take}
 use Rattle.frames.specs.Cells.{null, value, Rows, Words, rows_of, cells_of}
 use Rattle.frames.specs.Frame.{is_table, pairs_fine, frame_rows}
 use Rattle.order.specs.ranks.Ranks.{bad_ranks, rises, rises_behind, below, placed, listed}

@@ -1,7 +1,7 @@
 -- What the plan answers, from what its parts do. Assumes nothing.
 use mathlib.Core.Path.{◌≡◌, refl, sym, ap, ◌∙◌}
-use mathlib.Core.Bool.{Bool, true, false, not, ◌&&◌, ◌||◌, or-true}
-use Prim.Native.Nat.{ℕ, ◌*◌, ◌≤◌, ◌<◌}
+use mathlib.Core.Bool.{Bool, true, false, ◌&&◌, ◌||◌, or-true}
+use Prim.Native.Nat.{ℕ, ◌<◌}
 use native.Mathlib.Omega.{arith}
 use lib.ListN.{length}
 use Rattle.frames.specs.Cells.{Rows, Words, rows_of}
@@ -13,8 +13,7 @@ use Rattle.order.specs.Order.{sorted}
 use Rattle.order.specs.Requires.{RowsIn}
 use Rattle.frames.specs.declared.refusals.Refusal.TheVariants.{Unsorted, BadHeights}
 use Rattle.frames.specs.declared.outcomes.Took.TheVariants.{Accepted}
-use Rattle.planning.specs.Heights.{total, heights_of, bad_heights, in_frames}
-use Rattle.planning.specs.Plan.{plan}
+use Rattle.planning.specs.Heights.{bad_heights}
 use Rattle.planning.specs.Call.{plan_call}
 use Rattle.planning.specs.declared.Figures.{Figures}
 use Rattle.planning.specs.declared.Planned.{Planned}

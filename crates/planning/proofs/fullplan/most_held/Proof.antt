@@ -10,31 +10,31 @@ use Rattle.planning.proofs.fullplan.FullLaws.{full_starts, full_ends}
 use Rattle.planning.proofs.fullplan.most_held.Statement.{statement}
 use Rattle.planning.proofs.fullplan.most_held.Tie as tie
 
-abbrev invariant-loop : tie.invariant-loop
+abbrev invariant-loop : tie.invariant-loop-s
 invariant-loop lv lm nl c rv rm nr w o codes rising s₀ s = FullStands (with_list o codes rising) nl nr (rows_of c nl lv lm) (rows_of w nr rv rm) s
 
-abbrev decreases-loop : tie.decreases-loop
+abbrev decreases-loop : tie.decreases-loop-s
 decreases-loop lv lm nl c rv rm nr w o codes rising s₀ s = (length (full_heights nl) + length (full_heights nr)) - (s.lefts + s.rights)
 
-loop-holds : tie.Need-loop-init invariant-loop decreases-loop
-loop-holds c = full_starts c.before.requires.0 c.before.requires.1
+loop-holds : tie.Need-loop-s-init invariant-loop decreases-loop
+loop-holds c = full_starts c.requires.0 c.requires.1
 
-full-turn-requires : tie.Need-full-turn-requires invariant-loop decreases-loop
-full-turn-requires c κs = let l = c.before.before in (l.before.before.requires.0, l.before.before.requires.1, l.loop.invariant, c.if1.true)
+full-turn-requires : tie.Need-full_turn-s-requires invariant-loop decreases-loop
+full-turn-requires c κs = let l = c in (l.requires.0, l.requires.1, l.loop-s.invariant, c.loop-s-test.true)
 
-loop-less : tie.Need-loop-smaller invariant-loop decreases-loop
+loop-less : tie.Need-loop-s-smaller invariant-loop decreases-loop
 loop-less c =
-    let l = c.before.before.before.loop.invariant in
-    let e = c.full-turn.ensures in
+    let l = c.loop-s.invariant in
+    let e = c.full_turn-s.ensures in
     omega (arith, e.1, e.0.lefts, e.0.rights, l.lefts, l.rights)
 
-loop-again : tie.Need-loop-preserved invariant-loop decreases-loop
-loop-again c = c.full-turn.ensures.0
+loop-again : tie.Need-loop-s-preserved invariant-loop decreases-loop
+loop-again c = c.full_turn-s.ensures.0
 
 returns : tie.Need-returns invariant-loop decreases-loop
 returns c =
-    let l = c.before.before in
-    full_ends l.before.before.requires.0 l.before.before.requires.1 l.loop.s l.loop.invariant c.if1.false
+    let l = c in
+    full_ends l.requires.0 l.requires.1 l.loop-s.s l.loop-s.invariant c.loop-s-test.false
 
 pub most_held_spec : {M : Type 1} → statement M
 most_held_spec =

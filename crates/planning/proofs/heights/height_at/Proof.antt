@@ -8,18 +8,18 @@ use borrow.Author.Rules.{rules}
 use Rattle.planning.proofs.heights.height_at.Statement.{statement}
 use Rattle.planning.proofs.heights.height_at.Tie as tie
 
-mul-result : tie.Need-overflow-mul-result
+mul-result : tie.Need-offset_bounds-heights-i
 mul-result c = search rules
 
-shared-slice-copy-out-result : tie.Need-shared-slice-copy-out-result
+shared-slice-copy-out-result : tie.Need-bounds-heights-i
 shared-slice-copy-out-result c = search rules
 
-cast-result : tie.Need-overflow-cast-result
+cast-result : tie.Need-overflow_cast-result
 cast-result c =
-    let s = c.before in
+    let s = c in
     let z = get_or s.args.heights.now s.args.i (pos 0) in
     let f = few_word z s.requires.few in
-    rw (back z c.result.given) (f.0, omega (arith, f.1))
+    rw (back z c.result-1.given) (f.0, omega (arith, f.1))
 
 returns : tie.Need-returns
 returns c = search rules

@@ -19,91 +19,81 @@ lefts s = rows_of s.args.c s.args.nl s.args.lv.now s.args.lm.now
 abbrev rights : (s : tie.Start) → Rows
 rights s = rows_of s.args.w s.args.nr s.args.rv.now s.args.rm.now
 
-is-sorted-requires : tie.Need-is-sorted-requires
+is-sorted-requires : tie.Need-is_sorted-requires
 is-sorted-requires c κs = search rules
 
-returns : tie.Need-returns
+returns : tie.Need-returns-then-not-is_sorted
 returns c =
-    let s = c.before.before.before in
+    let s = c in
     let a = s.args in
-    unsorted_left (with_list a.o a.codes.now a.rising.now) (lefts s) (rights s) a.hl.now a.hr.now (sym c.before.is_sorted.ensures ∙ not-true c.before.is_sorted.result c.if1.true)
+    unsorted_left (with_list a.o a.codes.now a.rising.now) (lefts s.before.before.before) (rights s.before.before.before) a.hl.now a.hr.now (sym c.is_sorted.ensures ∙ not-true c.is_sorted.result c.if-not-is_sorted.true-raw)
 
-is-sorted-requires-2 : tie.Need-is-sorted-requires-2
+is-sorted-requires-2 : tie.Need-is_sorted-requires-2
 is-sorted-requires-2 c κs = search rules
 
-returns-2 : tie.Need-returns-2
+returns-2 : tie.Need-returns-then-not-is_sorted-2
 returns-2 c =
-    let s = c.before.before.before.before.before in
+    let s = c in
     let a = s.args in
-    unsorted_right (with_list a.o a.codes.now a.rising.now) (lefts s) (rights s) a.hl.now a.hr.now (sym c.before.is-sorted2.ensures ∙ not-true c.before.is-sorted2.result c.if2.true)
+    unsorted_right (with_list a.o a.codes.now a.rising.now) (lefts s.before.before.before.before.before) (rights s.before.before.before.before.before) a.hl.now a.hr.now (sym c.is_sorted-2.ensures ∙ not-true c.is_sorted-2.result c.if-not-is_sorted-2.true-raw)
 
 -- Both are sorted.
-left_sorted : (c : tie.Else2) → let s = c.before.before.before.before.before in sorted (with_list s.args.o s.args.codes.now s.args.rising.now) (lefts s) ≡ true
-left_sorted c = let e = c.before.before in sym e.before.is_sorted.ensures ∙ not-false e.before.is_sorted.result e.if1.false
+left_sorted : (c : tie.Else-not-is_sorted-2) → let s = c in sorted (with_list s.args.o s.args.codes.now s.args.rising.now) (lefts s.before.before.before.before.before) ≡ true
+left_sorted c = let e = c in sym e.is_sorted.ensures ∙ not-false e.is_sorted.result e.if-not-is_sorted.false-raw
 
-right_sorted : (c : tie.Else2) → let s = c.before.before.before.before.before in sorted (with_list s.args.o s.args.codes.now s.args.rising.now) (rights s) ≡ true
-right_sorted c = sym c.before.is-sorted2.ensures ∙ not-false c.before.is-sorted2.result c.if2.false
+right_sorted : (c : tie.Else-not-is_sorted-2) → let s = c in sorted (with_list s.args.o s.args.codes.now s.args.rising.now) (rights s.before.before.before.before.before) ≡ true
+right_sorted c = sym c.is_sorted-2.ensures ∙ not-false c.is_sorted-2.result c.if-not-is_sorted-2.false-raw
 
-fit-heights-requires : tie.Need-fit-heights-requires
+fit-heights-requires : tie.Need-fit_heights-requires
 fit-heights-requires c κs = search rules
 
-returns-3 : tie.Need-returns-3
+returns-3 : tie.Need-returns-then-not-fit_heights
 returns-3 c =
-    let e = c.before.before in
-    let s = e.before.before.before.before.before in
+    let e = c in
+    let s = e in
     let a = s.args in
-    bad_left_lem (with_list a.o a.codes.now a.rising.now) (lefts s) (rights s) a.hl.now a.hr.now (left_sorted e) (right_sorted e) a.nl a.nr
+    bad_left_lem (with_list a.o a.codes.now a.rising.now) (lefts s.before.before.before.before.before.before.before) (rights s.before.before.before.before.before.before.before) a.hl.now a.hr.now (left_sorted e.before.before) (right_sorted e.before.before) a.nl a.nr
     (rows_length a.c a.nl a.lv.now a.lm.now) (rows_length a.w a.nr a.rv.now a.rm.now)
-    (not-false (bad_heights a.nl a.hl.now) (sym c.before.fit-heights.ensures ∙ not-true c.before.fit-heights.result c.if3.true))
+    (not-false (bad_heights a.nl a.hl.now) (sym c.fit_heights.ensures ∙ not-true c.fit_heights.result c.if-not-fit_heights.true-raw))
 
-fit-heights-requires-2 : tie.Need-fit-heights-requires-2
+fit-heights-requires-2 : tie.Need-fit_heights-requires-2
 fit-heights-requires-2 c κs = search rules
 
-returns-4 : tie.Need-returns-4
+returns-4 : tie.Need-returns-then-not-fit_heights-2
 returns-4 c =
-    let e = c.before.before.before.before in
-    let s = e.before.before.before.before.before in
+    let e = c in
+    let s = e in
     let a = s.args in
-    bad_right_lem (with_list a.o a.codes.now a.rising.now) (lefts s) (rights s) a.hl.now a.hr.now (left_sorted e) (right_sorted e) a.nl a.nr
+    bad_right_lem (with_list a.o a.codes.now a.rising.now) (lefts s.before.before.before.before.before.before.before.before.before) (rights s.before.before.before.before.before.before.before.before.before) a.hl.now a.hr.now (left_sorted e.before.before.before.before) (right_sorted e.before.before.before.before) a.nl a.nr
     (rows_length a.c a.nl a.lv.now a.lm.now) (rows_length a.w a.nr a.rv.now a.rm.now)
-    (not-false (bad_heights a.nr a.hr.now) (sym c.before.fit-heights2.ensures ∙ not-true c.before.fit-heights2.result c.if4.true))
+    (not-false (bad_heights a.nr a.hr.now) (sym c.fit_heights-2.ensures ∙ not-true c.fit_heights-2.result c.if-not-fit_heights-2.true-raw))
 
 -- Both have heights that make them.
-left_fits : (c : tie.Else4) → let s = c.before.before.before.before.before.before.before.before.before in bad_heights s.args.nl s.args.hl.now ≡ false
+left_fits : (c : tie.Else-not-fit_heights-2) → let s = c in bad_heights s.args.nl s.args.hl.now ≡ false
 left_fits c =
-    let e = c.before.before in
-    let s = e.before.before.before.before.before.before.before in
-    not-true (bad_heights s.args.nl s.args.hl.now) (sym e.before.fit-heights.ensures ∙ not-false e.before.fit-heights.result e.if3.false)
+    let e = c in
+    let s = e in
+    not-true (bad_heights s.args.nl s.args.hl.now) (sym e.fit_heights.ensures ∙ not-false e.fit_heights.result e.if-not-fit_heights.false-raw)
 
-right_fits : (c : tie.Else4) → let s = c.before.before.before.before.before.before.before.before.before in bad_heights s.args.nr s.args.hr.now ≡ false
+right_fits : (c : tie.Else-not-fit_heights-2) → let s = c in bad_heights s.args.nr s.args.hr.now ≡ false
 right_fits c =
-    let s = c.before.before.before.before.before.before.before.before.before in
-    not-true (bad_heights s.args.nr s.args.hr.now) (sym c.before.fit-heights2.ensures ∙ not-false c.before.fit-heights2.result c.if4.false)
+    let s = c in
+    not-true (bad_heights s.args.nr s.args.hr.now) (sym c.fit_heights-2.ensures ∙ not-false c.fit_heights-2.result c.if-not-fit_heights-2.false-raw)
 
-walk-frames-requires : tie.Need-walk-frames-requires
+walk-frames-requires : tie.Need-walk_frames-requires
 walk-frames-requires c κs =
-    let e = c.before.before.before.before in
-    let s = e.before.before.before.before.before in
-    walk_in s.requires.0 s.requires.1 (left_sorted e) (right_sorted e) s.args.hl.now s.args.hr.now (left_fits c) (right_fits c)
+    let e = c in
+    let s = e in
+    walk_in s.requires.0 s.requires.1 (left_sorted e.before.before.before.before) (right_sorted e.before.before.before.before) s.args.hl.now s.args.hr.now (left_fits c) (right_fits c)
 
-returns-5 : tie.Need-returns-5
+returns-5 : tie.Need-returns
 returns-5 c =
-    let f = c.before in
-    let e = f.before.before.before.before in
-    let s = e.before.before.before.before.before in
-    walked_is s.requires.0 s.requires.1 (left_sorted e) (right_sorted e) s.args.hl.now s.args.hr.now (left_fits f) (right_fits f) c.walk-frames.result c.walk-frames.ensures
+    let f = c in
+    let e = f in
+    let s = e in
+    walked_is s.requires.0 s.requires.1 (left_sorted e.before.before.before.before.before) (right_sorted e.before.before.before.before.before) s.args.hl.now s.args.hr.now (left_fits f.before) (right_fits f.before) c.walk_frames.result c.walk_frames.ensures
 
 pub plan_rows_spec : {M : Type 1} → statement M
 plan_rows_spec =
     tie.close
-    (tie.spec
-    is-sorted-requires
-    returns
-    is-sorted-requires-2
-    returns-2
-    fit-heights-requires
-    returns-3
-    fit-heights-requires-2
-    returns-4
-    walk-frames-requires
-    returns-5)
+    (tie.spec is-sorted-requires returns is-sorted-requires-2 returns-2 fit-heights-requires returns-3 fit-heights-requires-2 returns-4 walk-frames-requires returns-5)

@@ -5,14 +5,14 @@ use borrow.Author.Rules.{rules}
 use Rattle.planning.proofs.planwalk.height_or_none.Statement.{statement}
 use Rattle.planning.proofs.planwalk.height_or_none.Tie as tie
 
-height-at-requires : tie.Need-height-at-requires
-height-at-requires c κs = let s = c.before in height_in s.args.heights.now s.args.i s.requires c.if1.true
+height-at-requires : tie.Need-height_at-requires
+height-at-requires c κs = let s = c in height_in s.args.heights.now s.args.i s.requires c.if-i-heights.true
 
-returns : tie.Need-returns
+returns : tie.Need-returns-then-i-heights
 returns c = search rules
 
-returns-2 : tie.Need-returns-2
-returns-2 c = let s = c.before in height_none s.args.heights.now s.args.i c.if1.false
+returns-2 : tie.Need-returns
+returns-2 c = let s = c in height_none s.args.heights.now s.args.i c.if-i-heights.false
 
 pub height_or_none_spec : {M : Type 1} → statement M
 height_or_none_spec = tie.close (tie.spec height-at-requires returns returns-2)

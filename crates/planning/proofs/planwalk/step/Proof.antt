@@ -17,33 +17,33 @@ record Sizes (s : tie.Start) : Type 0 where
 
 sizes : (s : tie.Start) → Sizes s
 sizes s =
-    let h = s.well-formed.1.1.1.1.0 in
-    let i = s.well-formed.1.1.1.1.1.0 in
-    let j = s.well-formed.1.1.1.1.1.1.1.1.0 in
+    let h = s.well_formed.1.1.1.1.0 in
+    let i = s.well_formed.1.1.1.1.1.0 in
+    let j = s.well_formed.1.1.1.1.1.1.1.1.0 in
     record { left_heights = omega (arith, heights_count s.args.hl.now, h.0, h.1); right = omega (arith, i.0, i.1); right_heights = omega (arith, heights_count s.args.hr.now, j.0, j.1) }
 
-height-or-none-requires : tie.Need-height-or-none-requires
-height-or-none-requires c κs = c.before.requires.0.left_heights
+height-or-none-requires : tie.Need-height_or_none-n-requires
+height-or-none-requires c κs = c.requires.0.left_heights
 
-height-or-none-requires-2 : tie.Need-height-or-none-requires-2
-height-or-none-requires-2 c κs = c.before.before.requires.0.right_heights
+height-or-none-requires-2 : tie.Need-height_or_none-h-requires
+height-or-none-requires-2 c κs = c.requires.0.right_heights
 
-take-turn-requires : tie.Need-take-turn-requires
+take-turn-requires : tie.Need-take_turn-requires
 take-turn-requires c κs =
-    let n = c.before.before.height-or-none in
-    let h = c.before.height-or-none2 in
-    let s = c.before.before.before.before in
+    let n = c.height_or_none-n in
+    let h = c.height_or_none-h in
+    let s = c in
     let a = s.args in
-    let z = sizes s in
+    let z = sizes s.before.before.before.before in
     turn_in_lem (tables_in_lem s.requires.0) s.requires.1 (heights_here a.hl.now a.s.lefts n.result s.requires.2 n.ensures) (ltb a.s.rights (length a.hr.now)) h.result _ (heights_next a.hr.now a.s.rights h.result h.ensures) z.left_heights z.right_heights z.right
 
 returns : tie.Need-returns
 returns c =
-    let n = c.before.before.before.height-or-none in
-    let h = c.before.before.height-or-none2 in
-    let s = c.before.before.before.before.before in
+    let n = c.height_or_none-n in
+    let h = c.height_or_none-h in
+    let s = c in
     let a = s.args in
-    turn_stands (tables_in_lem s.requires.0) s.requires.1 (heights_here a.hl.now a.s.lefts n.result s.requires.2 n.ensures) (ltb a.s.rights (length a.hr.now)) h.result _ (heights_next a.hr.now a.s.rights h.result h.ensures) c.take-turn.result c.take-turn.ensures
+    turn_stands (tables_in_lem s.requires.0) s.requires.1 (heights_here a.hl.now a.s.lefts n.result s.requires.2 n.ensures) (ltb a.s.rights (length a.hr.now)) h.result _ (heights_next a.hr.now a.s.rights h.result h.ensures) c.take_turn.result c.take_turn.ensures
 
 pub step_spec : {M : Type 1} → statement M
 step_spec = tie.close (tie.spec height-or-none-requires height-or-none-requires-2 take-turn-requires returns)

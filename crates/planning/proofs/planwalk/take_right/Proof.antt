@@ -3,13 +3,13 @@ use borrow.Author.Rules.{rules}
 use Rattle.planning.proofs.planwalk.take_right.Statement.{statement}
 use Rattle.planning.proofs.planwalk.take_right.Tie as tie
 
-add-to : tie.Need-overflow-add-to
+add-to : tie.Need-overflow_add-to
 add-to c = search rules
 
-add-t4 : tie.Need-overflow-add-t4
+add-t4 : tie.Need-overflow_add-result
 add-t4 c = search rules
 
-sub-larger : tie.Need-overflow-sub-larger
+sub-larger : tie.Need-overflow_sub-to
 sub-larger c = search rules
 
 larger-requires : tie.Need-larger-requires

@@ -9,74 +9,63 @@ use Rattle.planning.proofs.planwalk.take_turn.Tie as tie
 
 -- How many words a slice can have.
 left-size : (s : tie.Start) → length s.args.lv.now < 2 ^ 64
-left-size s = let g = s.well-formed.1.1.1.1.0 in omega (arith, g.0, g.1)
+left-size s = let g = s.well_formed.1.1.1.1.0 in omega (arith, g.0, g.1)
 
 right-size : (s : tie.Start) → length s.args.rv.now < 2 ^ 64
-right-size s = let g = s.well-formed.1.1.1.1.1.1.1.0 in omega (arith, g.0, g.1)
+right-size s = let g = s.well_formed.1.1.1.1.1.1.1.0 in omega (arith, g.0, g.1)
 
-from-row-requires : tie.Need-from-row-requires
-from-row-requires c κs = (passed_words c.before.requires).0
+from-row-requires : tie.Need-from_row-fv-requires
+from-row-requires c κs = (passed_words c.requires).0
 
-from-row-requires-2 : tie.Need-from-row-requires-2
-from-row-requires-2 c κs = (passed_words c.before.before.requires).1
+from-row-requires-2 : tie.Need-from_row-fm-requires
+from-row-requires-2 c κs = (passed_words c.requires).1
 
-from-row-requires-3 : tie.Need-from-row-requires-3
-from-row-requires-3 c κs = (from_words c.before.before.before.requires).0
+from-row-requires-3 : tie.Need-from_row-kv-requires
+from-row-requires-3 c κs = (from_words c.requires).0
 
-from-row-requires-4 : tie.Need-from-row-requires-4
-from-row-requires-4 c κs = (from_words c.before.before.before.before.requires).1
+from-row-requires-4 : tie.Need-from_row-km-requires
+from-row-requires-4 c κs = (from_words c.requires).1
 
-sub_held : tie.Need-overflow-sub-held
+sub_held : tie.Need-overflow_sub-held
 sub_held c = search rules
 
 wants-requires : tie.Need-wants-requires
 wants-requires c κs =
-    let f = c.before in
-    read_in_lem f.before.before.before.before.before.requires _ _ _ _ f.before.before.before.from_row.ensures f.before.before.from-row2.ensures f.before.from-row3.ensures f.from-row4.ensures
+    let f = c in
+    read_in_lem f.requires _ _ _ _ f.from_row-fv.ensures f.from_row-fm.ensures f.from_row-kv.ensures f.from_row-km.ensures
 
-take-right-requires : tie.Need-take-right-requires
+take-right-requires : tie.Need-take_right-requires
 take-right-requires c κs =
-    let v = c.before in
-    let f = v.before.before in
-    take_fits f.before.before.before.before.before.requires _ _ _ _ f.before.before.before.from_row.ensures f.before.before.from-row2.ensures f.before.from-row3.ensures f.from-row4.ensures v.wants.result v.wants.ensures c.if1.true
+    let v = c in
+    let f = v in
+    take_fits f.requires _ _ _ _ f.from_row-fv.ensures f.from_row-fm.ensures f.from_row-kv.ensures f.from_row-km.ensures v.wants.result v.wants.ensures c.if-wants.true
 
-returns : tie.Need-returns
+returns : tie.Need-returns-then-wants
 returns c =
-    let v = c.before.before in
-    let f = v.before.before in
-    turn_takes f.before.before.before.before.before.requires _ _ _ _ f.before.before.before.from_row.ensures f.before.before.from-row2.ensures f.before.from-row3.ensures f.from-row4.ensures v.wants.result v.wants.ensures c.before.if1.true c.take-right.result c.take-right.ensures
+    let v = c in
+    let f = v in
+    turn_takes f.requires _ _ _ _ f.from_row-fv.ensures f.from_row-fm.ensures f.from_row-kv.ensures f.from_row-km.ensures v.wants.result v.wants.ensures c.if-wants.true c.take_right.result c.take_right.ensures
 
-last-prune-requires : tie.Need-last-prune-requires
+last-prune-requires : tie.Need-last_prune-d-requires
 last-prune-requires c κs =
-    let f = c.before.before.before in
-    read_in_lem f.before.before.before.before.before.requires _ _ _ _ f.before.before.before.from_row.ensures f.before.before.from-row2.ensures f.before.from-row3.ensures f.from-row4.ensures
+    let f = c in
+    read_in_lem f.requires _ _ _ _ f.from_row-fv.ensures f.from_row-fm.ensures f.from_row-kv.ensures f.from_row-km.ensures
 
-write-left-requires : tie.Need-write-left-requires
+write-left-requires : tie.Need-write_left-requires
 write-left-requires c κs =
-    let v = c.before.before in
-    let f = v.before.before in
-    let s = f.before.before.before.before.before in
-    write_fits s.requires _ _ _ _ f.before.before.before.from_row.ensures f.before.before.from-row2.ensures f.before.from-row3.ensures f.from-row4.ensures v.wants.result v.wants.ensures c.last-prune.result c.last-prune.ensures (left-size s) (right-size s)
+    let v = c in
+    let f = v in
+    let s = f in
+    write_fits s.requires _ _ _ _ f.from_row-fv.ensures f.from_row-fm.ensures f.from_row-kv.ensures f.from_row-km.ensures v.wants.result v.wants.ensures c.last_prune-d.result c.last_prune-d.ensures (left-size s.before.before.before.before.before.before.before.before.before) (right-size s.before.before.before.before.before.before.before.before.before)
 
-returns-2 : tie.Need-returns-2
+returns-2 : tie.Need-returns
 returns-2 c =
-    let l = c.before in
-    let v = l.before.before in
-    let f = v.before.before in
-    turn_writes f.before.before.before.before.before.requires _ _ _ _ f.before.before.before.from_row.ensures f.before.before.from-row2.ensures f.before.from-row3.ensures f.from-row4.ensures v.wants.result v.wants.ensures l.last-prune.result l.last-prune.ensures l.before.if1.false c.write-left.result c.write-left.ensures
+    let l = c in
+    let v = l in
+    let f = v in
+    turn_writes f.requires _ _ _ _ f.from_row-fv.ensures f.from_row-fm.ensures f.from_row-kv.ensures f.from_row-km.ensures v.wants.result v.wants.ensures l.last_prune-d.result l.last_prune-d.ensures l.if-wants.false c.write_left.result c.write_left.ensures
 
 pub take_turn_spec : {M : Type 1} → statement M
 take_turn_spec =
     tie.close
-    (tie.spec
-    from-row-requires
-    from-row-requires-2
-    from-row-requires-3
-    from-row-requires-4
-    sub_held
-    wants-requires
-    take-right-requires
-    returns
-    last-prune-requires
-    write-left-requires
-    returns-2)
+    (tie.spec from-row-requires from-row-requires-2 from-row-requires-3 from-row-requires-4 sub_held wants-requires take-right-requires returns last-prune-requires write-left-requires returns-2)

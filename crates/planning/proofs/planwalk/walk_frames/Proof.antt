@@ -11,42 +11,42 @@ use Rattle.planning.proofs.planwalk.WalkLaws.{starts, ends}
 use Rattle.planning.proofs.planwalk.walk_frames.Statement.{statement}
 use Rattle.planning.proofs.planwalk.walk_frames.Tie as tie
 
-abbrev invariant-loop : tie.invariant-loop
+abbrev invariant-loop : tie.invariant-loop-s
 invariant-loop lv lm c hl rv rm w hr o codes rising s₀ s = Stands (with_list o codes rising) (heights_of hl) (heights_of hr) (left_rows c hl lv lm) (right_rows w hr rv rm) s
 
-abbrev decreases-loop : tie.decreases-loop
+abbrev decreases-loop : tie.decreases-loop-s
 decreases-loop lv lm c hl rv rm w hr o codes rising s₀ s = (length hl + length hr) - (s.lefts + s.rights)
 
-loop-holds : tie.Need-loop-init invariant-loop decreases-loop
+loop-holds : tie.Need-loop-s-init invariant-loop decreases-loop
 loop-holds c =
-    let a = c.before.args in
+    let a = c.args in
     starts _ _ _ _ _ (rows_length a.c (total (heights_of a.hl.now)) a.lv.now a.lm.now) (rows_length a.w (total (heights_of a.hr.now)) a.rv.now a.rm.now)
 
-step-requires : tie.Need-step-requires invariant-loop decreases-loop
-step-requires c κs = let l = c.before.before in (l.before.before.requires, l.loop.invariant, c.if1.true)
+step-requires : tie.Need-step-s-requires invariant-loop decreases-loop
+step-requires c κs = let l = c in (l.requires, l.loop-s.invariant, c.loop-s-test.true)
 
-loop-less : tie.Need-loop-smaller invariant-loop decreases-loop
+loop-less : tie.Need-loop-s-smaller invariant-loop decreases-loop
 loop-less c =
-    let l = c.before.before.before.loop.invariant in
-    let a = c.before.before.before.before.before.args in
-    omega (arith, heights_count a.hl.now, heights_count a.hr.now, c.step.ensures.1, c.step.ensures.0.lefts, c.step.ensures.0.rights, l.lefts, l.rights)
+    let l = c.loop-s.invariant in
+    let a = c.args in
+    omega (arith, heights_count a.hl.now, heights_count a.hr.now, c.step-s.ensures.1, c.step-s.ensures.0.lefts, c.step-s.ensures.0.rights, l.lefts, l.rights)
 
-loop-again : tie.Need-loop-preserved invariant-loop decreases-loop
-loop-again c = c.step.ensures.0
+loop-again : tie.Need-loop-s-preserved invariant-loop decreases-loop
+loop-again c = c.step-s.ensures.0
 
-add-t15 : tie.Need-overflow-add-t15 invariant-loop decreases-loop
+add-t15 : tie.Need-overflow_add-result invariant-loop decreases-loop
 add-t15 c =
-    let l = c.before.before.before in
-    let g = l.before.before.well-formed.1.1.1.0 in
-    let h = l.before.before.well-formed.1.1.1.1.1.1.1.0 in
-    let a = l.before.before.args in
-    omega (arith, heights_count a.hl.now, heights_count a.hr.now, l.loop.invariant.lefts, l.loop.invariant.rights, g.0, g.1, h.0, h.1)
+    let l = c in
+    let g = l.well_formed.1.1.1.0 in
+    let h = l.well_formed.1.1.1.1.1.1.1.0 in
+    let a = l.args in
+    omega (arith, heights_count a.hl.now, heights_count a.hr.now, l.loop-s.invariant.lefts, l.loop-s.invariant.rights, g.0, g.1, h.0, h.1)
 
 returns : tie.Need-returns invariant-loop decreases-loop
 returns c =
-    let l = c.before.before.before in
-    let hl = l.before.before.args.hl.now in
-    ends _ _ _ _ _ l.loop.s l.loop.invariant (drop_of_length-le (heights_of hl) {i = l.loop.s.lefts} (omega (arith, heights_count hl, c.before.if1.false)))
+    let l = c in
+    let hl = l.args.hl.now in
+    ends _ _ _ _ _ l.loop-s.s l.loop-s.invariant (drop_of_length-le (heights_of hl) {i = l.loop-s.s.lefts} (omega (arith, heights_count hl, c.loop-s-test.false)))
 
 pub walk_frames_spec : {M : Type 1} → statement M
 walk_frames_spec =
