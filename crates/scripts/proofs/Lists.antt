@@ -2,9 +2,9 @@
 -- Written by make. Assumes nothing.
 use mathlib.Core.Path.{◌≡◌, refl}
 use mathlib.Core.Bool.{true, false}
-use mathlib.Core.List.{List, [], ◌∷◌}
+use mathlib.Core.List.{[], ◌∷◌}
 use mathlib.Core.Option.{none, some}
-use lib.IntN.{ℤ, pos, negsuc}
+use lib.IntN.{pos, negsuc}
 use Rattle.frames.specs.Cells.{null, value}
 use Rattle.order.proofs.Samples.{options, carrying, distancing}
 use Rattle.lists.specs.Lists.{left, right, end, ports, turn}
