@@ -1,19 +1,16 @@
 -- A list of boundaries: nulls by their marks, the order by neighbours, and what is refused. Assumes nothing.
-use mathlib.Core.Path.{◌≡◌, refl, sym, ap, ◌∙◌}
-use mathlib.Core.Bool.{Bool, true, false, not, ◌&&◌, ◌||◌}
-use mathlib.Core.List.{List, [], ◌∷◌, ◌++◌}
-use Prim.Native.Nat.{ℕ, zero, suc, ◌+◌, ◌-◌, ◌*◌, ◌≤◌, ◌<◌}
-use native.Mathlib.Numerals.{add-one}
+use mathlib.Core.Path.{◌≡◌, refl}
+use mathlib.Core.Bool.{true, false, not, ◌&&◌, ◌||◌}
+use mathlib.Core.List.{[], ◌∷◌}
+use Prim.Native.Nat.{ℕ, zero, suc, ◌+◌, ◌-◌, ◌≤◌, ◌<◌}
 use native.Mathlib.Omega.{arith}
 use borrow.Author.Tests.{lt-ltb, le-ltb}
 use lib.Dec.{ltb, eqb}
-use lib.IntN.{ℤ, pos}
-use lib.ListN.{length, take, drop, get_or, length-drop, take-append-drop, drop_of_length-le}
-use lib.Seq.{drop-cons, length-take-le}
-use Rattle.frames.specs.Cells.{Cell, null, cell, is_null, is_zero, cell_of, cells_of, Rows, Words, rows_of, row_from}
+use lib.ListN.{length}
+use Rattle.frames.specs.Cells.{Rows, Words, rows_of, row_from}
 use Rattle.order.specs.declared.options.Options.{Options}
-use Rattle.order.specs.Order.{cmp_group, is_less, null_in}
-use Rattle.order.proofs.RowLaws.{rest, rest_more, null_mark}
+use Rattle.order.specs.Order.{cmp_group, is_less}
+use Rattle.order.proofs.RowLaws.{rest, rest_more}
 use Rattle.rows.specs.nulls.Nulls.{any_null}
 use Rattle.cutting.specs.boundaries.Boundaries.{ascending, bad_boundaries}
 

@@ -1,5 +1,5 @@
 -- Where the cut of a sorted table is, told by one row; and the places, one by one. Assumes nothing.
-use mathlib.Core.Path.{◌≡◌, refl, ap, ◌∙◌}
+use mathlib.Core.Path.{◌≡◌, refl, ap}
 use mathlib.Core.Bool.{Bool, true, false}
 use mathlib.Core.List.{List, [], ◌∷◌}
 use mathlib.Core.Logic.{◌⊎◌, ⊎_elim}
@@ -11,11 +11,11 @@ use lib.IntN.{pos}
 use lib.ListN.{length, get_or, set}
 use Rattle.frames.specs.Cells.{Cell, Rows, Words, rows_of, row_from}
 use Rattle.order.specs.declared.options.Options.{Options}
-use Rattle.order.specs.Order.{cmp_group, cmp_row, is_less}
+use Rattle.order.specs.Order.{cmp_group, is_less}
 use Rattle.order.specs.declared.Order.{Order}
 use Rattle.order.specs.declared.Order.TheVariants.{Less, Equal, Greater}
 use Rattle.order.specs.contracts.Order.{the_type}
-use Rattle.order.proofs.OrderLaws.{AtMost, cmp_group_is, then_less, group_at_most}
+use Rattle.order.proofs.OrderLaws.{cmp_group_is, then_less, group_at_most}
 use Rattle.order.proofs.RowLaws.{rest, rest_more}
 use Rattle.order.proofs.SortedLaws.{Ordered, ordered_at}
 use Rattle.tables.specs.Lay.{flat, lay_cells}

@@ -2,17 +2,17 @@
 use mathlib.Core.Path.{◌≡◌, refl, sym, ap, ◌∙◌}
 use mathlib.Core.Bool.{Bool, true, false, cond, not, ◌&&◌, ◌||◌}
 use mathlib.Core.List.{[], ◌∷◌}
-use Prim.Native.Nat.{ℕ, suc, ◌+◌, ◌*◌, ◌≤◌, ◌<◌}
+use Prim.Native.Nat.{ℕ, suc, ◌≤◌, ◌<◌}
 use native.Mathlib.Omega.{arith}
 use borrow.Author.Tests.{le-ltb, not-false}
-use lib.Dec.{ltb, leb}
+use lib.Dec.{leb}
 use lib.IntN.{pos}
 use lib.ListN.{length, set}
 use Rattle.frames.specs.Cells.{Rows, Words, rows_of}
 use Rattle.frames.specs.Frame.{frame_words, row_count, frame_rows, values_in, marks_in, is_table, is_frame}
 use Rattle.frames.proofs.BoolLaws.{and-true}
 use Rattle.frames.proofs.FrontLaws.{frame_table}
-use Rattle.order.specs.options.Options.{bad_options, many_carried, bad_ranked, columns, right_columns, Few}
+use Rattle.order.specs.options.Options.{Few}
 use Rattle.order.specs.declared.options.Options.{Options}
 use Rattle.order.proofs.options.OptionLaws.{Allowed}
 use Rattle.order.specs.Order.{sorted}
@@ -30,8 +30,7 @@ use Rattle.tables.specs.declared.Written.{Written}
 use Rattle.tables.specs.declared.Written.TheVariants.{Rows as Wrote, Refused}
 use Rattle.books.proofs.bookjudge.JudgeLaws.{open_shut, open_past, open_allowed, table_values_lem, table_marks, leave_answer, room_short}
 use Rattle.cutting.specs.boundaries.Boundaries.{places, bad_boundaries}
-use Rattle.cutting.specs.boundaries.Requires.{GroupsIn}
-use Rattle.cutting.specs.cutcall.Calls.{side_columns, rows_in, groups_in, words_judged, rows_judged, then_judged, cut_answer, cut_call, CutContract, RowsContract, BothIn}
+use Rattle.cutting.specs.cutcall.Calls.{side_columns, rows_in, groups_in, words_judged, rows_judged, cut_answer, cut_call, CutContract, RowsContract, BothIn}
 
 -- ---- a table has a column for each boundary
 places_length : (o : Options) (rows gs : Rows) → length (places o rows gs) ≡ length gs

@@ -1,6 +1,6 @@
 -- What the judge of two tables and boundaries answers, and what it means that it accepts them. Assumes nothing.
-use mathlib.Core.Path.{◌≡◌, refl, sym, ◌∙◌}
-use mathlib.Core.Bool.{Bool, true, false, cond, not, ◌&&◌, ◌||◌}
+use mathlib.Core.Path.{◌≡◌}
+use mathlib.Core.Bool.{true, cond, not, ◌&&◌, ◌||◌}
 use borrow.Author.Tests.{not-false}
 use Rattle.frames.specs.Cells.{Words}
 use Rattle.frames.specs.Frame.{is_table, is_frame, frame_rows}

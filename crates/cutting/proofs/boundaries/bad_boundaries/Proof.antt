@@ -1,7 +1,7 @@
 -- `boundaries::bad_boundaries` meets its contract. Assumes nothing.
 use mathlib.Core.Path.{◌≡◌, sym, ap, ◌∙◌}
 use mathlib.Core.Bool.{false}
-use Prim.Native.Nat.{ℕ, ◌≤◌}
+use Prim.Native.Nat.{◌≤◌}
 use native.Mathlib.Omega.{arith}
 use borrow.Author.Rules.{rules}
 use borrow.Author.Tests.{ne_eqb}
@@ -27,45 +27,45 @@ groups s = rows_of s.args.o.by s.args.n s.args.values.now s.args.marks.now
 counted : (s : tie.Start) → length (groups s) ≡ s.args.n
 counted s = rows_length s.args.o.by s.args.n s.args.values.now s.args.marks.now
 
-returns : tie.Need-returns
-returns c = let s = c.before.before in sym (too_many (whole s) (groups s) (omega (arith, c.if1.true, counted s)))
+returns : tie.Need-returns-then-n-gt-MOST
+returns c = let s = c in sym (too_many (whole s.before.before) (groups s.before.before) (omega (arith, c.if-n-gt-MOST.true, counted s.before.before)))
 
 -- They are few.
-few : (c : tie.Else1) → length (groups c.before.before) ≤ 16
-few c = omega (arith, c.if1.false, counted c.before.before)
+few : (c : tie.Else-n-gt-MOST) → length (groups c.before.before) ≤ 16
+few c = omega (arith, c.if-n-gt-MOST.false, counted c.before.before)
 
-returns-2 : tie.Need-returns-2
+returns-2 : tie.Need-returns-then-o-eq0
 returns-2 c =
-    let s = c.before.before.before.before in
-    sym (no_columns (whole s) (groups s) (few c.before.before) c.if2.true ∙ ap (ltb 0) (counted s))
+    let s = c in
+    sym (no_columns (whole s.before.before.before.before) (groups s.before.before.before.before) (few c.before.before) c.if-o-eq0.true ∙ ap (ltb 0) (counted s.before.before.before.before))
 
-any-null-requires : tie.Need-any-null-requires
+any-null-requires : tie.Need-any_null-requires
 any-null-requires c κs = search rules
 
 -- There are by-columns, so the boundaries decide.
-asked : (c : tie.Else2) → eqb c.before.before.before.before.args.o.by 0 ≡ false
-asked c = ne_eqb c.before.before.before.before.args.o.by 0 (λ e. omega (arith, c.if2.false, e))
+asked : (c : tie.Else-o-eq0) → eqb c.args.o.by 0 ≡ false
+asked c = ne_eqb c.args.o.by 0 (λ e. omega (arith, c.if-o-eq0.false, e))
 
-nulls : (c : tie.After-any-null) → let s = c.before.before.before.before.before in c.any-null.result ≡ any_null (whole s).by (groups s)
+nulls : (c : tie.After-any_null) → let s = c in c.any_null.result ≡ any_null (whole s.before.before.before.before.before).by (groups s.before.before.before.before.before)
 nulls c =
-    let s = c.before.before.before.before.before in
-    c.any-null.ensures ∙ sym (rows_zero (whole s).by s.args.n s.args.values.now s.args.marks.now s.requires.values s.requires.marks)
+    let s = c in
+    c.any_null.ensures ∙ sym (rows_zero (whole s.before.before.before.before.before).by s.args.n s.args.values.now s.args.marks.now s.requires.values s.requires.marks)
 
-returns-3 : tie.Need-returns-3
+returns-3 : tie.Need-returns-then-any_null
 returns-3 c =
-    let e = c.before.before in
-    let s = e.before.before.before.before in
-    sym (by_rows (whole s) (groups s) (few e.before.before) (asked e) ∙ rw (← nulls c.before, c.if3.true))
+    let e = c in
+    let s = e in
+    sym (by_rows (whole s.before.before.before.before.before.before) (groups s.before.before.before.before.before.before) (few e.before.before.before.before) (asked e.before.before) ∙ rw (← nulls c.before, c.if-any_null.true))
 
-is-ascending-requires : tie.Need-is-ascending-requires
+is-ascending-requires : tie.Need-is_ascending-requires
 is-ascending-requires c κs = search rules
 
-returns-4 : tie.Need-returns-4
+returns-4 : tie.Need-returns
 returns-4 c =
-    let n = c.before.before in
-    let e = n.before in
-    let s = e.before.before.before.before in
-    sym (by_rows (whole s) (groups s) (few e.before.before) (asked e) ∙ rw (← nulls n, c.before.if3.false, ← c.is-ascending.ensures))
+    let n = c in
+    let e = n in
+    let s = e in
+    sym (by_rows (whole s.before.before.before.before.before.before.before) (groups s.before.before.before.before.before.before.before) (few e.before.before.before.before.before) (asked e.before.before.before) ∙ rw (← nulls n.before.before, c.if-any_null.false, ← c.is_ascending.ensures))
 
 pub bad_boundaries_spec : {M : Type 1} → statement M
 bad_boundaries_spec = tie.close (tie.spec returns returns-2 any-null-requires returns-3 is-ascending-requires returns-4)

@@ -1,47 +1,37 @@
 -- `cutcall::cut` meets its contract. Assumes nothing.
-use mathlib.Core.Path.{◌≡◌, sym, ◌∙◌}
+use mathlib.Core.Path.{◌≡◌, sym}
 use native.Mathlib.Omega.{arith}
-use lib.ListN.{length, length-map}
+use lib.ListN.{length}
 use borrow.Author.Rules.{rules}
 use Rattle.cutting.proofs.cutcall.cut.Statement.{statement}
 use Rattle.cutting.proofs.cutcall.cut.Tie as tie
-use Rattle.cutting.proofs.cutcall.cut.Reads as reads
-use Rattle.cutting.proofs.cutcall.cut.Lts as lts
-use Rattle.cutting.proofs.cutcall.cut_listed.Reads as cut-listed-reads
-use Rattle.order.proofs.options.terms_of.Reads as terms-of-reads
 
-terms-of-requires : tie.Need-terms-of-requires
+terms-of-requires : tie.Need-terms_of-requires
 terms-of-requires c κs = search rules
 
 -- The lengths of the list's arrays, from what the type says of its fields.
 codes-long : (s : tie.Start) → length s.args.o.ranks.codes ≡ 64
-codes-long s = let g = s.well-formed.1.1.1.0.1.1.1.1.1.1.1.1.1.1.0 in sym (length-map s.args.o.ranks.codes (λ v. v)) ∙ g.1.1.1.1.1.0.1.0.1
+codes-long s = let g = s.well_formed.1.1.1.0.1.1.1.1.1.1.1.1.1.1.0 in g.1.1.1.1.1.0.1.0.1
 
 rising_long : (s : tie.Start) → length s.args.o.ranks.rising ≡ 64
-rising_long s = let g = s.well-formed.1.1.1.0.1.1.1.1.1.1.1.1.1.1.0 in sym (length-map s.args.o.ranks.rising (λ v. v)) ∙ g.1.1.1.1.1.1.0.1.0.1
+rising_long s = let g = s.well_formed.1.1.1.0.1.1.1.1.1.1.1.1.1.1.0 in g.1.1.1.1.1.1.0.1.0.1
 
-slice-aggregate-cut-listed : tie.Need-slice-aggregate-cut-listed
+slice-aggregate-cut-listed : tie.Need-slice_bounds-cut_listed-end
 slice-aggregate-cut-listed c = sym (codes-long c.before.before.before.before)
 
-slice-aggregate-cut-listed-2 : tie.Need-slice-aggregate-cut-listed-2
+slice-aggregate-cut-listed-2 : tie.Need-slice_bounds-cut_listed-end-2
 slice-aggregate-cut-listed-2 c = sym (rising_long c.before.before.before.before.before)
 
-cut-listed-requires : tie.Need-cut-listed-requires
-cut-listed-requires c κs = let s = c.before.before.before.before.before.before in (omega (arith, codes-long s), omega (arith, rising_long s))
+cut-listed-requires : tie.Need-cut_listed-requires
+cut-listed-requires c κs = let s = c in (omega (arith, codes-long s.before.before.before.before.before.before), omega (arith, rising_long s.before.before.before.before.before.before))
 
-same_length : tie.Need-same-length
+same_length : tie.Need-shape_of-out
 same_length c = search rules
 
 returns : tie.Need-returns
-returns c = rw c.before.before.before.before.before.terms-of.ensures at c.before.cut-listed.ensures
+returns c = rw c.terms_of.ensures at c.cut_listed.ensures
 
 pub cut_spec : {M : Type 1} → statement M
 cut_spec =
     tie.close
-    (tie.spec
-    terms-of-requires
-    slice-aggregate-cut-listed
-    slice-aggregate-cut-listed-2
-    cut-listed-requires
-    same_length
-    returns)
+    (tie.spec terms-of-requires slice-aggregate-cut-listed slice-aggregate-cut-listed-2 cut-listed-requires same_length returns)

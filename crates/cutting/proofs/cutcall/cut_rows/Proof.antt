@@ -1,7 +1,7 @@
 -- `cutcall::cut_rows` meets its contract. Assumes nothing.
 use mathlib.Core.Path.{◌≡◌, sym, ◌∙◌}
 use mathlib.Core.Bool.{true, false}
-use Prim.Native.Nat.{◌+◌, ◌*◌, ◌^◌, ◌≤◌, ◌<◌}
+use Prim.Native.Nat.{◌^◌, ◌≤◌, ◌<◌}
 use native.Mathlib.Omega.{arith}
 use borrow.Author.Tests.{not-true, not-false}
 use lib.ListN.{length}
@@ -31,83 +31,73 @@ groups s = rows_of s.args.o.by s.args.k s.args.gv.now s.args.gm.now
 counted : (s : tie.Start) → s.args.k ≡ length (groups s)
 counted s = sym (rows_length s.args.o.by s.args.k s.args.gv.now s.args.gm.now)
 
-is-sorted-requires : tie.Need-is-sorted-requires
+is-sorted-requires : tie.Need-is_sorted-requires
 is-sorted-requires c κs = search rules
 
-returns : tie.Need-returns
+returns : tie.Need-returns-then-not-is_sorted
 returns c =
-    let s = c.before.before.before in
-    unsorted (whole s) (rows s) (groups s) s.args.out.now (sym c.before.is_sorted.ensures ∙ not-true c.before.is_sorted.result c.if1.true)
+    let s = c in
+    unsorted (whole s.before.before.before) (rows s.before.before.before) (groups s.before.before.before) s.args.out.now (sym c.is_sorted.ensures ∙ not-true c.is_sorted.result c.if-not-is_sorted.true-raw)
 
-in_order : (c : tie.Else1) → let s = c.before.before.before in sorted (whole s) (rows s) ≡ true
-in_order c = sym c.before.is_sorted.ensures ∙ not-false c.before.is_sorted.result c.if1.false
+in_order : (c : tie.Else-not-is_sorted) → let s = c in sorted (whole s.before.before.before) (rows s.before.before.before) ≡ true
+in_order c = sym c.is_sorted.ensures ∙ not-false c.is_sorted.result c.if-not-is_sorted.false-raw
 
-bad-boundaries-requires : tie.Need-bad-boundaries-requires
+bad-boundaries-requires : tie.Need-bad_boundaries-requires
 bad-boundaries-requires c κs = search rules
 
-returns-2 : tie.Need-returns-2
+returns-2 : tie.Need-returns-then-bad_boundaries
 returns-2 c =
-    let e = c.before.before in
-    let s = e.before.before.before in
-    bad (whole s) (rows s) (groups s) s.args.out.now (in_order e) (sym c.before.bad-boundaries.ensures ∙ c.if2.true)
+    let e = c in
+    let s = e in
+    bad (whole s.before.before.before.before.before) (rows s.before.before.before.before.before) (groups s.before.before.before.before.before) s.args.out.now (in_order e.before.before) (sym c.bad_boundaries.ensures ∙ c.if-bad_boundaries.true)
 
-good-list : (c : tie.Else2) → let s = c.before.before.before.before.before in bad_boundaries (whole s) (groups s) ≡ false
-good-list c = sym c.before.bad-boundaries.ensures ∙ c.if2.false
+good-list : (c : tie.Else-bad_boundaries) → let s = c in bad_boundaries (whole s.before.before.before.before.before) (groups s.before.before.before.before.before) ≡ false
+good-list c = sym c.bad_boundaries.ensures ∙ c.if-bad_boundaries.false
 
-has-room-requires : tie.Need-has-room-requires
+has-room-requires : tie.Need-has_room-requires
 has-room-requires c κs = search rules
 
-returns-3 : tie.Need-returns-3
+returns-3 : tie.Need-returns-then-not-has_room
 returns-3 c =
-    let d = c.before.before in
-    let e = d.before.before in
-    let s = e.before.before.before in
-    no_room_lem (whole s) (rows s) (groups s) s.args.out.now (in_order e) (good-list d) s.args.k (counted s)
-    (sym c.before.has_room.ensures ∙ not-true c.before.has_room.result c.if3.true)
+    let d = c in
+    let e = d in
+    let s = e in
+    no_room_lem (whole s.before.before.before.before.before.before.before) (rows s.before.before.before.before.before.before.before) (groups s.before.before.before.before.before.before.before) s.args.out.now (in_order e.before.before.before.before) (good-list d.before.before) s.args.k (counted s.before.before.before.before.before.before.before)
+    (sym c.has_room.ensures ∙ not-true c.has_room.result c.if-not-has_room.true-raw)
 
-room : (c : tie.Else3) → let a = c.before.before.before.before.before.before.before.args in frame_words a.k 1 ≤ length a.out.now
+room : (c : tie.Else-not-has_room) → let a = c.args in frame_words a.k 1 ≤ length a.out.now
 room c =
-    let a = c.before.before.before.before.before.before.before.args in
-    room_there a.k 1 (length a.out.now) (sym c.before.has_room.ensures ∙ not-false c.before.has_room.result c.if3.false)
+    let a = c.args in
+    room_there a.k 1 (length a.out.now) (sym c.has_room.ensures ∙ not-false c.has_room.result c.if-not-has_room.false-raw)
 
-few : (c : tie.Else3) → c.before.before.before.before.before.before.before.args.k < 2 ^ 60
-few c = let g = c.before.before.before.before.before.before.before.well-formed.1.1.1.1.1.1.1.1.1.1.0 in omega (arith, g.0, g.1, room c)
+few : (c : tie.Else-not-has_room) → c.args.k < 2 ^ 60
+few c = let g = c.well_formed.1.1.1.1.1.1.1.1.1.1.0 in omega (arith, g.0, g.1, room c)
 
-put-places-requires : tie.Need-put-places-requires
+put-places-requires : tie.Need-put_places-requires
 put-places-requires c κs =
-    let r = c.before in
-    let d = r.before.before in
-    let e = d.before.before in
-    let s = e.before.before.before in
-    record { table = record { rows = s.requires.rows; in_order = in_order e }; boundaries = s.requires.groups; room = omega (arith, room r) }
+    let r = c in
+    let d = r in
+    let e = d in
+    let s = e in
+    record { table = record { rows = s.requires.rows; in_order = in_order e.before.before.before.before.before }; boundaries = s.requires.groups; room = omega (arith, room r.before) }
 
-put-head-requires : tie.Need-put-head-requires
+put-head-requires : tie.Need-put_head-requires
 put-head-requires c κs =
-    let r = c.before.before.before.before in
-    record { rows = omega (arith, few r); columns = omega arith; room = omega (arith, room r, c.before.before.put-places.auto.1.1.1.1.1.1.1.1.1.1.0) }
+    let r = c in
+    record { rows = omega (arith, few r.before.before.before.before); columns = omega arith; room = omega (arith, room r.before.before.before.before, c.put_places.auto.out) }
 
-same_length : tie.Need-same-length
+same_length : tie.Need-shape_of-out
 same_length c = search rules
 
-returns-4 : tie.Need-returns-4
+returns-4 : tie.Need-returns
 returns-4 c =
-    let r = c.before.before.before.before.before.before in
-    let d = r.before.before in
-    let e = d.before.before in
-    let s = e.before.before.before in
-    wrote (whole s) (rows s) (groups s) s.args.out.now (in_order e) (good-list d) s.args.k (counted s) (room r) _ _ c.before.before.before.before.put-places.ensures c.before.put-head.ensures
+    let r = c in
+    let d = r in
+    let e = d in
+    let s = e in
+    wrote (whole s.before.before.before.before.before.before.before.before.before.before.before.before.before) (rows s.before.before.before.before.before.before.before.before.before.before.before.before.before) (groups s.before.before.before.before.before.before.before.before.before.before.before.before.before) s.args.out.now (in_order e.before.before.before.before.before.before.before.before.before.before) (good-list d.before.before.before.before.before.before.before.before) s.args.k (counted s.before.before.before.before.before.before.before.before.before.before.before.before.before) (room r.before.before.before.before.before.before) _ _ c.put_places.ensures c.put_head.ensures
 
 pub cut_rows_spec : {M : Type 1} → statement M
 cut_rows_spec =
     tie.close
-    (tie.spec
-    is-sorted-requires
-    returns
-    bad-boundaries-requires
-    returns-2
-    has-room-requires
-    returns-3
-    put-places-requires
-    put-head-requires
-    same_length
-    returns-4)
+    (tie.spec is-sorted-requires returns bad-boundaries-requires returns-2 has-room-requires returns-3 put-places-requires put-head-requires same_length returns-4)

@@ -25,100 +25,88 @@ tables s = pair_in s.args.c s.args.nl s.args.lv.now s.args.lm.now s.args.w s.arg
 abbrev groups : tie.Start → Rows
 groups s = rows_of s.args.o.by s.args.k s.args.gv.now s.args.gm.now
 
-is-sorted-requires : tie.Need-is-sorted-requires
-is-sorted-requires c κs = c.before.requires.left
+is-sorted-requires : tie.Need-is_sorted-requires
+is-sorted-requires c κs = c.requires.left
 
-returns : tie.Need-returns
+returns : tie.Need-returns-then-not-is_sorted
 returns c =
-    let s = c.before.before.before in
-    unsorted_left (whole s) (tables s) (groups s) _ _ _ (sym c.before.is_sorted.ensures ∙ not-true c.before.is_sorted.result c.if1.true)
+    let s = c in
+    unsorted_left (whole s.before.before.before) (tables s.before.before.before) (groups s.before.before.before) _ _ _ (sym c.is_sorted.ensures ∙ not-true c.is_sorted.result c.if-not-is_sorted.true-raw)
 
-is-sorted-requires-2 : tie.Need-is-sorted-requires-2
-is-sorted-requires-2 c κs = c.before.before.before.requires.right
+is-sorted-requires-2 : tie.Need-is_sorted-requires-2
+is-sorted-requires-2 c κs = c.requires.right
 
-returns-2 : tie.Need-returns-2
+returns-2 : tie.Need-returns-then-not-is_sorted-2
 returns-2 c =
-    let s = c.before.before.before.before.before in
-    unsorted_right (whole s) (tables s) (groups s) _ _ _ (sym c.before.is-sorted2.ensures ∙ not-true c.before.is-sorted2.result c.if2.true)
+    let s = c in
+    unsorted_right (whole s.before.before.before.before.before) (tables s.before.before.before.before.before) (groups s.before.before.before.before.before) _ _ _ (sym c.is_sorted-2.ensures ∙ not-true c.is_sorted-2.result c.if-not-is_sorted-2.true-raw)
 
 -- Both are sorted.
-left_sorted : (c : tie.Else2) → let s = c.before.before.before.before.before in sorted (whole s) (tables s).left ≡ true
-left_sorted c = let e = c.before.before in sym e.before.is_sorted.ensures ∙ not-false e.before.is_sorted.result e.if1.false
+left_sorted : (c : tie.Else-not-is_sorted-2) → let s = c in sorted (whole s.before.before.before.before.before) (tables s.before.before.before.before.before).left ≡ true
+left_sorted c = let e = c in sym e.is_sorted.ensures ∙ not-false e.is_sorted.result e.if-not-is_sorted.false-raw
 
-right_sorted : (c : tie.Else2) → let s = c.before.before.before.before.before in sorted (whole s) (tables s).right ≡ true
-right_sorted c = sym c.before.is-sorted2.ensures ∙ not-false c.before.is-sorted2.result c.if2.false
+right_sorted : (c : tie.Else-not-is_sorted-2) → let s = c in sorted (whole s.before.before.before.before.before) (tables s.before.before.before.before.before).right ≡ true
+right_sorted c = sym c.is_sorted-2.ensures ∙ not-false c.is_sorted-2.result c.if-not-is_sorted-2.false-raw
 
-bad-boundaries-requires : tie.Need-bad-boundaries-requires
-bad-boundaries-requires c κs = c.before.before.before.before.before.requires.groups
+bad-boundaries-requires : tie.Need-bad_boundaries-requires
+bad-boundaries-requires c κs = c.requires.groups
 
-returns-3 : tie.Need-returns-3
+returns-3 : tie.Need-returns-then-bad_boundaries
 returns-3 c =
-    let e = c.before.before in
-    let s = e.before.before.before.before.before in
-    bad (whole s) (tables s) (groups s) _ _ _ (left_sorted e) (right_sorted e) (sym c.before.bad-boundaries.ensures ∙ c.if3.true)
+    let e = c in
+    let s = e in
+    bad (whole s.before.before.before.before.before.before.before) (tables s.before.before.before.before.before.before.before) (groups s.before.before.before.before.before.before.before) _ _ _ (left_sorted e.before.before) (right_sorted e.before.before) (sym c.bad_boundaries.ensures ∙ c.if-bad_boundaries.true)
 
 -- The boundaries are good.
-good : (c : tie.Else3) → let s = c.before.before.before.before.before.before.before in bad_boundaries (whole s) (groups s) ≡ false
-good c = sym c.before.bad-boundaries.ensures ∙ c.if3.false
+good : (c : tie.Else-bad_boundaries) → let s = c in bad_boundaries (whole s.before.before.before.before.before.before.before) (groups s.before.before.before.before.before.before.before) ≡ false
+good c = sym c.bad_boundaries.ensures ∙ c.if-bad_boundaries.false
 
-answer-columns-requires : tie.Need-answer-columns-requires
-answer-columns-requires c κs = c.before.before.before.before.before.before.before.requires.carried
+answer-columns-requires : tie.Need-answer_columns-requires
+answer-columns-requires c κs = c.requires.carried
 
-has-room-requires : tie.Need-has-room-requires
+has-room-requires : tie.Need-has_room-requires
 has-room-requires c κs = search rules
 
-returns-4 : tie.Need-returns-4
+returns-4 : tie.Need-returns-then-not-has_room
 returns-4 c =
-    let h = c.before in
-    let g = h.before.before in
-    let e = g.before.before in
-    let s = e.before.before.before.before.before in
+    let h = c in
+    let g = h in
+    let e = g in
+    let s = e in
     let a = s.args in
-    no_output (whole s) (tables s) (groups s) _ _ _ (left_sorted e) (right_sorted e) (good g) a.nl h.before.answer-columns.result (sym (rows_length a.c a.nl a.lv.now a.lm.now)) h.before.answer-columns.ensures
-    (sym h.has_room.ensures ∙ not-true h.has_room.result c.if4.true)
+    no_output (whole s.before.before.before.before.before.before.before.before.before.before) (tables s.before.before.before.before.before.before.before.before.before.before) (groups s.before.before.before.before.before.before.before.before.before.before) _ _ _ (left_sorted e.before.before.before.before.before) (right_sorted e.before.before.before.before.before) (good g.before.before.before) a.nl h.answer_columns.result (sym (rows_length a.c a.nl a.lv.now a.lm.now)) h.answer_columns.ensures
+    (sym h.has_room.ensures ∙ not-true h.has_room.result c.if-not-has_room.true-raw)
 
-any-short-requires : tie.Need-any-short-requires
+any-short-requires : tie.Need-any_short-requires
 any-short-requires c κs =
-    let e = c.before.before.before.before.before in
-    let s = e.before.before.before.before.before in
-    cuts_in _ _ _ _ _ _ _ _ _ _ _ _ s.requires (left_sorted e) (right_sorted e)
+    let e = c in
+    let s = e in
+    cuts_in _ _ _ _ _ _ _ _ _ _ _ _ s.requires (left_sorted e.before.before.before.before.before) (right_sorted e.before.before.before.before.before)
 
-returns-5 : tie.Need-returns-5
+returns-5 : tie.Need-returns-then-any_short
 returns-5 c =
-    let t = c.before in
-    let h = t.before.before in
-    let g = h.before.before in
-    let e = g.before.before in
-    let s = e.before.before.before.before.before in
+    let t = c in
+    let h = t in
+    let g = h in
+    let e = g in
+    let s = e in
     let a = s.args in
-    no_area (whole s) (tables s) (groups s) _ _ _ (left_sorted e) (right_sorted e) (good g) a.nl h.before.answer-columns.result (sym (rows_length a.c a.nl a.lv.now a.lm.now)) h.before.answer-columns.ensures
-    (sym t.any_short_lem.ensures ∙ c.if5.true)
+    no_area (whole s.before.before.before.before.before.before.before.before.before.before.before.before) (tables s.before.before.before.before.before.before.before.before.before.before.before.before) (groups s.before.before.before.before.before.before.before.before.before.before.before.before) _ _ _ (left_sorted e.before.before.before.before.before.before.before) (right_sorted e.before.before.before.before.before.before.before) (good g.before.before.before.before.before) a.nl h.answer_columns.result (sym (rows_length a.c a.nl a.lv.now a.lm.now)) h.answer_columns.ensures
+    (sym t.any_short.ensures ∙ c.if-any_short.true)
 
-returns-6 : tie.Need-returns-6
+returns-6 : tie.Need-returns
 returns-6 c =
-    let t = c.before in
-    let r = t.before in
-    let h = r.before in
-    let g = h.before.before in
-    let e = g.before.before in
-    let s = e.before.before.before.before.before in
+    let t = c in
+    let r = t in
+    let h = r in
+    let g = h in
+    let e = g in
+    let s = e in
     let a = s.args in
-    written (whole s) (tables s) (groups s) _ _ _ (left_sorted e) (right_sorted e) (good g) a.nl h.before.answer-columns.result (sym (rows_length a.c a.nl a.lv.now a.lm.now)) h.before.answer-columns.ensures
-    (sym h.has_room.ensures ∙ not-false h.has_room.result r.if4.false) (sym t.any_short_lem.ensures ∙ c.if5.false)
+    written (whole s.before.before.before.before.before.before.before.before.before.before.before.before) (tables s.before.before.before.before.before.before.before.before.before.before.before.before) (groups s.before.before.before.before.before.before.before.before.before.before.before.before) _ _ _ (left_sorted e.before.before.before.before.before.before.before) (right_sorted e.before.before.before.before.before.before.before) (good g.before.before.before.before.before) a.nl h.answer_columns.result (sym (rows_length a.c a.nl a.lv.now a.lm.now)) h.answer_columns.ensures
+    (sym h.has_room.ensures ∙ not-false h.has_room.result r.if-not-has_room.false-raw) (sym t.any_short.ensures ∙ c.if-any_short.false)
 
 pub judge_pairs_spec : {M : Type 1} → statement M
 judge_pairs_spec =
     tie.close
-    (tie.spec
-    is-sorted-requires
-    returns
-    is-sorted-requires-2
-    returns-2
-    bad-boundaries-requires
-    returns-3
-    answer-columns-requires
-    has-room-requires
-    returns-4
-    any-short-requires
-    returns-5
-    returns-6)
+    (tie.spec is-sorted-requires returns is-sorted-requires-2 returns-2 bad-boundaries-requires returns-3 answer-columns-requires has-room-requires returns-4 any-short-requires returns-5 returns-6)
