@@ -4,13 +4,13 @@ use mathlib.Core.Bool.{Bool, true, false, cond, not, ◌&&◌, ◌||◌}
 use mathlib.Core.List.{List, [], ◌∷◌, map}
 use Prim.Native.Nat.{ℕ, suc, ◌+◌, ◌-◌, ◌*◌, ◌^◌, ◌≤◌, ◌<◌}
 use native.Mathlib.Omega.{arith}
-use borrow.Author.Tests.{lt-ltb, le-ltb, ltb-false, leb-true, leb-false}
+use borrow.Author.Tests.{lt-ltb, le-ltb, ltb-false, leb-false}
 use lib.Dec.{ltb, leb}
 use lib.IntN.{ℤ, pos, negsuc, nat_abs, ◌+ℤ◌}
 use lib.Signed.{mag}
-use lib.ListN.{length, set, length-map, take, drop, length-drop}
+use lib.ListN.{length, set, length-map, drop, length-drop}
 use lib.Seq.{length-take-le}
-use Rattle.frames.specs.Cells.{Cell, Rows, Words, rows_of, row_from}
+use Rattle.frames.specs.Cells.{Rows, Words, rows_of}
 use Rattle.frames.specs.Frame.{frame_words, row_count, frame_rows, values_in, marks_in, is_table}
 use Rattle.frames.proofs.FrameLaws.{table_parts}
 use Rattle.frames.proofs.BoolLaws.{and-true}
@@ -23,14 +23,12 @@ use Rattle.tables.specs.Lay.{flat, lay_cells}
 use Rattle.tables.proofs.LayLaws.{lay_table}
 use Rattle.tables.proofs.TableLaws.{Wide}
 use Rattle.tables.proofs.CellLaws.{flat_length, rows_are_wide}
-use Rattle.order.proofs.SortedLaws.{All}
 use Rattle.rows.specs.nulls.Nulls.{any_null}
-use Rattle.takings.specs.Subtotals.{Subtotal, add_all, ascending, row_of, subtotal_of, subtotals_of, beyond_rows, beyond_number, sales_in, most_sales}
-use Rattle.takings.specs.Calls.{After, table_width, table_words, rows_in, fine_subtotals, result, leave, join_answer, join_call}
+use Rattle.takings.specs.Subtotals.{Subtotal, add_all, ascending, row_of, subtotals_of, beyond_rows, beyond_number, sales_in, most_sales}
+use Rattle.takings.specs.Calls.{table_width, rows_in, fine_subtotals, result, leave, join_answer, join_call}
 use Rattle.takings.specs.declared.Taken.{Taken}
 use Rattle.takings.specs.declared.Taken.TheVariants.{Table, Refused}
 use Rattle.takings.proofs.SubtotalLaws.{Every, rising, all_sales_lem, every_all}
-use Rattle.subtotals.specs.subtables.Sheet.{beyond_words, count_words}
 use Rattle.subtotals.specs.takejudge.Judge.{Sheet, fine_rows, beyond_accounts}
 use Rattle.subtotals.proofs.takejudge.JudgeLaws.{beyond_words_lem, sales_words}
 use Rattle.subtotals.specs.takejoin.Join.{joined, subs_from, Account}

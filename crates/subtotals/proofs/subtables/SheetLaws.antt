@@ -1,30 +1,25 @@
 -- The judges' walks, and what they say of a table's rows. Assumes nothing.
 use mathlib.Core.Path.{◌≡◌, refl, sym, ap, ◌∙◌}
-use mathlib.Core.Bool.{Bool, true, false, cond, ◌&&◌, ◌||◌}
-use mathlib.Core.List.{List, [], ◌∷◌, ◌++◌}
+use mathlib.Core.Bool.{Bool, true, false, ◌&&◌, ◌||◌}
+use mathlib.Core.List.{List}
 use mathlib.Core.Logic.{◌⊎◌, inl, inr, ⊎_elim}
-use Prim.Native.Nat.{ℕ, zero, suc, ◌+◌, ◌-◌, ◌*◌, ◌^◌, ◌≤◌, ◌<◌}
-use native.Mathlib.Numerals.{add-one}
+use Prim.Native.Nat.{ℕ, zero, suc, ◌+◌, ◌-◌, ◌*◌, ◌≤◌, ◌<◌}
 use native.Mathlib.Omega.{arith}
 use borrow.Author.Tests.{lt-ltb, le-ltb, ltb-true, ltb-false}
 use denote.Enum.Declared.{tag_of}
-use lib.Dec.{T, ltb}
+use lib.Dec.{T}
 use lib.IntN.{ℤ, pos, negsuc, nat_abs, ◌-ℤ◌, +ℤ_idr}
 use lib.Signed.{lt_z, non_neg}
-use lib.ListN.{length, take, drop, get_or, length-drop, take-append-drop, drop_of_length-le}
-use lib.Seq.{drop-drop, drop-cons, get_or-take, length-take-le, get_or-drop}
-use Rattle.frames.specs.Cells.{Cell, null, value, cell, is_null, is_zero, cell_of, cells_of, value_word, Rows, Words, rows_of, row_from}
-use Rattle.frames.specs.Frame.{pairs_fine}
-use Rattle.order.specs.options.Options.{by_rule}
-use Rattle.order.specs.Order.{next, cmp_cell, cmp_first, cmp_group, is_less}
-use Rattle.order.specs.Requires.{cell_at}
+use lib.ListN.{take, drop, get_or}
+use lib.Seq.{drop-drop, get_or-take, get_or-drop}
+use Rattle.frames.specs.Cells.{Cell, null, Words, rows_of, row_from}
+use Rattle.order.specs.Order.{cmp_first, cmp_group, is_less}
 use Rattle.order.specs.declared.options.Options.{Options}
 use Rattle.order.specs.declared.Order.{Order}
 use Rattle.order.specs.declared.Order.TheVariants.{Less, Equal, Greater}
 use Rattle.order.specs.contracts.Order.{the_type}
-use Rattle.order.proofs.RowLaws.{rest, rest_all, rest_more, row_cell, null_mark}
-use Rattle.tables.proofs.CellLaws.{fine_at}
-use Rattle.takings.specs.Subtotals.{Subtotal, subtotal_of, subtotals_of, number_in, ascending, beyond_row, beyond_rows, sales_in, most_amount, most_sales}
+use Rattle.order.proofs.RowLaws.{rest, rest_more}
+use Rattle.takings.specs.Subtotals.{subtotals_of, ascending, most_amount, most_sales}
 use Rattle.subtotals.specs.subtables.Sheet.{beyond_pair, beyond_words, count_words, Summed, Counted}
 
 -- ---- a group's order reads its by-values alone

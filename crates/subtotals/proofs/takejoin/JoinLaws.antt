@@ -1,9 +1,8 @@
 -- Two tables in group order, side by side, are the one added to the other. Assumes nothing.
 use mathlib.Core.Path.{◌≡◌, refl, sym, ap, ◌∙◌}
 use mathlib.Core.List.{List, [], ◌∷◌}
-use Prim.Native.Nat.{ℕ, suc, ◌+◌}
+use Prim.Native.Nat.{ℕ}
 use native.Mathlib.Omega.{arith}
-use lib.ListN.{length}
 use Rattle.frames.specs.Cells.{Cell}
 use Rattle.order.specs.Order.{cmp_group}
 use Rattle.order.specs.declared.options.Options.{Options}
@@ -11,7 +10,7 @@ use Rattle.order.specs.declared.Order.{Order}
 use Rattle.order.specs.declared.Order.TheVariants.{Less, Equal, Greater}
 use Rattle.order.proofs.OrderLaws.{cmp_group_is, greater_less, less_greater, equal_flip}
 use Rattle.takings.specs.Subtotals.{Subtotal, cmp_sub, plus, insert, add_all}
-use Rattle.takings.proofs.SubtotalLaws.{Every, every_map, Above, Rising}
+use Rattle.takings.proofs.SubtotalLaws.{every_map, Above, Rising}
 use Rattle.subtotals.specs.takejoin.Join.{side, joined}
 
 -- ---- an arm that is known

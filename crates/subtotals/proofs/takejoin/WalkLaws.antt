@@ -1,9 +1,9 @@
 -- What the walk over two tables of subtotals has left to do, row by row. Assumes nothing.
 use mathlib.Core.Path.{◌≡◌, refl, sym, ap, ◌∙◌}
 use mathlib.Core.Bool.{Bool, true, false, ◌||◌}
-use mathlib.Core.List.{List, [], ◌∷◌, ◌++◌, map}
+use mathlib.Core.List.{List, [], ◌∷◌, map}
 use mathlib.Core.Logic.{◌⊎◌, inl, inr}
-use Prim.Native.Nat.{ℕ, zero, suc, ◌+◌, ◌-◌, ◌*◌, ◌^◌, ◌≤◌, ◌<◌}
+use Prim.Native.Nat.{ℕ, zero, suc, ◌+◌, ◌*◌, ◌^◌, ◌≤◌, ◌<◌}
 use native.Mathlib.Numerals.{add-one}
 use native.Mathlib.Omega.{arith}
 use borrow.Author.Tests.{ltb-true, ltb-false, le-leb}
@@ -11,7 +11,7 @@ use lib.Dec.{ltb}
 use lib.IntN.{ℤ, pos, negsuc, nat_abs, ◌+ℤ◌}
 use lib.Signed.{le_z, lt_z, mag}
 use lib.ListN.{length, take, drop, get_or, set, length-append}
-use lib.Seq.{get_or-drop, length-take-le}
+use lib.Seq.{get_or-drop}
 use Rattle.frames.specs.Cells.{Cell, null, value, cell, cell_of, cells_of, value_word, row_from, Rows, Words}
 use Rattle.frames.specs.Frame.{pairs_fine}
 use Rattle.order.proofs.RowLaws.{row_length, row_cell, row_room}
@@ -23,7 +23,7 @@ use Rattle.order.specs.declared.Order.{Order}
 use Rattle.order.specs.declared.Order.TheVariants.{Less, Equal, Greater}
 use Rattle.tables.specs.Requires.{rest}
 use Rattle.tables.proofs.CellLaws.{rest_more, rest_none, fine_at}
-use Rattle.takings.specs.Subtotals.{Subtotal, cmp_sub, plus, row_of, number_in, subtotal_of, subtotals_of, most_amount, most_sales}
+use Rattle.takings.specs.Subtotals.{Subtotal, plus, row_of, number_in, subtotal_of, subtotals_of, most_amount, most_sales}
 use Rattle.takings.proofs.SubtotalLaws.{abs_plus}
 use Rattle.subtotals.specs.subtables.Sheet.{beyond_pair, beyond_words, count_words}
 use Rattle.subtotals.proofs.subtables.SheetLaws.{group_taken}

@@ -1,26 +1,22 @@
 -- What the judges' walks over words say of a table's rows. Assumes nothing.
 use mathlib.Core.Path.{◌≡◌, refl, sym, ap, ◌∙◌}
 use mathlib.Core.Bool.{Bool, true, false, not, ◌&&◌, ◌||◌}
-use mathlib.Core.List.{List, [], ◌∷◌, ◌++◌}
 use mathlib.Core.Logic.{◌⊎◌, inl, inr}
-use Prim.Native.Nat.{ℕ, zero, suc, ◌+◌, ◌-◌, ◌*◌, ◌^◌, ◌≤◌, ◌<◌}
-use native.Mathlib.Numerals.{add-one}
+use Prim.Native.Nat.{ℕ, zero, suc, ◌+◌, ◌-◌, ◌*◌, ◌≤◌, ◌<◌}
 use native.Mathlib.Omega.{arith}
-use borrow.Author.Tests.{lt-ltb, le-ltb, ltb-true, ltb-false}
+use borrow.Author.Tests.{lt-ltb, le-ltb, ltb-false}
 use lib.Dec.{T, ltb}
 use lib.IntN.{ℤ, pos, negsuc, nat_abs}
 use lib.Signed.{lt_z, non_neg}
-use lib.ListN.{length, take, drop, get_or, length-drop, take-append-drop}
-use lib.Seq.{drop-drop, get_or-drop, length-take-le}
-use Rattle.frames.specs.Cells.{Cell, null, value, cell, is_null, is_zero, cell_of, cells_of, value_word, Rows, Words, rows_of, row_from}
-use Rattle.frames.specs.Frame.{pairs_fine}
-use Rattle.order.specs.Requires.{cell_at}
+use lib.ListN.{drop, get_or}
+use lib.Seq.{drop-drop, get_or-drop}
+use Rattle.frames.specs.Cells.{Cell, null, value, cell, value_word, Rows, Words, rows_of, row_from}
 use Rattle.order.specs.declared.options.Options.{Options}
-use Rattle.order.proofs.RowLaws.{row_cell, row_room, null_mark}
+use Rattle.order.proofs.RowLaws.{row_cell, row_room}
 use Rattle.tables.specs.Requires.{rest}
 use Rattle.tables.proofs.CellLaws.{rest_more, rest_none, fine_at}
 use Rattle.rows.specs.nulls.Nulls.{any_null}
-use Rattle.takings.specs.Subtotals.{ascending, subtotal_of, subtotals_of, number_in, beyond_row, beyond_rows, beyond_number, sales_in, most_amount, most_sales}
+use Rattle.takings.specs.Subtotals.{ascending, subtotals_of, number_in, beyond_row, beyond_rows, beyond_number, sales_in, most_sales}
 use Rattle.subtotals.specs.subtables.Sheet.{beyond_pair, beyond_words, count_words, Counted}
 use Rattle.subtotals.specs.takejudge.Judge.{Sheet, fine_rows, beyond_accounts}
 

@@ -12,7 +12,7 @@ use Rattle.frames.specs.Cells.{Words}
 use Rattle.frames.specs.Frame.{is_table, is_frame, row_count, frame_rows, same_z}
 use Rattle.frames.proofs.FrameLaws.{table_parts}
 use Rattle.frames.proofs.BoolLaws.{and-true}
-use Rattle.frames.proofs.FrontLaws.{table_short, table_other_columns, frame_table, table_count}
+use Rattle.frames.proofs.FrontLaws.{table_short, table_other_columns, frame_table}
 use Rattle.order.specs.options.Options.{columns, bad_options, many_carried, bad_ranked}
 use Rattle.order.specs.declared.options.Options.{Options}
 use Rattle.order.proofs.options.OptionLaws.{Allowed, allowed_parts, good_allowed}
@@ -20,7 +20,7 @@ use Rattle.order.specs.Listed.{lacks_code}
 use Rattle.tables.specs.Options.{unless}
 use Rattle.takings.specs.Calls.{table_width, rows_in, any_frame, columns_in, known_columns, join_answer, add_answer}
 use Rattle.takings.specs.declared.Taken.{Taken}
-use Rattle.takings.specs.declared.Taken.TheVariants.{Table, Refused as NotTaken}
+use Rattle.takings.specs.declared.Taken.TheVariants.{Refused as NotTaken}
 use Rattle.callrules.specs.Judged.{open_answer}
 use Rattle.frames.specs.declared.refusals.Refusal.{Refusal}
 use Rattle.frames.specs.declared.refusals.Refusal.TheVariants.{BadOptions, TooManyCarried, BadRanks, BadFrame, UnknownCode, BadColumns}

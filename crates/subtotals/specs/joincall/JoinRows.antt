@@ -7,7 +7,7 @@ use Rattle.frames.specs.declared.refusals.Refusal.TheVariants.{Unsorted, Beyond}
 use Rattle.takings.specs.Subtotals.{add_all, subtotals_of, beyond_rows, beyond_number}
 use Rattle.takings.specs.Calls.{result, leave, join_call}
 use Rattle.takings.specs.declared.Taken.{Taken}
-use Rattle.takings.specs.declared.Taken.TheVariants.{Table, Refused}
+use Rattle.takings.specs.declared.Taken.TheVariants.{Refused}
 use Rattle.subtotals.specs.takejudge.Judge.{Sheet, fine_rows}
 
 -- Both tables are there, and the options are such that groups compare.

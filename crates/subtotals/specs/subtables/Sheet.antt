@@ -1,7 +1,7 @@
 -- What the judges of subtotal tables ask and answer. Assumes nothing.
-use Rattle.std.specs.Prelude.{◌≡◌, Bool, true, false, ◌||◌, [], ◌∷◌, ◌⊎◌, ℕ, zero, suc, ◌+◌, ◌*◌, ◌^◌, ◌≤◌, ◌<◌, ltb, ℤ, pos, nat_abs, length, get_or, drop}
+use Rattle.std.specs.Prelude.{◌≡◌, Bool, true, false, ◌||◌, ◌⊎◌, ℕ, zero, suc, ◌+◌, ◌*◌, ◌≤◌, ◌<◌, ltb, ℤ, pos, nat_abs, length, get_or, drop}
 use Rattle.std.specs.Int.Signed.{lt_z}
-use Rattle.frames.specs.Cells.{Words, is_zero}
+use Rattle.frames.specs.Cells.{Words}
 use Rattle.takings.specs.Subtotals.{most_amount, most_sales}
 
 -- A count below 1, or a total larger in size than the count times 1,000,000,000.

@@ -1,5 +1,5 @@
 -- Two tables of subtotals, side by side. Assumes nothing.
-use Rattle.std.specs.Prelude.{◌≡◌, true, false, List, [], ◌∷◌, ℕ, suc, ◌+◌, ◌-◌, ◌*◌, ◌^◌, ◌≤◌, ◌<◌, ℤ, pos, nat_abs, length, get_or}
+use Rattle.std.specs.Prelude.{◌≡◌, true, false, List, [], ◌∷◌, ℕ, suc, ◌+◌, ◌*◌, ◌≤◌, ◌<◌, ℤ, pos, nat_abs, length, get_or}
 use Rattle.std.specs.Int.Signed.{le_z}
 use Rattle.frames.specs.Cells.{Words, row_from}
 use Rattle.frames.specs.Frame.{pairs_fine}

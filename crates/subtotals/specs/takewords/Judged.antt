@@ -1,5 +1,5 @@
 -- What words are answered before the rows of takings are judged. Assumes nothing.
-use Rattle.std.specs.Prelude.{Bool, cond, not, ◌&&◌, ◌||◌, eqb}
+use Rattle.std.specs.Prelude.{cond, not, ◌&&◌, ◌||◌, eqb}
 use Rattle.frames.specs.Cells.{Words}
 use Rattle.frames.specs.Frame.{is_table, is_frame, row_count, frame_rows}
 use Rattle.order.specs.options.Options.{columns}

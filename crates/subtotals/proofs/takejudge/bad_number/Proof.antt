@@ -1,15 +1,14 @@
 -- `takejudge::bad_number` meets its contract. Assumes nothing.
-use mathlib.Core.Path.{◌≡◌, sym, ◌∙◌}
 use mir.Facts.{to_z-of_z}
 use Rattle.subtotals.proofs.takejudge.JudgeLaws.{number_low, number_high}
 use Rattle.subtotals.proofs.takejudge.bad_number.Statement.{statement}
 use Rattle.subtotals.proofs.takejudge.bad_number.Tie as tie
 
-returns : tie.Need-returns
-returns c = let s = c.before in number_low s.args.number (rw (to_z-of_z s.ranges.number) at c.if1.true)
+returns : tie.Need-returns-then-number-lt0
+returns c = let s = c in number_low s.args.number (rw (to_z-of_z s.ranges.number) at c.if-number-lt0.true)
 
-returns-2 : tie.Need-returns-2
-returns-2 c = let s = c.before in rw (to_z-of_z s.ranges.number) (number_high s.args.number (rw (to_z-of_z s.ranges.number) at c.if1.false))
+returns-2 : tie.Need-returns
+returns-2 c = let s = c in rw (to_z-of_z s.ranges.number) (number_high s.args.number (rw (to_z-of_z s.ranges.number) at c.if-number-lt0.false))
 
 pub bad_number_spec : {M : Type 1} → statement M
 bad_number_spec = tie.close (tie.spec returns returns-2)

@@ -1,6 +1,5 @@
 -- `takerows::put_one` meets its contract. Assumes nothing.
-use mathlib.Core.Path.{◌≡◌, sym, ◌∙◌}
-use Prim.Native.Nat.{◌+◌, ◌*◌, ◌≤◌, ◌<◌}
+use Prim.Native.Nat.{◌+◌, ◌*◌, ◌≤◌}
 use native.Mathlib.Omega.{arith}
 use lib.IntN.{pos}
 use lib.ListN.{length, get_or}
@@ -19,63 +18,53 @@ here s =
     let r = row_room a.i a.n a.w s.requires.is in
     (omega (arith, p.values, p.width), omega (arith, p.marks, p.width))
 
-mul-p : tie.Need-overflow-mul-p
+mul-p : tie.Need-overflow_mul-p
 mul-p c = omega (arith, (here (c)).0)
 
-add-s : tie.Need-overflow-add-s
+add-s : tie.Need-overflow_add-s
 add-s c = omega (arith, (here (c)).0)
 
-mul-put-subtotal : tie.Need-overflow-mul-put-subtotal
+mul-put-subtotal : tie.Need-offset_bounds-values-s
 mul-put-subtotal c = omega (arith, (here c.before).0)
 
-shared-slice-copy-out-put-subtotal : tie.Need-shared-slice-copy-out-put-subtotal
+shared-slice-copy-out-put-subtotal : tie.Need-bounds-values-s
 shared-slice-copy-out-put-subtotal c = omega (arith, (here c.before).0)
 
-add-put-subtotal : tie.Need-overflow-add-put-subtotal
+add-put-subtotal : tie.Need-overflow_add-s-2
 add-put-subtotal c = omega (arith, (here c.before.before).0)
 
-mul-put-subtotal-2 : tie.Need-overflow-mul-put-subtotal-2
+mul-put-subtotal-2 : tie.Need-offset_bounds-values-s-2
 mul-put-subtotal-2 c = omega (arith, (here c.before.before).0)
 
-shared-slice-copy-out-put-subtotal-2 : tie.Need-shared-slice-copy-out-put-subtotal-2
+shared-slice-copy-out-put-subtotal-2 : tie.Need-bounds-values-s-2
 shared-slice-copy-out-put-subtotal-2 c = omega (arith, (here c.before.before).0)
 
-put-subtotal-requires : tie.Need-put-subtotal-requires
+put-subtotal-requires : tie.Need-put_subtotal-requires
 put-subtotal-requires c κs =
-    let s = c.before.before.before in
+    let s = c in
     let a = s.args in
     let p = s.requires.account in
     let q = row_within a.by a.w a.n a.values.now a.i s.requires.is p.within p.few in
     record {
-      values = omega (arith, (here s).0);
-      marks = omega (arith, (here s).1);
+      values = omega (arith, (here s.before.before.before).0);
+      marks = omega (arith, (here s.before.before.before).1);
       paired = p.paired;
       fine = p.fine;
-      sold = rw (back (get_or a.values.now (a.i * a.w + a.by + 1) (pos 0)) c.put-subtotal-arg3.given) q.0;
+      sold = rw (back (get_or a.values.now (a.i * a.w + a.by + 1) (pos 0)) c.put_subtotal-arg-3-1.given) q.0;
       there = omega (arith, s.requires.there, p.width);
       room = s.requires.room;
     }
 
-same_length : tie.Need-same-length
+same_length : tie.Need-shape_of-out
 same_length c = search rules
 
 returns : tie.Need-returns
 returns c =
-    let s = c.before.before.before.before.before in
+    let s = c in
     let a = s.args in
-    rw (back (get_or a.values.now (a.i * a.w + a.by) (pos 0)) c.before.before.before.put-subtotal-arg2.given, back (get_or a.values.now (a.i * a.w + a.by + 1) (pos 0)) c.before.before.put-subtotal-arg3.given) at c.before.put-subtotal.ensures
+    rw (back (get_or a.values.now (a.i * a.w + a.by) (pos 0)) c.put_subtotal-arg-2-1.given, back (get_or a.values.now (a.i * a.w + a.by + 1) (pos 0)) c.put_subtotal-arg-3-1.given) at c.put_subtotal.ensures
 
 pub put_one_spec : {M : Type 1} → statement M
 put_one_spec =
     tie.close
-    (tie.spec
-    mul-p
-    add-s
-    mul-put-subtotal
-    shared-slice-copy-out-put-subtotal
-    add-put-subtotal
-    mul-put-subtotal-2
-    shared-slice-copy-out-put-subtotal-2
-    put-subtotal-requires
-    same_length
-    returns)
+    (tie.spec mul-p add-s mul-put-subtotal shared-slice-copy-out-put-subtotal add-put-subtotal mul-put-subtotal-2 shared-slice-copy-out-put-subtotal-2 put-subtotal-requires same_length returns)

@@ -1,8 +1,8 @@
 -- `takerows::put_sum` meets its contract. Assumes nothing.
-use mathlib.Core.Path.{◌≡◌, refl, sym, ap, ◌∙◌}
+use mathlib.Core.Path.{ap, ◌∙◌}
 use Prim.Native.Nat.{◌+◌, ◌*◌, ◌^◌, ◌≤◌, ◌<◌}
 use native.Mathlib.Omega.{arith}
-use lib.IntN.{pos, nat_abs, ◌+ℤ◌}
+use lib.IntN.{pos, ◌+ℤ◌}
 use lib.Signed.{mag}
 use lib.ListN.{length, get_or}
 use Rattle.order.proofs.RowLaws.{row_room}
@@ -46,110 +46,91 @@ count_fits s =
     let a = s.args in
     sum_fits (get_or a.av.now (a.i * a.w + a.by + 1) (pos 0)) (get_or a.bv.now (a.j * a.w + a.by + 1) (pos 0)) (omega (arith, (first s).2)) (omega (arith, (second s).2))
 
-mul-p : tie.Need-overflow-mul-p
+mul-p : tie.Need-overflow_mul-p
 mul-p c = omega (arith, (here (c)).0)
 
-add-s : tie.Need-overflow-add-s
+add-s : tie.Need-overflow_add-s
 add-s c = omega (arith, (here (c)).0)
 
-mul-t : tie.Need-overflow-mul-t
+mul-t : tie.Need-overflow_mul-t
 mul-t c = omega (arith, there (c))
 
-add-t : tie.Need-overflow-add-t
+add-t : tie.Need-overflow_add-t
 add-t c = omega (arith, there (c))
 
-mul-total : tie.Need-overflow-mul-total
+mul-total : tie.Need-offset_bounds-av-s
 mul-total c = omega (arith, (here (c)).0)
 
-shared-slice-copy-out-total : tie.Need-shared-slice-copy-out-total
+shared-slice-copy-out-total : tie.Need-bounds-av-s
 shared-slice-copy-out-total c = omega (arith, (here (c)).0)
 
-mul-total-2 : tie.Need-overflow-mul-total-2
+mul-total-2 : tie.Need-offset_bounds-bv-t
 mul-total-2 c = omega (arith, there c.before)
 
-shared-slice-copy-out-total-2 : tie.Need-shared-slice-copy-out-total-2
+shared-slice-copy-out-total-2 : tie.Need-bounds-bv-t
 shared-slice-copy-out-total-2 c = omega (arith, there c.before)
 
-add_total : tie.Need-overflow-add-total
+add_total : tie.Need-overflow_add-total
 add_total c =
-    let a = c.before.before.args in
-    rw (back (get_or a.av.now (a.i * a.w + a.by) (pos 0)) c.before.total.given, back (get_or a.bv.now (a.j * a.w + a.by) (pos 0)) c.total2.given) (record { sfits = total_fits c.before.before })
+    let a = c.args in
+    rw (back (get_or a.av.now (a.i * a.w + a.by) (pos 0)) c.total-1.given, back (get_or a.bv.now (a.j * a.w + a.by) (pos 0)) c.total-2-1.given) (record { sfits = total_fits c.before.before })
 
-add-count : tie.Need-overflow-add-count
+add-count : tie.Need-overflow_add-count
 add-count c = omega (arith, (here c.before.before).0)
 
-mul-count : tie.Need-overflow-mul-count
+mul-count : tie.Need-offset_bounds-av-s-2
 mul-count c = omega (arith, (here c.before.before).0)
 
-shared-slice-copy-out-count : tie.Need-shared-slice-copy-out-count
+shared-slice-copy-out-count : tie.Need-bounds-av-s-2
 shared-slice-copy-out-count c = omega (arith, (here c.before.before).0)
 
-add-count-2 : tie.Need-overflow-add-count-2
+add-count-2 : tie.Need-overflow_add-count-2
 add-count-2 c = omega (arith, there c.before.before.before)
 
-mul-count-2 : tie.Need-overflow-mul-count-2
+mul-count-2 : tie.Need-offset_bounds-bv-t-2
 mul-count-2 c = omega (arith, there c.before.before.before)
 
-shared-slice-copy-out-count-2 : tie.Need-shared-slice-copy-out-count-2
+shared-slice-copy-out-count-2 : tie.Need-bounds-bv-t-2
 shared-slice-copy-out-count-2 c = omega (arith, there c.before.before.before)
 
-add-count-3 : tie.Need-overflow-add-count-3
+add-count-3 : tie.Need-overflow_add-count-3
 add-count-3 c =
-    let a = c.before.before.before.before.args in
-    rw (back (get_or a.av.now (a.i * a.w + a.by + 1) (pos 0)) c.before.count.given, back (get_or a.bv.now (a.j * a.w + a.by + 1) (pos 0)) c.count2.given) (record { sfits = count_fits c.before.before.before.before })
+    let a = c.args in
+    rw (back (get_or a.av.now (a.i * a.w + a.by + 1) (pos 0)) c.count-1.given, back (get_or a.bv.now (a.j * a.w + a.by + 1) (pos 0)) c.count-2-1.given) (record { sfits = count_fits c.before.before.before.before })
 
-put-subtotal-requires : tie.Need-put-subtotal-requires
+put-subtotal-requires : tie.Need-put_subtotal-requires
 put-subtotal-requires c κs =
-    let s = c.before.before.before.before.before in
+    let s = c in
     let a = s.args in
     let p = s.requires.0.account in
     let x = get_or a.av.now (a.i * a.w + a.by + 1) (pos 0) in
     let y = get_or a.bv.now (a.j * a.w + a.by + 1) (pos 0) in
     record {
-      values = omega (arith, (here s).0);
-      marks = omega (arith, (here s).1);
+      values = omega (arith, (here s.before.before.before.before.before).0);
+      marks = omega (arith, (here s.before.before.before.before.before).1);
       paired = p.paired;
       fine = p.fine;
-      sold = rw (back x c.before.before.count.given, back y c.before.count2.given, back (x +ℤ y) (count_fits s)) (sum_counts x y (first s).0 (second s).0).1;
+      sold = rw (back x c.count-1.given, back y c.count-2-1.given, back (x +ℤ y) (count_fits s.before.before.before.before.before)) (sum_counts x y (first s.before.before.before.before.before).0 (second s.before.before.before.before.before).0).1;
       there = omega (arith, s.requires.0.there, p.width);
       room = s.requires.0.room;
     }
 
-same_length : tie.Need-same-length
+same_length : tie.Need-shape_of-out
 same_length c = search rules
 
 returns : tie.Need-returns
 returns c =
-    let s = c.before.before.before.before.before.before.before in
+    let s = c in
     let a = s.args in
     let t = get_or a.av.now (a.i * a.w + a.by) (pos 0) in
     let u = get_or a.bv.now (a.j * a.w + a.by) (pos 0) in
     let x = get_or a.av.now (a.i * a.w + a.by + 1) (pos 0) in
     let y = get_or a.bv.now (a.j * a.w + a.by + 1) (pos 0) in
-    rw (back t c.before.before.before.before.before.before.total.given, back u c.before.before.before.before.before.total2.given, back (t +ℤ u) (total_fits s), back x c.before.before.before.before.count.given, back y c.before.before.before.count2.given, back (x +ℤ y) (count_fits s)) at c.before.put-subtotal.ensures
+    rw (back t c.total-1.given, back u c.total-2-1.given, back (t +ℤ u) (total_fits s.before.before.before.before.before.before.before), back x c.count-1.given, back y c.count-2-1.given, back (x +ℤ y) (count_fits s.before.before.before.before.before.before.before)) at c.put_subtotal.ensures
     ∙ ap (λ (t : Subtotal). lay_cells a.m a.k (row_of t) a.out.now)
-    (sum_told a.by a.w a.i a.av.now a.am.now a.j a.bv.now a.bm.now (sum_counts x y (first s).0 (second s).0).0)
+    (sum_told a.by a.w a.i a.av.now a.am.now a.j a.bv.now a.bm.now (sum_counts x y (first s.before.before.before.before.before.before.before).0 (second s.before.before.before.before.before.before.before).0).0)
 
 pub put_sum_spec : {M : Type 1} → statement M
 put_sum_spec =
     tie.close
-    (tie.spec
-    mul-p
-    add-s
-    mul-t
-    add-t
-    mul-total
-    shared-slice-copy-out-total
-    mul-total-2
-    shared-slice-copy-out-total-2
-    add_total
-    add-count
-    mul-count
-    shared-slice-copy-out-count
-    add-count-2
-    mul-count-2
-    shared-slice-copy-out-count-2
-    add-count-3
-    put-subtotal-requires
-    same_length
-    returns)
+    (tie.spec mul-p add-s mul-t add-t mul-total shared-slice-copy-out-total mul-total-2 shared-slice-copy-out-total-2 add_total add-count mul-count shared-slice-copy-out-count add-count-2 mul-count-2 shared-slice-copy-out-count-2 add-count-3 put-subtotal-requires same_length returns)
