@@ -1,23 +1,22 @@
 -- The sales of rows, one row more at a time, by the kind of the row. Assumes nothing.
 use mathlib.Core.Path.{◌≡◌, refl, sym, ap, ◌∙◌}
 use mathlib.Core.Bool.{Bool, true, false, cond, not, ◌&&◌, ◌||◌}
-use mathlib.Core.List.{List, [], ◌∷◌, ◌++◌}
-use Prim.Native.Nat.{ℕ, zero, suc, ◌+◌, ◌-◌, ◌*◌, ◌≤◌, ◌<◌}
+use mathlib.Core.List.{List, [], ◌∷◌}
+use Prim.Native.Nat.{ℕ, suc, ◌+◌, ◌-◌, ◌*◌, ◌≤◌, ◌<◌}
 use native.Mathlib.Omega.{arith}
 use borrow.Author.Tests.{lt-ltb, le-ltb}
 use lib.Dec.{ltb}
 use lib.IntN.{ℤ, pos, nat_abs, ◌-ℤ◌, +ℤ_idr}
-use lib.ListN.{length, take, drop, get_or}
+use lib.ListN.{length, take, get_or}
 use Rattle.frames.specs.Cells.{Cell, null, value, cell, is_null, value_word, Rows, Words, rows_of, row_from}
 use Rattle.frames.specs.Frame.{pairs_fine}
 use Rattle.order.specs.declared.options.Options.{Options}
 use Rattle.order.specs.Order.{null_group}
-use Rattle.order.specs.Requires.{cell_at}
 use Rattle.order.proofs.RowLaws.{row_cell, row_room}
 use Rattle.tables.specs.Requires.{rest}
 use Rattle.tables.proofs.CellLaws.{rest_more, rest_none, fine_at}
 use Rattle.takings.specs.Subtotals.{Subtotal, most_amount}
-use Rattle.takings.specs.Sales.{Sale, matched, sale_of, sales_of, with_amount, amounts_of, nulls_of, beyond_amounts}
+use Rattle.takings.specs.Sales.{Sale, matched, sales_of, with_amount, amounts_of, nulls_of, beyond_amounts}
 use Rattle.sales.specs.salekind.Kinds.{kind_of, Tallied}
 use Rattle.sales.specs.declared.salekind.Kind.{Kind}
 use Rattle.sales.specs.declared.salekind.Kind.TheVariants.{Unmatched, Nothing, Amount}

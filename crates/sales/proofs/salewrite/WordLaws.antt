@@ -1,12 +1,12 @@
 -- One word more, as the loops go; and a row of subtotals as one stretch of words. Assumes nothing.
-use mathlib.Core.Path.{◌≡◌, refl, sym, ap, ◌∙◌}
-use mathlib.Core.List.{List, [], ◌∷◌, ◌++◌, append_assoc}
+use mathlib.Core.Path.{◌≡◌, sym, ap, ◌∙◌}
+use mathlib.Core.List.{[], ◌∷◌, ◌++◌, append_assoc}
 use Prim.Native.Nat.{ℕ, suc, ◌+◌, ◌-◌, ◌≤◌, ◌<◌}
 use native.Mathlib.Numerals.{add-one}
 use native.Mathlib.Omega.{arith}
 use lib.IntN.{ℤ, pos}
 use lib.ListN.{length, take, drop, get_or, set, replicate, length-drop, length-append, length-replicate, get_or-replicate, take-append-drop, get_or-append}
-use lib.Seq.{paste, paste-suc, take-suc, drop-cons, set_at, get_or-take, take_all, length-take-le, drop-drop, take-length, take_at}
+use lib.Seq.{paste, paste-suc, take-suc, drop-cons, set_at, get_or-take, take_all, length-take-le, drop-drop}
 use Rattle.frames.specs.Cells.{Words}
 
 -- ---- words moved up

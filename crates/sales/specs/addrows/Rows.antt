@@ -1,5 +1,5 @@
 -- A table and a frame's sales by their rows: what adding them asks, answers and writes. Assumes nothing.
-use Rattle.std.specs.Prelude.{◌≡◌, true, cond, not, ◌&&◌, ◌||◌, List, ℕ, suc, ◌+◌, ◌*◌, ◌≤◌, ℤ, nat_abs, length}
+use Rattle.std.specs.Prelude.{◌≡◌, true, cond, not, ◌||◌, List, ℕ, suc, ◌+◌, ◌*◌, ◌≤◌, ℤ, nat_abs, length}
 use Rattle.frames.specs.Cells.{Rows, Words}
 use Rattle.frames.specs.Frame.{pairs_fine}
 use Rattle.order.specs.options.Options.{Few}

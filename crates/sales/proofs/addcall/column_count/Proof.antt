@@ -1,6 +1,5 @@
 -- `addcall::column_count` meets its contract. Assumes nothing.
-use mathlib.Core.Path.{◌≡◌, ap, ◌∙◌}
-use Prim.Native.Nat.{◌≤◌, ◌<◌}
+use mathlib.Core.Path.{ap}
 use native.Mathlib.Omega.{arith}
 use lib.IntN.{pos, nat_abs}
 use lib.ListN.{get_or}
@@ -9,18 +8,18 @@ use Rattle.subtotals.proofs.takewords.JudgeLaws.{columns_told, small_word}
 use Rattle.sales.proofs.addcall.column_count.Statement.{statement}
 use Rattle.sales.proofs.addcall.column_count.Tie as tie
 
-shared-slice-copy-out-result : tie.Need-shared-slice-copy-out-result
+shared-slice-copy-out-result : tie.Need-bounds-words-1
 shared-slice-copy-out-result c = omega (arith, (columns_told c.args.words.now c.requires).0)
 
-cast-result : tie.Need-overflow-cast-result
+cast-result : tie.Need-overflow_cast-result
 cast-result c =
-    let s = c.before in
+    let s = c in
     let z = get_or s.args.words.now 1 (pos 0) in
     let t = (columns_told s.args.words.now s.requires).1 in
-    rw (back z c.result.given) (t, omega (arith, small_word z t c.result.given))
+    rw (back z c.result-1.given) (t, omega (arith, small_word z t c.result-1.given))
 
 returns : tie.Need-returns
-returns c = let s = c.before in ap nat_abs (back (get_or s.args.words.now 1 (pos 0)) c.result.given)
+returns c = let s = c in ap nat_abs (back (get_or s.args.words.now 1 (pos 0)) c.result-1.given)
 
 pub column_count_spec : {M : Type 1} → statement M
 column_count_spec = tie.close (tie.spec shared-slice-copy-out-result cast-result returns)

@@ -1,6 +1,5 @@
 -- `salekind::kind_of` meets its contract. Assumes nothing.
-use mathlib.Core.Path.{◌≡◌, refl, sym, ap, ◌∙◌}
-use mathlib.Core.Bool.{true, false}
+use mathlib.Core.Path.{◌≡◌, sym, ap, ◌∙◌}
 use Prim.Native.Nat.{ℕ, suc, ◌+◌, ◌≤◌, ◌<◌}
 use native.Mathlib.Omega.{arith}
 use lib.ListN.{length}
@@ -13,67 +12,59 @@ use borrow.Author.Rules.{rules}
 use Rattle.sales.proofs.salekind.kind_of.Statement.{statement}
 use Rattle.sales.proofs.salekind.kind_of.Tie as tie
 
-null-at-requires : tie.Need-null-at-requires
+null-at-requires : tie.Need-null_at-requires
 null-at-requires c κs = search rules
 
 -- What is said of the right number's cell.
-first : (c : tie.After-null-at) (av : Words) (d : ℕ) → let a = c.before.args in a.z + 1 < length av → 2 ≤ d → c.null_at.result ≡ is_null (cell 0 (row_from d a.z av a.answer.now))
+first : (c : tie.After-null_at) (av : Words) (d : ℕ) → let a = c.args in a.z + 1 < length av → 2 ≤ d → c.null_at.result ≡ is_null (cell 0 (row_from d a.z av a.answer.now))
 first c av d h w =
-    let s = c.before in
+    let s = c in
     let a = s.args in
     let z : a.z + 0 ≡ a.z = omega arith in
     c.null_at.ensures av ∙ ap is_null (sym (row_cell d a.z 0 av a.answer.now (omega arith) (omega arith) ∙ ap (λ (k : ℕ). cell_at k av a.answer.now) z))
 
-returns : tie.Need-returns
+returns : tie.Need-returns-then-null_at
 returns c =
-    λ lv av d h k w. let a = c.before.before.args in
-    kind_unmatched (without_list a.o) (row_from (suc a.o.by) a.q lv a.left.now) (row_from d a.z av a.answer.now) (sym (first c.before av d k w) ∙ c.if1.true)
+    λ lv av d h k w. let a = c.args in
+    kind_unmatched (without_list a.o) (row_from (suc a.o.by) a.q lv a.left.now) (row_from d a.z av a.answer.now) (sym (first c.before av d k w) ∙ c.if-null_at.true)
 
-null-group-requires : tie.Need-null-group-requires
+null-group-requires : tie.Need-null_group-requires
 null-group-requires c κs = search rules
 
-returns-2 : tie.Need-returns-2
+returns-2 : tie.Need-returns-then-null_group
 returns-2 c =
-    λ lv av d h k w. let e = c.before.before in let s = e.before.before in let a = s.args in
-    kind_grouped (without_list a.o) (row_from (suc a.o.by) a.q lv a.left.now) (row_from d a.z av a.answer.now) (sym (first e.before av d k w) ∙ e.if1.false)
-    (sym (c.before.null_group_lem.ensures (suc a.o.by) lv (omega arith) h) ∙ c.if2.true)
+    λ lv av d h k w. let e = c in let s = e in let a = s.args in
+    kind_grouped (without_list a.o) (row_from (suc a.o.by) a.q lv a.left.now) (row_from d a.z av a.answer.now) (sym (first e.before.before.before av d k w) ∙ e.if-null_at.false)
+    (sym (c.null_group.ensures (suc a.o.by) lv (omega arith) h) ∙ c.if-null_group.true)
 
-add-null-at : tie.Need-overflow-add-null-at
+add-null-at : tie.Need-overflow_add-z
 add-null-at c = search rules
 
-null-at-requires-2 : tie.Need-null-at-requires-2
+null-at-requires-2 : tie.Need-null_at-requires-2
 null-at-requires-2 c κs = search rules
 
 -- And of the amount's.
-second : (c : tie.After-null-at2) (av : Words) (d : ℕ) → let a = c.before.before.before.before.before.args in a.z + 1 < length av → 2 ≤ d → c.null-at2.result ≡ is_null (cell 1 (row_from d a.z av a.answer.now))
+second : (c : tie.After-null_at-2) (av : Words) (d : ℕ) → let a = c.args in a.z + 1 < length av → 2 ≤ d → c.null_at-2.result ≡ is_null (cell 1 (row_from d a.z av a.answer.now))
 second c av d h w =
-    let s = c.before.before.before.before.before in
+    let s = c in
     let a = s.args in
-    c.null-at2.ensures av ∙ ap is_null (sym (row_cell d a.z 1 av a.answer.now (omega arith) h))
+    c.null_at-2.ensures av ∙ ap is_null (sym (row_cell d a.z 1 av a.answer.now (omega arith) h))
 
-returns-3 : tie.Need-returns-3
+returns-3 : tie.Need-returns-then-null_at-2
 returns-3 c =
-    λ lv av d h k w. let f = c.before.before in let e = f.before.before in let s = e.before.before in let a = s.args in
-    kind_nothing (without_list a.o) (row_from (suc a.o.by) a.q lv a.left.now) (row_from d a.z av a.answer.now) (sym (first e.before av d k w) ∙ e.if1.false)
-    (sym (f.before.null_group_lem.ensures (suc a.o.by) lv (omega arith) h) ∙ f.if2.false)
-    (sym (second c.before av d k w) ∙ c.if3.true)
+    λ lv av d h k w. let f = c in let e = f in let s = e in let a = s.args in
+    kind_nothing (without_list a.o) (row_from (suc a.o.by) a.q lv a.left.now) (row_from d a.z av a.answer.now) (sym (first e.before.before.before.before.before av d k w) ∙ e.if-null_at.false)
+    (sym (f.null_group.ensures (suc a.o.by) lv (omega arith) h) ∙ f.if-null_group.false)
+    (sym (second c.before av d k w) ∙ c.if-null_at-2.true)
 
-returns-4 : tie.Need-returns-4
+returns-4 : tie.Need-returns
 returns-4 c =
-    λ lv av d h k w. let f = c.before.before in let e = f.before.before in let s = e.before.before in let a = s.args in
-    kind_amount (without_list a.o) (row_from (suc a.o.by) a.q lv a.left.now) (row_from d a.z av a.answer.now) (sym (first e.before av d k w) ∙ e.if1.false)
-    (sym (f.before.null_group_lem.ensures (suc a.o.by) lv (omega arith) h) ∙ f.if2.false)
-    (sym (second c.before av d k w) ∙ c.if3.false)
+    λ lv av d h k w. let f = c in let e = f in let s = e in let a = s.args in
+    kind_amount (without_list a.o) (row_from (suc a.o.by) a.q lv a.left.now) (row_from d a.z av a.answer.now) (sym (first e.before.before.before.before.before av d k w) ∙ e.if-null_at.false)
+    (sym (f.null_group.ensures (suc a.o.by) lv (omega arith) h) ∙ f.if-null_group.false)
+    (sym (second c.before av d k w) ∙ c.if-null_at-2.false)
 
 pub kind_of_spec : {M : Type 1} → statement M
 kind_of_spec =
     tie.close
-    (tie.spec
-    null-at-requires
-    returns
-    null-group-requires
-    returns-2
-    add-null-at
-    null-at-requires-2
-    returns-3
-    returns-4)
+    (tie.spec null-at-requires returns null-group-requires returns-2 add-null-at null-at-requires-2 returns-3 returns-4)

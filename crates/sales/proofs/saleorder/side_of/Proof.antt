@@ -22,37 +22,37 @@ O s = with_list s.args.o s.args.codes.now s.args.rising.now
 abbrev X : tie.Start → List Cell
 X s = row_from (suc s.args.o.by) s.args.q s.args.lv.now s.args.lm.now
 
-kind-of-requires : tie.Need-kind-of-requires
+kind-of-requires : tie.Need-kind_of-requires
 kind-of-requires c κs = search rules
 
-enum_told : tie.Need-enum-told
+enum_told : tie.Need-enum_told-1
 enum_told c = search rules
 
 -- The row's kind.
-kind : (c : tie.After-kind-of) (av : Words) (d : ℕ) → let s = c.before.before in s.args.z + 1 < length av → 2 ≤ d → c.kind-of.result ≡ kind_of (O s) (X s) (row_from d s.args.z av s.args.am.now)
-kind c av d h w = let s = c.before.before in c.kind-of.ensures s.args.lv.now av d s.requires.values h w
+kind : (c : tie.After-kind_of) (av : Words) (d : ℕ) → let s = c in s.args.z + 1 < length av → 2 ≤ d → c.kind_of.result ≡ kind_of (O s.before.before) (X s.before.before) (row_from d s.args.z av s.args.am.now)
+kind c av d h w = let s = c in c.kind_of.ensures s.args.lv.now av d s.requires.values h w
 
-returns : tie.Need-returns
+returns : tie.Need-returns-in_default
 returns c =
-    λ av d h w. let s = c.before.before.before in
-    let e : is_amount (kind_of (O s) (X s) (row_from d s.args.z av s.args.am.now)) ≡ false = ap is_amount (sym (kind c.before av d h w)) ∙ not_amount c.before.kind-of.result c.match.keys2 in
+    λ av d h w. let s = c in
+    let e : is_amount (kind_of (O s.before.before.before) (X s.before.before.before) (row_from d s.args.z av s.args.am.now)) ≡ false = ap is_amount (sym (kind c.before av d h w)) ∙ not_amount c.kind_of.result c.in_default.in_default-own.keys2 in
     rw e
 
 -- A row that is a sale with an amount.
-amount : (c : tie.After-enum-told) (av : Words) (d : ℕ) → let s = c.before.before.before.before in s.args.z + 1 < length av → 2 ≤ d → kind_of (O s) (X s) (row_from d s.args.z av s.args.am.now) ≡ Amount
-amount c av d h w = sym (kind c.before.before av d h w) ∙ c.enum_told.given.1
+amount : (c : tie.In-Amount) (av : Words) (d : ℕ) → let s = c in s.args.z + 1 < length av → 2 ≤ d → kind_of (O s.before.before.before) (X s.before.before.before) (row_from d s.args.z av s.args.am.now) ≡ Amount
+amount c av d h w = sym (kind c.before av d h w) ∙ c.in-Amount.is
 
-cmp-group-requires : tie.Need-cmp-group-requires
+cmp-group-requires : tie.Need-cmp_group-requires
 cmp-group-requires c κs =
-    let p = c.before.before.before.before.before.requires in
-    let l = p.last c.if1.true in
+    let p = c.requires in
+    let l = p.last c.if-any.true in
     (record { few = p.compare; values = l.0; marks = l.1 }, record { few = p.compare; values = p.values; marks = p.marks })
 
-returns-2 : tie.Need-returns-2
-returns-2 c = let a = c.before.before.before.before.before.before.args in λ av d h w. rw (amount c.before.before av d h w, c.before.if1.true) (c.cmp-group.ensures (suc a.o.by) (suc a.o.by) (omega arith) (omega arith))
+returns-2 : tie.Need-returns-then-any
+returns-2 c = let a = c.args in λ av d h w. rw (amount c.before.before av d h w, c.if-any.true) (c.cmp_group.ensures (suc a.o.by) (suc a.o.by) (omega arith) (omega arith))
 
-returns-3 : tie.Need-returns-3
-returns-3 c = λ av d h w. rw (amount c.before av d h w, c.if1.false)
+returns-3 : tie.Need-returns
+returns-3 c = λ av d h w. rw (amount c.before av d h w, c.if-any.false)
 
 pub side_of_spec : {M : Type 1} → statement M
 side_of_spec =

@@ -1,6 +1,6 @@
 -- `salepass::add_sale` meets its contract. Assumes nothing.
-use mathlib.Core.Path.{◌≡◌, ◌∙◌}
-use Prim.Native.Nat.{ℕ, suc, ◌+◌, ◌-◌, ◌*◌, ◌^◌, ◌≤◌, ◌<◌}
+use mathlib.Core.Path.{◌≡◌}
+use Prim.Native.Nat.{ℕ, suc, ◌+◌, ◌-◌}
 use native.Mathlib.Omega.{arith}
 use mir.Facts.{to_z-of_z}
 use Rattle.frames.specs.Cells.{row_from}
@@ -19,34 +19,34 @@ O s = with_list s.args.o s.args.codes.now s.args.rising.now
 width : (b : ℕ) → b + 2 ≡ suc (suc b)
 width b = omega arith
 
-add-w : tie.Need-overflow-add-w
+add-w : tie.Need-overflow_add-w
 add-w c = search rules
 
-place-near-requires : tie.Need-place-near-requires
+place-near-requires : tie.Need-place_near-p-requires
 place-near-requires c κs = search rules
 
-put-behind-requires : tie.Need-put-behind-requires
+put-behind-requires : tie.Need-put_behind-requires
 put-behind-requires c κs =
-    let s = c.before.before.before.before.before.before in
+    let s = c in
     let p = s.requires in
     record { compare = p.compare; table_rows_lem = p.table_rows_lem; within = p.within; room = p.room; values = p.values; marks = p.marks; small = rw (to_z-of_z s.ranges.amount) p.small; addable = p.addable; table_addable = p.table_addable }
 
-same_length : tie.Need-same-length
+same_length : tie.Need-shape_of-body-then-m-place
 same_length c = search rules
 
-returns : tie.Need-returns
+returns : tie.Need-returns-then-m-place
 returns c =
-    let s = c.before.before.before.before.before.before.before.before in
+    let s = c in
     let a = s.args in
-    let n = c.before.before.before.before.place-near in
-    rw (to_z-of_z s.ranges.amount) at (c.before.put-behind.ensures (placed_behind (O s) a.m a.body.now (row_from (suc a.o.by) a.q a.values.now a.marks.now) n.result.row n.result.here (rw (width a.o.by) at n.ensures) c.before.before.before.if1.true))
+    let n = c.place_near-p in
+    rw (to_z-of_z s.ranges.amount) at (c.put_behind.ensures (placed_behind (O s.before.before.before.before.before.before.before) a.m a.body.now (row_from (suc a.o.by) a.q a.values.now a.marks.now) n.result.row n.result.here (rw (width a.o.by) at n.ensures) c.if-m-place.true))
 
-put-at-requires : tie.Need-put-at-requires
+put-at-requires : tie.Need-put_at-rows-requires
 put-at-requires c κs =
-    let s = c.before.before.before.before.before.before in
+    let s = c in
     let a = s.args in
-    let n = c.before.before.place-near in
-    let l = c.before.if1.false in
+    let n = c.place_near-p in
+    let l = c.if-m-place.false in
     record {
       few = s.requires.compare.by;
       room = omega (arith, s.requires.room, times_least a.m (a.m + (a.n - a.taken)) (suc (suc a.o.by)) (omega arith));
@@ -57,25 +57,17 @@ put-at-requires c κs =
       addable = λ t. s.requires.addable n.result.row (omega (arith, l));
     }
 
-same-length-2 : tie.Need-same-length-2
+same-length-2 : tie.Need-shape_of-body
 same-length-2 c = search rules
 
-returns-2 : tie.Need-returns-2
+returns-2 : tie.Need-returns
 returns-2 c =
-    let s = c.before.before.before.before.before.before.before.before in
+    let s = c in
     let a = s.args in
-    let n = c.before.before.before.before.place-near in
-    among_added (O s) a.n a.m a.taken a.q a.table.now a.values.now a.marks.now a.amount a.body.now n.result.row n.result.here (rw (width a.o.by) at n.ensures) (omega (arith, c.before.before.before.if1.false)) _ _ (rw (to_z-of_z s.ranges.amount) at (c.before.put-at.ensures a.marks.now a.codes.now a.rising.now))
+    let n = c.place_near-p in
+    among_added (O s.before.before.before.before.before.before.before) a.n a.m a.taken a.q a.table.now a.values.now a.marks.now a.amount a.body.now n.result.row n.result.here (rw (width a.o.by) at n.ensures) (omega (arith, c.if-m-place.false)) _ _ (rw (to_z-of_z s.ranges.amount) at (c.put_at-rows.ensures a.marks.now a.codes.now a.rising.now))
 
 pub add_sale_spec : {M : Type 1} → statement M
 add_sale_spec =
     tie.close
-    (tie.spec
-    add-w
-    place-near-requires
-    put-behind-requires
-    same_length
-    returns
-    put-at-requires
-    same-length-2
-    returns-2)
+    (tie.spec add-w place-near-requires put-behind-requires same_length returns put-at-requires same-length-2 returns-2)

@@ -1,6 +1,6 @@
 -- `salepass::pass_rows` meets its contract. Assumes nothing.
 use mathlib.Core.Path.{◌≡◌, ◌∙◌}
-use Prim.Native.Nat.{◌+◌, ◌-◌, ◌*◌, ◌^◌, ◌≤◌, ◌<◌}
+use Prim.Native.Nat.{◌+◌, ◌-◌, ◌*◌, ◌≤◌}
 use native.Mathlib.Omega.{arith}
 use lib.ListN.{length, drop, length-drop}
 use lib.Seq.{length-take-le}
@@ -23,53 +23,43 @@ room s = let a = s.args in let e : (a.m + (a.to - a.from)) * a.w ≡ a.m * a.w +
 part : (s : tie.Start) → (s.args.to - s.args.from) * s.args.w ≤ length (drop (s.args.from * s.args.w) s.args.table.now)
 part s = omega (arith, words s, below s, s.requires.there, length-drop (s.args.from * s.args.w) s.args.table.now)
 
-mul-a : tie.Need-overflow-mul-a
+mul-a : tie.Need-overflow_mul-a
 mul-a c = omega (arith, below c, c.requires.there)
 
-mul-e : tie.Need-overflow-mul-e
+mul-e : tie.Need-overflow_mul-e
 mul-e c = search rules
 
-mul-copy-words : tie.Need-overflow-mul-copy-words
+mul-copy-words : tie.Need-overflow_mul-m
 mul-copy-words c = search rules
 
-mul-copy-words-2 : tie.Need-overflow-mul-copy-words-2
-mul-copy-words-2 c = let s = c.before in let g = s.well-formed.1.1.0 in omega (arith, below s, s.requires.there, g.0, g.1)
+mul-copy-words-2 : tie.Need-offset_bounds-table-a
+mul-copy-words-2 c = let s = c in let g = s.well_formed.1.1.0 in omega (arith, below s.before, s.requires.there, g.0, g.1)
 
-sub-copy-words : tie.Need-overflow-sub-copy-words
+sub-copy-words : tie.Need-slice_bounds-copy_words-count
 sub-copy-words c = below c.before
 
-part-copy-words-start : tie.Need-slice-bounds-copy-words-start
-part-copy-words-start c = let s = c.before in let b = below s in let h = s.requires.there in search rules
+part-copy-words-start : tie.Need-slice_bounds-copy_words-start
+part-copy-words-start c = let s = c in let b = below s.before in let h = s.requires.there in search rules
 
-part-copy-words-end : tie.Need-slice-bounds-copy-words-end
+part-copy-words-end : tie.Need-slice_bounds-copy_words-end
 part-copy-words-end c = search rules
 
-copy-words-requires : tie.Need-copy-words-requires
+copy-words-requires : tie.Need-copy_words-requires
 copy-words-requires c κs =
-    let s = c.before.before in
+    let s = c in
     let a = s.args in
-    record { within = rw (← words s, length-take-le ((a.to - a.from) * a.w) (drop (a.from * a.w) a.table.now) (part s)) (room s) }
+    record { within = rw (← words s.before.before, length-take-le ((a.to - a.from) * a.w) (drop (a.from * a.w) a.table.now) (part s.before.before)) (room s.before.before) }
 
-same_length : tie.Need-same-length
+same_length : tie.Need-shape_of-body
 same_length c = search rules
 
 returns : tie.Need-returns
 returns c =
-    let s = c.before.before.before.before in
+    let s = c in
     let a = s.args in
-    rw (← words s) at c.before.copy-words.ensures ∙ pasted_part a.body.now (drop (a.from * a.w) a.table.now) (a.m * a.w) ((a.to - a.from) * a.w) (part s)
+    rw (← words s.before.before.before.before) at c.copy_words.ensures ∙ pasted_part a.body.now (drop (a.from * a.w) a.table.now) (a.m * a.w) ((a.to - a.from) * a.w) (part s.before.before.before.before)
 
 pub pass_rows_spec : {M : Type 1} → statement M
 pass_rows_spec =
     tie.close
-    (tie.spec
-    mul-a
-    mul-e
-    mul-copy-words
-    mul-copy-words-2
-    sub-copy-words
-    part-copy-words-start
-    part-copy-words-end
-    copy-words-requires
-    same_length
-    returns)
+    (tie.spec mul-a mul-e mul-copy-words mul-copy-words-2 sub-copy-words part-copy-words-start part-copy-words-end copy-words-requires same_length returns)

@@ -12,107 +12,91 @@ use Rattle.sales.proofs.saleplace.PlaceLaws.{at_least, found, missing}
 use Rattle.sales.proofs.saleplace.find_all.Statement.{statement}
 use Rattle.sales.proofs.saleplace.find_all.Tie as tie
 
-abbrev invariant-loop : tie.invariant-loop
+abbrev invariant-loop : tie.invariant-loop-from
 invariant-loop body low high w values marks q o codes rising from₀ to₀ from to =
     (low ≤ from) × (from ≤ to) × (to ≤ high) × (low < from → cmp_at (with_list o codes rising) w body (row_from (suc o.by) q values marks) (from - 1) ≡ Less)
     × (to < high → cmp_at (with_list o codes rising) w body (row_from (suc o.by) q values marks) to ≡ Greater)
 
-abbrev decreases-loop : tie.decreases-loop
+abbrev decreases-loop : tie.decreases-loop-from
 decreases-loop body low high w values marks q o codes rising from₀ to₀ from to = to - from
 
-loop-holds : tie.Need-loop-init invariant-loop decreases-loop
-loop-holds c = let s = c.before in (omega arith, s.requires.range, omega arith, λ l. absurd (omega arith), λ l. absurd (omega arith))
+loop-holds : tie.Need-loop-from-init invariant-loop decreases-loop
+loop-holds c = let s = c in (omega arith, s.requires.range, omega arith, λ l. absurd (omega arith), λ l. absurd (omega arith))
 
 -- The words bound the rows.
 few : (s : tie.Start invariant-loop decreases-loop) → s.args.high < 2 ^ 63
 few s =
-    let g = s.well-formed.0 in
+    let g = s.well_formed.0 in
     omega (arith, g.0, g.1, at_least s.args.high s.args.w (omega (arith, s.requires.wide)), s.requires.rows)
 
 -- The row in the middle is there.
-place : (c : tie.In-loop invariant-loop decreases-loop) → let l = c.before.loop in let a = c.before.before.before.args in (l.from + l.to) / 2 * a.w + a.w ≤ a.high * a.w
+place : (c : tie.In-loop-from invariant-loop decreases-loop) → let l = c.loop-from in let a = c.args in (l.from + l.to) / 2 * a.w + a.w ≤ a.high * a.w
 place c =
-    let l = c.before.loop in
-    let a = c.before.before.before.args in
-    let t = c.loop-test.true in
+    let l = c.loop-from in
+    let a = c.args in
+    let t = c.loop-from-test.true in
     row_room ((l.from + l.to) / 2) a.high a.w (omega (arith, l.invariant.2))
 
-add-mid : tie.Need-overflow-add-mid invariant-loop decreases-loop
-add-mid c = let l = c.before.loop in omega (arith, few c.before.before.before, l.invariant.1, l.invariant.2, c.loop-test.true)
+add-mid : tie.Need-overflow_add-mid invariant-loop decreases-loop
+add-mid c = let l = c.loop-from in omega (arith, few c.before.before.before, l.invariant.1, l.invariant.2, c.loop-from-test.true)
 
-mul-cmp-all : tie.Need-overflow-mul-cmp-all invariant-loop decreases-loop
-mul-cmp-all c = let s = c.before.before.before in omega (arith, place c, s.requires.rows)
+mul-cmp-all : tie.Need-overflow_mul-mid invariant-loop decreases-loop
+mul-cmp-all c = let s = c in omega (arith, place c, s.requires.rows)
 
-cmp-all-requires : tie.Need-cmp-all-requires invariant-loop decreases-loop
+cmp-all-requires : tie.Need-cmp_all-requires invariant-loop decreases-loop
 cmp-all-requires c κs =
-    let s = c.before.before.before in
+    let s = c in
     record { compare = s.requires.compare; row = omega (arith, place c, s.requires.rows, s.requires.wide); values = s.requires.values; marks = s.requires.marks }
 
-enum_told : tie.Need-enum-told invariant-loop decreases-loop
+enum_told : tie.Need-enum_told-1 invariant-loop decreases-loop
 enum_told c = search rules
 
-add-from : tie.Need-overflow-add-from invariant-loop decreases-loop
-add-from c = let l = c.before.before.before.before.loop in omega (arith, few c.before.before.before.before.before.before, l.invariant.1, l.invariant.2, c.before.before.before.loop-test.true)
+add-from : tie.Need-overflow_add-from invariant-loop decreases-loop
+add-from c = let l = c.loop-from in omega (arith, few c.before.before.before.before.before, l.invariant.1, l.invariant.2, c.loop-from-test.true)
 
-loop-less : tie.Need-loop-smaller invariant-loop decreases-loop
-loop-less c = let l = c.before.before.before.before.loop in omega (arith, c.before.before.before.loop-test.true)
+loop-less : tie.Need-loop-from-smaller-in-Less invariant-loop decreases-loop
+loop-less c = let l = c.loop-from in omega (arith, c.loop-from-test.true)
 
-loop-again : tie.Need-loop-preserved invariant-loop decreases-loop
+loop-again : tie.Need-loop-from-preserved-in-Less invariant-loop decreases-loop
 loop-again c =
-    let l = c.before.before.before.before.loop in
-    let a = c.before.before.before.before.before.before.args in
+    let l = c.loop-from in
+    let a = c.args in
     let m = (l.from + l.to) / 2 in
-    let t = c.before.before.before.loop-test.true in
+    let t = c.loop-from-test.true in
     let e : m + 1 - 1 ≡ m = omega arith in
-    let d : cmp_at (with_list a.o a.codes.now a.rising.now) a.w a.body.now (row_from (suc a.o.by) a.q a.values.now a.marks.now) m ≡ Less = sym c.before.before.cmp-all.ensures ∙ c.enum_told.given.1 in
+    let d : cmp_at (with_list a.o a.codes.now a.rising.now) a.w a.body.now (row_from (suc a.o.by) a.q a.values.now a.marks.now) m ≡ Less = sym c.cmp_all.ensures ∙ c.in-Less.is in
     (omega (arith, l.invariant.0), omega arith, l.invariant.2, λ k. rw e d, l.invariant.4)
 
-enum-told-2 : tie.Need-enum-told-2 invariant-loop decreases-loop
+enum-told-2 : tie.Need-enum_told-in-Equal invariant-loop decreases-loop
 enum-told-2 c = search rules
 
-returns : tie.Need-returns invariant-loop decreases-loop
+returns : tie.Need-returns-in-Equal invariant-loop decreases-loop
 returns c =
-    let l = c.before.before.before.before.loop in
-    let a = c.before.before.before.before.before.before.args in
-    let t = c.before.before.before.loop-test.true in
-    found (with_list a.o a.codes.now a.rising.now) a.w a.low a.high a.body.now (row_from (suc a.o.by) a.q a.values.now a.marks.now) ((l.from + l.to) / 2) (omega (arith, l.invariant.0)) (omega (arith, l.invariant.2)) (sym c.before.before.cmp-all.ensures ∙ c.enum-told2.given.1)
+    let l = c.loop-from in
+    let a = c.args in
+    let t = c.loop-from-test.true in
+    found (with_list a.o a.codes.now a.rising.now) a.w a.low a.high a.body.now (row_from (suc a.o.by) a.q a.values.now a.marks.now) ((l.from + l.to) / 2) (omega (arith, l.invariant.0)) (omega (arith, l.invariant.2)) (sym c.cmp_all.ensures ∙ c.in-Equal.is)
 
-enum-told-3 : tie.Need-enum-told-3 invariant-loop decreases-loop
+enum-told-3 : tie.Need-enum_told-in-Greater invariant-loop decreases-loop
 enum-told-3 c = search rules
 
-loop-less-2 : tie.Need-loop-smaller-2 invariant-loop decreases-loop
-loop-less-2 c = let l = c.before.before.before.before.loop in omega (arith, c.before.before.before.loop-test.true)
+loop-less-2 : tie.Need-loop-from-smaller invariant-loop decreases-loop
+loop-less-2 c = let l = c.loop-from in omega (arith, c.loop-from-test.true)
 
-loop-again-2 : tie.Need-loop-preserved-2 invariant-loop decreases-loop
+loop-again-2 : tie.Need-loop-from-preserved invariant-loop decreases-loop
 loop-again-2 c =
-    let l = c.before.before.before.before.loop in
-    let t = c.before.before.before.loop-test.true in
-    (l.invariant.0, omega arith, omega (arith, l.invariant.2), l.invariant.3, λ k. sym c.before.before.cmp-all.ensures ∙ c.enum-told3.given.1)
+    let l = c.loop-from in
+    let t = c.loop-from-test.true in
+    (l.invariant.0, omega arith, omega (arith, l.invariant.2), l.invariant.3, λ k. sym c.cmp_all.ensures ∙ c.in-Greater.is)
 
-returns-2 : tie.Need-returns-2 invariant-loop decreases-loop
+returns-2 : tie.Need-returns invariant-loop decreases-loop
 returns-2 c =
-    let l = c.before.loop in
-    let a = c.before.before.before.args in
-    let e : l.from ≡ l.to = omega (arith, l.invariant.1, c.loop-test.false) in
+    let l = c.loop-from in
+    let a = c.args in
+    let e : l.from ≡ l.to = omega (arith, l.invariant.1, c.loop-from-test.false) in
     missing (with_list a.o a.codes.now a.rising.now) a.w a.low a.high a.body.now (row_from (suc a.o.by) a.q a.values.now a.marks.now) l.from l.invariant.0 (omega (arith, l.invariant.1, l.invariant.2)) l.invariant.3 (rw e l.invariant.4)
 
 pub find_all_spec : {M : Type 1} → statement M
 find_all_spec =
     tie.close
-    (tie.spec
-    invariant-loop
-    decreases-loop
-    loop-holds
-    add-mid
-    mul-cmp-all
-    cmp-all-requires
-    enum_told
-    add-from
-    loop-less
-    loop-again
-    enum-told-2
-    returns
-    enum-told-3
-    loop-less-2
-    loop-again-2
-    returns-2)
+    (tie.spec invariant-loop decreases-loop loop-holds add-mid mul-cmp-all cmp-all-requires enum_told add-from loop-less loop-again enum-told-2 returns enum-told-3 loop-less-2 loop-again-2 returns-2)

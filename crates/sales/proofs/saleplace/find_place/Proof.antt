@@ -1,6 +1,6 @@
 -- `saleplace::find_place` meets its contract. Assumes nothing.
-use mathlib.Core.Path.{◌≡◌, refl, sym, ◌∙◌}
-use Prim.Native.Nat.{suc, ◌*◌, ◌<◌}
+use mathlib.Core.Path.{refl, sym, ◌∙◌}
+use Prim.Native.Nat.{suc, ◌*◌}
 use native.Mathlib.Omega.{arith}
 use Rattle.frames.specs.Cells.{row_from}
 use Rattle.order.specs.options.Options.{with_list}
@@ -12,26 +12,26 @@ use borrow.Author.Rules.{rules}
 use Rattle.sales.proofs.saleplace.find_place.Statement.{statement}
 use Rattle.sales.proofs.saleplace.find_place.Tie as tie
 
-is-single-requires : tie.Need-is-single-requires
+is-single-requires : tie.Need-is_single-requires
 is-single-requires c κs = search rules
 
-find-single-requires : tie.Need-find-single-requires
+find-single-requires : tie.Need-find_single-requires
 find-single-requires c κs = search rules
 
-returns : tie.Need-returns
+returns : tie.Need-returns-then-is_single
 returns c =
-    let s = c.before.before.before.before in
+    let s = c in
     let a = s.args in
     let p = s.requires in
     let o = with_list a.o a.codes.now a.rising.now in
-    let t = sym c.before.before.is-single.ensures ∙ c.before.if1.true in
-    placed_alike o a.w a.low a.high a.body.now (row_from (suc a.o.by) a.q a.values.now a.marks.now) (cmp_one a.o a.w a.body.now a.q a.values.now a.marks.now) c.find-single.result.row c.find-single.result.here
-    (λ i l. single_told o (i * a.w) a.body.now a.q a.values.now a.marks.now _ (record { compare = p.compare; row = omega (arith, row_room i a.high a.w l, p.rows, p.wide); values = p.values; marks = p.marks }) t refl) c.find-single.ensures
+    let t = sym c.is_single.ensures ∙ c.if-is_single.true in
+    placed_alike o a.w a.low a.high a.body.now (row_from (suc a.o.by) a.q a.values.now a.marks.now) (cmp_one a.o a.w a.body.now a.q a.values.now a.marks.now) c.find_single.result.row c.find_single.result.here
+    (λ i l. single_told o (i * a.w) a.body.now a.q a.values.now a.marks.now _ (record { compare = p.compare; row = omega (arith, row_room i a.high a.w l, p.rows, p.wide); values = p.values; marks = p.marks }) t refl) c.find_single.ensures
 
-find-all-requires : tie.Need-find-all-requires
+find-all-requires : tie.Need-find_all-requires
 find-all-requires c κs = search rules
 
-returns-2 : tie.Need-returns-2
+returns-2 : tie.Need-returns
 returns-2 c = search rules
 
 pub find_place_spec : {M : Type 1} → statement M

@@ -14,11 +14,11 @@ use Rattle.sales.proofs.saleplace.PlaceLaws.{at_least, found, placed_within}
 use Rattle.sales.proofs.saleplace.reach.Statement.{statement}
 use Rattle.sales.proofs.saleplace.reach.Tie as tie
 
-abbrev invariant-loop : tie.invariant-loop
+abbrev invariant-loop : tie.invariant-loop-low
 invariant-loop body start n w values marks q o codes rising low₀ low =
     (start ≤ low) × (low ≤ n) × (start < low → cmp_at (with_list o codes rising) w body (row_from (suc o.by) q values marks) (low - 1) ≡ Less)
 
-abbrev decreases-loop : tie.decreases-loop
+abbrev decreases-loop : tie.decreases-loop-low
 decreases-loop body start n w values marks q o codes rising low₀ low = n - low
 
 -- The options and the left row.
@@ -28,123 +28,103 @@ O s = with_list s.args.o s.args.codes.now s.args.rising.now
 abbrev X : tie.Start invariant-loop decreases-loop → List Cell
 X s = row_from (suc s.args.o.by) s.args.q s.args.values.now s.args.marks.now
 
-loop-holds : tie.Need-loop-init invariant-loop decreases-loop
-loop-holds c = let s = c.before in (omega arith, s.requires.range, λ l. absurd (omega arith))
+loop-holds : tie.Need-loop-low-init invariant-loop decreases-loop
+loop-holds c = let s = c in (omega arith, s.requires.range, λ l. absurd (omega arith))
 
-sub-loop : tie.Need-overflow-sub-loop invariant-loop decreases-loop
-sub-loop c = omega (arith, c.loop.invariant.0)
+sub-loop : tie.Need-overflow_sub-low invariant-loop decreases-loop
+sub-loop c = omega (arith, c.loop-low.invariant.0)
 
-sub-loop-2 : tie.Need-overflow-sub-loop-2 invariant-loop decreases-loop
-sub-loop-2 c = omega (arith, c.loop.invariant.1)
+sub-loop-2 : tie.Need-overflow_sub-n invariant-loop decreases-loop
+sub-loop-2 c = omega (arith, c.loop-low.invariant.1)
 
-sub_at : tie.Need-overflow-sub-at invariant-loop decreases-loop
-sub_at c = omega (arith, c.before.loop.invariant.0)
+sub_at : tie.Need-overflow_sub-at invariant-loop decreases-loop
+sub_at c = omega (arith, c.loop-low.invariant.0)
 
 -- The words bound the rows.
 few : (s : tie.Start invariant-loop decreases-loop) → s.args.n < 2 ^ 63
 few s =
-    let g = s.well-formed.0 in
+    let g = s.well_formed.0 in
     omega (arith, g.0, g.1, at_least s.args.n s.args.w (omega (arith, s.requires.wide)), s.requires.rows)
 
 -- The row that is looked at, and that it is there.
-abbrev at : tie.In-loop invariant-loop decreases-loop → ℕ
-at c = c.before.loop.low + (c.before.loop.low - c.before.before.before.args.start)
+abbrev at : tie.In-loop-low invariant-loop decreases-loop → ℕ
+at c = c.loop-low.low + (c.loop-low.low - c.args.start)
 
-there : (c : tie.In-loop invariant-loop decreases-loop) → at c < c.before.before.before.args.n
-there c = omega (arith, c.loop-test.true, c.before.loop.invariant.0, c.before.loop.invariant.1)
+there : (c : tie.In-loop-low invariant-loop decreases-loop) → at c < c.args.n
+there c = omega (arith, c.loop-low-test.true, c.loop-low.invariant.0, c.loop-low.invariant.1)
 
-place : (c : tie.In-loop invariant-loop decreases-loop) → let a = c.before.before.before.args in at c * a.w + a.w ≤ a.n * a.w
-place c = let a = c.before.before.before.args in row_room (at c) a.n a.w (there c)
+place : (c : tie.In-loop-low invariant-loop decreases-loop) → let a = c.args in at c * a.w + a.w ≤ a.n * a.w
+place c = let a = c.args in row_room (at c) a.n a.w (there c)
 
-add_at : tie.Need-overflow-add-at invariant-loop decreases-loop
+add_at : tie.Need-overflow_add-at invariant-loop decreases-loop
 add_at c = omega (arith, there c, few c.before.before.before)
 
-mul-cmp-sale : tie.Need-overflow-mul-cmp-sale invariant-loop decreases-loop
-mul-cmp-sale c = let s = c.before.before.before in omega (arith, place c, s.requires.rows)
+mul-cmp-sale : tie.Need-overflow_mul-at invariant-loop decreases-loop
+mul-cmp-sale c = let s = c in omega (arith, place c, s.requires.rows)
 
-cmp-sale-requires : tie.Need-cmp-sale-requires invariant-loop decreases-loop
+cmp-sale-requires : tie.Need-cmp_sale-requires invariant-loop decreases-loop
 cmp-sale-requires c κs =
-    let s = c.before.before.before in
+    let s = c in
     record { compare = s.requires.compare; row = omega (arith, place c, s.requires.rows, s.requires.wide); values = s.requires.values; marks = s.requires.marks }
 
-enum_told : tie.Need-enum-told invariant-loop decreases-loop
+enum_told : tie.Need-enum_told-1 invariant-loop decreases-loop
 enum_told c = search rules
 
-add_low : tie.Need-overflow-add-low invariant-loop decreases-loop
-add_low c = let t = c.before.before.before in omega (arith, there t, few t.before.before.before)
+add_low : tie.Need-overflow_add-low invariant-loop decreases-loop
+add_low c = let t = c in omega (arith, there t.before.before, few t.before.before.before.before.before)
 
-loop-less : tie.Need-loop-smaller invariant-loop decreases-loop
-loop-less c = let t = c.before.before.before in omega (arith, there t)
+loop-less : tie.Need-loop-low-smaller invariant-loop decreases-loop
+loop-less c = let t = c in omega (arith, there t.before.before)
 
-loop-again : tie.Need-loop-preserved invariant-loop decreases-loop
+loop-again : tie.Need-loop-low-preserved invariant-loop decreases-loop
 loop-again c =
-    let t = c.before.before.before in
-    let s = t.before.before.before in
+    let t = c in
+    let s = t in
     let a = s.args in
-    let e : at t + 1 - 1 ≡ at t = omega arith in
-    let d : cmp_at (O s) a.w a.body.now (X s) (at t) ≡ Less = sym c.before.before.cmp-sale.ensures ∙ c.enum_told.given.1 in
-    (omega (arith, t.before.loop.invariant.0), omega (arith, there t), λ k. rw e d)
+    let e : at t.before.before + 1 - 1 ≡ at t.before.before = omega arith in
+    let d : cmp_at (O s.before.before.before.before.before) a.w a.body.now (X s.before.before.before.before.before) (at t.before.before) ≡ Less = sym c.cmp_sale.ensures ∙ c.in-Less.is in
+    (omega (arith, t.loop-low.invariant.0), omega (arith, there t.before.before), λ k. rw e d)
 
-enum-told-2 : tie.Need-enum-told-2 invariant-loop decreases-loop
+enum-told-2 : tie.Need-enum_told-in-Equal invariant-loop decreases-loop
 enum-told-2 c = search rules
 
-returns : tie.Need-returns invariant-loop decreases-loop
+returns : tie.Need-returns-in-Equal invariant-loop decreases-loop
 returns c =
-    let t = c.before.before.before in
-    let s = t.before.before.before in
+    let t = c in
+    let s = t in
     let a = s.args in
-    found (O s) a.w a.start a.n a.body.now (X s) (at t) (omega (arith, t.before.loop.invariant.0)) (there t) (sym c.before.before.cmp-sale.ensures ∙ c.enum-told2.given.1)
+    found (O s.before.before.before.before.before) a.w a.start a.n a.body.now (X s.before.before.before.before.before) (at t.before.before) (omega (arith, t.loop-low.invariant.0)) (there t.before.before) (sym c.cmp_sale.ensures ∙ c.in-Equal.is)
 
-enum-told-3 : tie.Need-enum-told-3 invariant-loop decreases-loop
+enum-told-3 : tie.Need-enum_told-in-Greater invariant-loop decreases-loop
 enum-told-3 c = search rules
 
-find-place-requires : tie.Need-find-place-requires invariant-loop decreases-loop
+find-place-requires : tie.Need-find_place-requires invariant-loop decreases-loop
 find-place-requires c κs =
-    let t = c.before.before.before in
-    let p = t.before.before.before.requires in
-    record { compare = p.compare; wide = p.wide; range = omega arith; rows = omega (arith, place t, p.rows); values = p.values; marks = p.marks }
+    let t = c in
+    let p = t.requires in
+    record { compare = p.compare; wide = p.wide; range = omega arith; rows = omega (arith, place t.before.before, p.rows); values = p.values; marks = p.marks }
 
-returns-2 : tie.Need-returns-2 invariant-loop decreases-loop
+returns-2 : tie.Need-returns-in-Greater invariant-loop decreases-loop
 returns-2 c =
-    let t = c.before.before.before.before in
-    let l = t.before.loop in
-    let s = t.before.before.before in
+    let t = c in
+    let l = t.loop-low in
+    let s = t in
     let a = s.args in
-    placed_within (O s) a.w a.start a.n a.body.now (X s) l.low (at t) _ _ l.invariant.0 (omega (arith, there t)) l.invariant.2 (λ k. sym c.before.before.before.cmp-sale.ensures ∙ c.before.enum-told3.given.1) c.find-place.ensures
+    placed_within (O s.before.before.before.before.before.before) a.w a.start a.n a.body.now (X s.before.before.before.before.before.before) l.low (at t.before.before.before) _ _ l.invariant.0 (omega (arith, there t.before.before.before)) l.invariant.2 (λ k. sym c.cmp_sale.ensures ∙ c.in-Greater.is) c.find_place.ensures
 
-find-place-requires-2 : tie.Need-find-place-requires-2 invariant-loop decreases-loop
+find-place-requires-2 : tie.Need-find_place-requires-2 invariant-loop decreases-loop
 find-place-requires-2 c κs =
-    let p = c.before.before.before.requires in
-    record { compare = p.compare; wide = p.wide; range = c.before.loop.invariant.1; rows = p.rows; values = p.values; marks = p.marks }
+    let p = c.requires in
+    record { compare = p.compare; wide = p.wide; range = c.loop-low.invariant.1; rows = p.rows; values = p.values; marks = p.marks }
 
-returns-3 : tie.Need-returns-3 invariant-loop decreases-loop
+returns-3 : tie.Need-returns invariant-loop decreases-loop
 returns-3 c =
-    let l = c.before.before.loop in
-    let s = c.before.before.before.before in
+    let l = c.loop-low in
+    let s = c in
     let a = s.args in
-    placed_within (O s) a.w a.start a.n a.body.now (X s) l.low a.n _ _ l.invariant.0 (omega arith) l.invariant.2 (λ k. absurd (omega arith)) c.find-place2.ensures
+    placed_within (O s.before.before.before.before) a.w a.start a.n a.body.now (X s.before.before.before.before) l.low a.n _ _ l.invariant.0 (omega arith) l.invariant.2 (λ k. absurd (omega arith)) c.find_place-2.ensures
 
 pub reach_spec : {M : Type 1} → statement M
 reach_spec =
     tie.close
-    (tie.spec
-    invariant-loop
-    decreases-loop
-    loop-holds
-    sub-loop
-    sub-loop-2
-    sub_at
-    add_at
-    mul-cmp-sale
-    cmp-sale-requires
-    enum_told
-    add_low
-    loop-less
-    loop-again
-    enum-told-2
-    returns
-    enum-told-3
-    find-place-requires
-    returns-2
-    find-place-requires-2
-    returns-3)
+    (tie.spec invariant-loop decreases-loop loop-holds sub-loop sub-loop-2 sub_at add_at mul-cmp-sale cmp-sale-requires enum_told add_low loop-less loop-again enum-told-2 returns enum-told-3 find-place-requires returns-2 find-place-requires-2 returns-3)
