@@ -1,14 +1,11 @@
 -- By the whole-table theorem: the merge of two sorted books is sorted. Assumes nothing.
 use mathlib.Core.Path.{◌≡◌, sym, subst}
-use mathlib.Core.Bool.{true, false}
-use mathlib.Core.List.{List, map}
-use Rattle.frames.specs.Cells.{Rows, Words}
+use mathlib.Core.Bool.{true}
+use mathlib.Core.List.{map}
+use Rattle.frames.specs.Cells.{Rows}
 use Rattle.order.specs.Order.{sorted}
-use Rattle.order.specs.declared.options.Options.{Options}
-use Rattle.lists.specs.Lists.{Call}
-use Rattle.lists.specs.WholeTables.{lefts, rights, turned_rows, matches, due_over, Correct, Each}
+use Rattle.lists.specs.WholeTables.{turned_rows, matches, due_over, Correct, Each}
 use Rattle.lists.proofs.WholeTableTheorem.{whole_table_theorem}
-use Rattle.books.specs.Merge.{merge}
 use Rattle.books.proofs.MergeLaws.{merge_laws}
 use Rattle.schedules.specs.bookjoin.Season.{Season}
 

@@ -1,7 +1,7 @@
 -- A pair's frames, cut from the tables' values and marks, are the frames of its rows; where the call is not refused, they fit. Assumes nothing.
 use mathlib.Core.Path.{◌≡◌, refl, ap, ◌∙◌}
 use mathlib.Core.Bool.{Bool, true, false, cond, not, ◌&&◌, ◌||◌}
-use mathlib.Core.List.{List, [], ◌∷◌, map}
+use mathlib.Core.List.{List, [], ◌∷◌}
 use Prim.Native.Nat.{ℕ, zero, suc, ◌+◌, ◌-◌, ◌*◌, ◌/◌, ◌%◌, ◌^◌, ◌≤◌, ◌<◌}
 use native.Mathlib.Nat.{mul-le-mul_right}
 use native.Mathlib.Omega.{arith}
@@ -9,7 +9,7 @@ use borrow.Author.Tests.{ltb-false, not-false, eqb-false}
 use lib.Dec.{ltb, eqb}
 use lib.ListN.{length, take, drop, length-append, length-drop, take-append-drop, replicate}
 use lib.Seq.{length-take-le}
-use Rattle.frames.specs.Cells.{Rows, Words, rows_of}
+use Rattle.frames.specs.Cells.{Rows, Words}
 use Rattle.frames.specs.Frame.{row_count, frame_words, pairs_fine, is_frame, is_table, frame_rows}
 use Rattle.order.specs.options.Options.{columns, right_columns, answer_columns, bad_options, many_carried, bad_ranked, refused_options}
 use Rattle.order.specs.Order.{sorted}
@@ -21,7 +21,6 @@ use Rattle.order.proofs.ListedLaws.{lacks_parts}
 use Rattle.frames.proofs.BoolLaws.{and-true}
 use Rattle.frames.proofs.FrameLaws.{table_parts}
 use Rattle.frames.proofs.WordLaws.{rows_length, rows_drop}
-use Rattle.buffer.specs.area.Area.{capacity}
 use Rattle.frames.specs.outcomes.Answers.{most_rows}
 use Rattle.lists.specs.Lists.{back_to_back}
 use Rattle.lists.specs.WholeTables.{Each, ends, pairs}

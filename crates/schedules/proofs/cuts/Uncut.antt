@@ -11,7 +11,7 @@ use Rattle.order.specs.declared.options.Options.{Options}
 use Rattle.order.proofs.SortedLaws.{ordered, sorted_drop}
 use Rattle.matching.specs.Match.{whole_table}
 use Rattle.matching.specs.declared.Choice.{Choice}
-use Rattle.lists.specs.WholeTables.{due_over, Each, ends, pairs, lefts, rights, turned_rows}
+use Rattle.lists.specs.WholeTables.{due_over, Each, ends, pairs, turned_rows}
 use Rattle.lists.specs.Lists.{rows_in}
 use Rattle.lists.proofs.WholeTableTheorem.{whole_table_theorem}
 use Rattle.lists.proofs.isolation.Isolated.{all_turned}

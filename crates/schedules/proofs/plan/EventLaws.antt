@@ -2,7 +2,7 @@
 use mathlib.Core.Path.{◌≡◌, refl, ap, ◌∙◌}
 use mathlib.Core.Bool.{Bool, true, false, ◌||◌, or-false}
 use mathlib.Core.List.{List, [], ◌∷◌, ◌++◌, append-nil}
-use Prim.Native.Nat.{◌+◌, ◌≤◌, max}
+use Prim.Native.Nat.{◌≤◌, max}
 use native.Mathlib.Omega.{arith}
 use Rattle.frames.specs.Cells.{Words}
 use Rattle.lists.specs.Lists.{Call, Event, World, step, final, left_in, right_in, output_in, ends_right, done_by, left_frames, right_frames, outputs, is_right_ended, node_done}

@@ -2,7 +2,7 @@
 use mathlib.Core.Path.{◌≡◌, refl, sym, ap, ◌∙◌}
 use mathlib.Core.Bool.{Bool, true, false, cond, not, ◌&&◌, or-false}
 use mathlib.Core.List.{List, [], ◌∷◌, ◌++◌, append-nil, append_assoc}
-use Prim.Native.Nat.{suc, ◌+◌, ◌-◌, ◌^◌, ◌≤◌, ◌<◌}
+use Prim.Native.Nat.{suc, ◌+◌, ◌^◌, ◌≤◌, ◌<◌}
 use native.Mathlib.Omega.{arith}
 use borrow.Author.Tests.{le-ltb, ne_eqb}
 use lib.Dec.{ltb, eqb}
@@ -28,7 +28,7 @@ use Rattle.node.specs.State.{ended_right}
 use Rattle.frames.specs.outcomes.Answers.{is_done, last_sequence, most_rows}
 use Rattle.node.specs.Calls.{right_answer, right_call, pushed_right, end_answer, end_call, turn_answer, turn_call, turned, dropped, dequeued}
 use Rattle.matchframe.specs.turnrows.Prunes.{bad_left, bad_right, first_prune, last_prune}
-use Rattle.lists.specs.Lists.{Call, left, right, end, turn, Event, on_right, on_end, on_turn, World, step, events, left_frames, right_frames, rows_in, outputs, is_right_ended, node_done, done_by}
+use Rattle.lists.specs.Lists.{Call, right, end, turn, Event, on_right, on_end, on_turn, World, step, left_frames, right_frames, rows_in, outputs, is_right_ended, node_done, done_by}
 use Rattle.lists.specs.WholeTables.{Each, pairs}
 use Rattle.lists.proofs.ListLaws.{rows_in_append, drop_more, drop_next}
 use Rattle.lists.proofs.Stock.{Frames}
@@ -36,7 +36,6 @@ use Rattle.lists.proofs.Invariant.{Inv, good}
 use Rattle.lists.proofs.Turn.{judged, left_by, held, rows, rows_count, answer_is, turned_is}
 use Rattle.lists.proofs.Turned.{turned_sorted, next_sorted}
 use Rattle.lists.proofs.Steps.{SoundAt, no_left_fault, no_right_fault, inv_step, sound_step}
-use Rattle.schedules.specs.plan.Schedule.{rounds}
 use Rattle.planning.specs.Plan.{kept_after}
 use Rattle.schedules.proofs.plan.EventLaws.{snoc_left, snoc_right, snoc_out, snoc_ended, snoc_done}
 

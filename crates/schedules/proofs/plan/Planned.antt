@@ -19,7 +19,7 @@ use Rattle.buffer.specs.area.Area.{capacity}
 use Rattle.frames.specs.declared.outcomes.Took.TheVariants.{Accepted}
 use Rattle.frames.specs.outcomes.Answers.{is_running}
 use Rattle.node.specs.Calls.{left_answer, left_call, queued}
-use Rattle.lists.specs.Lists.{Call, left, right, end, turn, Event, on_left, on_end, World, start, step, events, final, right_in, left_frames, right_frames, rows_in, output_in, outputs, back_to_back, is_right_ended, left_ended, node_done, done_after, done_by, turn_in}
+use Rattle.lists.specs.Lists.{Call, left, end, Event, on_left, on_end, World, start, step, events, final, right_in, left_frames, right_frames, rows_in, output_in, outputs, back_to_back, is_right_ended, left_ended, node_done, done_after, done_by, turn_in}
 use Rattle.lists.proofs.ListLaws.{rows_in_append, words_append, final_append, left_ended_append}
 use Rattle.lists.proofs.Stock.{Frames, waiting_length}
 use Rattle.lists.proofs.Invariant.{Inv, good}

@@ -1,15 +1,14 @@
 -- The plan of two tables is the plan of the frames that their heights cut. Assumes nothing.
-use mathlib.Core.Path.{◌≡◌, refl, sym, ap, ◌∙◌}
+use mathlib.Core.Path.{◌≡◌, refl, ap, ◌∙◌}
 use mathlib.Core.Bool.{Bool, true, false, cond, not, ◌&&◌, ◌||◌}
 use mathlib.Core.List.{List, [], ◌∷◌, map}
-use Prim.Native.Nat.{ℕ, suc, ◌+◌, ◌*◌, ◌≤◌}
+use Prim.Native.Nat.{ℕ, suc, ◌*◌, ◌≤◌}
 use native.Mathlib.Omega.{arith}
 use borrow.Author.Tests.{not-false}
 use lib.ListN.{length}
 use Rattle.frames.specs.Cells.{Words}
 use Rattle.frames.specs.Frame.{row_count, values_in, marks_in, frame_rows, is_table}
 use Rattle.order.specs.options.Options.{columns, right_columns, bad_options, many_carried, bad_ranked}
-use Rattle.order.specs.declared.options.Options.{Options}
 use Rattle.order.specs.Order.{sorted}
 use Rattle.order.specs.Listed.{lacks_code}
 use Rattle.order.proofs.options.OptionLaws.{good_allowed, or_both}
@@ -24,7 +23,7 @@ use Rattle.planning.specs.declared.Figures.{Figures}
 use Rattle.planning.specs.declared.Planned.{Planned as Answer}
 use Rattle.planning.specs.declared.Planned.TheVariants.{Needs, Refused}
 use Rattle.planning.specs.Heights.{total, heights_of, bad_heights, in_frames}
-use Rattle.planning.specs.Call.{table_figures, plan_call}
+use Rattle.planning.specs.Call.{plan_call}
 use Rattle.planning.proofs.HeightLaws.{few_heights, heights_fine, heights_count, table_values_lem, table_marks}
 use Rattle.schedules.specs.plan.Plan.{AllFrames, Planned, figures}
 use Rattle.schedules.specs.plan.Table.{frames_by}

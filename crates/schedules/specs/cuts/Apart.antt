@@ -6,7 +6,7 @@ use Rattle.order.specs.options.Options.{refused_options}
 use Rattle.order.specs.Order.{sorted}
 use Rattle.order.specs.declared.options.Options.{Options}
 use Rattle.lists.specs.Lists.{Call, Entry}
-use Rattle.lists.specs.WholeTables.{all, lefts, rights, matches, Each}
+use Rattle.lists.specs.WholeTables.{lefts, rights, matches, Each}
 use Rattle.lists.specs.isolation.Isolation.{Finished}
 use Rattle.cutting.specs.cutpairs.Cut.{Pair, cut_by, joined}
 use Rattle.schedules.specs.cuts.Appended.{appended}

@@ -1,5 +1,5 @@
 -- The frames in which a driver hands each pair over: parts of the tables' values and marks. The statement; its proof stands in proofs/. Assumes nothing.
-use Rattle.std.specs.Prelude.{◌≡◌, List, [], ◌∷◌, map, ℕ, ◌+◌, ◌-◌, ◌*◌, ◌^◌, ◌≤◌, ◌<◌, length, drop}
+use Rattle.std.specs.Prelude.{◌≡◌, List, [], ◌∷◌, map, ℕ, ◌-◌, ◌*◌, ◌^◌, ◌≤◌, ◌<◌, length, drop}
 use Rattle.frames.specs.Cells.{Rows, Words, rows_of}
 use Rattle.frames.specs.Frame.{row_count, frame_words, values_in, marks_in}
 use Rattle.order.specs.options.Options.{columns, right_columns, answer_columns}
