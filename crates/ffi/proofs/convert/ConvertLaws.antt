@@ -11,7 +11,7 @@ use Rattle.order.specs.declared.Row.{Row}
 use Rattle.node.specs.declared.Join.{Join}
 use Rattle.ffi.specs.codes.Codes.{is_flag, is_code}
 use Rattle.ffi.specs.convert.Convert.{layout_now, row_of, encode_row, is_join, join_of, encode, decode, ThereAndBack}
-use Rattle.ffi.specs.hostoptions.HostOptions.{is_options, kept_ranks, given_ranks, options_with, options_of, encode_options, decode_options}
+use Rattle.ffi.specs.hostoptions.HostOptions.{is_options, kept_ranks, given_ranks, options_of, encode_options, decode_options}
 use Rattle.ffi.specs.declared.hostoptions.HostOptions.{HostOptions}
 use Rattle.ffi.proofs.hostoptions.OptionsLaws.{options_parts, options_is, ranks_same, ranks_numbers, options_same, numbers_same, given_numbers}
 use Rattle.ffi.specs.declared.convert.HostRow.{HostRow}

@@ -1,17 +1,15 @@
 use borrow.Author.Tests.{eq-eqb, ne_eqb}
 use Rattle.ffi.proofs.codes.state_of.Statement.{statement}
 use Rattle.ffi.proofs.codes.state_of.Tie as tie
-use Rattle.ffi.proofs.codes.state_of.Reads as reads
-use Rattle.ffi.proofs.codes.state_of.Lts as lts
 
-returns : tie.Need-returns
-returns c = rw (eq-eqb _ _ c.if1.true)
+returns : tie.Need-returns-then-x-eq0
+returns c = rw (eq-eqb _ _ c.if-x-eq0.true)
 
-returns-2 : tie.Need-returns-2
-returns-2 c = rw (ne_eqb _ _ c.before.if1.false, eq-eqb _ _ c.if2.true)
+returns-2 : tie.Need-returns-then-x-eq1
+returns-2 c = rw (ne_eqb _ _ c.if-x-eq0.false, eq-eqb _ _ c.if-x-eq1.true)
 
-returns-3 : tie.Need-returns-3
-returns-3 c = rw (ne_eqb _ _ c.before.if1.false, ne_eqb _ _ c.if2.false)
+returns-3 : tie.Need-returns
+returns-3 c = rw (ne_eqb _ _ c.if-x-eq0.false, ne_eqb _ _ c.if-x-eq1.false)
 
 pub state_of_spec : {M : Type 1} → statement M
 state_of_spec = tie.close (tie.spec returns returns-2 returns-3)
