@@ -14,7 +14,10 @@ from .command import SEASON, Case, Run
 # What the copy has: the command, its module, what makes the library, and the crates' sources.
 PARTS = ('rowkeeper', 'cli', os.path.join('bindings', 'python', 'rowkeeper'), 'dist', 'interface', 'tools', 'crates.txt', 'crates')
 # What it leaves out.
-LEFT_OUT = shutil.ignore_patterns('__pycache__', 'tests', 'proofs', 'must-fail', 'target', 'build')
+LEFT_OUT = shutil.ignore_patterns('__pycache__', 'tests', 'proofs', 'must-fail', 'out', 'build')
+
+# A folder in which the kit works.
+OUT = ('crates', 'host_c', 'out')
 
 JOIN = ('join', os.path.join(SEASON, 'sales.csv'), os.path.join(SEASON, 'notices.csv'), '--on', 'minute', '--by', 'performance')
 
@@ -141,30 +144,30 @@ class MadeOnce(Case):
         self.as_before(before, 'rowkeeper: crates of the library were edited and dist/ was not made again: this is the library from before; '
                        'run tools/dist\n')
 
-    def test_target_is_emptied(self):
-        """What the tests empty is target/: the command and the path of the archive make nothing if it is absent, empty or emptied, and leave
-        it as it is."""
-        target, archive = os.path.join(self.copy, 'target'), self.ran([os.path.join('tools', 'library')], makes=True).out
+    def test_out_is_emptied(self):
+        """What the tests empty is out/, in which the kit works: the command and the path of the archive make nothing if it is absent, empty or
+        emptied, and leave it as it is."""
+        out, archive = os.path.join(self.copy, *OUT), self.ran([os.path.join('tools', 'library')], makes=True).out
         before = self.first()
-        self.assertEqual([name for name in before if name.split(os.sep)[0] == 'target'], [])
-        for make in (lambda: None, lambda: os.mkdir(target), lambda: os.makedirs(os.path.join(target, 'staticlib')),
-                     lambda: shutil.rmtree(target)):
+        self.assertFalse(os.path.exists(out))
+        for make in (lambda: None, lambda: os.mkdir(out), lambda: os.makedirs(os.path.join(out, 'rlib')), lambda: shutil.rmtree(out)):
             make()
+            there = os.path.exists(out) and os.listdir(out)
+            self.as_before(before)
+            self.assertEqual(os.path.exists(out) and os.listdir(out), there)
             now = self.made()
-            self.assertEqual({name: each for name, each in now.items() if name.split(os.sep)[0] != 'target'}, before)
-            self.as_before(now)
             run = self.ran([os.path.join('tools', 'library')])
             self.assertEqual((run.status, run.out, run.err), (0, archive, ''))
             self.assertEqual((self.made(), os.path.exists(self.mark)), (now, False))
 
     @unittest.skipUnless(hasattr(sys, 'addaudithook'), 'Python 3.8 tells what is opened')
-    def test_nothing_below_target(self):
-        """No path that the command looks at, when it makes the library and when it has it, lies below target/."""
-        target, paths = os.path.join(self.copy, 'target'), os.path.join(self.folder, 'paths')
+    def test_nothing_below_out(self):
+        """No path that the command looks at, when it makes the library and when it has it, lies below the kit's out/."""
+        out, paths = os.path.join(self.copy, *OUT), os.path.join(self.folder, 'paths')
         wanted = [os.path.join(self.copy, *names) for names in (('crates.txt',), ('dist', 'SOURCE'), ('dist', 'rowkeeper.s'),
                                                                 ('build', rowkeeper.library.SONAME), ('crates', 'order', 'src'))]
         for makes in (True, False):
             self.went_well(self.ran(['-c', WATCHED, paths, *JOIN], makes))
             found = self.read(paths).split('\n')
-            self.assertEqual([path for path in found if path == target or path.startswith(target + os.sep)], [])
+            self.assertEqual([path for path in found if path == out or path.startswith(out + os.sep)], [])
             self.assertEqual(set(wanted) - set(found), set())
