@@ -1,16 +1,14 @@
 -- A list of calls in numbers is a list of the node's, call by call. Assumes nothing.
 use mathlib.Core.Path.{◌≡◌, refl, sym, ap, subst, ◌∙◌}
-use mathlib.Core.Bool.{Bool, true, false, cond, ◌&&◌}
-use mathlib.Core.List.{List, [], ◌∷◌, ◌++◌}
+use mathlib.Core.Bool.{Bool, true, false, ◌&&◌}
+use mathlib.Core.List.{[], ◌∷◌}
 use mathlib.Core.Option.{some}
 use Prim.Native.Nat.{ℕ, zero, suc}
 use native.Mathlib.Omega.{arith}
 use borrow.Author.Tests.{ltb-true}
-use lib.ListN.{length, drop}
 use Rattle.frames.specs.Cells.{Words}
-use Rattle.node.specs.Calls.{After, left_answer, left_call, queued, right_answer, right_call, pushed_right, end_answer, end_call, ports_answer, ports_call, turn_call}
+use Rattle.node.specs.Calls.{left_answer, left_call, queued, right_answer, right_call, pushed_right, end_answer, end_call, ports_answer, ports_call}
 use Rattle.node.specs.declared.Join.{Join}
-use Rattle.node.specs.runs.Run.{run_call}
 use Rattle.node.proofs.runs.RunLaws.{turn_areas}
 use Rattle.frames.specs.outcomes.Answers.{port_code}
 use Rattle.frames.specs.declared.outcomes.PortState.{PortState}
@@ -22,18 +20,18 @@ use Rattle.frames.specs.declared.outcomes.Answer.{Answer}
 use Rattle.frames.specs.declared.refusals.Refusal.TheVariants.{BadJoin}
 use Rattle.ffi.specs.codes.Codes.{is_code, port_of}
 use Rattle.ffi.proofs.codes.CodeLaws.{and_both}
-use Rattle.ffi.specs.convert.Convert.{encode, decode}
+use Rattle.ffi.specs.convert.Convert.{decode}
 use Rattle.ffi.proofs.convert.ConvertLaws.{there_and_back}
 use Rattle.ffi.specs.declared.convert.HostJoin.{HostJoin}
 use Rattle.ffi.specs.results.Results.{took_host, ported_host, turned_host, Made, ran_host}
-use Rattle.hostcalls.specs.Calls.{HostAfter, after_host, left_host, right_host, end_host, ports_host, turn_host, ran_after, run_host}
+use Rattle.hostcalls.specs.Calls.{HostAfter, ports_host}
 use Rattle.hostcalls.specs.Promises.{Same, Follows}
 use Rattle.hostcalls.proofs.PromiseLaws.{promises}
-use Rattle.lists.specs.Lists.{left as node_left, right as node_right, end as node_end, ports as node_ports, turn as node_turn, World, step, events, final, outputs}
-use Rattle.lists.specs.Runs.{turns_of, answers_of, words_of, ran_from, stop_in, RunIsTurns}
+use Rattle.lists.specs.Lists.{World, step, final}
+use Rattle.lists.specs.Runs.{turns_of, ran_from}
 use Rattle.lists.proofs.RunTurns.{run_turns}
 use Rattle.lists.proofs.ListLaws.{final_append}
-use Rattle.hostcalls.specs.hostlists.HostLists.{HostCall, left, right, end, ports, turn, run, HostEvent, on_left, on_right, on_end, on_ports, on_turn, on_run, HostWorld, host_step, host_events, host_final, calls_for, node_calls, encode_run, event_for, node_events, Agree, HostLists}
+use Rattle.hostcalls.specs.hostlists.HostLists.{HostCall, left, right, end, ports, turn, run, on_left, on_right, on_end, on_ports, on_turn, on_run, HostWorld, host_step, host_events, host_final, calls_for, node_calls, event_for, node_events, Agree, HostLists}
 
 -- ---- what a call does not write
 module _ (j : Join) (l r : Words) where

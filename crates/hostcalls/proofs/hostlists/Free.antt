@@ -1,8 +1,6 @@
 -- Free words are unread by a host's calls, since they are the node's. Assumes nothing.
 use mathlib.Core.Path.{◌≡◌, refl, sym, ap, ◌∙◌}
-use mathlib.Core.Bool.{cond}
 use mathlib.Core.List.{List, [], ◌∷◌, map}
-use mathlib.Core.Option.{some}
 use Prim.Native.Nat.{ℕ, zero, suc}
 use lib.ListN.{drop}
 use Rattle.frames.specs.Cells.{Words}
@@ -11,11 +9,11 @@ use Rattle.node.specs.Calls.{turn_call}
 use Rattle.node.specs.runs.Run.{turn_words}
 use Rattle.ffi.specs.convert.Convert.{decode}
 use Rattle.ffi.specs.codes.Codes.{port_of}
-use Rattle.lists.specs.Lists.{Call, left as node_left, right as node_right, end as node_end, ports as node_ports, turn as node_turn, World, step, final}
+use Rattle.lists.specs.Lists.{left as node_left, right as node_right, end as node_end, ports as node_ports, turn as node_turn, World, step, final}
 use Rattle.lists.specs.Runs.{lent_by, turns_of}
 use Rattle.lists.specs.Unread.{AlikeWorlds}
 use Rattle.lists.proofs.Unread.{turn_unread, step_unread, free_unread}
-use Rattle.hostcalls.specs.hostlists.HostLists.{HostCall, left, right, end, ports, turn, run, HostWorld, calls_for, event_for, node_events}
+use Rattle.hostcalls.specs.hostlists.HostLists.{HostCall, left, right, end, ports, turn, run, calls_for, event_for, node_events}
 use Rattle.hostcalls.specs.hostlists.HostFree.{HostFree}
 use Rattle.hostcalls.proofs.hostlists.Follow.{host_lists}
 

@@ -1,12 +1,10 @@
 -- One list of calls in numbers, with a port code that cannot be, a run of two turns and a turn: what each call returns and what a host reads off it, by computation.
 -- Assumes nothing.
 use mathlib.Core.Path.{◌≡◌, refl}
-use mathlib.Core.Bool.{true}
 use mathlib.Core.List.{List, [], ◌∷◌, map}
 use Prim.Native.Nat.{ℕ}
 use lib.IntN.{pos, negsuc}
 use lib.ListN.{replicate}
-use Rattle.frames.specs.Cells.{Words}
 use Rattle.order.proofs.Samples.{row, keys, frame_of}
 use Rattle.ffi.specs.codes.Codes.{are_flags, flags_of, flag_codes}
 use Rattle.ffi.specs.convert.Convert.{is_join, decode}

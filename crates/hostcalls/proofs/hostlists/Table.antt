@@ -11,9 +11,8 @@ use lib.Seq.{length-take-le}
 use Rattle.frames.specs.Cells.{Words}
 use Rattle.frames.specs.Frame.{row_count, frame_words}
 use Rattle.order.specs.options.Options.{answer_columns, bad_options, many_carried, bad_ranked, refused_options}
-use Rattle.order.specs.declared.options.Options.{Options}
 use Rattle.order.proofs.options.OptionLaws.{good_allowed}
-use Rattle.node.specs.Calls.{After, left_call, right_call, turn_call}
+use Rattle.node.specs.Calls.{left_call, right_call, turn_call}
 use Rattle.node.specs.declared.Join.{Join}
 use Rattle.callrules.specs.Judged.{open_answer}
 use Rattle.node.specs.runs.Run.{turn_words}
@@ -23,7 +22,7 @@ use Rattle.frames.specs.declared.outcomes.Answer.{Answer}
 use Rattle.frames.specs.declared.outcomes.Answer.TheVariants.{Wrote, WantsRight, Idle, Refused as TurnRefused}
 use Rattle.frames.specs.declared.outcomes.Took.{Took}
 use Rattle.frames.specs.declared.outcomes.Took.TheVariants.{Accepted, Refused}
-use Rattle.ffi.specs.codes.Codes.{is_code, port_of, took_code, state_of}
+use Rattle.ffi.specs.codes.Codes.{is_code, took_code, state_of}
 use Rattle.ffi.specs.hostoptions.HostOptions.{is_options, options_of, decode_options}
 use Rattle.ffi.proofs.convert.ConvertLaws.{decoded}
 use Rattle.ffi.specs.declared.hostoptions.HostOptions.{HostOptions}
@@ -35,15 +34,15 @@ use Rattle.hostcalls.proofs.CallLaws.{open_bad, open_through}
 use Rattle.hostcalls.proofs.PromiseLaws.{promises}
 use Rattle.frames.specs.declared.refusals.Refusal.TheVariants.{BadOptions, TooManyCarried, BadRanks}
 use Rattle.frames.proofs.refusals.RefusalLaws.{number_above}
-use Rattle.lists.specs.Lists.{Call, left as node_left, right as node_right, end as node_end, ports as node_ports, turn as node_turn, Event, on_left as node_on_left, on_right as node_on_right, on_end as node_on_end, on_ports as node_on_ports, on_turn as node_on_turn, World, start, step, events, final, when, left_frames, right_frames, when_wrote, output_in, outputs, entries_of, written_in, matches_in, is_right_ended, node_done, back_to_back}
-use Rattle.lists.specs.Runs.{turns_of, answers_of, words_of, lent_by, written_words}
+use Rattle.lists.specs.Lists.{Call, turn as node_turn, World, start, step, events, final, when, left_frames, right_frames, when_wrote, outputs, entries_of, written_in, matches_in, is_right_ended, node_done, back_to_back}
+use Rattle.lists.specs.Runs.{answers_of, words_of, lent_by, written_words}
 use Rattle.lists.proofs.ListLaws.{events_append, left_append, right_append, outputs_append, matches_append, take_more, drop_more}
 use Rattle.lists.proofs.OptionsKept.{step_options, final_options}
 use Rattle.lists.proofs.Invariant.{Inv}
 use Rattle.lists.proofs.Steps.{inv_list, inv_start}
 use Rattle.lists.proofs.WholeTableTheorem.{whole_table_theorem}
-use Rattle.hostcalls.specs.hostlists.HostLists.{HostCall, left, right, end, ports, turn, run, HostEvent, on_ports, HostWorld, host_events, host_final, calls_for, node_calls, event_for, node_events, Agree}
-use Rattle.hostcalls.specs.hostlists.HostTable.{host_start, host_left_in, host_right_in, host_output_in, run_outputs, host_lefts, host_rights, host_outputs, returned, has, host_further, HostTable, HostTables}
+use Rattle.hostcalls.specs.hostlists.HostLists.{HostCall, left, right, end, ports, turn, run, calls_for, node_calls, event_for, node_events, Agree}
+use Rattle.hostcalls.specs.hostlists.HostTable.{host_start, host_left_in, host_right_in, host_output_in, run_outputs, host_lefts, host_rights, host_outputs, has, HostTables}
 use Rattle.hostcalls.proofs.hostlists.Follow.{host_lists}
 
 -- ---- refusal 0 is acceptance, answer 0 is Wrote
