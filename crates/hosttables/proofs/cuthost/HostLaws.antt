@@ -2,18 +2,16 @@
 use mathlib.Core.Path.{◌≡◌, refl, sym, ap, ◌∙◌}
 use mathlib.Core.Bool.{Bool, true, false}
 use Prim.Native.Nat.{ℕ}
-use native.Mathlib.Omega.{arith}
 use Rattle.frames.specs.Cells.{Words}
 use Rattle.order.specs.declared.options.Options.{Options}
-use Rattle.tables.specs.Table.{After, leave}
-use Rattle.frames.specs.declared.refusals.Refusal.{Refusal}
+use Rattle.tables.specs.Table.{After}
 use Rattle.frames.specs.declared.refusals.Refusal.TheVariants.{BadOptions}
 use Rattle.tables.specs.declared.Written.{Written}
-use Rattle.tables.specs.declared.Written.TheVariants.{Rows as Wrote, Refused}
+use Rattle.tables.specs.declared.Written.TheVariants.{Refused}
 use Rattle.ffi.specs.codes.Codes.{flag_of}
 use Rattle.ffi.specs.hostoptions.HostOptions.{options_of}
 use Rattle.ffi.specs.declared.hostoptions.HostOptions.{HostOptions}
-use Rattle.cutting.specs.cutcall.Calls.{cut_answer, cut_call, CutContract}
+use Rattle.cutting.specs.cutcall.Calls.{cut_call, CutContract}
 use Rattle.cutting.proofs.cutcall.CallLaws.{cut_answer_lem, cut_kept}
 use Rattle.tables.specs.tableresults.Numbers.{written_host}
 use Rattle.tables.specs.declared.tableresults.HostWritten.{HostWritten}

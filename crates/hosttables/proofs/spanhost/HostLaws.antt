@@ -1,18 +1,16 @@
 -- The call in numbers, from what its parts do; and that a refused one alters no word. Assumes nothing.
 use mathlib.Core.Path.{◌≡◌, refl, sym, ap, ◌∙◌}
-use mathlib.Core.Bool.{Bool, true, false, cond, not, ◌&&◌}
+use mathlib.Core.Bool.{Bool, true, false, not, ◌&&◌}
 use Prim.Native.Nat.{ℕ}
 use borrow.Author.Tests.{not-true, not-false}
 use Rattle.frames.specs.Cells.{Words}
 use Rattle.ffi.specs.codes.Codes.{is_flag, flag_of}
 use Rattle.tables.specs.Table.{After}
-use Rattle.frames.specs.declared.refusals.Refusal.{Refusal}
 use Rattle.frames.specs.declared.refusals.Refusal.TheVariants.{BadOptions}
 use Rattle.tables.specs.declared.Written.{Written}
 use Rattle.tables.specs.declared.Written.TheVariants.{Refused}
 use Rattle.spans.specs.Calls.{span_call, SpanContract}
 use Rattle.spans.proofs.PromiseLaws.{promises}
-use Rattle.spans.specs.declared.Bounds.{Bounds}
 use Rattle.tables.specs.tableresults.Numbers.{written_host}
 use Rattle.tables.specs.declared.tableresults.HostWritten.{HostWritten}
 use Rattle.hosttables.specs.spanhost.Call.{bounds_of, spans_host, HostSpanContract, Kept}

@@ -1,6 +1,6 @@
 -- The calls in numbers, from what their parts do. Assumes nothing.
-use mathlib.Core.Path.{◌≡◌, refl, sym, ap, ◌∙◌}
-use mathlib.Core.Bool.{Bool, true, false}
+use mathlib.Core.Path.{◌≡◌, sym, ap, ◌∙◌}
+use mathlib.Core.Bool.{true, false}
 use lib.IntN.{ℤ}
 use Rattle.frames.specs.Cells.{Words}
 use Rattle.order.specs.declared.options.Options.{Options}

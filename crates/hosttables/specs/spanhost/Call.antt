@@ -1,5 +1,5 @@
 -- The call over points and intervals, in numbers. Assumes nothing.
-use Rattle.std.specs.Prelude.{◌≡◌, cond, not, ◌&&◌, ℕ}
+use Rattle.std.specs.Prelude.{◌≡◌, cond, ◌&&◌, ℕ}
 use Rattle.frames.specs.Cells.{Words}
 use Rattle.ffi.specs.codes.Codes.{is_flag, flag_of}
 use Rattle.tables.specs.Table.{After}

@@ -1,47 +1,39 @@
 -- `cutjoinhost::join_cut_host` meets its contract. Assumes nothing.
-use mathlib.Core.Path.{◌≡◌, sym, ◌∙◌}
+use mathlib.Core.Path.{sym, ◌∙◌}
 use Rattle.hosttables.proofs.cutjoinhost.HostLaws.{host_shut, host_through}
 use borrow.Author.Rules.{rules}
 use Rattle.hosttables.proofs.cutjoinhost.join_cut_host.Statement.{statement}
 use Rattle.hosttables.proofs.cutjoinhost.join_cut_host.Tie as tie
 
-is-options-requires : tie.Need-is-options-requires
+is-options-requires : tie.Need-is_options-requires
 is-options-requires c κs = search rules
 
-options-of-requires : tie.Need-options-of-requires
-options-of-requires c κs = sym c.before.is-options.ensures ∙ c.if1.true
+options-of-requires : tie.Need-options_of-requires
+options-of-requires c κs = sym c.is_options.ensures ∙ c.if-is_options.true
 
-join-cut-requires : tie.Need-join-cut-requires
+join-cut-requires : tie.Need-join_cut-requires
 join-cut-requires c κs = search rules
 
-written-host-requires : tie.Need-written-host-requires
+written-host-requires : tie.Need-written_host-requires
 written-host-requires c κs = search rules
 
-same_length : tie.Need-same-length
+same_length : tie.Need-shape_of-out-then-is_options
 same_length c = search rules
 
-returns : tie.Need-returns
+returns : tie.Need-returns-then-is_options
 returns c =
-    let m = c.before.before in
-    let o = m.before.before in
-    let t = o.before in
-    host_through _ _ _ _ _ _ _ (sym t.before.is-options.ensures ∙ t.if1.true) _ o.options-of.ensures _ _ _ m.join-cut.ensures c.written-host.ensures
+    let m = c in
+    let o = m in
+    let t = o in
+    host_through _ _ _ _ _ _ _ (sym t.is_options.ensures ∙ t.if-is_options.true) _ o.options_of.ensures _ _ _ m.join_cut.ensures c.written_host.ensures
 
-written-host-requires-2 : tie.Need-written-host-requires-2
+written-host-requires-2 : tie.Need-written_host-requires-2
 written-host-requires-2 c κs = search rules
 
-returns-2 : tie.Need-returns-2
-returns-2 c = host_shut _ _ _ _ _ _ _ (sym c.before.before.is-options.ensures ∙ c.before.if1.false) _ c.written-host2.ensures
+returns-2 : tie.Need-returns
+returns-2 c = host_shut _ _ _ _ _ _ _ (sym c.is_options.ensures ∙ c.if-is_options.false) _ c.written_host-2.ensures
 
 pub join_cut_host_spec : {M : Type 1} → statement M
 join_cut_host_spec =
     tie.close
-    (tie.spec
-    is-options-requires
-    options-of-requires
-    join-cut-requires
-    written-host-requires
-    same_length
-    returns
-    written-host-requires-2
-    returns-2)
+    (tie.spec is-options-requires options-of-requires join-cut-requires written-host-requires same_length returns written-host-requires-2 returns-2)

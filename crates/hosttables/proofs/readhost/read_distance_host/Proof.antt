@@ -5,14 +5,14 @@ use borrow.Author.Rules.{rules}
 use Rattle.hosttables.proofs.readhost.read_distance_host.Statement.{statement}
 use Rattle.hosttables.proofs.readhost.read_distance_host.Tie as tie
 
-read-distance-requires : tie.Need-read-distance-requires
+read-distance-requires : tie.Need-read_distance-requires
 read-distance-requires c κs = search rules
 
-shown-host-requires : tie.Need-shown-host-requires
+shown-host-requires : tie.Need-shown_host-requires
 shown-host-requires c κs = search rules
 
 returns : tie.Need-returns
-returns c = c.shown-host.ensures ∙ ap shown_host c.before.read-distance.ensures
+returns c = c.shown_host.ensures ∙ ap shown_host c.read_distance.ensures
 
 pub read_distance_host_spec : {M : Type 1} → statement M
 read_distance_host_spec = tie.close (tie.spec read-distance-requires shown-host-requires returns)

@@ -5,14 +5,14 @@ use borrow.Author.Rules.{rules}
 use Rattle.hosttables.proofs.readhost.read_plain_host.Statement.{statement}
 use Rattle.hosttables.proofs.readhost.read_plain_host.Tie as tie
 
-read-plain-requires : tie.Need-read-plain-requires
+read-plain-requires : tie.Need-read_plain-requires
 read-plain-requires c κs = search rules
 
-shown-host-requires : tie.Need-shown-host-requires
+shown-host-requires : tie.Need-shown_host-requires
 shown-host-requires c κs = search rules
 
 returns : tie.Need-returns
-returns c = c.shown-host.ensures ∙ ap shown_host c.before.read_plain.ensures
+returns c = c.shown_host.ensures ∙ ap shown_host c.read_plain.ensures
 
 pub read_plain_host_spec : {M : Type 1} → statement M
 read_plain_host_spec = tie.close (tie.spec read-plain-requires shown-host-requires returns)

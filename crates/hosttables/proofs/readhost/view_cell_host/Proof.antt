@@ -12,7 +12,7 @@ use borrow.Author.Rules.{rules}
 use Rattle.hosttables.proofs.readhost.view_cell_host.Statement.{statement}
 use Rattle.hosttables.proofs.readhost.view_cell_host.Tie as tie
 
-shown-at-requires : tie.Need-shown-at-requires
+shown-at-requires : tie.Need-shown_at-w-requires
 shown-at-requires c κs = search rules
 
 -- Two words that went through locals.
@@ -21,8 +21,8 @@ words_back v m f g = rw (back v f, back m g)
 
 returns : tie.Need-returns
 returns c =
-    let w = c.before.shown-at.result in
-    words_back w.value w.mark c.struct_told.given.0.1 c.struct_told.given.1.0.1 ∙ ap cell_host c.before.shown-at.ensures
+    let w = c.shown_at-w.result in
+    words_back w.value w.mark c.struct_told-1.given.0.1 c.struct_told-1.given.1.0.1 ∙ ap cell_host c.shown_at-w.ensures
 
 pub view_cell_host_spec : {M : Type 1} → statement M
 view_cell_host_spec = tie.close (tie.spec shown-at-requires returns)

@@ -5,14 +5,14 @@ use borrow.Author.Rules.{rules}
 use Rattle.hosttables.proofs.readhost.view_plain_host.Statement.{statement}
 use Rattle.hosttables.proofs.readhost.view_plain_host.Tie as tie
 
-view-plain-requires : tie.Need-view-plain-requires
+view-plain-requires : tie.Need-view_plain-requires
 view-plain-requires c κs = search rules
 
-viewed-host-requires : tie.Need-viewed-host-requires
+viewed-host-requires : tie.Need-viewed_host-requires
 viewed-host-requires c κs = search rules
 
 returns : tie.Need-returns
-returns c = c.viewed-host.ensures ∙ ap viewed_host c.before.view-plain.ensures
+returns c = c.viewed_host.ensures ∙ ap viewed_host c.view_plain.ensures
 
 pub view_plain_host_spec : {M : Type 1} → statement M
 view_plain_host_spec = tie.close (tie.spec view-plain-requires viewed-host-requires returns)
