@@ -12,7 +12,7 @@ use Rattle.ffi.specs.codes.Codes.{flag_of, state_of}
 use Rattle.node.specs.State.{bad_join, queue_at, held_at}
 use Rattle.node.proofs.Good.{few_told}
 use Rattle.node.proofs.CallLaws.{left_leaves, right_leaves}
-use Rattle.ffi.specs.convert.Convert.{is_join, join_of, encode}
+use Rattle.ffi.specs.convert.Convert.{is_join, join_of}
 use Rattle.ffi.specs.declared.convert.HostJoin.{HostJoin}
 use Rattle.ffi.proofs.convert.ConvertLaws.{join_numbers}
 use Rattle.ffi.specs.results.Results.{took_host}

@@ -4,29 +4,24 @@ use Rattle.hostcalls.proofs.CallLaws.{left_bad}
 use borrow.Author.Rules.{rules}
 use Rattle.hostjoin.proofs.hostfeed.host_left.Statement.{statement}
 use Rattle.hostjoin.proofs.hostfeed.host_left.Tie as tie
-use Rattle.hostjoin.proofs.hostfeed.host_left.Reads as reads
-use Rattle.hostjoin.proofs.hostfeed.host_left.Lts as lts
-use Rattle.ffi.proofs.codes.took_code.Reads as took-code-reads
-use Rattle.ffi.proofs.convert.is_join.Reads as is-join-reads
-use Rattle.hostjoin.proofs.hostfeed.left_fed.Reads as left-fed-reads
 
-is-join-requires : tie.Need-is-join-requires
+is-join-requires : tie.Need-is_join-requires
 is-join-requires c κs = search rules
 
-left-fed-requires : tie.Need-left-fed-requires
-left-fed-requires c κs = sym c.before.before.is_join.ensures ∙ c.before.if1.true
+left-fed-requires : tie.Need-left_fed-fed-requires
+left-fed-requires c κs = sym c.is_join.ensures ∙ c.if-is_join.true
 
-took-code-requires : tie.Need-took-code-requires
+took-code-requires : tie.Need-took_code-refusal-requires
 took-code-requires c κs = search rules
 
-same_length : tie.Need-same-length
+same_length : tie.Need-shape_of-left
 same_length c = search rules
 
-returns : tie.Need-returns
-returns c = rw c.took-code.ensures c.before.before.left-fed.ensures
+returns : tie.Need-returns-then-is_join
+returns c = rw c.took_code-refusal.ensures c.left_fed-fed.ensures
 
-returns-2 : tie.Need-returns-2
-returns-2 c = left_bad _ _ _ _ _ (sym c.before.is_join.ensures ∙ c.if1.false) refl
+returns-2 : tie.Need-returns-else-is_join
+returns-2 c = left_bad _ _ _ _ _ (sym c.is_join.ensures ∙ c.if-is_join.false) refl
 
 pub host_left_spec : {M : Type 1} → statement M
 host_left_spec =

@@ -1,77 +1,60 @@
 -- `hostfeed::right_fed` meets its contract. Assumes nothing.
-use mathlib.Core.Path.{◌≡◌, sym, ◌∙◌}
+use mathlib.Core.Path.{◌≡◌, sym}
 use native.Mathlib.Omega.{arith}
-use lib.ListN.{length, length-map}
+use lib.ListN.{length}
 use Rattle.ffi.proofs.convert.ConvertLaws.{join_parts}
 use Rattle.hostcalls.proofs.NumberLaws.{bad_is}
 use Rattle.hostjoin.proofs.hostfeed.FedLaws.{right_holds, right_numbers}
 use borrow.Author.Rules.{rules}
 use Rattle.hostjoin.proofs.hostfeed.right_fed.Statement.{statement}
 use Rattle.hostjoin.proofs.hostfeed.right_fed.Tie as tie
-use Rattle.hostjoin.proofs.hostfeed.right_fed.Reads as reads
-use Rattle.hostjoin.proofs.hostfeed.right_fed.Lts as lts
-use Rattle.ffi.proofs.codes.flag_of.Reads as flag-of-reads
-use Rattle.ffi.proofs.codes.state_of.Reads as state-of-reads
-use Rattle.callrules.proofs.consistency.bad_numbers.Reads as bad-numbers-reads
-use Rattle.ffi.proofs.hostoptions.terms_from.Reads as terms-from-reads
-use Rattle.callrules.proofs.intake.feed_right.Reads as feed-right-reads
 
 -- The lengths of the list's arrays, from what the type says of its fields.
-codes-long : (s : tie.Start) → length s.args.t1.options.ranks.codes ≡ 64
-codes-long s = let g = s.well-formed.0.1.1.1.0.1.1.1.1.1.1.1.1.1.1.0 in sym (length-map s.args.t1.options.ranks.codes (λ v. v)) ∙ g.1.1.1.1.1.0.1.0.1
+codes-long : (s : tie.Start) → length s.args.h.options.ranks.codes ≡ 64
+codes-long s = search rules
 
-rising_long : (s : tie.Start) → length s.args.t1.rising ≡ 64
-rising_long s = sym (length-map s.args.t1.rising (λ v. v)) ∙ s.well-formed.0.1.1.1.1.0.1.0.1
+rising_long : (s : tie.Start) → length s.args.h.rising ≡ 64
+rising_long s = search rules
 
-terms-from-requires : tie.Need-terms-from-requires
-terms-from-requires c κs = (join_parts _ c.before.requires).options
+terms-from-requires : tie.Need-terms_from-terms-requires
+terms-from-requires c κs = (join_parts _ c.requires).options
 
-slice-aggregate-bad-numbers : tie.Need-slice-aggregate-bad-numbers
+slice-aggregate-bad-numbers : tie.Need-slice_bounds-bad_numbers-end-2
 slice-aggregate-bad-numbers c = search rules
 
-bad-numbers-requires : tie.Need-bad-numbers-requires
-bad-numbers-requires c κs = let s = c.before.before.before.before.before.before.before.before in (omega (arith, codes-long s), omega (arith, rising_long s))
+bad-numbers-requires : tie.Need-bad_numbers-bad-requires
+bad-numbers-requires c κs = let s = c in (omega (arith, codes-long s.before.before.before.before.before.before), omega (arith, rising_long s.before.before.before.before.before.before))
 
-flag-of-requires : tie.Need-flag-of-requires
+flag-of-requires : tie.Need-flag_of-requires
 flag-of-requires c κs = search rules
 
-flag-of-requires-2 : tie.Need-flag-of-requires-2
+flag-of-requires-2 : tie.Need-flag_of-requires-2
 flag-of-requires-2 c κs = search rules
 
-state-of-requires : tie.Need-state-of-requires
+state-of-requires : tie.Need-state_of-requires
 state-of-requires c κs = search rules
 
-slice-aggregate-feed-right : tie.Need-slice-aggregate-feed-right
-slice-aggregate-feed-right c = sym (rising_long c.before.before.before.before.before.before.before.before.before.before.before.before.before.before.before.before)
+slice-aggregate-feed-right : tie.Need-slice_bounds-feed_right-end-2
+slice-aggregate-feed-right c = sym (rising_long c.before.before.before.before.before.before.before.before.before.before.before.before.before)
 
-feed-right-requires : tie.Need-feed-right-requires
+feed-right-requires : tie.Need-feed_right-requires
 feed-right-requires c κs =
-    let k = c.before.before.before.before.before.before.before.before.before.before.before.before.before.before.before in
-    let s = k.before.before in
-    let told = k.terms-from.ensures s.args.t1.rising in
-    right_holds s.args.t1 s.args.left.now s.args.right.now _ told _ (bad_is s.args.t1 s.args.left.now s.args.right.now _ _ told c.before.before.before.before.before.before.before.before.bad-numbers.ensures) (codes-long s) (rising_long s)
+    let k = c in
+    let s = k in
+    let told = k.terms_from-terms.ensures s.args.h.rising in
+    right_holds s.args.h s.args.left.now s.args.right.now _ told _ (bad_is s.args.h s.args.left.now s.args.right.now _ _ told c.bad_numbers-bad.ensures) (codes-long s.before.before.before.before.before.before.before.before.before.before.before.before.before.before) (rising_long s.before.before.before.before.before.before.before.before.before.before.before.before.before.before)
 
-same_length : tie.Need-same-length
+same_length : tie.Need-shape_of-right
 same_length c = search rules
 
 returns : tie.Need-returns
 returns c =
-    let k = c.before.before.before.before.before.before.before.before.before.before.before.before.before.before.before.before.before in
-    let s = k.before.before in
-    let told = k.terms-from.ensures s.args.t1.rising in
-    right_numbers s.args.t1 s.args.left.now s.args.right.now _ told _ (bad_is s.args.t1 s.args.left.now s.args.right.now _ _ told c.before.before.before.before.before.before.before.before.before.before.bad-numbers.ensures) s.requires _ _ _ (rw (c.before.before.before.before.before.before.before.before.before.flag-of.ensures, c.before.before.before.before.before.before.before.before.flag-of2.ensures, c.before.before.before.before.before.before.before.state-of.ensures) at c.before.feed-right.ensures)
+    let k = c in
+    let s = k in
+    let told = k.terms_from-terms.ensures s.args.h.rising in
+    right_numbers s.args.h s.args.left.now s.args.right.now _ told _ (bad_is s.args.h s.args.left.now s.args.right.now _ _ told c.bad_numbers-bad.ensures) s.requires _ _ _ (rw (c.flag_of.ensures, c.flag_of-2.ensures, c.state_of.ensures) at c.feed_right.ensures)
 
 pub right_fed_spec : {M : Type 1} → statement M
 right_fed_spec =
     tie.close
-    (tie.spec
-    terms-from-requires
-    slice-aggregate-bad-numbers
-    bad-numbers-requires
-    flag-of-requires
-    flag-of-requires-2
-    state-of-requires
-    slice-aggregate-feed-right
-    feed-right-requires
-    same_length
-    returns)
+    (tie.spec terms-from-requires slice-aggregate-bad-numbers bad-numbers-requires flag-of-requires flag-of-requires-2 state-of-requires slice-aggregate-feed-right feed-right-requires same_length returns)
