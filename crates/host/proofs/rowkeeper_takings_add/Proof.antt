@@ -7,14 +7,14 @@ use Rattle.host.proofs.rowkeeper_takings_add.Reads as reads
 use Rattle.host.proofs.rowkeeper_takings_add.Lts as lts
 use Rattle.hosttables.proofs.takehost.add_host.Reads as add-host-reads
 
-add-host-requires : tie.Need-add-host-requires
+add-host-requires : tie.Need-add_host-requires
 add-host-requires c κs = search rules
 
-same_length : tie.Need-same-length
+same_length : tie.Need-shape_of-out
 same_length c = search rules
 
 returns : tie.Need-returns
-returns c = let s = c.before.before.before in rw (to_z-of_z s.ranges.number) at c.before.add-host.ensures
+returns c = let s = c in rw (to_z-of_z s.ranges.number) at c.add_host.ensures
 
 pub rowkeeper_takings_add_spec : {M : Type 1} → statement M
 rowkeeper_takings_add_spec = tie.close (tie.spec add-host-requires same_length returns)

@@ -7,14 +7,14 @@ use Rattle.host.proofs.rowkeeper_takings_join.Reads as reads
 use Rattle.host.proofs.rowkeeper_takings_join.Lts as lts
 use Rattle.hosttables.proofs.takehost.join_host.Reads as join-host-reads
 
-join-host-requires : tie.Need-join-host-requires
+join-host-requires : tie.Need-join_host-requires
 join-host-requires c κs = search rules
 
-same_length : tie.Need-same-length
+same_length : tie.Need-shape_of-out
 same_length c = search rules
 
 returns : tie.Need-returns
-returns c = let s = c.before.before.before in rw (to_z-of_z s.ranges.number, to_z-of_z s.ranges.other-number) at c.before.join-host.ensures
+returns c = let s = c in rw (to_z-of_z s.ranges.number, to_z-of_z s.ranges.other_number) at c.join_host.ensures
 
 pub rowkeeper_takings_join_spec : {M : Type 1} → statement M
 rowkeeper_takings_join_spec = tie.close (tie.spec join-host-requires same_length returns)
