@@ -43,24 +43,14 @@ pub fn rowkeeper_open(h: HostOptions) -> HostTook
 }
 
 // Takes a left frame into the left area, behind those that wait.
-pub fn rowkeeper_left(
-    h: HostJoin,
-    left: &mut [i64],
-    right: &[i64],
-    frame: &[i64],
-) -> HostTook
+pub fn rowkeeper_left(h: HostJoin, left: &mut [i64], right: &[i64], frame: &[i64]) -> HostTook
     ensures { HostLeftContract h left.old right.now frame.now result left.new }
 {
     host_left(h, left, right, frame)
 }
 
 // Takes a right frame's rows into the right area, behind the held ones.
-pub fn rowkeeper_right(
-    h: HostJoin,
-    left: &[i64],
-    right: &mut [i64],
-    frame: &[i64],
-) -> HostTook
+pub fn rowkeeper_right(h: HostJoin, left: &[i64], right: &mut [i64], frame: &[i64]) -> HostTook
     ensures { HostRightContract h left.now right.old frame.now result right.new }
 {
     host_right(h, left, right, frame)
@@ -101,25 +91,14 @@ pub fn rowkeeper_ports(
 }
 
 // One turn: the front of the queue is matched with the held rows, and its matches are written into the output.
-pub fn rowkeeper_turn(
-    h: HostJoin,
-    left: &[i64],
-    right: &[i64],
-    out: &mut [i64],
-) -> HostTurned
+pub fn rowkeeper_turn(h: HostJoin, left: &[i64], right: &[i64], out: &mut [i64]) -> HostTurned
     ensures { HostTurnContract h left.now right.now out.old result out.new }
 {
     host_turn(h, left, right, out)
 }
 
 // At most k turns, each writing behind the one before; the first that does not write ends it.
-pub fn rowkeeper_run(
-    h: HostJoin,
-    k: usize,
-    left: &[i64],
-    right: &[i64],
-    out: &mut [i64],
-) -> HostRan
+pub fn rowkeeper_run(h: HostJoin, k: usize, left: &[i64], right: &[i64], out: &mut [i64]) -> HostRan
     ensures { HostRunContract h k left.now right.now out.old result out.new }
 {
     host_run(h, k, left, right, out)
@@ -197,24 +176,14 @@ pub fn rowkeeper_view_cell(
 }
 
 // What the plain reader shows of one place. No join has a part in it.
-pub fn rowkeeper_read_plain(
-    p: usize,
-    frame: &[i64],
-    row: usize,
-    column: usize,
-) -> HostShown
+pub fn rowkeeper_read_plain(p: usize, frame: &[i64], row: usize, column: usize) -> HostShown
     ensures { result ≡ shown_host (read_plain p frame.now row column) }
 {
     read_plain_host(p, frame, row, column)
 }
 
 // What the distance reader shows of one place. No join has a part in it.
-pub fn rowkeeper_read_distance(
-    p: usize,
-    frame: &[i64],
-    row: usize,
-    column: usize,
-) -> HostShown
+pub fn rowkeeper_read_distance(p: usize, frame: &[i64], row: usize, column: usize) -> HostShown
     ensures { result ≡ shown_host (read_distance p frame.now row column) }
 {
     read_distance_host(p, frame, row, column)

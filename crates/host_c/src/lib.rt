@@ -14,7 +14,10 @@ ghost use Rattle.readers.specs.Places.{shown_at};
 ghost use Rattle.hosttables.specs.readhost.Numbers.{viewed_host, cell_host, shown_host};
 ghost use Rattle.ffi.specs.version.Version.{version_now};
 
-use host::{HostCell, HostJoin, HostOptions, HostPlanned, HostPorted, HostRan, HostShown, HostTaken, HostTook, HostTurned, HostViewed, HostWritten};
+use host::{
+    HostCell, HostJoin, HostOptions, HostPlanned, HostPorted, HostRan, HostShown, HostTaken,
+    HostTook, HostTurned, HostViewed, HostWritten,
+};
 
 // Opens a join. The join of a refused opening holds the options that came, and every call but a run of no turns answers 2 to it.
 #[unsafe(no_mangle)]

@@ -3,9 +3,6 @@ use mir.Facts.{to_z-of_z}
 use borrow.Author.Rules.{rules}
 use Rattle.host.proofs.rowkeeper_takings_add.Statement.{statement}
 use Rattle.host.proofs.rowkeeper_takings_add.Tie as tie
-use Rattle.host.proofs.rowkeeper_takings_add.Reads as reads
-use Rattle.host.proofs.rowkeeper_takings_add.Lts as lts
-use Rattle.hosttables.proofs.takehost.add_host.Reads as add-host-reads
 
 add-host-requires : tie.Need-add_host-requires
 add-host-requires c κs = search rules

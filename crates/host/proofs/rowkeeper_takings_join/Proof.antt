@@ -3,9 +3,6 @@ use mir.Facts.{to_z-of_z}
 use borrow.Author.Rules.{rules}
 use Rattle.host.proofs.rowkeeper_takings_join.Statement.{statement}
 use Rattle.host.proofs.rowkeeper_takings_join.Tie as tie
-use Rattle.host.proofs.rowkeeper_takings_join.Reads as reads
-use Rattle.host.proofs.rowkeeper_takings_join.Lts as lts
-use Rattle.hosttables.proofs.takehost.join_host.Reads as join-host-reads
 
 join-host-requires : tie.Need-join_host-requires
 join-host-requires c κs = search rules
