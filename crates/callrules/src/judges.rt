@@ -126,6 +126,7 @@ pub fn judge_right(
 }
 
 // Whether a turn may look at the front of the queue, with so many words waiting: refused, Idle, or it goes on.
+#[tactic(auto, unfolding(crate::specs::Judged::ready_judged))]
 pub fn judge_ready(bad: bool, failed: bool, state: NodeState, words: usize, sequence: u64) -> Answer
     ensures { result ≡ ready_judged bad failed state words sequence }
 {
