@@ -132,7 +132,7 @@ class Reader:
     inside it."""
 
     def __init__(self, words):
-        self.words = iter(words)
+        self.words, self.lent = iter(words), {}
 
     def statements(self):
         """The next statement, with those inside it, as a list."""
@@ -153,6 +153,15 @@ class Reader:
     def read_assign(self, raw):
         """An assignment."""
         return Statement('assign', [value_of(raw[1])], place_of(raw[0]))
+
+    def read_lendstatic(self, raw):
+        """A constant that is lent for as long as anyone wants it: here an array without elements,
+        of which there is nothing to read. It becomes a local of that array's type."""
+        place, kind, value = raw
+        if place['steps'] or type_of(kind)[::2] != ('Array', 0) or value.get('Ints', {}).get('values') != []:
+            raise Unknown(f'a constant {value} that is lent')
+        self.lent[place['local']] = type_of(kind)
+        return Statement('assign', [term('agg')], place_of(place))
 
     def read_call(self, raw):
         """A call of a function that the program names."""
@@ -192,16 +201,50 @@ def every(body):
             yield from every(inner)
 
 
+def without_pointer(one, lent):
+    """A term in which what the pointers to lent constants lead to are the locals themselves."""
+    if one[0] == 'deref' and one[2][0] == 'local' and one[2][1] in lent:
+        return one[2]
+    if one[0] == 'local' and one[1] in lent:
+        raise Unknown('a pointer to a constant that is kept')
+    return Term(without_pointer(part, lent) if isinstance(part, Term) else part for part in one)
+
+
 class Function:
     """One function. Local 0 is its result, then follow its parameters, then the others. slots are
     the locals that the kit places in memory."""
 
     def __init__(self, symbol, raw):
-        self.symbol, self.params, self.body = symbol, raw['params'], Reader(raw['body']).whole()
+        reader = Reader(raw['body'])
+        self.symbol, self.params, self.body = symbol, raw['params'], reader.whole()
         self.types = [type_of(one['ty']) for one in raw['locals']]
         homes = enumerate(one['home'] for one in raw['locals'])
         self.slots = {number for number, home in homes if home != 'ValueLocal'}
         self.shapes = {one['name']: one['shape'] for one in raw['types']}
+        if reader.lent:
+            self.own_constants(reader.lent)
+
+    def own_constants(self, lent):
+        """Makes locals of the constants that are lent. None may leave the function, as it could in
+        a result with a reference."""
+        if self.has_reference(self.types[0]):
+            raise Unknown('a constant that is lent, in a function whose result has a reference')
+        for local, kind in lent.items():
+            if self.types[local] != ('Ref', kind):
+                raise Unknown(f'a constant {kind} that is lent as {self.types[local]}')
+            self.types[local] = kind
+        for statement in every(self.body):
+            statement.terms = [without_pointer(one, lent) for one in statement.terms]
+            if statement.goal is not None and statement.goal[:2] not in {('local', local) for local in lent}:
+                statement.goal = without_pointer(statement.goal, lent)
+
+    def has_reference(self, kind):
+        """Whether a type has a reference in it."""
+        if kind[0] != 'Named':
+            return kind[0] in ('Ref', 'Slice', 'Ptr')
+        shape = self.shapes[kind[1]]
+        parts = shape['Fields'] if 'Fields' in shape else [one for each in shape['Variants'] for one in each]
+        return any(self.has_reference(type_of(one)) for one in parts)
 
 
 class Program:

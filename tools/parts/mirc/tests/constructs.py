@@ -284,6 +284,25 @@ class Whole(unittest.TestCase):
         made = program({'one::f': function(1, [U64, U64], seq(put(0, copy(1)), RETURN))})
         self.assertEqual(names.locals(made.functions['one::f']), ['result', 'near_'])
 
+    def lent(self, values, result=U64, use=(('*', U64),)):
+        """The C of a function that passes on a constant array that is lent."""
+        kind = array(U64, len(values))
+        give = [{'LendStatic': [at(2), kind, {'Ints': {'width': 64, 'values': values}}]}]
+        body = seq(give, put(3, {'AddrOf': at(2, *use)}), put(4, {'Aggregate': [copy(3), number(0)]}),
+                   call('one::g', [copy(4)], 1), put(0, copy(1) if result == U64 else copy(4)), RETURN)
+        more = {'one::g': function(1, [U64, words()], seq(put(0, number(1)), RETURN))}
+        return c_of({'one::f': function(0, [result, U64, ref(kind), ref(U64), words()], body), **more})[0]
+
+    def test_lent_constants(self):
+        """An array without elements that is lent is a local; another constant, one that may leave the function and a pointer to one that
+        is kept are refused."""
+        self.assertEqual(self.lent([])[2:-1], ['    u64_0 t2 = (u64_0){ { 0 } };',
+                                               '    uint64_t t1 = one__g((slice_u64){ t2.at, 0u });', '    return t1;'])
+        for said, words_of in (('a constant', ([7],)), ('whose result has a reference', ([], words())), ('is kept', ([], U64, ()))):
+            with self.assertRaises(Unknown) as caught:
+                self.lent(*words_of)
+            self.assertIn(said, str(caught.exception))
+
     HEADER = 'rowkeeper_row rowkeeper_f(const int64_t *at, size_t len, int64_t n, rowkeeper_row row);\n'
 
     def test_export(self):
