@@ -10,8 +10,9 @@ import re
 from .mir import Unknown, operands, term
 from .types import ELEMENTS, element_size
 
-# Operations on two 64-bit numbers. Sums and products have the same bits with and without a sign.
-SUMS = {'Add': '+', 'Sub': '-', 'Mul': '*'}
+# Operations on two 64-bit numbers. Sums and products have the same bits with and without a sign, and
+# those of C wrap around as those that may do so in the MIR.
+SUMS = {'Add': '+', 'Sub': '-', 'Mul': '*', 'WrapAdd': '+', 'WrapSub': '-'}
 QUOTIENTS = {'Div': '/', 'Rem': '%'}
 # Comparisons of two integers of one width, or of two truth values.
 COMPARISONS = {'Lt': '<', 'Le': '<=', 'Eq': '==', 'Ne': '!='}

@@ -122,8 +122,8 @@ def value_of(raw):
         return term('addr', place_of(raw['AddrOf']))
     if name == 'Aggregate':
         return term('agg', *map(operand_of, raw['Aggregate']))
-    if name == 'Repeat':
-        return term('repeat', operand_of(raw['Repeat'][0]), raw['Repeat'][1])
+    if name == 'Repeat' and constructor(raw['Repeat'][1]) == 'Lit':
+        return term('repeat', operand_of(raw['Repeat'][0]), raw['Repeat'][1]['Lit'])
     raise Unknown(f'a value {raw}')
 
 

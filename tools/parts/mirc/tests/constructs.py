@@ -39,7 +39,8 @@ class Values(unittest.TestCase):
         """The same with a sign and without; quotients without."""
         for name, sign, text in (('Add', 'Signed', '+'), ('Sub', 'Unsigned', '-'),
                                  ('Mul', 'Signed', '*'), ('Div', 'Unsigned', '/'),
-                                 ('Rem', 'Unsigned', '%')):
+                                 ('Rem', 'Unsigned', '%'), ('WrapAdd', None, '+'),
+                                 ('WrapSub', None, '-')):
             self.assertEqual(self.returned(op2(name, sign, copy(1), copy(2))),
                              f'return p0 {text} p1;')
 
@@ -109,7 +110,7 @@ class Values(unittest.TestCase):
     def test_arrays(self):
         """Zeros, other elements, and an element of a local array."""
         kinds = (array(U64, 3), U64, U64)
-        self.assertEqual(self.returned({'Repeat': [number(0), 3]}, kinds), 'return (u64_3){ { 0 } };')
+        self.assertEqual(self.returned({'Repeat': [number(0), {'Lit': 3}]}, kinds), 'return (u64_3){ { 0 } };')
         self.assertEqual(self.returned({'Aggregate': [copy(1), number(0), copy(2)]}, kinds),
                          'return (u64_3){ { p0, 0u, p1 } };')
         kinds = (U64, array(U64, 3), U64, U64, ref(array(U64, 3)), PTR)
