@@ -76,7 +76,7 @@ all_in o left right boundaries c w ec ew x y z few carried ll lr =
       right_wide = ew;
       carried = carried;
       few_cells = omega (arith, lx);
-      few_rows_lem = omega (arith, ly, le-mul_of_pos_right {m = w} (row_count right) (omega (arith, ew)));
+      few_rows = omega (arith, ly, le-mul_of_pos_right {m = w} (row_count right) (omega (arith, ew)));
     }
 
 -- ---- the answer that is left is the call's; and a refused call alters no word

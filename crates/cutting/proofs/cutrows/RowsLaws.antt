@@ -111,7 +111,7 @@ answer_room o c n lv lm w m rv rm k gv gm out p q =
       right = p.right;
       carried = p.carried;
       wide = omega (arith, p.right_wide);
-      numbers = omega (arith, p.few_rows_lem);
+      numbers = omega (arith, p.few_rows);
       within = omega arith;
       room = omega (arith, z);
     }

@@ -15,4 +15,4 @@ pub record AllIn (o : Options) (c n : ℕ) (lv lm : Words) (w m : ℕ) (rv rm : 
   pub right_wide : w ≡ right_columns o
   pub carried : o.carried ≤ 8
   pub few_cells : n * c < 2 ^ 63
-  pub few_rows_lem : m < 2 ^ 63
+  pub few_rows : m < 2 ^ 63

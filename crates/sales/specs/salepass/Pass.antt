@@ -32,7 +32,7 @@ EachAddable b n body = (i : ℕ) → i < n → Addable (get_or body (i * suc (su
 -- m rows are written, the table's rows from `taken` on and one more have room; a left row with its marks is at q; sums stay within a word.
 pub record SaleIn (o : Options) (n m taken : ℕ) (table : Words) (q : ℕ) (vs ms : Words) (amount : ℤ) (body : Words) : Type 0 where
   pub compare : Few o
-  pub table_rows_lem : n * suc (suc o.by) ≤ length table
+  pub table_rows : n * suc (suc o.by) ≤ length table
   pub within : taken ≤ n
   pub room : (m + (n - taken)) * suc (suc o.by) + suc (suc o.by) ≤ length body
   pub values : q + o.by < length vs

@@ -55,7 +55,7 @@ rows-fit-requires c κs =
     let e = c in let k = e in let s = k in let p = s.requires in (
       record {
         compare = p.compare;
-        table_rows_lem = rw (← p.table.width) (omega (arith, p.table.values));
+        table_rows = rw (← p.table.width) (omega (arith, p.table.values));
         left_values = omega (arith, p.left_values);
         left_marks = omega (arith, p.left_marks);
         answers = p.frames.answer_in;

@@ -102,7 +102,7 @@ add-sale-requires c κs =
     let v = amount-is c in
     record {
       compare = s.requires.compare;
-      table_rows_lem = source_words (O s.before.before.before.before.before.before.before.before) a.n s.requires.ts a.table.now s.requires.starts.held;
+      table_rows = source_words (O s.before.before.before.before.before.before.before.before) a.n s.requires.ts a.table.now s.requires.starts.held;
       within = g.written.within;
       room = has_place (O s.before.before.before.before.before.before.before.before) a.n a.rows a.d a.table.now a.lv.now a.lm.now a.av.now a.am.now a.body.now s.requires.frames.wide s.requires.frames.values_in s.requires.frames.paired s.requires.frames.fine l.i n.loop-i-test.true k s.requires.ts l.m l.taken l.body g (room n.before.before.before.before.before);
       values = omega (arith, r.0, s.requires.left_values);

@@ -61,7 +61,7 @@ next c =
 
 -- The table's words bound its rows.
 few : (s : tie.Start invariant-loop decreases-loop) → s.args.n ≤ length s.args.table.now
-few s = omega (arith, at_least s.args.n (suc (suc s.args.o.by)) (omega arith), s.requires.table_rows_lem)
+few s = omega (arith, at_least s.args.n (suc (suc s.args.o.by)) (omega arith), s.requires.table_rows)
 
 side-of-requires : tie.Need-side_of-requires invariant-loop decreases-loop
 side-of-requires c κs =
@@ -95,7 +95,7 @@ reach-requires c κs =
     let a = s.args in
     let r = here n.before.before in
     let w : a.o.by + 2 ≡ suc (suc a.o.by) = omega arith in
-    record { compare = s.requires.compare; wide = omega arith; range = n.loop-i.invariant.5.0; rows = rw w s.requires.table_rows_lem; values = omega (arith, r.0, s.requires.left_values); marks = omega (arith, r.0, s.requires.left_marks) }
+    record { compare = s.requires.compare; wide = omega arith; range = n.loop-i.invariant.5.0; rows = rw w s.requires.table_rows; values = omega (arith, r.0, s.requires.left_values); marks = omega (arith, r.0, s.requires.left_marks) }
 
 more-requires : tie.Need-more-m-requires invariant-loop decreases-loop
 more-requires c κs =

@@ -29,7 +29,7 @@ put-behind-requires : tie.Need-put_behind-requires
 put-behind-requires c κs =
     let s = c in
     let p = s.requires in
-    record { compare = p.compare; table_rows_lem = p.table_rows_lem; within = p.within; room = p.room; values = p.values; marks = p.marks; small = rw (to_z-of_z s.ranges.amount) p.small; addable = p.addable; table_addable = p.table_addable }
+    record { compare = p.compare; table_rows = p.table_rows; within = p.within; room = p.room; values = p.values; marks = p.marks; small = rw (to_z-of_z s.ranges.amount) p.small; addable = p.addable; table_addable = p.table_addable }
 
 same_length : tie.Need-shape_of-body-then-m-place
 same_length c = search rules

@@ -39,7 +39,7 @@ range c =
 
 -- They are in the table, and have room, with one more.
 there : (c : tie.After-end_of-end) → let a = c.args in c.end_of-end.result * suc (suc a.o.by) ≤ length a.table.now
-there c = let s = c in omega (arith, times_least c.end_of-end.result s.args.n (suc (suc s.args.o.by)) (range c).1, s.requires.table_rows_lem)
+there c = let s = c in omega (arith, times_least c.end_of-end.result s.args.n (suc (suc s.args.o.by)) (range c).1, s.requires.table_rows)
 
 room : (c : tie.After-end_of-end) → let a = c.args in (a.m + (c.end_of-end.result - a.taken)) * suc (suc a.o.by) + suc (suc a.o.by) ≤ length a.body.now
 room c = let s = c in let a = s.args in omega (arith, times_least (a.m + (c.end_of-end.result - a.taken)) (a.m + (a.n - a.taken)) (suc (suc a.o.by)) (omega (arith, (range c).1)), s.requires.room)

@@ -14,7 +14,7 @@ add-w : tie.Need-overflow_add-w
 add-w c = let s = c in omega (arith, s.requires.0.compare.by)
 
 add-has-room : tie.Need-overflow_add-n
-add-has-room c = let s = c in let g = s.well_formed.0 in omega (arith, at_least s.args.n (suc (suc s.args.o.by)) (omega arith), s.requires.0.table_rows_lem, s.requires.1, g.0, g.1)
+add-has-room c = let s = c in let g = s.well_formed.0 in omega (arith, at_least s.args.n (suc (suc s.args.o.by)) (omega arith), s.requires.0.table_rows, s.requires.1, g.0, g.1)
 
 has-room-requires : tie.Need-has_room-requires
 has-room-requires c κs = search rules
