@@ -34,25 +34,6 @@ def crates_of(crate, root=ROOT):
     return sorted(found)
 
 
-def proof_order(crate=None, root=ROOT):
-    """The crates in the order in which rt proves them, all or those that a crate stands on: level by level from below."""
-    crates, levels = listed(root), {}
-
-    def visit(name):
-        if name not in levels:
-            levels[name] = 0
-            for each in crates[name]:
-                if each in crates:
-                    visit(each)
-                    levels[name] = max(levels[name], levels[each] + 1)
-            found.append(name)
-
-    found = []
-    for name in crates if crate is None else [crate]:
-        visit(name)
-    return sorted(found, key=levels.get)
-
-
 def files_of(crate, root=ROOT):
     """The source files of a crate, by their paths below the repository."""
     found = []
