@@ -42,7 +42,8 @@ def clauses(text, name, form):
     found, renamed = {}, names(text)[1]
     pattern = re.escape(form).replace(re.escape('{}'), r'(\d+)') if form else r'=\s*(\d+)\s*$'
     for clause in definition(text, name):
-        head = re.match(rf'{re.escape(name)} \(?(\w+)', clause)
+        # What a call gives where it is not refused stands behind `Ok`.
+        head = re.match(rf'{re.escape(name)} \(?(?:Ok \(?)?(\w+)', clause)
         number = re.search(pattern, clause)
         tests = re.findall(r'\(eqb [^()]*(?:\([^()]*\))? ?(\d+)\) (\w+)', clause)
         if tests:

@@ -7,14 +7,14 @@ use Prim.Native.Nat.{ℕ, suc}
 use Rattle.frames.specs.Cells.{Cell, Rows}
 use Rattle.order.specs.Order.{cmp_row, is_equal}
 use Rattle.order.specs.declared.options.Options.{Options}
-use Rattle.order.specs.declared.Order.{Order}
-use Rattle.order.specs.declared.Order.TheVariants.{Less, Equal, Greater}
+use Rattle.std.specs.declared.cmp.Ordering.{Ordering}
+use Rattle.std.specs.declared.cmp.Ordering.TheVariants.{Less, Equal, Greater}
 use Rattle.order.proofs.OrderLaws.{AtMost, cmp_row_is, same_right, at_most_equal, equal_at_most, at_most}
 use Rattle.order.proofs.SortedLaws.{All, Ordered}
 use Rattle.matching.proofs.MayLaws.{is_false, never}
 use Rattle.books.specs.Standing.{corrects, corrected, last_of}
 
-is_equal_lem : (z : Order) → is_equal z ≡ true → z ≡ Equal
+is_equal_lem : (z : Ordering) → is_equal z ≡ true → z ≡ Equal
 is_equal_lem Less e = cc
 is_equal_lem Equal e = refl
 is_equal_lem Greater e = cc

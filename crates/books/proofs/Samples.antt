@@ -1,4 +1,6 @@
 -- Small books, by computation. Assumes nothing.
+use Rattle.frames.specs.declared.refusals.Refusal.{Refusal}
+use Rattle.std.specs.Prelude.{Some, Result, Ok, Err}
 use mathlib.Core.Path.{◌≡◌, refl}
 use mathlib.Core.Bool.{true, false}
 use mathlib.Core.List.{List, [], ◌∷◌, map}
@@ -13,11 +15,8 @@ use Rattle.order.specs.declared.options.Options.{Options}
 use Rattle.order.specs.Listed.{unlisted_in}
 use Rattle.order.proofs.Samples.{options, carrying, ranking, ranks_by, row, frame_of}
 use Rattle.matching.specs.Match.{whole_table, match_table, choose, tolerate, fits, takes_over}
-use Rattle.matching.specs.declared.Choice.TheVariants.{Row}
 use Rattle.tables.specs.Table.{words_of, table_of, laid}
 use Rattle.frames.specs.declared.refusals.Refusal.TheVariants.{TooManyCarried, BadFrame, UnknownCode, BadColumns, Unsorted, NoRoom}
-use Rattle.tables.specs.declared.Written.{Written}
-use Rattle.tables.specs.declared.Written.TheVariants.{Rows as Wrote, Refused}
 use Rattle.books.specs.Merge.{merge}
 use Rattle.books.specs.Standing.{notices, notice_of, stands, corrected, last_of, standing, places, translated}
 use Rattle.books.specs.Calls.{merge_answer, merge_call, stand_answer}
@@ -49,7 +48,7 @@ pub merge_words :
     merge_call (with 0) (pos 1 ∷ pos 2 ∷ pos 1 ∷ pos 9 ∷ pos 1 ∷ pos 1 ∷ []) (pos 1 ∷ pos 2 ∷ pos 1 ∷ pos 0 ∷ pos 1 ∷ pos 0 ∷ [])
     (pos 7 ∷ pos 7 ∷ pos 7 ∷ pos 7 ∷ pos 7 ∷ pos 7 ∷ pos 7 ∷ pos 7 ∷ pos 7 ∷ pos 7 ∷ pos 7 ∷ pos 8 ∷ [])
     ≡ record {
-      answer = Wrote 2;
+      answer = Ok 2;
       out = pos 2 ∷ pos 2 ∷ pos 1 ∷ pos 0 ∷ pos 1 ∷ pos 9 ∷ pos 1 ∷ pos 0 ∷ pos 1 ∷ pos 1 ∷ pos 7 ∷ pos 8 ∷ [];
     }
 unfolding merge_call merge_answer bad_options is_table pairs_fine frame_rows rows_of cells_of bad_ranks rises rises_behind placed below in_list unlisted_in sorted merge cmp_row cmp_first words_of table_of laid
@@ -59,7 +58,7 @@ merge_words = refl
 abbrev none_out : Words
 none_out = []
 
-abbrev answers : List Written
+abbrev answers : List (Result ℕ Refusal)
 answers =
     merge_answer (with 9) [] [] none_out
     ∷ merge_answer (with 0) (frame_of 2 (row (1 ∷ 9 ∷ []) ∷ [])) (frame_of 3 (row (9 ∷ 9 ∷ 9 ∷ []) ∷ [])) none_out
@@ -68,7 +67,7 @@ answers =
     ∷ merge_answer (with 0) (frame_of 2 []) (frame_of 2 (row (1 ∷ 9 ∷ []) ∷ [])) (pos 0 ∷ pos 0 ∷ pos 0 ∷ pos 0 ∷ pos 0 ∷ [])
     ∷ []
 
-pub merge_refusals : answers ≡ Refused TooManyCarried ∷ Refused BadFrame ∷ Refused UnknownCode ∷ Refused Unsorted ∷ Refused NoRoom ∷ []
+pub merge_refusals : answers ≡ Err TooManyCarried ∷ Err BadFrame ∷ Err UnknownCode ∷ Err Unsorted ∷ Err NoRoom ∷ []
 unfolding merge_answer bad_options is_table pairs_fine frame_rows rows_of cells_of bad_ranks rises rises_behind placed below in_list unlisted_in sorted merge cmp_row cmp_first
 merge_refusals = refl
 
@@ -102,7 +101,7 @@ plain = row (1 ∷ 10 ∷ 0 ∷ []) ∷ row (1 ∷ 20 ∷ 0 ∷ []) ∷ row (1 �
 pub picks :
     whole_table (one 0) plain (row (1 ∷ 25 ∷ [])) ∷ translated (places (one 0) 0 0 plain) (whole_table (one 0) (standing (one 0) 0 plain) (row (1 ∷ 25 ∷ [])))
     ∷ whole_table (one 1) plain (row (1 ∷ 15 ∷ [])) ∷ translated (places (one 1) 0 0 plain) (whole_table (one 1) (standing (one 1) 0 plain) (row (1 ∷ 15 ∷ []))) ∷ []
-    ≡ Row 2 ∷ Row 2 ∷ Row 1 ∷ Row 2 ∷ []
+    ≡ Some 2 ∷ Some 2 ∷ Some 1 ∷ Some 2 ∷ []
 unfolding whole_table match_table choose tolerate fits takes_over places standing stands corrected cmp_row cmp_first null_in
 picks = refl
 
@@ -116,6 +115,6 @@ last_named = refl
 pub stand_refusals :
     stand_answer (with 0) 0 (frame_of 2 []) none_out ∷ stand_answer (with 1) 1 (frame_of 3 (row (2 ∷ 1 ∷ 0 ∷ []) ∷ row (1 ∷ 1 ∷ 0 ∷ []) ∷ [])) none_out
     ∷ stand_answer (with 1) 0 (frame_of 3 (row (2 ∷ 1 ∷ 0 ∷ []) ∷ row (1 ∷ 1 ∷ 0 ∷ []) ∷ [])) none_out ∷ stand_answer (with 1) 0 (frame_of 3 (row (1 ∷ 1 ∷ 0 ∷ []) ∷ [])) none_out ∷ []
-    ≡ Refused BadColumns ∷ Refused BadColumns ∷ Refused Unsorted ∷ Refused NoRoom ∷ []
+    ≡ Err BadColumns ∷ Err BadColumns ∷ Err Unsorted ∷ Err NoRoom ∷ []
 unfolding stand_answer bad_options is_table pairs_fine frame_rows rows_of cells_of bad_ranks rises rises_behind placed below in_list unlisted_in sorted cmp_row cmp_first
 stand_refusals = refl

@@ -1,5 +1,6 @@
 -- If nothing is withdrawn, leaving out the notices that do not stand changes no match of Backward or Nearest: a notice that is corrected later is never
 -- picked, since its correction takes its place. Rows may stand in any order. Assumes nothing.
+use Rattle.std.specs.Prelude.{Some, None}
 use mathlib.Core.Path.{◌≡◌, refl, sym, ◌∙◌, subst}
 use mathlib.Core.Bool.{Bool, true, false, cond, not, ◌&&◌, ◌||◌}
 use mathlib.Core.List.{List, [], ◌∷◌, ◌++◌, append_assoc}
@@ -13,21 +14,20 @@ use Rattle.frames.specs.Cells.{Cell, Rows}
 use Rattle.order.specs.options.Options.{strategy_of, key_rule}
 use Rattle.order.specs.Order.{cmp_row, cmp_group, is_equal, key_of, distance}
 use Rattle.order.specs.declared.options.Options.{Options}
-use Rattle.order.specs.declared.Order.{Order}
-use Rattle.order.specs.declared.Order.TheVariants.{Less, Equal, Greater}
+use Rattle.std.specs.declared.cmp.Ordering.{Ordering}
+use Rattle.std.specs.declared.cmp.Ordering.TheVariants.{Less, Equal, Greater}
 use Rattle.order.specs.declared.options.Strategy.{Strategy}
 use Rattle.order.specs.declared.options.Strategy.TheVariants.{Backward, Forward, Nearest}
 use Rattle.order.proofs.OrderLaws.{cmp_cell_is, cmp_group_is, row_equal}
 use Rattle.frames.proofs.BoolLaws.{and-true}
 use Rattle.order.proofs.KeyLaws.{null_group_lem}
 use Rattle.matching.specs.Match.{Hit, nobody, hit, takes_over, meet, choose, too_far, tolerate, match_table, whole_table}
-use Rattle.matching.specs.declared.Choice.TheVariants.{Row, Nothing}
 use Rattle.matching.proofs.ChoiceLaws.{cond_ind}
 use Rattle.matching.proofs.MayLaws.{may, may_out, may_in, over_then, over_or}
 use Rattle.books.specs.Standing.{withdrawn, corrects, corrected, nameless, stands, standing, places, none_withdrawn, translated, SamePicks}
 
 -- ---- tests
-is_equal_lem : (z : Order) → is_equal z ≡ true → z ≡ Equal
+is_equal_lem : (z : Ordering) → is_equal z ≡ true → z ≡ Equal
 is_equal_lem Less e = cc
 is_equal_lem Equal e = refl
 is_equal_lem Greater e = cc
@@ -212,7 +212,7 @@ module _ (o : Options) (x : List Cell) where
       same_end ns (hit n r) nobody h = absurd h
       same_end ns (hit n r) (hit k s) h = rw (← h.0, h.1) (by (too_far o x r))
         where
-          by : (b : Bool) → cond b Nothing (Row (get_or ns k 0)) ≡ translated ns (cond b Nothing (Row k))
+          by : (b : Bool) → cond b None (Some (get_or ns k 0)) ≡ translated ns (cond b None (Some k))
           by true = refl
           by false = refl
 

@@ -1,5 +1,5 @@
 -- Which notice stands. Assumes nothing.
-use Rattle.std.specs.Prelude.{◌≡◌, Bool, true, false, cond, not, ◌&&◌, ◌||◌, List, [], ◌∷◌, ◌⊎◌, ℕ, suc, ◌+◌, ◌<◌, eqb, pos, length, drop, get_or}
+use Rattle.std.specs.Prelude.{◌≡◌, Bool, true, false, cond, not, ◌&&◌, ◌||◌, List, [], ◌∷◌, ◌⊎◌, ℕ, suc, ◌+◌, ◌<◌, eqb, pos, length, drop, get_or, Option, Some, None}
 use Rattle.frames.specs.Cells.{Cell, null, value, cell, Rows}
 use Rattle.frames.specs.Frame.{same_z}
 use Rattle.order.specs.options.Options.{strategy_of}
@@ -7,8 +7,6 @@ use Rattle.order.specs.Order.{cmp_row, is_equal, null_key, null_group}
 use Rattle.order.specs.declared.options.Options.{Options}
 use Rattle.order.specs.declared.options.Strategy.TheVariants.{Backward, Nearest}
 use Rattle.matching.specs.Match.{whole_table}
-use Rattle.matching.specs.declared.Choice.{Choice}
-use Rattle.matching.specs.declared.Choice.TheVariants.{Row, Nothing}
 
 -- A cell says 1.
 abbrev pub is_one : Cell → Bool
@@ -70,9 +68,9 @@ none_withdrawn o q [] = true
 none_withdrawn o q (r ∷ rs) = not (withdrawn o q r) && none_withdrawn o q rs
 
 -- A row number of the standing table, translated to the whole.
-abbrev pub translated : List ℕ → Choice → Choice
-translated ns (Row k) = Row (get_or ns k 0)
-translated ns Nothing = Nothing
+abbrev pub translated : List ℕ → Option ℕ → Option ℕ
+translated ns (Some k) = Some (get_or ns k 0)
+translated ns None = None
 
 -- SCOPE 19.15, the statement: if nothing is withdrawn, a left row has the same notice over the standing table as over all rows, by Backward and by Nearest; the numbers differ by the rows left out before it.
 abbrev pub SamePicks : Type 0

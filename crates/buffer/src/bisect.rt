@@ -7,24 +7,25 @@ ghost use Rattle.order.specs.Requires.{cell_at, CellIn};
 ghost use Rattle.searching.specs.Search.{meets, find};
 ghost use Rattle.searching.specs.Requires.{ColumnIn};
 
-use order::Order;
+use frames::RowSlice;
 use rows::cells::{cmp_cell, cmp_listed};
 use searching::Seek;
+use std::cmp::Ordering;
 
 // Whether a cell with this order to the cell sought is one that the search looks for.
-fn is_met(seek: Seek, order: Order) -> bool
+fn is_met(seek: Seek, order: Ordering) -> bool
     ensures { result ≡ meets seek order }
 {
     match seek {
         Seek::AtLeast => match order {
-            Order::Less => false,
-            Order::Equal => true,
-            Order::Greater => true,
+            Ordering::Less => false,
+            Ordering::Equal => true,
+            Ordering::Greater => true,
         },
         Seek::Above => match order {
-            Order::Less => false,
-            Order::Equal => false,
-            Order::Greater => true,
+            Ordering::Less => false,
+            Ordering::Equal => false,
+            Ordering::Greater => true,
         },
     }
 }
@@ -38,25 +39,20 @@ fn probe(
     rising: &[u8],
     value: i64,
     mark: i64,
-    values: &[i64],
-    marks: &[i64],
+    rows: RowSlice<'_>,
     k: usize,
 ) -> bool
-    requires { Indexed codes.now rising.now × CellIn k values.now marks.now }
-    ensures { result ≡ meets seek (cmp_cell (record { descending = descending; nulls_last = nulls_last; codes = codes.now }) (cell_at k values.now marks.now) (cell_of value mark)) }
+    requires { Indexed codes.now rising.now × CellIn k rows.values.now rows.marks.now }
+    ensures { result ≡ meets seek (cmp_cell (record { descending = descending; nulls_last = nulls_last; codes = codes.now }) (cell_at k rows.entry.values.now rows.entry.marks.now) (cell_of value mark)) }
 {
-    if codes.len() == 0 {
-        return is_met(
-            seek,
-            cmp_cell(values[k], marks[k], value, mark, descending, nulls_last),
-        );
-    }
-    is_met(
-        seek,
-        cmp_listed(
-            values[k], marks[k], value, mark, descending, nulls_last, codes, rising,
-        ),
-    )
+    let v = rows.values[k];
+    let m = rows.marks[k];
+    let order = if codes.len() == 0 {
+        cmp_cell(v, m, value, mark, descending, nulls_last)
+    } else {
+        cmp_listed(v, m, value, mark, descending, nulls_last, codes, rising)
+    };
+    is_met(seek, order)
 }
 
 // The first row of lower..upper whose cell in column j is one that is looked for, by the column's rule; the end of the range where there is none.
@@ -69,17 +65,16 @@ pub fn find(
     j: usize,
     value: i64,
     mark: i64,
-    values: &[i64],
-    marks: &[i64],
-    w: usize,
+    rows: RowSlice<'_>,
     lower: usize,
     upper: usize,
 ) -> usize
-    requires { Indexed codes.now rising.now × ColumnIn j w upper values.now marks.now }
-    ensures { (n : ℕ) → upper ≤ n → result ≡ find seek (record { descending = descending; nulls_last = nulls_last; codes = codes.now }) j (cell_of value mark) (rows_of w n values.now marks.now) lower upper }
+    requires { Indexed codes.now rising.now × ColumnIn j rows.width upper rows.values.now rows.marks.now }
+    ensures { (n : ℕ) → upper ≤ n → result ≡ find seek (record { descending = descending; nulls_last = nulls_last; codes = codes.now }) j (cell_of value mark) (rows_of rows.entry.width n rows.entry.values.now rows.entry.marks.now) lower upper }
 {
     let mut low = lower;
     let mut high = upper;
+    // A while: each turn halves what is left.
     while low < high {
         let mid = (low + high) / 2;
         if probe(
@@ -90,9 +85,8 @@ pub fn find(
             rising,
             value,
             mark,
-            values,
-            marks,
-            mid * w + j,
+            rows,
+            mid * rows.width + j,
         ) {
             high = mid;
         } else {

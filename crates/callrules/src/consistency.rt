@@ -1,34 +1,39 @@
 // Whether the numbers of a join hold together and fit its areas, for any numbers and any areas: refusal 2.
 ghost use Rattle.std.specs.Prelude.{◌≡◌, ◌≤◌, length};
-ghost use Rattle.order.specs.options.Options.{with_list, refused_options};
+ghost use Rattle.order.specs.options.Options.{refused_options, options_of};
 ghost use Rattle.callrules.specs.Judged.{bad_numbers};
 
 use frames::outcomes::above;
-use order::options::{Terms, bad_options, many_carried, right_columns};
+use order::options::{Rules, bad_options, many_carried, right_columns};
 use rows::ranking::bad_ranks;
 
 // The greatest number of right rows.
 const MOST_ROWS: usize = 9223372036854775807;
 
 // Whether opening refuses the options (SCOPE 3.9).
-fn refused_options(o: Terms, codes: &[i64], rising: &[u8]) -> bool
-    requires { (64 ≤ length codes.now) × (64 ≤ length rising.now) }
-    ensures { result ≡ refused_options (with_list o codes.now rising.now) }
+fn refused_options(rules: Rules<'_>) -> bool
+    requires { (64 ≤ length rules.codes.now) × (64 ≤ length rules.rising.now) }
+    ensures { result ≡ refused_options (options_of rules.entry) }
 {
-    if bad_options(o) {
+    if bad_options(rules.terms) {
         return true;
     }
-    if many_carried(o) {
+    if many_carried(rules.terms) {
         return true;
     }
-    bad_ranks(o.by, o.given, o.column, o.count, codes, rising)
+    bad_ranks(
+        rules.terms.by,
+        rules.terms.given,
+        rules.terms.column,
+        rules.terms.count,
+        rules.codes,
+        rules.rising,
+    )
 }
 
 // Whether the numbers of a join, with these areas, meet refusal 2.
 pub fn bad_numbers(
-    o: Terms,
-    codes: &[i64],
-    rising: &[u8],
+    rules: Rules<'_>,
     base: usize,
     held: usize,
     pruned: usize,
@@ -38,13 +43,13 @@ pub fn bad_numbers(
     left: &[i64],
     right: &[i64],
 ) -> bool
-    requires { (64 ≤ length codes.now) × (64 ≤ length rising.now) }
-    ensures { result ≡ bad_numbers (with_list o codes.now rising.now) base held pruned start words sequence left.now right.now }
+    requires { (64 ≤ length rules.codes.now) × (64 ≤ length rules.rising.now) }
+    ensures { result ≡ bad_numbers (options_of rules.entry) base held pruned start words sequence left.now right.now }
 {
-    if refused_options(o, codes, rising) {
+    if refused_options(rules) {
         return true;
     }
-    let c = right_columns(o);
+    let c = right_columns(rules.terms);
     if above(base, held, right.len() / (2 * c)) {
         return true;
     }

@@ -7,12 +7,14 @@ pub mod judges;
 pub mod listed;
 pub mod ports;
 
-use frames::outcomes::Took;
+use frames::refusals::Refusal;
+
+// The answers below stand beside the numbers and not in place of them: a refused call hands its numbers back too.
 
 // After a left frame: the answer, where the queue starts and how many words wait.
 #[derive(Clone, Copy)]
 pub struct FedLeft {
-    pub answer: Took,
+    pub answer: Result<(), Refusal>,
     pub start: usize,
     pub words: usize,
 }
@@ -20,14 +22,14 @@ pub struct FedLeft {
 // After the end of right: the answer, and whether right has ended.
 #[derive(Clone, Copy)]
 pub struct FedEnd {
-    pub answer: Took,
+    pub answer: Result<(), Refusal>,
     pub ended: bool,
 }
 
 // After a right frame: the answer, where the held rows start and how many are held.
 #[derive(Clone, Copy)]
 pub struct FedRight {
-    pub answer: Took,
+    pub answer: Result<(), Refusal>,
     pub base: usize,
     pub held: usize,
 }

@@ -4,13 +4,13 @@ ghost use Rattle.frames.specs.declared.outcomes.NodeState.TheVariants.{Flush};
 ghost use Rattle.frames.specs.declared.outcomes.PortState.TheVariants.{Ready};
 ghost use Rattle.callrules.specs.ports.Ports.{port_blocked, to_flush, to_done, ready_unless, ports_in, Moves};
 
-use frames::outcomes::{NodeState, PortState, Ported};
+use frames::outcomes::{NodeState, PortState, Ports};
 use frames::refusals::Refusal;
 
-// After a port call: what the ports are told, and the node's state.
+// After a port call: what the ports are told, and the node's state, which a refused call has too.
 #[derive(Clone, Copy)]
 pub struct PortsMoved {
-    pub answer: Ported,
+    pub answer: Result<Ports, Refusal>,
     pub state: NodeState,
 }
 
@@ -73,17 +73,25 @@ fn ready_unless_any(a: PortState, b: PortState) -> PortState
 }
 
 // What left, right and send are told in a state, by what they came with.
-fn told(state: NodeState, left: PortState, right: PortState, send: PortState) -> Ported
+fn told(state: NodeState, left: PortState, right: PortState, send: PortState) -> Ports
     ensures { result ≡ ports_in state left right send }
 {
     match state {
-        NodeState::Running => Ported::Ports(
-            ready_unless_any(right, send),
-            ready_unless_any(left, send),
-            ready_unless_any(left, right),
-        ),
-        NodeState::Flush => Ported::Ports(PortState::Done, ready_unless(send), ready_unless(right)),
-        NodeState::Done => Ported::Ports(PortState::Done, PortState::Done, PortState::Done),
+        NodeState::Running => Ports {
+            left: ready_unless_any(right, send),
+            right: ready_unless_any(left, send),
+            send: ready_unless_any(left, right),
+        },
+        NodeState::Flush => Ports {
+            left: PortState::Done,
+            right: ready_unless(send),
+            send: ready_unless(right),
+        },
+        NodeState::Done => Ports {
+            left: PortState::Done,
+            right: PortState::Done,
+            send: PortState::Done,
+        },
     }
 }
 
@@ -101,19 +109,19 @@ pub fn move_ports(
 {
     if bad {
         return PortsMoved {
-            answer: Ported::Refused(Refusal::BadJoin),
-            state: state,
+            answer: Err(Refusal::BadJoin),
+            state,
         };
     }
     if failed {
         return PortsMoved {
-            answer: Ported::Refused(Refusal::Failed),
-            state: state,
+            answer: Err(Refusal::Failed),
+            state,
         };
     }
     let next = next_state(state, left, send, words);
     PortsMoved {
-        answer: told(next, left, right, send),
+        answer: Ok(told(next, left, right, send)),
         state: next,
     }
 }

@@ -1,14 +1,14 @@
 // Two sorted tables joined pair by pair at boundaries: the call.
 ghost use Rattle.std.specs.Prelude.{◌≡◌, ◌≤◌, length};
-ghost use Rattle.order.specs.options.Options.{with_list};
+ghost use Rattle.order.specs.options.Options.{options_of};
 ghost use Rattle.cutting.specs.cutpairs.Driver.{JoinContract};
 
 use crate::cutjudge::judge_input;
 use crate::cutrows::join_rows;
-use frames::outcomes::Took;
-use order::options::{Options, Terms, left_columns, right_columns, terms_of};
+use frames::RowSlice;
+use frames::refusals::Refusal;
+use order::options::{Options, Rules, left_columns, right_columns};
 use rows::framerule::row_count;
-use tables::Written;
 
 // The same of tables and boundaries that are handed in whole, under these options.
 fn join_listed(
@@ -17,42 +17,43 @@ fn join_listed(
     boundaries: &[i64],
     l: usize,
     r: usize,
-    o: Terms,
-    codes: &[i64],
-    rising: &[u8],
+    rules: Rules<'_>,
     out: &mut [i64],
-) -> Written
-    requires { (64 ≤ length codes.now) × (64 ≤ length rising.now) }
-    ensures { JoinContract (with_list o codes.now rising.now) left.now right.now boundaries.now l r out.old result out.new }
+) -> Result<usize, Refusal>
+    requires { (64 ≤ length rules.codes.now) × (64 ≤ length rules.rising.now) }
+    ensures { JoinContract (options_of rules.entry) left.now right.now boundaries.now l r out.old result out.new }
 {
-    if let Took::Refused(z) = judge_input(left, right, boundaries, o, codes, rising) {
-        return Written::Refused(z);
-    }
-    let c = left_columns(o);
-    let w = right_columns(o);
+    judge_input(left, right, boundaries, rules)?;
+    let c = left_columns(rules.terms);
+    let w = right_columns(rules.terms);
     let nl = row_count(left);
     let nr = row_count(right);
     let k = row_count(boundaries);
     let e = 2 + nl * c;
     let f = 2 + nr * w;
-    let g = 2 + k * o.by;
+    let g = 2 + k * rules.terms.by;
     join_rows(
-        &left[2..e],
-        &left[e..],
-        nl,
-        c,
-        &right[2..f],
-        &right[f..],
-        nr,
-        w,
-        &boundaries[2..g],
-        &boundaries[g..],
-        k,
+        RowSlice {
+            values: &left[2..e],
+            marks: &left[e..],
+            count: nl,
+            width: c,
+        },
+        RowSlice {
+            values: &right[2..f],
+            marks: &right[f..],
+            count: nr,
+            width: w,
+        },
+        RowSlice {
+            values: &boundaries[2..g],
+            marks: &boundaries[g..],
+            count: k,
+            width: rules.terms.by,
+        },
         l,
         r,
-        o,
-        codes,
-        rising,
+        rules,
         out,
     )
 }
@@ -66,22 +67,10 @@ pub fn join_cut(
     right_area: &[i64],
     o: Options,
     out: &mut [i64],
-) -> Written
+) -> Result<usize, Refusal>
     ensures { JoinContract o left.now right.now boundaries.now (length left_area.now) (length right_area.now) out.old result out.new }
 {
-    let codes = o.ranks.codes;
-    let rising = o.ranks.rising;
     let l = left_area.len();
     let r = right_area.len();
-    join_listed(
-        left,
-        right,
-        boundaries,
-        l,
-        r,
-        terms_of(o),
-        &codes,
-        &rising,
-        out,
-    )
+    join_listed(left, right, boundaries, l, r, o.rules(), out)
 }

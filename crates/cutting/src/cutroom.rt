@@ -1,7 +1,7 @@
 // Whether two areas are long enough for each pair of parts of two sorted tables, cut at boundaries.
 ghost use Rattle.std.specs.Prelude.{◌≡◌, ◌*◌, ◌^◌, ◌≤◌, ◌<◌, leb, drop};
-ghost use Rattle.frames.specs.Cells.{rows_of, row_from};
-ghost use Rattle.order.specs.options.Options.{with_list};
+ghost use Rattle.frames.specs.Cells.{rows_of, row_from, rows_in};
+ghost use Rattle.order.specs.options.Options.{options_of};
 ghost use Rattle.planning.specs.Heights.{full_heights};
 ghost use Rattle.cutting.specs.boundaries.Boundaries.{cut_at};
 ghost use Rattle.cutting.specs.boundaries.Requires.{CutIn};
@@ -11,8 +11,9 @@ ghost use Rattle.cutting.specs.cutroom.Requires.{pair_in, parts_in, PartsIn, Cut
 ghost use Rattle.cutting.specs.cutroom.Words.{head_words};
 
 use crate::boundaries::cut_place;
+use frames::RowSlice;
 use matchframe::turnrows::from_row;
-use order::options::Terms;
+use order::options::Rules;
 use planning::fullplan::most_held;
 
 // The words before the rows of n rows' full frames.
@@ -40,94 +41,95 @@ fn holds_frames(n: usize, c: usize, l: usize) -> bool
 
 // Whether areas of l and r words are too short for the pair of n left rows from row a on and m right rows from row b on.
 fn too_short(
-    lv: &[i64],
-    lm: &[i64],
+    left: RowSlice<'_>,
     a: usize,
     n: usize,
-    c: usize,
-    rv: &[i64],
-    rm: &[i64],
+    right: RowSlice<'_>,
     b: usize,
     m: usize,
-    w: usize,
     l: usize,
     r: usize,
-    o: Terms,
-    codes: &[i64],
-    rising: &[u8],
+    rules: Rules<'_>,
 ) -> bool
-    requires { PartsIn (with_list o codes.now rising.now) a c n lv.now lm.now b w m rv.now rm.now }
-    ensures { result ≡ too_short (with_list o codes.now rising.now) l r (parts_in a c n lv.now lm.now b w m rv.now rm.now) }
+    requires { PartsIn (options_of rules) a left.width n left.values.now left.marks.now b right.width m right.values.now right.marks.now }
+    ensures { result ≡ too_short (options_of rules.entry) l r (parts_in a left.entry.width n left.entry.values.now left.entry.marks.now b right.entry.width m right.entry.values.now right.entry.marks.now) }
 {
-    if !holds_frames(n, c, l) {
+    if !holds_frames(n, left.width, l) {
         return true;
     }
-    let xv = from_row(lv, a, c);
-    let xm = from_row(lm, a, c);
-    let yv = from_row(rv, b, w);
-    let ym = from_row(rm, b, w);
-    r / (2 * w) < most_held(xv, xm, n, c, yv, ym, m, w, o, codes, rising)
+    let xv = from_row(left.values, a, left.width);
+    let xm = from_row(left.marks, a, left.width);
+    let yv = from_row(right.values, b, right.width);
+    let ym = from_row(right.marks, b, right.width);
+    r / (2 * right.width)
+        < most_held(
+            RowSlice {
+                values: xv,
+                marks: xm,
+                count: n,
+                width: left.width,
+            },
+            RowSlice {
+                values: yv,
+                marks: ym,
+                count: m,
+                width: right.width,
+            },
+            rules,
+        )
 }
 
 // Where n sorted rows, each w wide, are cut by the boundary at p, counted from row a on.
 fn cut_behind(
-    values: &[i64],
-    marks: &[i64],
-    n: usize,
-    w: usize,
+    rows: RowSlice<'_>,
     a: usize,
-    gv: &[i64],
-    gm: &[i64],
+    bounds: RowSlice<'_>,
     p: usize,
-    o: Terms,
-    codes: &[i64],
-    rising: &[u8],
+    rules: Rules<'_>,
 ) -> usize
-    requires { CutIn (with_list o codes.now rising.now) w n values.now marks.now p gv.now gm.now × (a ≤ n) }
-    ensures { result ≡ cut_at (with_list o codes.now rising.now) (row_from o.by p gv.now gm.now) (drop a (rows_of w n values.now marks.now)) }
+    requires { CutIn (options_of rules) rows.width rows.count rows.values.now rows.marks.now p bounds.values.now bounds.marks.now × (a ≤ rows.count) }
+    ensures { result ≡ cut_at (options_of rules.entry) (row_from rules.entry.terms.by p bounds.entry.values.now bounds.entry.marks.now) (drop a (rows_in rows.entry)) }
 {
-    let vs = from_row(values, a, w);
-    let ms = from_row(marks, a, w);
-    cut_place(vs, ms, n - a, w, gv, gm, p, o, codes, rising)
+    let vs = from_row(rows.values, a, rows.width);
+    let ms = from_row(rows.marks, a, rows.width);
+    cut_place(
+        RowSlice {
+            values: vs,
+            marks: ms,
+            count: rows.count - a,
+            width: rows.width,
+        },
+        bounds,
+        p,
+        rules,
+    )
 }
 
 // Whether they are too short for any pair of nl left rows and nr right rows, cut at k boundaries. Each boundary cuts what is behind the one before it: a and b rows stand before that.
 pub fn any_short(
-    lv: &[i64],
-    lm: &[i64],
-    nl: usize,
-    c: usize,
-    rv: &[i64],
-    rm: &[i64],
-    nr: usize,
-    w: usize,
-    gv: &[i64],
-    gm: &[i64],
-    k: usize,
+    left: RowSlice<'_>,
+    right: RowSlice<'_>,
+    bounds: RowSlice<'_>,
     l: usize,
     r: usize,
-    o: Terms,
-    codes: &[i64],
-    rising: &[u8],
+    rules: Rules<'_>,
 ) -> bool
-    requires { CutsIn (with_list o codes.now rising.now) c nl lv.now lm.now w nr rv.now rm.now k gv.now gm.now }
-    ensures { result ≡ any_short (with_list o codes.now rising.now) l r (cut_by (with_list o codes.now rising.now) (rows_of o.by k gv.now gm.now) (pair_in c nl lv.now lm.now w nr rv.now rm.now)) }
+    requires { CutsIn (options_of rules) left.width left.count left.values.now left.marks.now right.width right.count right.values.now right.marks.now bounds.count bounds.values.now bounds.marks.now }
+    ensures { result ≡ any_short (options_of rules.entry) l r (cut_by (options_of rules.entry) (rows_of rules.entry.terms.by bounds.entry.count bounds.entry.values.now bounds.entry.marks.now) (pair_in left.entry.width left.entry.count left.entry.values.now left.entry.marks.now right.entry.width right.entry.count right.entry.values.now right.entry.marks.now)) }
 {
     let mut a = 0;
     let mut b = 0;
-    let mut i = 0;
-    while i < k {
-        let p = i * o.by;
-        let n = cut_behind(lv, lm, nl, c, a, gv, gm, p, o, codes, rising);
-        let m = cut_behind(rv, rm, nr, w, b, gv, gm, p, o, codes, rising);
-        if too_short(lv, lm, a, n, c, rv, rm, b, m, w, l, r, o, codes, rising) {
+    for i in 0..bounds.count {
+        let p = i * rules.terms.by;
+        let n = cut_behind(left, a, bounds, p, rules);
+        let m = cut_behind(right, b, bounds, p, rules);
+        if too_short(left, a, n, right, b, m, l, r, rules) {
             return true;
         }
         a += n;
         b += m;
-        i += 1;
     }
-    let n = nl - a;
-    let m = nr - b;
-    too_short(lv, lm, a, n, c, rv, rm, b, m, w, l, r, o, codes, rising)
+    let n = left.count - a;
+    let m = right.count - b;
+    too_short(left, a, n, right, b, m, l, r, rules)
 }

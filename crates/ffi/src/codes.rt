@@ -1,18 +1,16 @@
 // Flags, states, ports and refusals as numbers.
 ghost use Rattle.std.specs.Prelude.{◌≡◌, ◌&&◌};
-ghost use Rattle.frames.specs.outcomes.Answers.{state_code, port_code};
-ghost use Rattle.frames.specs.refusals.Refusals.{number};
-ghost use Rattle.ffi.specs.codes.Codes.{is_flag, flag_of, flag_code, are_flags, flags_of, flag_codes, check_of, check_code, is_code, state_of, port_of, took_code, stop_code, stop_refusal};
+ghost use Rattle.ffi.specs.codes.Codes.{is_flag, flag_of, flag_code, are_flags, flags_of, flag_codes, check_of, is_code, state_of, port_of, took_code, stop_code, stop_refusal};
 
-use frames::outcomes::{NodeState, PortState, Stop, Took};
-use frames::refusals::number_of;
+use frames::outcomes::{NodeState, PortState, Stop};
+use frames::refusals::Refusal;
 use order::options::Check;
 
 // Whether two tests hold.
 pub fn both(a: bool, b: bool) -> bool
     ensures { result ≡ (a && b) }
 {
-    if a { b } else { false }
+    a && b
 }
 
 // Whether a number is a flag: 0 or 1.
@@ -76,17 +74,6 @@ pub fn check_of(x: u64) -> Check
     Check::Strict
 }
 
-// Its number.
-pub fn check_code(c: Check) -> u64
-    ensures { result ≡ check_code c }
-{
-    match c {
-        Check::Off => 0,
-        Check::On => 1,
-        Check::Strict => 2,
-    }
-}
-
 // Whether a number tells a setting of the order check, a state of the node or of a port.
 pub fn is_code(x: u64) -> bool
     ensures { result ≡ is_code x }
@@ -98,7 +85,7 @@ pub fn is_code(x: u64) -> bool
 pub fn are_codes(l: u64, r: u64, s: u64) -> bool
     ensures { result ≡ (is_code l && is_code r && is_code s) }
 {
-    both(both(is_code(l), is_code(r)), is_code(s))
+    is_code(l) && is_code(r) && is_code(s)
 }
 
 // The node's state by its number.
@@ -114,17 +101,6 @@ pub fn state_of(x: u64) -> NodeState
     NodeState::Done
 }
 
-// The number of the node's state.
-pub fn state_code(s: NodeState) -> u64
-    ensures { result ≡ state_code s }
-{
-    match s {
-        NodeState::Running => 0,
-        NodeState::Flush => 1,
-        NodeState::Done => 2,
-    }
-}
-
 // A port's state by its number.
 pub fn port_of(x: u64) -> PortState
     ensures { result ≡ port_of x }
@@ -138,47 +114,34 @@ pub fn port_of(x: u64) -> PortState
     PortState::Done
 }
 
-// The number of a port's state.
-pub fn port_code(s: PortState) -> u64
-    ensures { result ≡ port_code s }
-{
-    match s {
-        PortState::Blocked => 0,
-        PortState::Ready => 1,
-        PortState::Done => 2,
-    }
-}
-
 // The number of an answer: 0 where the call was accepted.
-pub fn took_code(t: Took) -> u64
+pub fn took_code(t: Result<(), Refusal>) -> u64
     ensures { result ≡ took_code t }
 {
     match t {
-        Took::Accepted => 0,
-        Took::Refused(n) => number_of(n),
+        Ok(()) => 0,
+        Err(n) => n.into(),
     }
 }
 
 // The number of what ended a run.
-pub fn stop_code(s: Stop) -> u64
+pub fn stop_code(s: Result<Stop, Refusal>) -> u64
     ensures { result ≡ stop_code s }
 {
     match s {
-        Stop::Used => 0,
-        Stop::WantsRight => 1,
-        Stop::Idle => 2,
-        Stop::Refused(_) => 3,
+        Ok(Stop::Used) => 0,
+        Ok(Stop::WantsRight) => 1,
+        Ok(Stop::Idle) => 2,
+        Err(_) => 3,
     }
 }
 
 // The number of the refusal that ended a run; 0 where none did.
-pub fn stop_refusal(s: Stop) -> u64
+pub fn stop_refusal(s: Result<Stop, Refusal>) -> u64
     ensures { result ≡ stop_refusal s }
 {
     match s {
-        Stop::Used => 0,
-        Stop::WantsRight => 0,
-        Stop::Idle => 0,
-        Stop::Refused(n) => number_of(n),
+        Ok(_) => 0,
+        Err(n) => n.into(),
     }
 }

@@ -2,8 +2,8 @@
 ghost use Rattle.std.specs.Prelude.{◌≡◌, true};
 ghost use Rattle.ffi.specs.convert.Convert.{row_of, encode_row, is_join, join_of, encode};
 
-use crate::codes::{both, flag_code, flag_of, is_code, is_flag, state_code, state_of};
-use crate::hostoptions::{HostOptions, encode_options, is_options, kept_ranks, options_with};
+use crate::codes::{flag_code, flag_of, is_code, is_flag, state_of};
+use crate::hostoptions::{HostOptions, is_options, kept_ranks, options_with};
 use node::Join;
 use order::Row;
 
@@ -47,34 +47,35 @@ pub fn row_of(h: HostRow) -> Row
     let marks = h.marks;
     Row {
         some: flag_of(h.some),
-        values: values,
-        marks: marks,
+        values,
+        marks,
     }
 }
 
 // The numbers of a remembered row.
-pub fn encode_row(m: Row) -> HostRow
-    ensures { result ≡ encode_row m }
-{
-    let values = m.values;
-    let marks = m.marks;
-    HostRow {
-        some: flag_code(m.some),
-        values: values,
-        marks: marks,
+impl From<Row> for HostRow {
+    ghost from_gives = { λ m row. row ≡ encode_row m };
+
+    fn from(m: Row) -> HostRow {
+        let values = m.values;
+        let marks = m.marks;
+        HostRow {
+            some: flag_code(m.some),
+            values,
+            marks,
+        }
     }
 }
 
 // Whether the numbers tell a join.
+#[tactic(auto, unfolding(crate::specs::convert::Convert::is_join))]
 pub fn is_join(h: HostJoin) -> bool
     ensures { result ≡ is_join h }
 {
-    let o = h.options;
-    let state = both(is_options(o), is_code(h.state));
-    let flags = both(is_flag(h.right_ended), is_flag(h.failed));
-    let rows = both(is_flag(h.last_left.some), is_flag(h.last_right.some));
-    let layout = h.layout == LAYOUT;
-    both(layout, both(state, both(flags, rows)))
+    h.layout == LAYOUT
+        && ((is_options(h.options) && is_code(h.state))
+            && ((is_flag(h.right_ended) && is_flag(h.failed))
+                && (is_flag(h.last_left.some) && is_flag(h.last_right.some))))
 }
 
 // The join that the numbers tell.
@@ -85,10 +86,8 @@ pub fn join_of(h: HostJoin) -> Join
     let rising = h.rising;
     let k = kept_ranks(h.options.ranks, rising);
     let options = options_with(h.options, k);
-    let last_left = row_of(h.last_left);
-    let last_right = row_of(h.last_right);
     Join {
-        options: options,
+        options,
         base: h.base,
         held: h.held,
         pruned: h.pruned,
@@ -98,34 +97,32 @@ pub fn join_of(h: HostJoin) -> Join
         right_ended: flag_of(h.right_ended),
         failed: flag_of(h.failed),
         sequence: h.sequence,
-        last_left: last_left,
-        last_right: last_right,
+        last_left: row_of(h.last_left),
+        last_right: row_of(h.last_right),
     }
 }
 
 // The numbers of a join.
-pub fn encode_join(j: Join) -> HostJoin
-    ensures { result ≡ encode j }
-{
-    let state = j.state;
-    let rising = j.options.ranks.rising;
-    let options = encode_options(j.options);
-    let last_left = encode_row(j.last_left);
-    let last_right = encode_row(j.last_right);
-    HostJoin {
-        layout: LAYOUT,
-        options: options,
-        rising: rising,
-        base: j.base,
-        held: j.held,
-        pruned: j.pruned,
-        queue_start: j.queue_start,
-        queue_words: j.queue_words,
-        state: state_code(state),
-        right_ended: flag_code(j.right_ended),
-        failed: flag_code(j.failed),
-        sequence: j.sequence,
-        last_left: last_left,
-        last_right: last_right,
+impl From<Join> for HostJoin {
+    ghost from_gives = { λ j numbers. numbers ≡ encode j };
+
+    fn from(j: Join) -> HostJoin {
+        let rising = j.options.ranks.rising;
+        HostJoin {
+            layout: LAYOUT,
+            options: j.options.into(),
+            rising,
+            base: j.base,
+            held: j.held,
+            pruned: j.pruned,
+            queue_start: j.queue_start,
+            queue_words: j.queue_words,
+            state: j.state.into(),
+            right_ended: flag_code(j.right_ended),
+            failed: flag_code(j.failed),
+            sequence: j.sequence,
+            last_left: j.last_left.into(),
+            last_right: j.last_right.into(),
+        }
     }
 }

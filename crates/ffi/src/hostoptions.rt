@@ -4,8 +4,7 @@ ghost use Rattle.order.specs.options.Options.{terms_of};
 ghost use Rattle.ffi.specs.hostoptions.HostOptions.{is_options, kept_ranks, encode_ranks, options_with, options_of, encode_options};
 
 use crate::codes::{
-    are_flags, both, check_code, check_of, flag_code, flag_codes, flag_of, flags_of, is_code,
-    is_flag,
+    are_flags, check_of, flag_code, flag_codes, flag_of, flags_of, is_code, is_flag,
 };
 use order::options::{Options, Terms};
 use order::ranks::Ranks;
@@ -38,18 +37,14 @@ pub struct HostOptions {
 }
 
 // Whether the numbers tell options.
+#[tactic(auto, unfolding(crate::specs::hostoptions::HostOptions::is_options))]
 pub fn is_options(h: HostOptions) -> bool
     ensures { result ≡ is_options h }
 {
     let d = h.descending;
     let n = h.nulls_last;
-    let strategy = h.strategy < 256;
-    let flags = both(is_flag(h.allow_eq), is_code(h.check));
-    let given = both(is_flag(h.ranks.given), is_flag(h.with_distance));
-    both(
-        both(strategy, flags),
-        both(both(are_flags(d), are_flags(n)), given),
-    )
+    (h.strategy < 256 && (is_flag(h.allow_eq) && is_code(h.check)))
+        && ((are_flags(d) && are_flags(n)) && (is_flag(h.ranks.given) && is_flag(h.with_distance)))
 }
 
 // The list of ranks that the numbers tell, with these places in rising order.
@@ -61,8 +56,8 @@ pub fn kept_ranks(h: HostRanks, rising: [u8; 64]) -> Ranks
         given: flag_of(h.given),
         column: h.column,
         count: h.count,
-        codes: codes,
-        rising: rising,
+        codes,
+        rising,
     }
 }
 
@@ -81,8 +76,8 @@ pub fn terms_from(h: HostOptions) -> Terms
         allow_eq: flag_of(h.allow_eq),
         tolerance: h.tolerance,
         check: check_of(h.check),
-        descending: descending,
-        nulls_last: nulls_last,
+        descending,
+        nulls_last,
         carried: h.carried,
         given: flag_of(h.ranks.given),
         column: h.ranks.column,
@@ -97,7 +92,6 @@ pub fn options_with(h: HostOptions, k: Ranks) -> Options
     ensures { result ≡ options_with h k }
 {
     let t = terms_from(h);
-    let check = t.check;
     let descending = t.descending;
     let nulls_last = t.nulls_last;
     Options {
@@ -105,9 +99,9 @@ pub fn options_with(h: HostOptions, k: Ranks) -> Options
         strategy: t.strategy,
         allow_eq: t.allow_eq,
         tolerance: t.tolerance,
-        check: check,
-        descending: descending,
-        nulls_last: nulls_last,
+        check: t.check,
+        descending,
+        nulls_last,
         carried: t.carried,
         ranks: k,
         with_distance: t.with_distance,
@@ -125,38 +119,38 @@ pub fn options_of(h: HostOptions) -> Options
 }
 
 // The numbers of a list of ranks.
-fn encode_ranks(k: Ranks) -> HostRanks
-    ensures { result ≡ encode_ranks k }
-{
-    let codes = k.codes;
-    HostRanks {
-        given: flag_code(k.given),
-        column: k.column,
-        count: k.count,
-        codes: codes,
+impl From<Ranks> for HostRanks {
+    ghost from_gives = { λ k numbers. numbers ≡ encode_ranks k };
+
+    fn from(k: Ranks) -> HostRanks {
+        let codes = k.codes;
+        HostRanks {
+            given: flag_code(k.given),
+            column: k.column,
+            count: k.count,
+            codes,
+        }
     }
 }
 
 // The numbers of options.
-pub fn encode_options(o: Options) -> HostOptions
-    ensures { result ≡ encode_options o }
-{
-    let c = o.check;
-    let d = o.descending;
-    let n = o.nulls_last;
-    let descending = flag_codes(d);
-    let nulls_last = flag_codes(n);
-    let ranks = encode_ranks(o.ranks);
-    HostOptions {
-        by: o.by,
-        strategy: o.strategy as u64,
-        allow_eq: flag_code(o.allow_eq),
-        tolerance: o.tolerance,
-        check: check_code(c),
-        descending: descending,
-        nulls_last: nulls_last,
-        carried: o.carried,
-        ranks: ranks,
-        with_distance: flag_code(o.with_distance),
+impl From<Options> for HostOptions {
+    ghost from_gives = { λ o numbers. numbers ≡ encode_options o };
+
+    fn from(o: Options) -> HostOptions {
+        let d = o.descending;
+        let n = o.nulls_last;
+        HostOptions {
+            by: o.by,
+            strategy: o.strategy as u64,
+            allow_eq: flag_code(o.allow_eq),
+            tolerance: o.tolerance,
+            check: o.check.into(),
+            descending: flag_codes(d),
+            nulls_last: flag_codes(n),
+            carried: o.carried,
+            ranks: o.ranks.into(),
+            with_distance: flag_code(o.with_distance),
+        }
     }
 }

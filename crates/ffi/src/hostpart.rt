@@ -7,17 +7,15 @@ ghost use Rattle.ffi.specs.results.Results.{turned_host};
 ghost use Rattle.ffi.specs.hostpart.Parts.{part_in};
 
 use crate::codes::{flag_code, flag_of};
-use crate::convert::{HostJoin, encode_row, row_of};
-use frames::outcomes::Answer;
-use frames::refusals::number_of;
+use crate::convert::{HostJoin, row_of};
+use frames::outcomes::Turn;
+use frames::refusals::Refusal;
 use node::turnparts::Part;
 
 // The part that the numbers tell: the join without its options and its state.
 pub fn part_from(h: HostJoin) -> Part
     ensures { result ≡ part_of (join_of h) }
 {
-    let l = row_of(h.last_left);
-    let r = row_of(h.last_right);
     Part {
         base: h.base,
         held: h.held,
@@ -27,44 +25,40 @@ pub fn part_from(h: HostJoin) -> Part
         right_ended: flag_of(h.right_ended),
         failed: flag_of(h.failed),
         sequence: h.sequence,
-        last_left: l,
-        last_right: r,
+        last_left: row_of(h.last_left),
+        last_right: row_of(h.last_right),
     }
 }
 
 // The number of a turn's answer.
-pub fn answer_code(a: Answer) -> u64
+pub fn answer_code(a: Result<Turn, Refusal>) -> u64
     ensures { (h : HostJoin) → result ≡ (turned_host a h).answer }
 {
     match a {
-        Answer::Wrote(_) => 0,
-        Answer::WantsRight => 1,
-        Answer::Idle => 2,
-        Answer::Refused(_) => 3,
+        Ok(Turn::Wrote(_)) => 0,
+        Ok(Turn::WantsRight) => 1,
+        Ok(Turn::Idle) => 2,
+        Err(_) => 3,
     }
 }
 
 // The number of its refusal, 0 if there is none.
-pub fn answer_refusal(a: Answer) -> u64
+pub fn answer_refusal(a: Result<Turn, Refusal>) -> u64
     ensures { (h : HostJoin) → result ≡ (turned_host a h).refusal }
 {
     match a {
-        Answer::Wrote(_) => 0,
-        Answer::WantsRight => 0,
-        Answer::Idle => 0,
-        Answer::Refused(n) => number_of(n),
+        Ok(_) => 0,
+        Err(n) => n.into(),
     }
 }
 
 // The sequence that it wrote, else 0.
-pub fn answer_sequence(a: Answer) -> u64
+pub fn answer_sequence(a: Result<Turn, Refusal>) -> u64
     ensures { (h : HostJoin) → result ≡ (turned_host a h).sequence }
 {
     match a {
-        Answer::Wrote(s) => s,
-        Answer::WantsRight => 0,
-        Answer::Idle => 0,
-        Answer::Refused(_) => 0,
+        Ok(Turn::Wrote(s)) => s,
+        _ => 0,
     }
 }
 
@@ -72,8 +66,6 @@ pub fn answer_sequence(a: Answer) -> u64
 pub fn part_in(mut h: HostJoin, p: Part) -> HostJoin
     ensures { result ≡ part_in h p }
 {
-    let l = encode_row(p.last_left);
-    let r = encode_row(p.last_right);
     h.base = p.base;
     h.held = p.held;
     h.pruned = p.pruned;
@@ -82,7 +74,7 @@ pub fn part_in(mut h: HostJoin, p: Part) -> HostJoin
     h.right_ended = flag_code(p.right_ended);
     h.failed = flag_code(p.failed);
     h.sequence = p.sequence;
-    h.last_left = l;
-    h.last_right = r;
+    h.last_left = p.last_left.into();
+    h.last_right = p.last_right.into();
     h
 }

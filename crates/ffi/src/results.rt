@@ -1,16 +1,14 @@
 // What the calls answer, in numbers.
 ghost use Rattle.std.specs.Prelude.{◌≡◌};
 ghost use Rattle.frames.specs.declared.refusals.Refusal.TheVariants.{BadJoin};
-ghost use Rattle.frames.specs.declared.outcomes.Took.TheVariants.{Refused};
-ghost use Rattle.frames.specs.declared.outcomes.Ported.TheVariants.{Refused as PortsRefused};
 ghost use Rattle.ffi.specs.convert.Convert.{encode};
 ghost use Rattle.ffi.specs.results.Results.{took_host, ported_host, ran_host, refused_run, fresh_host};
 
-use crate::codes::{port_code, stop_code, stop_refusal, took_code};
-use crate::convert::{HostJoin, LAYOUT, encode_join, encode_row};
+use crate::codes::{stop_code, stop_refusal, took_code};
+use crate::convert::{HostJoin, LAYOUT};
 use crate::hostoptions::HostOptions;
-use frames::outcomes::Ported;
-use frames::refusals::number_of;
+use frames::outcomes::Ports;
+use frames::refusals::Refusal;
 use node::runs::RanJoin;
 use node::{PortedJoin, TookJoin};
 use rows::keyed::no_row;
@@ -59,12 +57,11 @@ pub struct HostRan {
 pub fn fresh_host(o: HostOptions) -> HostJoin
     ensures { result ≡ fresh_host o }
 {
-    let none = encode_row(no_row());
     let rising = [0; 64];
     HostJoin {
         layout: LAYOUT,
         options: o,
-        rising: rising,
+        rising,
         base: 0,
         held: 0,
         pruned: 0,
@@ -74,14 +71,14 @@ pub fn fresh_host(o: HostOptions) -> HostJoin
         right_ended: 0,
         failed: 0,
         sequence: 0,
-        last_left: none,
-        last_right: none,
+        last_left: no_row().into(),
+        last_right: no_row().into(),
     }
 }
 
 // Numbers that are no join: refused as 2, and handed back.
 pub fn bad_took(h: HostJoin) -> HostTook
-    ensures { result ≡ took_host (Refused BadJoin) h }
+    ensures { result ≡ took_host (Err BadJoin) h }
 {
     HostTook {
         refusal: 2,
@@ -90,20 +87,20 @@ pub fn bad_took(h: HostJoin) -> HostTook
 }
 
 // The answer of opening, of a frame or of the end of right.
-pub fn took_host(t: TookJoin) -> HostTook
-    ensures { result ≡ took_host t.answer (encode t.join) }
-{
-    let answer = t.answer;
-    let join = encode_join(t.join);
-    HostTook {
-        refusal: took_code(answer),
-        join: join,
+impl From<TookJoin> for HostTook {
+    ghost from_gives = { λ t numbers. numbers ≡ took_host t.answer (encode t.join) };
+
+    fn from(t: TookJoin) -> HostTook {
+        HostTook {
+            refusal: took_code(t.answer),
+            join: t.join.into(),
+        }
     }
 }
 
 // The same of a port call.
 pub fn bad_ported(h: HostJoin) -> HostPorted
-    ensures { result ≡ ported_host (PortsRefused BadJoin) h }
+    ensures { result ≡ ported_host (Err BadJoin) h }
 {
     HostPorted {
         refusal: 2,
@@ -115,26 +112,27 @@ pub fn bad_ported(h: HostJoin) -> HostPorted
 }
 
 // The answer of a port call.
-pub fn ported_host(p: PortedJoin) -> HostPorted
-    ensures { result ≡ ported_host p.answer (encode p.join) }
-{
-    let answer = p.answer;
-    let join = encode_join(p.join);
-    match answer {
-        Ported::Ports(l, r, s) => HostPorted {
-            refusal: 0,
-            left: port_code(l),
-            right: port_code(r),
-            send: port_code(s),
-            join: join,
-        },
-        Ported::Refused(n) => HostPorted {
-            refusal: number_of(n),
-            left: 0,
-            right: 0,
-            send: 0,
-            join: join,
-        },
+impl From<PortedJoin> for HostPorted {
+    ghost from_gives = { λ p numbers. numbers ≡ ported_host p.answer (encode p.join) };
+
+    fn from(p: PortedJoin) -> HostPorted {
+        let join = p.join.into();
+        match p.answer {
+            Ok(ports) => HostPorted {
+                refusal: 0,
+                left: ports.left.into(),
+                right: ports.right.into(),
+                send: ports.send.into(),
+                join,
+            },
+            Err(n) => HostPorted {
+                refusal: n.into(),
+                left: 0,
+                right: 0,
+                send: 0,
+                join,
+            },
+        }
     }
 }
 
@@ -152,16 +150,16 @@ pub fn bad_ran(h: HostJoin) -> HostRan
 }
 
 // What a run made.
-pub fn ran_host(t: RanJoin) -> HostRan
-    ensures { result ≡ ran_host (record { turns = t.turns; words = t.words; stop = t.stop }) (encode t.join) }
-{
-    let stop = t.stop;
-    let join = encode_join(t.join);
-    HostRan {
-        turns: t.turns,
-        words: t.words,
-        stop: stop_code(stop),
-        refusal: stop_refusal(stop),
-        join: join,
+impl From<RanJoin> for HostRan {
+    ghost from_gives = { λ t numbers. numbers ≡ ran_host (record { turns = t.turns; words = t.words; stop = t.stop }) (encode t.join) };
+
+    fn from(t: RanJoin) -> HostRan {
+        HostRan {
+            turns: t.turns,
+            words: t.words,
+            stop: stop_code(t.stop),
+            refusal: stop_refusal(t.stop),
+            join: t.join.into(),
+        }
     }
 }

@@ -1,4 +1,5 @@
 -- The parts of the frame rule as the code tests them: words that are counts, marks that fit, a length that n and c give; and the front of words. Assumes nothing.
+use Rattle.std.specs.Prelude.{Some, None}
 use mathlib.Core.Path.{◌≡◌, refl, sym, ap, ◌∙◌}
 use mathlib.Core.Bool.{Bool, true, false, cond, ◌&&◌}
 use Prim.Native.Nat.{ℕ, suc, ◌+◌, ◌-◌, ◌*◌, ◌/◌, ◌≤◌, ◌<◌, ◌^◌, min}
@@ -16,7 +17,6 @@ use mir.Val.{SFits, of_z}
 use Rattle.frames.specs.Cells.{Words}
 use Rattle.frames.specs.Frame.{same_z, row_count, frame_words, pair_fine, pairs_fine, values_in, marks_in, is_table, frame_limit, is_frame, front}
 use Rattle.frames.specs.Front.{front_of, few_rows, fitting, front_length, HasCount}
-use Rattle.frames.specs.declared.Front.TheVariants.{Words as Long, Nothing}
 use Rattle.frames.proofs.BoolLaws.{and-true, and_true_right}
 use Rattle.frames.proofs.FrameLaws.{table_parts}
 
@@ -84,15 +84,15 @@ pairs_done vs ms i h = rw (drop_of_length-le vs h)
 
 -- ---- the length that n and c give
 module _ (n c room : ℕ) where
-  pub fit_short : room < 2 → fitting n c room ≡ Nothing
+  pub fit_short : room < 2 → fitting n c room ≡ None
   unfolding fitting
   fit_short h = rw (lt-leb (frame_words n c) room (omega arith))
 
-  pub fit_none : 2 ≤ room → n ≡ 0 → fitting n c room ≡ Long 2
+  pub fit_none : 2 ≤ room → n ≡ 0 → fitting n c room ≡ Some 2
   unfolding fitting
   fit_none h e = let z : frame_words n c ≡ 2 = rw (e, zero-mul c) in rw (z, le-leb 2 room h)
 
-  pub fit_over : (n ≡ 0 → ⊥) → (room - 2) / 2 / n < c → fitting n c room ≡ Nothing
+  pub fit_over : (n ≡ 0 → ⊥) → (room - 2) / 2 / n < c → fitting n c room ≡ None
   unfolding fitting
   fit_over g h =
       let k : (room - 2) / 2 < c * n = (div-lt_iff_lt-mul {k = n} {x = (room - 2) / 2} {y = c} (omega arith)).0 h in
@@ -103,12 +103,12 @@ module _ (n c room : ℕ) where
       let k : c * n ≤ (room - 2) / 2 = (le-div_iff_mul-le {k = n} {x = c} {y = (room - 2) / 2} (omega arith)).0 h in
       omega arith
 
-  pub fit_within : frame_words n c ≤ room → fitting n c room ≡ Long (frame_words n c)
+  pub fit_within : frame_words n c ≤ room → fitting n c room ≡ Some (frame_words n c)
   unfolding fitting
   fit_within h = rw (le-leb (frame_words n c) room h)
 
 -- ---- the length of the front
-found_by : (a b d : Bool) (m k : ℕ) → cond (a && b) (cond d (Long m) Nothing) Nothing ≡ Long k → (a ≡ true) × (b ≡ true) × (d ≡ true) × (m ≡ k)
+found_by : (a b d : Bool) (m k : ℕ) → cond (a && b) (cond d (Some m) None) None ≡ Some k → (a ≡ true) × (b ≡ true) × (d ≡ true) × (m ≡ k)
 found_by true true true m k e = (refl, refl, refl, (cc))
 found_by true true false m k e = let z : ◌≡◌ {A = ℕ} 0 1 = cc in absurd (omega arith)
 found_by true false d m k e = let z : ◌≡◌ {A = ℕ} 0 1 = cc in absurd (omega arith)
@@ -119,11 +119,11 @@ not_true_false true h = absurd (h refl)
 not_true_false false h = refl
 
 module _ (c : ℕ) (ws : Words) where
-  pub front_short : length ws < 2 → front_length c ws ≡ Nothing
+  pub front_short : length ws < 2 → front_length c ws ≡ None
   unfolding front_length
   front_short h = rw (lt-leb 2 (length ws) h)
 
-  pub front_many : 2 ≤ length ws → few_rows (get_or ws 0 (pos 0)) ≡ false → front_length c ws ≡ Nothing
+  pub front_many : 2 ≤ length ws → few_rows (get_or ws 0 (pos 0)) ≡ false → front_length c ws ≡ None
   unfolding front_length
   front_many h e = rw (le-leb 2 (length ws) h, e)
 
@@ -132,13 +132,13 @@ module _ (c : ℕ) (ws : Words) where
   front_fits h e = rw (le-leb 2 (length ws) h, e)
 
   -- What a front that was found says.
-  pub front_found : (k : ℕ) → front_length c ws ≡ Long k → (2 ≤ length ws) × (few_rows (get_or ws 0 (pos 0)) ≡ true) × (k ≤ length ws) × (k ≡ frame_words (row_count ws) c)
+  pub front_found : (k : ℕ) → front_length c ws ≡ Some k → (2 ≤ length ws) × (few_rows (get_or ws 0 (pos 0)) ≡ true) × (k ≤ length ws) × (k ≡ frame_words (row_count ws) c)
   unfolding front_length fitting
   front_found k e =
       let p = found_by (leb 2 (length ws)) (few_rows (get_or ws 0 (pos 0))) (leb (frame_words (row_count ws) c) (length ws)) (frame_words (row_count ws) c) k e in
       (leb-true 2 (length ws) p.0, p.1, omega (arith, leb-true (frame_words (row_count ws) c) (length ws) p.2, p.3), sym p.3)
 
-  found_front : 2 ≤ length ws → few_rows (get_or ws 0 (pos 0)) ≡ true → frame_words (row_count ws) c ≤ length ws → front_length c ws ≡ Long (frame_words (row_count ws) c)
+  found_front : 2 ≤ length ws → few_rows (get_or ws 0 (pos 0)) ≡ true → frame_words (row_count ws) c ≤ length ws → front_length c ws ≡ Some (frame_words (row_count ws) c)
   found_front h e l = front_fits h e ∙ fit_within (row_count ws) c (length ws) l
 
 -- ---- a frame: the parts of the rule
@@ -157,24 +157,24 @@ frame_parts c f h =
     record { long = t.long; few = rw (t.counted, p.1) refl; columns = t.columns; exact = t.exact; fine = t.fine }
 
 -- ---- a table, as the code tests it
-fit_by : (b : Bool) (m k : ℕ) → cond b (Long m) Nothing ≡ Long k → (b ≡ true) × (m ≡ k)
+fit_by : (b : Bool) (m k : ℕ) → cond b (Some m) None ≡ Some k → (b ≡ true) × (m ≡ k)
 fit_by true m k e = (refl, (cc))
 fit_by false m k e = let z : ◌≡◌ {A = ℕ} 0 1 = cc in absurd (omega arith)
 
-fit_not : (b : Bool) (m : ℕ) → cond b (Long m) Nothing ≡ Nothing → b ≡ false
+fit_not : (b : Bool) (m : ℕ) → cond b (Some m) None ≡ None → b ≡ false
 fit_not true m e = cc
 fit_not false m e = refl
 
 module _ (n c room : ℕ) where
-  pub fitting_some : (k : ℕ) → fitting n c room ≡ Long k → leb (frame_words n c) room ≡ true
+  pub fitting_some : (k : ℕ) → fitting n c room ≡ Some k → leb (frame_words n c) room ≡ true
   unfolding fitting
   fitting_some k e = (fit_by (leb (frame_words n c) room) (frame_words n c) k e).0
 
-  pub fitting_none : fitting n c room ≡ Nothing → leb (frame_words n c) room ≡ false
+  pub fitting_none : fitting n c room ≡ None → leb (frame_words n c) room ≡ false
   unfolding fitting
   fitting_none e = fit_not (leb (frame_words n c) room) (frame_words n c) e
 
-  fitting_length : (k : ℕ) → fitting n c room ≡ Long k → frame_words n c ≡ k
+  fitting_length : (k : ℕ) → fitting n c room ≡ Some k → frame_words n c ≡ k
   unfolding fitting
   fitting_length k e = (fit_by (leb (frame_words n c) room) (frame_words n c) k e).1
 
@@ -186,14 +186,14 @@ module _ (c : ℕ) (f : Words) where
   table_below_zero l =
       not_true_false (is_table c f) (λ h. let g = (table_parts c f h).counted in let k = below_zero (get_or f 0 (pos 0)) l in let z : ◌≡◌ {A = ℕ} 0 1 = cc in omega arith)
 
-  pub table_over : fitting (row_count f) c (length f) ≡ Nothing → is_table c f ≡ false
+  pub table_over : fitting (row_count f) c (length f) ≡ None → is_table c f ≡ false
   table_over e =
       not_true_false (is_table c f) (λ h.
       let g = le-leb (frame_words (row_count f) c) (length f) (omega (arith, (table_parts c f h).exact)) in
       let k = fitting_none (row_count f) c (length f) e in
       let z : ◌≡◌ {A = ℕ} 0 1 = cc in omega arith)
 
-  pub table_other_length : (k : ℕ) → fitting (row_count f) c (length f) ≡ Long k → (k ≡ length f → ⊥) → is_table c f ≡ false
+  pub table_other_length : (k : ℕ) → fitting (row_count f) c (length f) ≡ Some k → (k ≡ length f → ⊥) → is_table c f ≡ false
   table_other_length k e n =
       not_true_false (is_table c f) (λ h. n (sym (fitting_length (row_count f) c (length f) k e) ∙ sym (table_parts c f h).exact))
 
@@ -201,7 +201,7 @@ module _ (c : ℕ) (f : Words) where
   table_other_columns e = not_true_false (is_table c f) (λ h. let g = (table_parts c f h).columns in let z : ◌≡◌ {A = ℕ} 0 1 = cc in omega arith)
 
   -- The words behind the first two fall into two halves, values and marks.
-  pub table_halves : (k : ℕ) → le_z (pos 0) (get_or f 0 (pos 0)) ≡ true → fitting (row_count f) c (length f) ≡ Long k → k ≡ length f → same_z (get_or f 1 (pos 0)) (pos c) ≡ true →
+  pub table_halves : (k : ℕ) → le_z (pos 0) (get_or f 0 (pos 0)) ≡ true → fitting (row_count f) c (length f) ≡ Some k → k ≡ length f → same_z (get_or f 1 (pos 0)) (pos c) ≡ true →
       is_table c f ≡ pairs_fine (take (length f / 2 + 1 - 2) (drop 2 f)) (take (length f - (length f / 2 + 1)) (drop (length f / 2 + 1) f))
   unfolding is_table
   table_halves k g e n s =
@@ -236,7 +236,7 @@ module _ (c : ℕ) (ws : Words) where
   pub front_rows : row_count (front c ws) ≡ row_count ws
   front_rows = ap nat_abs front_word
 
-  front_frame : is_frame c (front c ws) ≡ true → front_length c ws ≡ Long (frame_words (row_count ws) c)
+  front_frame : is_frame c (front c ws) ≡ true → front_length c ws ≡ Some (frame_words (row_count ws) c)
   unfolding front
   front_frame h =
       let p = frame_parts c (front c ws) h in
@@ -244,22 +244,22 @@ module _ (c : ℕ) (ws : Words) where
       let x : length (front c ws) ≡ frame_words (row_count ws) c = p.exact ∙ ap (λ (n : ℕ). frame_words n c) front_rows in
       found_front c ws (omega (arith, p.long)) (rw front_word at p.few) (omega arith)
 
-  pub front_none : front_length c ws ≡ Nothing → front_of c ws ≡ Nothing
+  pub front_none : front_length c ws ≡ None → front_of c ws ≡ None
   unfolding front_of
   front_none e = rw (not_true_false (is_frame c (front c ws)) (λ h. let g = front_frame h in let z : ◌≡◌ {A = ℕ} 0 1 = cc in omega arith))
 
-  front_is : (k : ℕ) → front_length c ws ≡ Long k → (front c ws ≡ take k ws) × (length (front c ws) ≡ k)
+  front_is : (k : ℕ) → front_length c ws ≡ Some k → (front c ws ≡ take k ws) × (length (front c ws) ≡ k)
   unfolding front
   front_is k e =
       let p = front_found c ws k e in
       let x : frame_words (row_count ws) c ≡ k = sym p.3 in
       (rw x, rw x (length-take-le k ws p.2))
 
-  pub front_yes : (k : ℕ) → front_length c ws ≡ Long k → is_frame c (take k ws) ≡ true → front_of c ws ≡ Long k
+  pub front_yes : (k : ℕ) → front_length c ws ≡ Some k → is_frame c (take k ws) ≡ true → front_of c ws ≡ Some k
   unfolding front_of
   front_yes k e h = let p = front_is k e in rw p.1 (rw (p.0, h))
 
-  pub front_no : (k : ℕ) → front_length c ws ≡ Long k → is_frame c (take k ws) ≡ false → front_of c ws ≡ Nothing
+  pub front_no : (k : ℕ) → front_length c ws ≡ Some k → is_frame c (take k ws) ≡ false → front_of c ws ≡ None
   unfolding front_of
   front_no k e h = let p = front_is k e in rw (p.0, h)
 
@@ -283,11 +283,11 @@ pub record Fronted (c : ℕ) (ws : Words) (k : ℕ) : Type 0 where
   pub count : HasCount ws
 
 module _ (c : ℕ) (ws : Words) where
-  answered_by : (b : Bool) (m k : ℕ) → cond b (Long m) Nothing ≡ Long k → (b ≡ true) × (m ≡ k)
+  answered_by : (b : Bool) (m k : ℕ) → cond b (Some m) None ≡ Some k → (b ≡ true) × (m ≡ k)
   answered_by true m k e = (refl, (cc))
   answered_by false m k e = let z : ◌≡◌ {A = ℕ} 0 1 = cc in absurd (omega arith)
 
-  pub front_told : (k : ℕ) → front_of c ws ≡ Long k → Fronted c ws k
+  pub front_told : (k : ℕ) → front_of c ws ≡ Some k → Fronted c ws k
   unfolding front_of
   front_told k e =
       let p = answered_by (is_frame c (front c ws)) (length (front c ws)) k e in

@@ -8,8 +8,8 @@ use Rattle.frames.specs.Cells.{Cell, Words, row_from}
 use Rattle.order.specs.declared.options.Options.{Options}
 use Rattle.order.specs.options.Options.{key_rule}
 use Rattle.order.specs.Order.{cmp_cell, cmp_group, is_equal}
-use Rattle.order.specs.declared.Order.{Order}
-use Rattle.order.specs.declared.Order.TheVariants.{Less, Equal, Greater}
+use Rattle.std.specs.declared.cmp.Ordering.{Ordering}
+use Rattle.std.specs.declared.cmp.Ordering.TheVariants.{Less, Equal, Greater}
 use Rattle.order.proofs.OrderLaws.{cmp_cell_is, group_equal}
 use Rattle.order.proofs.RowLaws.{row_cell, row_room}
 use Rattle.matching.specs.Groups.{same_run}
@@ -51,7 +51,7 @@ module _ (o : Options) (w n : ℕ) (vs ms : Words) (wide : o.by < w) (fits : n *
 pub not_alike : (o : Options) (w p q : ℕ) (vs ms : Words) → o.by < w → p + o.by < length vs → q + o.by < length vs → (SameCells o.by p q vs ms → ⊥) → is_equal (cmp_group o (row_from w p vs ms) (row_from w q vs ms)) ≡ false
 not_alike o w p q vs ms h a b apart = by (cmp_group o (row_from w p vs ms) (row_from w q vs ms)) refl
   where
-    by : (x : Order) → cmp_group o (row_from w p vs ms) (row_from w q vs ms) ≡ x → is_equal x ≡ false
+    by : (x : Ordering) → cmp_group o (row_from w p vs ms) (row_from w q vs ms) ≡ x → is_equal x ≡ false
     by Less e = refl
     by Greater e = refl
     by Equal e = absurd (apart (λ j k.

@@ -7,50 +7,52 @@ ghost use Rattle.groups.specs.rising.Rising.{key_falls, Rises};
 
 use crate::rising::key_falls;
 use crate::stretch::{has_words, same_words};
+use frames::RowSlice;
 
 // Whether the mark at `next` is m, as at `at`, and the value there is not below the one at `at`: then the key at `at` is not greater. Both may be null.
-fn key_follows(values: &[i64], marks: &[i64], at: usize, next: usize, m: i64) -> bool
-    requires { CellIn at values.now marks.now × CellIn next values.now marks.now × (get_or marks.now at (pos 0) ≡ m) }
-    ensures { result ≡ true → (key_falls at next values.now marks.now ≡ false) × (get_or marks.now next (pos 0) ≡ m) }
+fn key_follows(rows: RowSlice<'_>, at: usize, next: usize, m: i64) -> bool
+    requires { CellIn at rows.values.now rows.marks.now × CellIn next rows.values.now rows.marks.now × (get_or rows.marks.now at (pos 0) ≡ m) }
+    ensures { result ≡ true → (key_falls at next rows.entry.values.now rows.entry.marks.now ≡ false) × (get_or rows.entry.marks.now next (pos 0) ≡ m) }
 {
-    if marks[next] != m {
+    if rows.marks[next] != m {
         return false;
     }
-    if values[next] < values[at] {
+    if rows.values[next] < rows.values[at] {
         return false;
     }
     true
 }
 
 // With one by-column: whether the row at q goes on from the one at p. Its by-value has the words v and m, its key the mark k, as at p, and does not fall.
-fn row_follows(values: &[i64], marks: &[i64], p: usize, q: usize, v: i64, m: i64, k: i64) -> bool
-    requires { CellIn (p + 1) values.now marks.now × CellIn (q + 1) values.now marks.now × (get_or marks.now (p + 1) (pos 0) ≡ k) }
-    ensures { result ≡ true → (cell_at q values.now marks.now ≡ cell_of v m) × (key_falls (p + 1) (q + 1) values.now marks.now ≡ false) × (get_or marks.now (q + 1) (pos 0) ≡ k) }
+fn row_follows(rows: RowSlice<'_>, p: usize, q: usize, v: i64, m: i64, k: i64) -> bool
+    requires { CellIn (p + 1) rows.values.now rows.marks.now × CellIn (q + 1) rows.values.now rows.marks.now × (get_or rows.marks.now (p + 1) (pos 0) ≡ k) }
+    ensures { result ≡ true → (cell_at q rows.entry.values.now rows.entry.marks.now ≡ cell_of v m) × (key_falls (p + 1) (q + 1) rows.entry.values.now rows.entry.marks.now ≡ false) × (get_or rows.entry.marks.now (q + 1) (pos 0) ≡ k) }
 {
-    if !has_words(values, marks, q, v, m) {
+    if !has_words(rows, q, v, m) {
         return false;
     }
-    key_follows(values, marks, p + 1, q + 1, k)
+    key_follows(rows, p + 1, q + 1, k)
 }
 
 // With one by-column: how many rows are left behind those that go on so. The words of row i's by-value and the mark of its key are kept, and
 // each row behind it is compared with them, two rows in a turn of the loop. A last row that has no second is left.
-fn one_rise(values: &[i64], marks: &[i64], n: usize, w: usize, i: usize) -> usize
-    requires { RowsTo 2 w n values.now marks.now i × (i < n) }
-    ensures { (result ≤ n) × SameTo 1 w n values.now marks.now i (n - result) × Rises 1 w values.now marks.now i (n - result) }
+fn one_rise(rows: RowSlice<'_>, i: usize) -> usize
+    requires { RowsTo 2 rows.width rows.count rows.values.now rows.marks.now i × (i < rows.count) }
+    ensures { (result ≤ rows.entry.count) × SameTo 1 rows.entry.width rows.entry.count rows.entry.values.now rows.entry.marks.now i (rows.entry.count - result) × Rises 1 rows.entry.width rows.entry.values.now rows.entry.marks.now i (rows.entry.count - result) }
 {
-    let mut left = n - i - 1;
-    let mut p = i * w;
-    let v = values[p];
-    let m = marks[p];
-    let k = marks[p + 1];
+    let mut left = rows.count - i - 1;
+    let mut p = i * rows.width;
+    let v = rows.values[p];
+    let m = rows.marks[p];
+    let k = rows.marks[p + 1];
+    // A while: two rows a turn.
     while 1 < left {
-        let q = p + w;
-        if !row_follows(values, marks, p, q, v, m, k) {
+        let q = p + rows.width;
+        if !row_follows(rows, p, q, v, m, k) {
             return left;
         }
-        let r = q + w;
-        if !row_follows(values, marks, q, r, v, m, k) {
+        let r = q + rows.width;
+        if !row_follows(rows, q, r, v, m, k) {
             return left - 1;
         }
         p = r;
@@ -60,33 +62,27 @@ fn one_rise(values: &[i64], marks: &[i64], n: usize, w: usize, i: usize) -> usiz
 }
 
 // The same with any number of by-columns.
-fn many_rise(values: &[i64], marks: &[i64], n: usize, w: usize, i: usize, by: usize) -> usize
-    requires { RowsTo (by + 1) w n values.now marks.now i × (i < n) }
-    ensures { (result ≤ n) × SameTo by w n values.now marks.now i (n - result) × Rises by w values.now marks.now i (n - result) }
+fn many_rise(rows: RowSlice<'_>, i: usize, by: usize) -> usize
+    requires { RowsTo (by + 1) rows.width rows.count rows.values.now rows.marks.now i × (i < rows.count) }
+    ensures { (result ≤ rows.entry.count) × SameTo by rows.entry.width rows.entry.count rows.entry.values.now rows.entry.marks.now i (rows.entry.count - result) × Rises by rows.entry.width rows.entry.values.now rows.entry.marks.now i (rows.entry.count - result) }
 {
-    let mut left = n - i - 1;
-    let mut p = i * w;
-    while 0 < left {
-        let q = p + w;
-        if !same_words(values, marks, p, q, by) {
-            return left;
+    for e in i + 1..rows.count {
+        let q = e * rows.width;
+        let p = q - rows.width;
+        if !same_words(rows, p, q, by) || key_falls(rows, p + by, q + by) {
+            return rows.count - e;
         }
-        if key_falls(values, marks, p + by, q + by) {
-            return left;
-        }
-        p = q;
-        left -= 1;
     }
-    left
+    0
 }
 
 // How far the rows behind row i, of n, have its by-values, word for word, and no key falls. It may stop before that: what stands there is then compared by the rules.
-pub fn rise_end(values: &[i64], marks: &[i64], n: usize, w: usize, i: usize, by: usize) -> usize
-    requires { RowsTo (by + 1) w n values.now marks.now i × (i < n) }
-    ensures { SameTo by w n values.now marks.now i result × Rises by w values.now marks.now i result }
+pub fn rise_end(rows: RowSlice<'_>, i: usize, by: usize) -> usize
+    requires { RowsTo (by + 1) rows.width rows.count rows.values.now rows.marks.now i × (i < rows.count) }
+    ensures { SameTo by rows.entry.width rows.entry.count rows.entry.values.now rows.entry.marks.now i result × Rises by rows.entry.width rows.entry.values.now rows.entry.marks.now i result }
 {
     if by == 1 {
-        return n - one_rise(values, marks, n, w, i);
+        return rows.count - one_rise(rows, i);
     }
-    n - many_rise(values, marks, n, w, i, by)
+    rows.count - many_rise(rows, i, by)
 }

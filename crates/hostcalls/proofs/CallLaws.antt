@@ -1,8 +1,10 @@
 -- A call by numbers: refused as a bad join, or the node's call in numbers. One law for each serves all calls. Assumes nothing.
+use Rattle.frames.specs.declared.outcomes.Turn.{Turn}
+use Rattle.frames.specs.declared.refusals.Refusal.{Refusal}
+use Rattle.std.specs.Prelude.{Result, Err, None, Some}
 use mathlib.Core.Path.{◌≡◌, refl}
 use mathlib.Core.Bool.{true, false, ◌&&◌}
 use mathlib.Core.List.{[]}
-use mathlib.Core.Option.{none, some}
 use Prim.Native.Nat.{ℕ}
 use Rattle.frames.specs.Cells.{Words}
 use Rattle.node.specs.State.{fresh}
@@ -19,11 +21,6 @@ use Rattle.node.specs.declared.PortedJoin.{PortedJoin}
 use Rattle.node.specs.declared.TurnedJoin.{TurnedJoin}
 use Rattle.node.specs.declared.runs.RanJoin.{RanJoin}
 use Rattle.frames.specs.declared.refusals.Refusal.TheVariants.{BadOptions, BadJoin}
-use Rattle.frames.specs.declared.outcomes.Took.{Took}
-use Rattle.frames.specs.declared.outcomes.Took.TheVariants.{Refused}
-use Rattle.frames.specs.declared.outcomes.Ported.TheVariants.{Refused as PortsRefused}
-use Rattle.frames.specs.declared.outcomes.Answer.{Answer}
-use Rattle.frames.specs.declared.outcomes.Answer.TheVariants.{Refused as TurnRefused}
 use Rattle.ffi.specs.codes.Codes.{is_code, port_of}
 use Rattle.ffi.specs.convert.Convert.{is_join, join_of, encode, decode}
 use Rattle.ffi.specs.hostoptions.HostOptions.{is_options, options_of, decode_options}
@@ -38,24 +35,24 @@ use Rattle.ffi.specs.declared.results.HostTurned.{HostTurned}
 use Rattle.ffi.specs.declared.results.HostRan.{HostRan}
 
 -- ---- what is read
-options_none : (h : HostOptions) → is_options h ≡ false → decode_options h ≡ none
+options_none : (h : HostOptions) → is_options h ≡ false → decode_options h ≡ None
 unfolding decode_options
 options_none h e = rw e
 
-options_some : (h : HostOptions) → is_options h ≡ true → decode_options h ≡ some (options_of h)
+options_some : (h : HostOptions) → is_options h ≡ true → decode_options h ≡ Some (options_of h)
 unfolding decode_options
 options_some h e = rw e
 
-join_none : (h : HostJoin) → is_join h ≡ false → decode h ≡ none
+join_none : (h : HostJoin) → is_join h ≡ false → decode h ≡ None
 unfolding decode
 join_none h e = rw e
 
-join_some : (h : HostJoin) → is_join h ≡ true → decode h ≡ some (join_of h)
+join_some : (h : HostJoin) → is_join h ≡ true → decode h ≡ Some (join_of h)
 unfolding decode
 join_some h e = rw e
 
 -- ---- opening
-pub open_bad : (h : HostOptions) → is_options h ≡ false → open_host h ≡ took_host (Refused BadOptions) (fresh_host h)
+pub open_bad : (h : HostOptions) → is_options h ≡ false → open_host h ≡ took_host (Err BadOptions) (fresh_host h)
 unfolding open_host
 open_bad h e = rw (options_none h e, open_host)
 
@@ -94,59 +91,59 @@ module _ {A : Type 0} (h : HostJoin) (refused : HostAfter A) (call : Join → Af
 
 -- ---- frames
 module _ (h : HostJoin) (left right f : Words) where
-  pub left_bad : (r : HostTook) → is_join h ≡ false → r ≡ took_host (Refused BadJoin) h → HostLeftContract h left right f r left
+  pub left_bad : (r : HostTook) → is_join h ≡ false → r ≡ took_host (Err BadJoin) h → HostLeftContract h left right f r left
   unfolding left_host
   left_bad r e x =
-      let no = after_host (Refused BadJoin) h left right [] in
-      let call : Join → After Took = λ j. left_call j left right f in
+      let no = after_host (Err BadJoin) h left right [] in
+      let call : Join → After (Result Unit Refusal) = λ j. left_call j left right f in
       record { result = refuses h no call took_host e x; words = words_refused h no call (λ y. y.left) e refl }
 
   pub left_through : (j : Join) (t : TookJoin) (r : HostTook) (ws : Words) → is_join h ≡ true → j ≡ join_of h → LeftContract j left right f t ws → r ≡ took_host t.answer (encode t.join) → HostLeftContract h left right f r ws
   unfolding left_host
   left_through j t r ws e i l x =
-      let no = after_host (Refused BadJoin) h left right [] in
-      let call : Join → After Took = λ j. left_call j left right f in
+      let no = after_host (Err BadJoin) h left right [] in
+      let call : Join → After (Result Unit Refusal) = λ j. left_call j left right f in
       record { result = through h no call took_host e i l.answer l.join x; words = words_through h no call (λ y. y.left) e i l.words }
 
-  pub right_bad : (r : HostTook) → is_join h ≡ false → r ≡ took_host (Refused BadJoin) h → HostRightContract h left right f r right
+  pub right_bad : (r : HostTook) → is_join h ≡ false → r ≡ took_host (Err BadJoin) h → HostRightContract h left right f r right
   unfolding right_host
   right_bad r e x =
-      let no = after_host (Refused BadJoin) h left right [] in
-      let call : Join → After Took = λ j. right_call j left right f in
+      let no = after_host (Err BadJoin) h left right [] in
+      let call : Join → After (Result Unit Refusal) = λ j. right_call j left right f in
       record { result = refuses h no call took_host e x; words = words_refused h no call (λ y. y.right) e refl }
 
   pub right_through : (j : Join) (t : TookJoin) (r : HostTook) (ws : Words) → is_join h ≡ true → j ≡ join_of h → RightContract j left right f t ws → r ≡ took_host t.answer (encode t.join) → HostRightContract h left right f r ws
   unfolding right_host
   right_through j t r ws e i l x =
-      let no = after_host (Refused BadJoin) h left right [] in
-      let call : Join → After Took = λ j. right_call j left right f in
+      let no = after_host (Err BadJoin) h left right [] in
+      let call : Join → After (Result Unit Refusal) = λ j. right_call j left right f in
       record { result = through h no call took_host e i l.answer l.join x; words = words_through h no call (λ y. y.right) e i l.words }
 
 -- ---- the end of right
 module _ (h : HostJoin) (left right : Words) where
-  pub end_bad : (r : HostTook) → is_join h ≡ false → r ≡ took_host (Refused BadJoin) h → HostEndContract h left right r
+  pub end_bad : (r : HostTook) → is_join h ≡ false → r ≡ took_host (Err BadJoin) h → HostEndContract h left right r
   unfolding end_host
-  end_bad r e x = record { result = refuses h (after_host (Refused BadJoin) h left right []) (λ j. end_call j left right) took_host e x }
+  end_bad r e x = record { result = refuses h (after_host (Err BadJoin) h left right []) (λ j. end_call j left right) took_host e x }
 
   pub end_through : (j : Join) (t : TookJoin) (r : HostTook) → is_join h ≡ true → j ≡ join_of h → EndContract j left right t → r ≡ took_host t.answer (encode t.join) → HostEndContract h left right r
   unfolding end_host
-  end_through j t r e i l x = record { result = through h (after_host (Refused BadJoin) h left right []) (λ j. end_call j left right) took_host e i l.answer l.join x }
+  end_through j t r e i l x = record { result = through h (after_host (Err BadJoin) h left right []) (λ j. end_call j left right) took_host e i l.answer l.join x }
 
 -- ---- a move
 module _ (h : HostJoin) (left right new_left new_right : Words) where
-  pub move_bad : (r : HostTook) → is_join h ≡ false → r ≡ took_host (Refused BadJoin) h → HostMoveContract h left right new_left new_right r new_left new_right
+  pub move_bad : (r : HostTook) → is_join h ≡ false → r ≡ took_host (Err BadJoin) h → HostMoveContract h left right new_left new_right r new_left new_right
   unfolding move_host
   move_bad r e x =
-      let no = after_host (Refused BadJoin) h new_left new_right [] in
-      let call : Join → After Took = λ j. move_call j left right new_left new_right in
+      let no = after_host (Err BadJoin) h new_left new_right [] in
+      let call : Join → After (Result Unit Refusal) = λ j. move_call j left right new_left new_right in
       record { result = refuses h no call took_host e x; left_words = words_refused h no call (λ y. y.left) e refl; right_words = words_refused h no call (λ y. y.right) e refl }
 
   pub move_through : (j : Join) (t : TookJoin) (r : HostTook) (ls rs : Words) → is_join h ≡ true → j ≡ join_of h → MoveContract j left right new_left new_right t ls rs
       → r ≡ took_host t.answer (encode t.join) → HostMoveContract h left right new_left new_right r ls rs
   unfolding move_host
   move_through j t r ls rs e i l x =
-      let no = after_host (Refused BadJoin) h new_left new_right [] in
-      let call : Join → After Took = λ j. move_call j left right new_left new_right in
+      let no = after_host (Err BadJoin) h new_left new_right [] in
+      let call : Join → After (Result Unit Refusal) = λ j. move_call j left right new_left new_right in
       record {
         result = through h no call took_host e i l.answer l.join x;
         left_words = words_through h no call (λ y. y.left) e i l.left_words;
@@ -155,36 +152,36 @@ module _ (h : HostJoin) (left right new_left new_right : Words) where
 
 -- ---- ports
 module _ (h : HostJoin) (left right : Words) (l r s : ℕ) where
-  pub ports_unsaid : (x : HostPorted) → (is_code l && is_code r && is_code s) ≡ false → x ≡ ported_host (PortsRefused BadJoin) h → HostPortsContract h left right l r s x
+  pub ports_unsaid : (x : HostPorted) → (is_code l && is_code r && is_code s) ≡ false → x ≡ ported_host (Err BadJoin) h → HostPortsContract h left right l r s x
   unfolding ports_host
   ports_unsaid x e y = record { result = rw e y }
 
-  pub ports_bad : (x : HostPorted) → (is_code l && is_code r && is_code s) ≡ true → is_join h ≡ false → x ≡ ported_host (PortsRefused BadJoin) h → HostPortsContract h left right l r s x
+  pub ports_bad : (x : HostPorted) → (is_code l && is_code r && is_code s) ≡ true → is_join h ≡ false → x ≡ ported_host (Err BadJoin) h → HostPortsContract h left right l r s x
   unfolding ports_host
   ports_bad x c e y =
-      record { result = rw c (refuses h (after_host (PortsRefused BadJoin) h left right []) (λ j. ports_call j left right (port_of l) (port_of r) (port_of s)) ported_host e y) }
+      record { result = rw c (refuses h (after_host (Err BadJoin) h left right []) (λ j. ports_call j left right (port_of l) (port_of r) (port_of s)) ported_host e y) }
 
   pub ports_through : (j : Join) (a b d : PortState) (t : PortedJoin) (x : HostPorted) → (is_code l && is_code r && is_code s) ≡ true → is_join h ≡ true → j ≡ join_of h →
       a ≡ port_of l → b ≡ port_of r → d ≡ port_of s → PortsContract j left right a b d t → x ≡ ported_host t.answer (encode t.join) → HostPortsContract h left right l r s x
   unfolding ports_host
   ports_through j a b d t x c e i pa pb pd k y =
       let k' : PortsContract j left right (port_of l) (port_of r) (port_of s) t = rw (← pa, ← pb, ← pd) k in
-      record { result = rw c (through h (after_host (PortsRefused BadJoin) h left right []) (λ j. ports_call j left right (port_of l) (port_of r) (port_of s)) ported_host e i k'.answer k'.join y) }
+      record { result = rw c (through h (after_host (Err BadJoin) h left right []) (λ j. ports_call j left right (port_of l) (port_of r) (port_of s)) ported_host e i k'.answer k'.join y) }
 
 -- ---- a turn
 module _ (h : HostJoin) (left right out : Words) where
-  pub turn_bad : (r : HostTurned) → is_join h ≡ false → r ≡ turned_host (TurnRefused BadJoin) h → HostTurnContract h left right out r out
+  pub turn_bad : (r : HostTurned) → is_join h ≡ false → r ≡ turned_host (Err BadJoin) h → HostTurnContract h left right out r out
   unfolding turn_host
   turn_bad r e x =
-      let no = after_host (TurnRefused BadJoin) h left right out in
-      let call : Join → After Answer = λ j. turn_call j left right out in
+      let no = after_host (Err BadJoin) h left right out in
+      let call : Join → After (Result Turn Refusal) = λ j. turn_call j left right out in
       record { result = refuses h no call turned_host e x; words = words_refused h no call (λ y. y.out) e refl }
 
   pub turn_through : (j : Join) (t : TurnedJoin) (r : HostTurned) (ws : Words) → is_join h ≡ true → j ≡ join_of h → TurnContract j left right out t ws → r ≡ turned_host t.answer (encode t.join) → HostTurnContract h left right out r ws
   unfolding turn_host
   turn_through j t r ws e i l x =
-      let no = after_host (TurnRefused BadJoin) h left right out in
-      let call : Join → After Answer = λ j. turn_call j left right out in
+      let no = after_host (Err BadJoin) h left right out in
+      let call : Join → After (Result Turn Refusal) = λ j. turn_call j left right out in
       record { result = through h no call turned_host e i l.answer l.join x; words = words_through h no call (λ y. y.out) e i l.words }
 
 -- ---- a run

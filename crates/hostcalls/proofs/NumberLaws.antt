@@ -13,7 +13,7 @@ use Rattle.ffi.specs.declared.convert.HostJoin.{HostJoin}
 -- Whether the numbers and the areas hold together is told of the join.
 pub bad_is : (h : HostJoin) (left right : Words) (t : Terms) (b : Bool) → t ≡ terms_of (join_of h).options
     → b ≡ bad_numbers (with_list t h.options.ranks.codes h.rising) h.base h.held h.pruned h.queue_start h.queue_words h.sequence left right → b ≡ bad_join (join_of h) left right
-bad_is h left right t b told is = bad_told (join_of h) left right t b told is
+bad_is h left right t b told is = bad_told (join_of h) left right (with_list t h.options.ranks.codes h.rising) b (rw told) is
 
 -- A join that is not bad holds together.
 pub good_is : (h : HostJoin) (left right : Words) (b : Bool) → b ≡ bad_join (join_of h) left right → b ≡ false → Good (join_of h) left right

@@ -1,6 +1,8 @@
 -- What each exported call answers, and the join that it hands back, in numbers. Assumes nothing.
-use Rattle.std.specs.Prelude.{cond, ◌&&◌, [], ℕ}
-use Rattle.std.proofs.Math.Option.{none, some}
+use Rattle.frames.specs.declared.outcomes.Ports.{Ports}
+use Rattle.frames.specs.declared.outcomes.Turn.{Turn}
+use Rattle.frames.specs.declared.refusals.Refusal.{Refusal}
+use Rattle.std.specs.Prelude.{cond, ◌&&◌, [], ℕ, Result, Err, None, Some}
 use Rattle.frames.specs.Cells.{Words}
 use Rattle.node.specs.State.{fresh}
 use Rattle.node.specs.Calls.{After, after, left_call, right_call, end_call, ports_call, turn_call}
@@ -9,12 +11,6 @@ use Rattle.node.specs.moves.Moves.{move_call}
 use Rattle.node.specs.runs.Run.{Ran, run_call}
 use Rattle.node.specs.declared.Join.{Join}
 use Rattle.frames.specs.declared.refusals.Refusal.TheVariants.{BadOptions, BadJoin}
-use Rattle.frames.specs.declared.outcomes.Took.{Took}
-use Rattle.frames.specs.declared.outcomes.Took.TheVariants.{Refused}
-use Rattle.frames.specs.declared.outcomes.Ported.{Ported}
-use Rattle.frames.specs.declared.outcomes.Ported.TheVariants.{Refused as PortsRefused}
-use Rattle.frames.specs.declared.outcomes.Answer.{Answer}
-use Rattle.frames.specs.declared.outcomes.Answer.TheVariants.{Refused as TurnRefused}
 use Rattle.ffi.specs.codes.Codes.{is_code, port_of}
 use Rattle.ffi.specs.convert.Convert.{decode, encode}
 use Rattle.ffi.specs.hostoptions.HostOptions.{decode_options}
@@ -27,8 +23,8 @@ use Rattle.ffi.specs.declared.results.HostTook.{HostTook}
 unfoldable pub open_host : HostOptions → HostTook
 open_host h =
     elim (decode_options h) [
-      | none ↦ took_host (Refused BadOptions) (fresh_host h)
-      | some o ↦ took_host (open_answer o) (encode (fresh o))
+      | None ↦ took_host (Err BadOptions) (fresh_host h)
+      | Some o ↦ took_host (open_answer o) (encode (fresh o))
     ]
 
 -- What a call leaves, in numbers: its answer, the join handed back, and the words of the two areas and of the output (of a call that is lent one).
@@ -49,33 +45,33 @@ encode_after x = after_host x.answer (encode x.join) x.left x.right x.out
 
 -- Any other call: what no join can encode is refused as a bad join and handed back unchanged, with no lent word altered; else all is as the node's call leaves it.
 unfoldable pub by_join : {A : Type 0} → HostJoin → HostAfter A → (Join → After A) → HostAfter A
-by_join h refused call = elim (decode h) [ none ↦ refused | some j ↦ encode_after (call j) ]
+by_join h refused call = elim (decode h) [ None ↦ refused | Some j ↦ encode_after (call j) ]
 
 -- A left frame.
-unfoldable pub left_host : HostJoin → Words → Words → Words → HostAfter Took
-left_host h left right f = by_join h (after_host (Refused BadJoin) h left right []) (λ j. left_call j left right f)
+unfoldable pub left_host : HostJoin → Words → Words → Words → HostAfter (Result Unit Refusal)
+left_host h left right f = by_join h (after_host (Err BadJoin) h left right []) (λ j. left_call j left right f)
 
 -- A right frame.
-unfoldable pub right_host : HostJoin → Words → Words → Words → HostAfter Took
-right_host h left right f = by_join h (after_host (Refused BadJoin) h left right []) (λ j. right_call j left right f)
+unfoldable pub right_host : HostJoin → Words → Words → Words → HostAfter (Result Unit Refusal)
+right_host h left right f = by_join h (after_host (Err BadJoin) h left right []) (λ j. right_call j left right f)
 
 -- The end of right.
-unfoldable pub end_host : HostJoin → Words → Words → HostAfter Took
-end_host h left right = by_join h (after_host (Refused BadJoin) h left right []) (λ j. end_call j left right)
+unfoldable pub end_host : HostJoin → Words → Words → HostAfter (Result Unit Refusal)
+end_host h left right = by_join h (after_host (Err BadJoin) h left right []) (λ j. end_call j left right)
 
 -- A move to other areas; the words that it leaves are those of the new areas.
-unfoldable pub move_host : HostJoin → Words → Words → Words → Words → HostAfter Took
-move_host h left right new_left new_right = by_join h (after_host (Refused BadJoin) h new_left new_right []) (λ j. move_call j left right new_left new_right)
+unfoldable pub move_host : HostJoin → Words → Words → Words → Words → HostAfter (Result Unit Refusal)
+move_host h left right new_left new_right = by_join h (after_host (Err BadJoin) h new_left new_right []) (λ j. move_call j left right new_left new_right)
 
 -- A port call: what no port can say is refused like a join that cannot be.
-unfoldable pub ports_host : HostJoin → Words → Words → ℕ → ℕ → ℕ → HostAfter Ported
+unfoldable pub ports_host : HostJoin → Words → Words → ℕ → ℕ → ℕ → HostAfter (Result Ports Refusal)
 ports_host h left right l r s =
-    let refused = after_host (PortsRefused BadJoin) h left right [] in
+    let refused = after_host (Err BadJoin) h left right [] in
     cond (is_code l && is_code r && is_code s) (by_join h refused (λ j. ports_call j left right (port_of l) (port_of r) (port_of s))) refused
 
 -- A turn.
-unfoldable pub turn_host : HostJoin → Words → Words → Words → HostAfter Answer
-turn_host h left right out = by_join h (after_host (TurnRefused BadJoin) h left right out) (λ j. turn_call j left right out)
+unfoldable pub turn_host : HostJoin → Words → Words → Words → HostAfter (Result Turn Refusal)
+turn_host h left right out = by_join h (after_host (Err BadJoin) h left right out) (λ j. turn_call j left right out)
 
 -- What the node's run leaves, as a call does.
 abbrev pub ran_after : Ran → Words → Words → After Made

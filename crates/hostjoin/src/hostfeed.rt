@@ -11,15 +11,16 @@ use callrules::{FedLeft, FedRight};
 use ffi::codes::{flag_of, state_of, took_code};
 use ffi::convert::{HostJoin, is_join, join_of};
 use ffi::hostoptions::{HostOptions, is_options, options_of, terms_from};
-use ffi::results::{HostTook, bad_took, fresh_host, took_host};
+use ffi::results::{HostTook, bad_took, fresh_host};
 use node::Join;
+use order::options::Rules;
 
 // Opens a join. The join of a refused opening holds the options that came, and every call but a run of no turns answers 2 to it.
 pub fn host_open(h: HostOptions) -> HostTook
     ensures { HostOpenContract h result }
 {
     if is_options(h) {
-        return took_host(Join::open(options_of(h)));
+        return Join::open(options_of(h)).into();
     }
     HostTook {
         refusal: 1,
@@ -32,12 +33,14 @@ fn left_fed(h: HostJoin, left: &mut [i64], right: &[i64], frame: &[i64]) -> FedL
     requires { is_join h ≡ true }
     ensures { HostLeftContract h left.old right.now frame.now (took_host result.answer (queue_in h result.start result.words)) left.new }
 {
-    let terms = terms_from(h.options);
     let rising = h.rising;
+    let rules = Rules {
+        terms: terms_from(h.options),
+        codes: &h.options.ranks.codes,
+        rising: &rising,
+    };
     let bad = bad_numbers(
-        terms,
-        &h.options.ranks.codes,
-        &rising,
+        rules,
         h.base,
         h.held,
         h.pruned,
@@ -51,9 +54,7 @@ fn left_fed(h: HostJoin, left: &mut [i64], right: &[i64], frame: &[i64]) -> FedL
         bad,
         flag_of(h.failed),
         state_of(h.state),
-        terms,
-        &h.options.ranks.codes,
-        &rising,
+        rules,
         h.queue_start,
         h.queue_words,
         left,
@@ -68,15 +69,11 @@ pub fn host_left(mut h: HostJoin, left: &mut [i64], right: &[i64], frame: &[i64]
     let mut refusal = 2;
     if is_join(h) {
         let fed = left_fed(h, left, right, frame);
-        let answer = fed.answer;
         h.queue_start = fed.start;
         h.queue_words = fed.words;
-        refusal = took_code(answer);
+        refusal = took_code(fed.answer);
     }
-    HostTook {
-        refusal: refusal,
-        join: h,
-    }
+    HostTook { refusal, join: h }
 }
 
 // What a right frame makes of the held rows of a join in numbers, which are read where they lie.
@@ -84,12 +81,14 @@ fn right_fed(h: HostJoin, left: &[i64], right: &mut [i64], frame: &[i64]) -> Fed
     requires { is_join h ≡ true }
     ensures { HostRightContract h left.now right.old frame.now (took_host result.answer (held_in h result.base result.held)) right.new }
 {
-    let terms = terms_from(h.options);
     let rising = h.rising;
+    let rules = Rules {
+        terms: terms_from(h.options),
+        codes: &h.options.ranks.codes,
+        rising: &rising,
+    };
     let bad = bad_numbers(
-        terms,
-        &h.options.ranks.codes,
-        &rising,
+        rules,
         h.base,
         h.held,
         h.pruned,
@@ -104,9 +103,7 @@ fn right_fed(h: HostJoin, left: &[i64], right: &mut [i64], frame: &[i64]) -> Fed
         flag_of(h.failed),
         flag_of(h.right_ended),
         state_of(h.state),
-        terms,
-        &h.options.ranks.codes,
-        &rising,
+        rules,
         h.base,
         h.held,
         h.pruned,
@@ -122,15 +119,11 @@ pub fn host_right(mut h: HostJoin, left: &[i64], right: &mut [i64], frame: &[i64
     let mut refusal = 2;
     if is_join(h) {
         let fed = right_fed(h, left, right, frame);
-        let answer = fed.answer;
         h.base = fed.base;
         h.held = fed.held;
-        refusal = took_code(answer);
+        refusal = took_code(fed.answer);
     }
-    HostTook {
-        refusal: refusal,
-        join: h,
-    }
+    HostTook { refusal, join: h }
 }
 
 // Ends right: no right frame comes any more.
@@ -138,7 +131,7 @@ pub fn host_end_right(h: HostJoin, left: &[i64], right: &[i64]) -> HostTook
     ensures { HostEndContract h left.now right.now result }
 {
     if is_join(h) {
-        return took_host(join_of(h).end_right(left, right));
+        return join_of(h).end_right(left, right).into();
     }
     bad_took(h)
 }

@@ -2,7 +2,7 @@
 ghost use Rattle.hostcalls.specs.CallContracts.{HostMoveContract};
 
 use ffi::convert::{HostJoin, is_join, join_of};
-use ffi::results::{HostTook, bad_took, took_host};
+use ffi::results::{HostTook, bad_took};
 use node::moving::move_join;
 
 // Moves a join with what waits and what is held to new areas. The old ones are only read.
@@ -16,7 +16,7 @@ pub fn host_move(
     ensures { HostMoveContract h left.now right.now new_left.old new_right.old result new_left.new new_right.new }
 {
     if is_join(h) {
-        return took_host(move_join(join_of(h), left, right, new_left, new_right));
+        return move_join(join_of(h), left, right, new_left, new_right).into();
     }
     bad_took(h)
 }

@@ -10,10 +10,11 @@ use ffi::codes::{are_codes, port_of, state_of};
 use ffi::convert::{HostJoin, is_join, join_of};
 use ffi::hostoptions::terms_from;
 use ffi::hostpart::{answer_code, answer_refusal, answer_sequence, part_from, part_in};
-use ffi::results::{HostPorted, HostRan, HostTurned, bad_ported, bad_ran, ported_host, ran_host};
+use ffi::results::{HostPorted, HostRan, HostTurned, bad_ported, bad_ran};
 use node::runs::run;
 use node::turncall::turn_queue;
 use node::turnfront::TurnedPart;
+use order::options::Rules;
 
 // A port call: l, r and s are what left, right and send come with.
 pub fn host_ports(h: HostJoin, left: &[i64], right: &[i64], l: u64, r: u64, s: u64) -> HostPorted
@@ -23,7 +24,9 @@ pub fn host_ports(h: HostJoin, left: &[i64], right: &[i64], l: u64, r: u64, s: u
         return bad_ported(h);
     }
     if is_join(h) {
-        return ported_host(join_of(h).ports(left, right, port_of(l), port_of(r), port_of(s)));
+        return join_of(h)
+            .ports(left, right, port_of(l), port_of(r), port_of(s))
+            .into();
     }
     bad_ported(h)
 }
@@ -33,12 +36,14 @@ fn part_turned(h: HostJoin, left: &[i64], right: &[i64], out: &mut [i64]) -> Tur
     requires { is_join h ≡ true }
     ensures { HostTurnContract h left.now right.now out.old (turned_host result.answer (part_in h result.part)) out.new }
 {
-    let terms = terms_from(h.options);
     let rising = h.rising;
+    let rules = Rules {
+        terms: terms_from(h.options),
+        codes: &h.options.ranks.codes,
+        rising: &rising,
+    };
     let bad = bad_numbers(
-        terms,
-        &h.options.ranks.codes,
-        &rising,
+        rules,
         h.base,
         h.held,
         h.pruned,
@@ -49,17 +54,7 @@ fn part_turned(h: HostJoin, left: &[i64], right: &[i64], out: &mut [i64]) -> Tur
         right,
     );
     let part = part_from(h);
-    turn_queue(
-        bad,
-        state_of(h.state),
-        part,
-        terms,
-        &h.options.ranks.codes,
-        &rising,
-        left,
-        right,
-        out,
-    )
+    turn_queue(bad, state_of(h.state), part, rules, left, right, out)
 }
 
 // One turn: the front of the queue is matched with the held rows, and its matches are written into the output. Numbers that are no join are handed back as they came.
@@ -71,16 +66,15 @@ pub fn host_turn(mut h: HostJoin, left: &[i64], right: &[i64], out: &mut [i64]) 
     let mut sequence = 0;
     if is_join(h) {
         let t = part_turned(h, left, right, out);
-        let a = t.answer;
-        answer = answer_code(a);
-        refusal = answer_refusal(a);
-        sequence = answer_sequence(a);
+        answer = answer_code(t.answer);
+        refusal = answer_refusal(t.answer);
+        sequence = answer_sequence(t.answer);
         h = part_in(h, t.part);
     }
     HostTurned {
-        answer: answer,
-        refusal: refusal,
-        sequence: sequence,
+        answer,
+        refusal,
+        sequence,
         join: h,
     }
 }
@@ -90,7 +84,7 @@ pub fn host_run(h: HostJoin, k: usize, left: &[i64], right: &[i64], out: &mut [i
     ensures { HostRunContract h k left.now right.now out.old result out.new }
 {
     if is_join(h) {
-        return ran_host(run(join_of(h), k, left, right, out));
+        return run(join_of(h), k, left, right, out).into();
     }
     bad_ran(h)
 }

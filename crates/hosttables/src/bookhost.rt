@@ -5,17 +5,16 @@ use books::bookmerge::merge;
 use books::noticecall::standing;
 use ffi::hostoptions::{HostOptions, is_options, options_of};
 use frames::refusals::Refusal;
-use tables::Written;
-use tables::tableresults::{HostWritten, written_host};
+use tables::tableresults::HostWritten;
 
 // Merges two books. Numbers that tell no options are refused by 1, before any word is looked at.
 pub fn merge_host(h: HostOptions, house: &[i64], festival: &[i64], out: &mut [i64]) -> HostWritten
     ensures { HostMergeContract h house.now festival.now out.old result out.new }
 {
     if is_options(h) {
-        return written_host(merge(house, festival, options_of(h), out));
+        return HostWritten::from(merge(house, festival, options_of(h), out));
     }
-    written_host(Written::Refused(Refusal::BadOptions))
+    HostWritten::from(Err(Refusal::BadOptions))
 }
 
 // Says of each row of a book whether it stands, and which row it names. Numbers that tell no options are refused by 1, before any word is looked at.
@@ -23,7 +22,7 @@ pub fn standing_host(h: HostOptions, book: &[i64], place: usize, out: &mut [i64]
     ensures { HostStandContract h place book.now out.old result out.new }
 {
     if is_options(h) {
-        return written_host(standing(book, place, options_of(h), out));
+        return HostWritten::from(standing(book, place, options_of(h), out));
     }
-    written_host(Written::Refused(Refusal::BadOptions))
+    HostWritten::from(Err(Refusal::BadOptions))
 }

@@ -5,8 +5,7 @@ use cutting::cutcall::cut;
 use ffi::codes::{both, flag_of, is_flag};
 use ffi::hostoptions::{HostOptions, is_options, options_of};
 use frames::refusals::Refusal;
-use tables::Written;
-use tables::tableresults::{HostWritten, written_host};
+use tables::tableresults::HostWritten;
 
 // Tells where a table is cut for each boundary. Numbers that tell no options or no side are refused by 1, before any word is looked at.
 pub fn cut_host(
@@ -19,7 +18,7 @@ pub fn cut_host(
     ensures { HostCutContract h right table.now boundaries.now out.old result out.new }
 {
     if both(is_options(h), is_flag(right)) {
-        return written_host(cut(table, boundaries, flag_of(right), options_of(h), out));
+        return HostWritten::from(cut(table, boundaries, flag_of(right), options_of(h), out));
     }
-    written_host(Written::Refused(Refusal::BadOptions))
+    HostWritten::from(Err(Refusal::BadOptions))
 }

@@ -5,8 +5,7 @@ ghost use Rattle.hosttables.specs.cutjoinhost.Calls.{HostPairsContract};
 use cutting::cutjoin::join_cut;
 use ffi::hostoptions::{HostOptions, is_options, options_of};
 use frames::refusals::Refusal;
-use tables::Written;
-use tables::tableresults::{HostWritten, written_host};
+use tables::tableresults::HostWritten;
 
 // Joins two tables, cut at boundaries. Numbers that tell no options are refused by 1, before any word is looked at.
 pub fn join_cut_host(
@@ -21,7 +20,7 @@ pub fn join_cut_host(
     ensures { HostPairsContract h left.now right.now boundaries.now (length left_area.now) (length right_area.now) out.old result out.new }
 {
     if is_options(h) {
-        return written_host(join_cut(
+        return HostWritten::from(join_cut(
             left,
             right,
             boundaries,
@@ -31,5 +30,5 @@ pub fn join_cut_host(
             out,
         ));
     }
-    written_host(Written::Refused(Refusal::BadOptions))
+    HostWritten::from(Err(Refusal::BadOptions))
 }

@@ -3,8 +3,8 @@ ghost use Rattle.std.specs.Prelude.{◌≡◌};
 ghost use Rattle.hosttables.specs.planhost.Call.{planned_host, plan_host};
 
 use ffi::hostoptions::{HostOptions, is_options, options_of};
-use frames::refusals::{Refusal, number_of};
-use planning::Planned;
+use frames::refusals::Refusal;
+use planning::Figures;
 use planning::plancall::plan;
 
 // The answer of a plan: refusal is 0 and the figures are there, or the refusal's number and no figure.
@@ -18,22 +18,24 @@ pub struct HostPlanned {
 }
 
 // The answer in numbers.
-fn planned_host(p: Planned) -> HostPlanned
-    ensures { result ≡ planned_host p }
-{
-    match p {
-        Planned::Needs(f) => HostPlanned {
-            refusal: 0,
-            rows: f.rows,
-            turns: f.turns,
-            rights: f.rights,
-        },
-        Planned::Refused(n) => HostPlanned {
-            refusal: number_of(n),
-            rows: 0,
-            turns: 0,
-            rights: 0,
-        },
+impl From<Result<Figures, Refusal>> for HostPlanned {
+    ghost from_gives = { λ answer numbers. numbers ≡ planned_host answer };
+
+    fn from(answer: Result<Figures, Refusal>) -> HostPlanned {
+        match answer {
+            Ok(figures) => HostPlanned {
+                refusal: 0,
+                rows: figures.rows,
+                turns: figures.turns,
+                rights: figures.rights,
+            },
+            Err(refusal) => HostPlanned {
+                refusal: refusal.into(),
+                rows: 0,
+                turns: 0,
+                rights: 0,
+            },
+        }
     }
 }
 
@@ -42,7 +44,7 @@ pub fn plan_host(h: HostOptions, left: &[i64], right: &[i64], hl: &[i64], hr: &[
     ensures { result ≡ planned_host (plan_host h left.now right.now hl.now hr.now) }
 {
     if is_options(h) {
-        return planned_host(plan(left, right, options_of(h), hl, hr));
+        return HostPlanned::from(plan(left, right, options_of(h), hl, hr));
     }
-    planned_host(Planned::Refused(Refusal::BadOptions))
+    HostPlanned::from(Err(Refusal::BadOptions))
 }

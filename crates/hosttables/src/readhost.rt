@@ -4,9 +4,9 @@ ghost use Rattle.readers.specs.Reader.{view_plain, view_distance, read_plain, re
 ghost use Rattle.readers.specs.Places.{shown_at};
 ghost use Rattle.hosttables.specs.readhost.Numbers.{viewed_host, cell_host, shown_host};
 
-use frames::refusals::number_of;
+use frames::refusals::Refusal;
 use readers::readcalls::{read_distance, read_plain, shown_at, view_distance, view_plain};
-use readers::{Shown, Viewed};
+use readers::{CellWords, View};
 
 // What a view tells: refusal is 0 and the frame has so many rows and columns, or the refusal's number and zeros.
 #[repr(C)]
@@ -35,38 +35,42 @@ pub struct HostShown {
 }
 
 // A view in numbers.
-fn viewed_host(v: Viewed) -> HostViewed
-    ensures { result ≡ viewed_host v }
-{
-    match v {
-        Viewed::Frame(n, c) => HostViewed {
-            refusal: 0,
-            rows: n,
-            columns: c,
-        },
-        Viewed::Refused(r) => HostViewed {
-            refusal: number_of(r),
-            rows: 0,
-            columns: 0,
-        },
+impl From<Result<View, Refusal>> for HostViewed {
+    ghost from_gives = { λ answer numbers. numbers ≡ viewed_host answer };
+
+    fn from(answer: Result<View, Refusal>) -> HostViewed {
+        match answer {
+            Ok(view) => HostViewed {
+                refusal: 0,
+                rows: view.rows,
+                columns: view.columns,
+            },
+            Err(refusal) => HostViewed {
+                refusal: refusal.into(),
+                rows: 0,
+                columns: 0,
+            },
+        }
     }
 }
 
 // What a reader shows, in numbers.
-fn shown_host(s: Shown) -> HostShown
-    ensures { result ≡ shown_host s }
-{
-    match s {
-        Shown::Pair(v, m) => HostShown {
-            refusal: 0,
-            value: v,
-            mark: m,
-        },
-        Shown::Refused(r) => HostShown {
-            refusal: number_of(r),
-            value: 0,
-            mark: 0,
-        },
+impl From<Result<CellWords, Refusal>> for HostShown {
+    ghost from_gives = { λ answer numbers. numbers ≡ shown_host answer };
+
+    fn from(answer: Result<CellWords, Refusal>) -> HostShown {
+        match answer {
+            Ok(cell) => HostShown {
+                refusal: 0,
+                value: cell.value,
+                mark: cell.mark,
+            },
+            Err(refusal) => HostShown {
+                refusal: refusal.into(),
+                value: 0,
+                mark: 0,
+            },
+        }
     }
 }
 
@@ -74,14 +78,14 @@ fn shown_host(s: Shown) -> HostShown
 pub fn view_plain_host(p: usize, frame: &[i64]) -> HostViewed
     ensures { result ≡ viewed_host (view_plain p frame.now) }
 {
-    viewed_host(view_plain(p, frame))
+    HostViewed::from(view_plain(p, frame))
 }
 
 // The distance reader's view of a frame.
 pub fn view_distance_host(p: usize, frame: &[i64]) -> HostViewed
     ensures { result ≡ viewed_host (view_distance p frame.now) }
 {
-    viewed_host(view_distance(p, frame))
+    HostViewed::from(view_distance(p, frame))
 }
 
 // The two words of a place, by the rows and columns that a view told.
@@ -105,12 +109,12 @@ pub fn view_cell_host(
 pub fn read_plain_host(p: usize, frame: &[i64], row: usize, column: usize) -> HostShown
     ensures { result ≡ shown_host (read_plain p frame.now row column) }
 {
-    shown_host(read_plain(p, frame, row, column))
+    HostShown::from(read_plain(p, frame, row, column))
 }
 
 // What the distance reader shows of one place.
 pub fn read_distance_host(p: usize, frame: &[i64], row: usize, column: usize) -> HostShown
     ensures { result ≡ shown_host (read_distance p frame.now row column) }
 {
-    shown_host(read_distance(p, frame, row, column))
+    HostShown::from(read_distance(p, frame, row, column))
 }

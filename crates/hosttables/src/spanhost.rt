@@ -5,8 +5,7 @@ use ffi::codes::{both, flag_of, is_flag};
 use frames::refusals::Refusal;
 use spans::Bounds;
 use spans::spancall::spans;
-use tables::Written;
-use tables::tableresults::{HostWritten, written_host};
+use tables::tableresults::HostWritten;
 
 // Lists which points each interval covers. A choice of bounds that is neither 0 nor 1 is refused by 1, before any word is looked at.
 pub fn spans_host(
@@ -19,11 +18,11 @@ pub fn spans_host(
     ensures { HostSpanContract lower upper points.now intervals.now out.old result out.new }
 {
     if !both(is_flag(lower), is_flag(upper)) {
-        return written_host(Written::Refused(Refusal::BadOptions));
+        return HostWritten::from(Err(Refusal::BadOptions));
     }
     let b = Bounds {
         lower_in: flag_of(lower),
         upper_in: flag_of(upper),
     };
-    written_host(spans(points, intervals, b, out))
+    HostWritten::from(spans(points, intervals, b, out))
 }

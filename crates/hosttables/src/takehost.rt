@@ -3,7 +3,7 @@ ghost use Rattle.std.specs.Prelude.{◌≡◌};
 ghost use Rattle.hosttables.specs.takehost.Calls.{taken_host, HostAddContract, HostJoinContract};
 
 use ffi::hostoptions::{HostOptions, is_options, options_of};
-use frames::refusals::{Refusal, number_of};
+use frames::refusals::Refusal;
 use sales::addcall::add_sales;
 use subtotals::joincall::join_takings;
 use takings::Taken;
@@ -18,20 +18,22 @@ pub struct HostTaken {
 }
 
 // The answer in numbers.
-fn taken_host(t: Taken) -> HostTaken
-    ensures { result ≡ taken_host t }
-{
-    match t {
-        Taken::Table(n, k) => HostTaken {
-            refusal: 0,
-            rows: n,
-            number: k,
-        },
-        Taken::Refused(n) => HostTaken {
-            refusal: number_of(n),
-            rows: 0,
-            number: 0,
-        },
+impl From<Result<Taken, Refusal>> for HostTaken {
+    ghost from_gives = { λ answer numbers. numbers ≡ taken_host answer };
+
+    fn from(answer: Result<Taken, Refusal>) -> HostTaken {
+        match answer {
+            Ok(taken) => HostTaken {
+                refusal: 0,
+                rows: taken.rows,
+                number: taken.number,
+            },
+            Err(refusal) => HostTaken {
+                refusal: refusal.into(),
+                rows: 0,
+                number: 0,
+            },
+        }
     }
 }
 
@@ -47,9 +49,9 @@ pub fn add_host(
     ensures { HostAddContract h table.now number left.now answers.now out.old result out.new }
 {
     if is_options(h) {
-        return taken_host(add_sales(table, number, left, answers, options_of(h), out));
+        return HostTaken::from(add_sales(table, number, left, answers, options_of(h), out));
     }
-    taken_host(Taken::Refused(Refusal::BadOptions))
+    HostTaken::from(Err(Refusal::BadOptions))
 }
 
 // Joins two tables of subtotals. Numbers that tell no options are refused by 1, before any word is looked at.
@@ -64,7 +66,14 @@ pub fn join_host(
     ensures { HostJoinContract h table.now number other.now other_number out.old result out.new }
 {
     if is_options(h) {
-        return taken_host(join_takings(table, number, other, other_number, options_of(h), out));
+        return HostTaken::from(join_takings(
+            table,
+            number,
+            other,
+            other_number,
+            options_of(h),
+            out,
+        ));
     }
-    taken_host(Taken::Refused(Refusal::BadOptions))
+    HostTaken::from(Err(Refusal::BadOptions))
 }

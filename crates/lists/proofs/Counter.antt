@@ -1,8 +1,8 @@
 -- SCOPE 21: the worked cases of calls, as one list that holds by computation, and those of openings. Assumes nothing.
+use Rattle.std.specs.Prelude.{Option, None, Some}
 use mathlib.Core.Path.{◌≡◌, refl}
 use mathlib.Core.Bool.{true, false}
 use mathlib.Core.List.{List, [], ◌∷◌, ◌++◌, map}
-use mathlib.Core.Option.{Option, none, some}
 use Prim.Native.Nat.{ℕ, ◌-◌, ◌*◌, ◌^◌}
 use lib.IntN.{pos, negsuc}
 use lib.ListN.{length, replicate}
@@ -30,13 +30,13 @@ least = value (negsuc (2 ^ 63 - 1)) ∷ []
 -- A match: none, or a right number.
 abbrev numbers : List (Option ℕ) → Words
 numbers [] = []
-numbers (none ∷ ms) = pos 0 ∷ numbers ms
-numbers (some n ∷ ms) = pos n ∷ numbers ms
+numbers (None ∷ ms) = pos 0 ∷ numbers ms
+numbers (Some n ∷ ms) = pos n ∷ numbers ms
 
 abbrev marks : List (Option ℕ) → Words
 marks [] = []
-marks (none ∷ ms) = pos 0 ∷ marks ms
-marks (some n ∷ ms) = pos 1 ∷ marks ms
+marks (None ∷ ms) = pos 0 ∷ marks ms
+marks (Some n ∷ ms) = pos 1 ∷ marks ms
 
 -- Turn number t wrote these matches.
 abbrev matched : ℕ → List (Option ℕ) → Said
@@ -89,39 +89,39 @@ go = turn (space 20)
 pub cases : List Case
 cases =
     -- SCOPE 21.1
-    case (plain 0 true) 40 (usual ∷ left (frame1 (5 ∷ 20 ∷ 25 ∷ [])) ∷ go ∷ []) (ok ∷ ok ∷ matched 0 (none ∷ some 2 ∷ some 2 ∷ []) ∷ []) 2 2
+    case (plain 0 true) 40 (usual ∷ left (frame1 (5 ∷ 20 ∷ 25 ∷ [])) ∷ go ∷ []) (ok ∷ ok ∷ matched 0 (None ∷ Some 2 ∷ Some 2 ∷ []) ∷ []) 2 2
     -- SCOPE 21.2
     ∷ case (plain 0 true) 40 (right (frame1 (10 ∷ 20 ∷ 20 ∷ [])) ∷ left (frame1 (5 ∷ 20 ∷ 25 ∷ [])) ∷ go ∷ end ∷ go ∷ [])
-    (ok ∷ ok ∷ wants ∷ ok ∷ matched 0 (none ∷ some 2 ∷ some 2 ∷ []) ∷ []) 2 1
+    (ok ∷ ok ∷ wants ∷ ok ∷ matched 0 (None ∷ Some 2 ∷ Some 2 ∷ []) ∷ []) 2 1
     -- SCOPE 21.3, Backward without equality
-    ∷ case (plain 0 false) 40 (usual ∷ left (frame1 (20 ∷ [])) ∷ go ∷ []) (ok ∷ ok ∷ matched 0 (some 0 ∷ []) ∷ []) 0 4
+    ∷ case (plain 0 false) 40 (usual ∷ left (frame1 (20 ∷ [])) ∷ go ∷ []) (ok ∷ ok ∷ matched 0 (Some 0 ∷ []) ∷ []) 0 4
     -- SCOPE 21.3, Forward
-    ∷ case (plain 1 true) 40 (usual ∷ left (frame1 (20 ∷ [])) ∷ go ∷ []) (ok ∷ ok ∷ matched 0 (some 1 ∷ []) ∷ []) 1 3
+    ∷ case (plain 1 true) 40 (usual ∷ left (frame1 (20 ∷ [])) ∷ go ∷ []) (ok ∷ ok ∷ matched 0 (Some 1 ∷ []) ∷ []) 1 3
     -- SCOPE 21.3, Forward without equality
-    ∷ case (plain 1 false) 40 (usual ∷ left (frame1 (20 ∷ [])) ∷ go ∷ []) (ok ∷ ok ∷ matched 0 (some 3 ∷ []) ∷ []) 1 3
+    ∷ case (plain 1 false) 40 (usual ∷ left (frame1 (20 ∷ [])) ∷ go ∷ []) (ok ∷ ok ∷ matched 0 (Some 3 ∷ []) ∷ []) 1 3
     -- SCOPE 21.4
-    ∷ case (plain 2 true) 40 (usual ∷ end ∷ left (frame1 (14 ∷ 15 ∷ 25 ∷ [])) ∷ go ∷ []) (ok ∷ ok ∷ ok ∷ matched 0 (some 0 ∷ some 2 ∷ some 3 ∷ []) ∷ []) 2 2
+    ∷ case (plain 2 true) 40 (usual ∷ end ∷ left (frame1 (14 ∷ 15 ∷ 25 ∷ [])) ∷ go ∷ []) (ok ∷ ok ∷ ok ∷ matched 0 (Some 0 ∷ Some 2 ∷ Some 3 ∷ []) ∷ []) 2 2
     -- SCOPE 21.5
     ∷ case (plain 2 true) 40 (right (frame1 (10 ∷ 20 ∷ 30 ∷ [])) ∷ left (frame1 (25 ∷ [])) ∷ go ∷ right (frame1 (31 ∷ [])) ∷ go ∷ [])
-    (ok ∷ ok ∷ wants ∷ ok ∷ matched 0 (some 2 ∷ []) ∷ []) 1 3
+    (ok ∷ ok ∷ wants ∷ ok ∷ matched 0 (Some 2 ∷ []) ∷ []) 1 3
     -- SCOPE 21.6
-    ∷ case (options 0 0 true (pos 4) false [] []) 40 (usual ∷ left (frame1 (25 ∷ [])) ∷ go ∷ []) (ok ∷ ok ∷ matched 0 (none ∷ []) ∷ []) 2 2
-    ∷ case (options 0 0 true (pos 5) false [] []) 40 (usual ∷ left (frame1 (25 ∷ [])) ∷ go ∷ []) (ok ∷ ok ∷ matched 0 (some 2 ∷ []) ∷ []) 2 2
+    ∷ case (options 0 0 true (pos 4) false [] []) 40 (usual ∷ left (frame1 (25 ∷ [])) ∷ go ∷ []) (ok ∷ ok ∷ matched 0 (None ∷ []) ∷ []) 2 2
+    ∷ case (options 0 0 true (pos 5) false [] []) 40 (usual ∷ left (frame1 (25 ∷ [])) ∷ go ∷ []) (ok ∷ ok ∷ matched 0 (Some 2 ∷ []) ∷ []) 2 2
     -- SCOPE 21.7
     ∷ case (options 1 0 true (negsuc 0) false [] []) 40
     (right (frame2 ((1 ∷ 10 ∷ []) ∷ (1 ∷ 20 ∷ []) ∷ (2 ∷ 5 ∷ []) ∷ [])) ∷ end ∷ left (frame2 ((1 ∷ 15 ∷ []) ∷ (2 ∷ 4 ∷ []) ∷ (3 ∷ 9 ∷ []) ∷ [])) ∷ go ∷ [])
-    (ok ∷ ok ∷ ok ∷ matched 0 (some 0 ∷ none ∷ none ∷ []) ∷ []) 3 0
+    (ok ∷ ok ∷ ok ∷ matched 0 (Some 0 ∷ None ∷ None ∷ []) ∷ []) 3 0
     -- SCOPE 21.8
     ∷ case (options 1 0 true (negsuc 0) true [] []) 40
     (grouped ∷ left (frame2 ((2 ∷ 5 ∷ []) ∷ [])) ∷ go ∷ left (keyless 3) ∷ go ∷ left (frame2 ((2 ∷ 8 ∷ []) ∷ [])) ∷ go ∷ [])
-    (ok ∷ ok ∷ matched 0 (some 0 ∷ []) ∷ ok ∷ matched 1 (none ∷ []) ∷ ok ∷ matched 2 (none ∷ []) ∷ []) 2 2
+    (ok ∷ ok ∷ matched 0 (Some 0 ∷ []) ∷ ok ∷ matched 1 (None ∷ []) ∷ ok ∷ matched 2 (None ∷ []) ∷ []) 2 2
     -- SCOPE 21.12
     ∷ case strict 40
     (grouped ∷ left (frame2 ((2 ∷ 5 ∷ []) ∷ [])) ∷ go ∷ left (keyless 3) ∷ go ∷ left (frame2 ((2 ∷ 8 ∷ []) ∷ [])) ∷ go ∷ [])
-    (ok ∷ ok ∷ matched 0 (some 0 ∷ []) ∷ ok ∷ matched 1 (none ∷ []) ∷ ok ∷ refused 8 ∷ []) 2 2
+    (ok ∷ ok ∷ matched 0 (Some 0 ∷ []) ∷ ok ∷ matched 1 (None ∷ []) ∷ ok ∷ refused 8 ∷ []) 2 2
     -- SCOPE 8.9: a frame without rows between them neither compares nor forgets
     ∷ case strict 40 (grouped ∷ left (keyless 3) ∷ go ∷ left (frame2 []) ∷ go ∷ left (frame2 ((2 ∷ 8 ∷ []) ∷ [])) ∷ go ∷ left (frame2 []) ∷ [])
-    (ok ∷ ok ∷ matched 0 (none ∷ []) ∷ ok ∷ matched 1 [] ∷ ok ∷ refused 8 ∷ refused 3 ∷ []) 2 2
+    (ok ∷ ok ∷ matched 0 (None ∷ []) ∷ ok ∷ matched 1 [] ∷ ok ∷ refused 8 ∷ refused 3 ∷ []) 2 2
     -- SCOPE 21.9
     ∷ case (plain 0 true) 8192 (right (long 4096) ∷ []) (ok ∷ []) 0 4096
     ∷ case (plain 0 true) 8194 (right (long 4097) ∷ []) (refused 5 ∷ []) 0 0

@@ -1,4 +1,7 @@
 -- Places and lengths are not told, proved call by call: two joins that hold the same give the same answer and output, and hold the same afterwards. Assumes nothing.
+use Rattle.frames.specs.declared.outcomes.Turn.TheVariants.{Wrote, WantsRight, Idle}
+use Rattle.frames.specs.declared.outcomes.Turn.{Turn}
+use Rattle.std.specs.Prelude.{Result, Ok, Err}
 use mathlib.Core.Path.{◌≡◌, refl, sym, ap, ◌∙◌, subst}
 use mathlib.Core.Bool.{Bool, true, false, cond, not, ◌||◌}
 use mathlib.Core.List.{List, [], ◌∷◌, ◌++◌, map}
@@ -21,15 +24,10 @@ use Rattle.buffer.proofs.area.PushLaws.{new_base_room, append_length, append_par
 use Rattle.node.specs.declared.Join.{Join}
 use Rattle.frames.specs.outcomes.Answers.{is_running, is_done, most_rows}
 use Rattle.frames.specs.declared.outcomes.PortState.{PortState}
-use Rattle.frames.specs.declared.outcomes.Answer.{Answer}
-use Rattle.frames.specs.declared.outcomes.Answer.TheVariants.{Wrote, WantsRight, Idle, Refused as TurnRefused}
 use Rattle.frames.specs.refusals.Refusals.{marks_failed}
 use Rattle.frames.specs.declared.refusals.Refusal.{Refusal}
 use Rattle.frames.specs.declared.refusals.Refusal.TheVariants.{BadJoin, Failed, Closed, BadFrame, UnknownCode, NoRoom, UsedUp}
-use Rattle.frames.specs.declared.outcomes.Took.{Took}
-use Rattle.frames.specs.declared.outcomes.Took.TheVariants.{Accepted, Refused}
-use Rattle.frames.specs.declared.outcomes.Ported.{Ported}
-use Rattle.frames.specs.declared.outcomes.Ported.TheVariants.{Ports, Refused as PortsRefused}
+use Rattle.frames.specs.declared.outcomes.Ports.{Ports}
 use Rattle.frames.specs.declared.outcomes.NodeState.{NodeState}
 use Rattle.node.specs.State.{queue_at, held_at, next_turn, ended_right, state_at, marked_failed, left_width, right_width, bad_join, held_of, held_values, held_marks, waiting}
 use Rattle.node.specs.Calls.{After, after, left_answer, left_call, queued, right_answer, right_call, pushed_right, end_answer, end_call, ports_answer, ports_call, ports_state, turn_answer, turn_call, turned, dropped, dequeued, spoiled}
@@ -92,30 +90,30 @@ pub record Same {A : Type 0} (x y : After A) : Type 0 where
 
 -- ---- a frame with the same answer, but for room
 -- Whether the answer is 6.
-abbrev short : Took → Bool
+abbrev short : Result Unit Refusal → Bool
 short t = eqb (took_refusal t) 6
 
-past : (b : Bool) (n : Refusal) (x y : Took) → (short x ≡ short y → x ≡ y) → short (cond b (Refused n) x) ≡ short (cond b (Refused n) y) → cond b (Refused n) x ≡ cond b (Refused n) y
+past : (b : Bool) (n : Refusal) (x y : Result Unit Refusal) → (short x ≡ short y → x ≡ y) → short (cond b (Err n) x) ≡ short (cond b (Err n) y) → cond b (Err n) x ≡ cond b (Err n) y
 past true n x y f e = refl
 past false n x y f e = f e
 
-room_last : (t : Took) → short t ≡ false → (a b : Bool) → short (cond a (Refused NoRoom) t) ≡ short (cond b (Refused NoRoom) t) → cond a (Refused NoRoom) t ≡ cond b (Refused NoRoom) t
+room_last : (t : Result Unit Refusal) → short t ≡ false → (a b : Bool) → short (cond a (Err NoRoom) t) ≡ short (cond b (Err NoRoom) t) → cond a (Err NoRoom) t ≡ cond b (Err NoRoom) t
 room_last t h true true e = refl
 room_last t h false false e = refl
 room_last t h true false e = let z : ◌≡◌ {A = ℕ} 0 1 = cc in absurd (omega arith)
 room_last t h false true e = let z : ◌≡◌ {A = ℕ} 0 1 = cc in absurd (omega arith)
 
-used_up : (b : Bool) → short (cond b (Refused UsedUp) Accepted) ≡ false
+used_up : (b : Bool) → short (cond b (Err UsedUp) (Ok tt)) ≡ false
 used_up true = refl
 used_up false = refl
 
 -- What a frame's call answers: it does what is done where it is accepted, else nothing.
-abbrev pub by_took : Took → After Took → Join → Words → Words → After Took
-by_took t done j l r = elim t [ Accepted ↦ done | Refused n ↦ after (Refused n) j l r [] ]
+abbrev pub by_took : Result Unit Refusal → After (Result Unit Refusal) → Join → Words → Words → After (Result Unit Refusal)
+by_took t done j l r = elim t [ Ok tt ↦ done | Err n ↦ after (Err n) j l r [] ]
 
-took_says : (t : Took) (done : After Took) (j : Join) (l r : Words) → done.answer ≡ Accepted → (by_took t done j l r).answer ≡ t
-took_says Accepted done j l r e = e
-took_says (Refused n) done j l r e = refl
+took_says : (t : Result Unit Refusal) (done : After (Result Unit Refusal)) (j : Join) (l r : Words) → done.answer ≡ Ok tt → (by_took t done j l r).answer ≡ t
+took_says (Ok tt) done j l r e = e
+took_says (Err n) done j l r e = refl
 
 pub left_says : (j : Join) (l r f : Words) → (left_call j l r f).answer ≡ left_answer j l r f
 unfolding left_call queued
@@ -181,12 +179,12 @@ module _ (j : Join) (s b : ℕ) (l r l' r' : Words) (a : Live (placed_at j s b) 
       })
 
   -- What changes nothing, or marks the join failed.
-  spoiled_same : (n : Refusal) (out : Words) → Same {A = Answer} (record { answer = TurnRefused n; join = spoiled n k; left = l'; right = r'; out = out }) (record { answer = TurnRefused n; join = spoiled n j; left = l; right = r; out = out })
+  spoiled_same : (n : Refusal) (out : Words) → Same {A = Result Turn Refusal} (record { answer = Err n; join = spoiled n k; left = l'; right = r'; out = out }) (record { answer = Err n; join = spoiled n j; left = l; right = r; out = out })
   unfolding bad_join waiting held_values held_marks
   spoiled_same n out = go (marks_failed n)
     where
       go : (b : Bool)
-          → Same {A = Answer} (record { answer = TurnRefused n; join = cond b (marked_failed k) k; left = l'; right = r'; out = out }) (record { answer = TurnRefused n; join = cond b (marked_failed j) j; left = l; right = r; out = out })
+          → Same {A = Result Turn Refusal} (record { answer = Err n; join = cond b (marked_failed k) k; left = l'; right = r'; out = out }) (record { answer = Err n; join = cond b (marked_failed j) j; left = l; right = r; out = out })
       go true = record { answer = refl; join = refl; out = refl; live = record { bad = a.bad; waits = a.waits; values = a.values; marks = a.marks } }
       go false = record { answer = refl; join = refl; out = refl; live = a }
 
@@ -194,11 +192,11 @@ module _ (j : Join) (s b : ℕ) (l r l' r' : Words) (a : Live (placed_at j s b) 
   unfolding turn_call
   turn_same out = go (turn_answer j l r out) refl
     where
-      go : (x : Answer) → turn_answer j l r out ≡ x → Same (turn_call k l' r' out) (turn_call j l r out)
-      go (Wrote q) e = rw (turn_answer_lem out ∙ e, e, turn_call) (turned_same out)
-      go WantsRight e = rw (turn_answer_lem out ∙ e, e, turn_call) (record { answer = refl; join = refl; out = refl; live = a })
-      go Idle e = rw (turn_answer_lem out ∙ e, e, turn_call) (record { answer = refl; join = refl; out = refl; live = a })
-      go (TurnRefused n) e = rw (turn_answer_lem out ∙ e, e, turn_call) (spoiled_same n out)
+      go : (x : Result Turn Refusal) → turn_answer j l r out ≡ x → Same (turn_call k l' r' out) (turn_call j l r out)
+      go (Ok (Wrote q)) e = rw (turn_answer_lem out ∙ e, e, turn_call) (turned_same out)
+      go (Ok WantsRight) e = rw (turn_answer_lem out ∙ e, e, turn_call) (record { answer = refl; join = refl; out = refl; live = a })
+      go (Ok Idle) e = rw (turn_answer_lem out ∙ e, e, turn_call) (record { answer = refl; join = refl; out = refl; live = a })
+      go (Err n) e = rw (turn_answer_lem out ∙ e, e, turn_call) (spoiled_same n out)
 
   -- ---- a left frame
   left_answer_lem : (f : Words) → short (left_answer k l' r' f) ≡ short (left_answer j l r f) → left_answer k l' r' f ≡ left_answer j l r f
@@ -206,24 +204,24 @@ module _ (j : Join) (s b : ℕ) (l r l' r' : Words) (a : Live (placed_at j s b) 
   left_answer_lem f e =
       let x' = ltb (length l') (j.queue_words + length f) in
       let x = ltb (length l) (j.queue_words + length f) in
-      let t5' = cond x' (Refused NoRoom) Accepted in
-      let t5 = cond x (Refused NoRoom) Accepted in
+      let t5' = cond x' (Err NoRoom) (Ok tt) in
+      let t5 = cond x (Err NoRoom) (Ok tt) in
       let lack = lacks_code j.options (frame_rows (left_width j) f) in
-      let t12' = cond lack (Refused UnknownCode) t5' in
-      let t12 = cond lack (Refused UnknownCode) t5 in
-      let t4' = cond (not (is_frame (left_width j) f)) (Refused BadFrame) t12' in
-      let t4 = cond (not (is_frame (left_width j) f)) (Refused BadFrame) t12 in
-      let t3' = cond (not (is_running j.state)) (Refused Closed) t4' in
-      let t3 = cond (not (is_running j.state)) (Refused Closed) t4 in
-      let t2' = cond j.failed (Refused Failed) t3' in
-      let t2 = cond j.failed (Refused Failed) t3 in
+      let t12' = cond lack (Err UnknownCode) t5' in
+      let t12 = cond lack (Err UnknownCode) t5 in
+      let t4' = cond (not (is_frame (left_width j) f)) (Err BadFrame) t12' in
+      let t4 = cond (not (is_frame (left_width j) f)) (Err BadFrame) t12 in
+      let t3' = cond (not (is_running j.state)) (Err Closed) t4' in
+      let t3 = cond (not (is_running j.state)) (Err Closed) t4 in
+      let t2' = cond j.failed (Err Failed) t3' in
+      let t2 = cond j.failed (Err Failed) t3 in
       rw a.bad
       (past (bad_join j l r) BadJoin t2' t2
       (past j.failed Failed t3' t3
       (past (not (is_running j.state)) Closed t4' t4
       (past (not (is_frame (left_width j) f)) BadFrame t12' t12
       (past lack UnknownCode t5' t5
-      (room_last Accepted refl x' x))))) (rw a.bad at e))
+      (room_last (Ok tt) refl x' x))))) (rw a.bad at e))
 
   queued_same : (f : Words) → LeftTaken k l' r' f → LeftTaken j l r f → Same (queued k l' r' f) (queued j l r f)
   unfolding queued waiting held_values held_marks
@@ -256,29 +254,29 @@ module _ (j : Join) (s b : ℕ) (l r l' r' : Words) (a : Live (placed_at j s b) 
   unfolding left_call
   left_same f p = go (left_answer j l r f) refl
     where
-      go : (x : Took) → left_answer j l r f ≡ x → Same (left_call k l' r' f) (left_call j l r f)
-      go Accepted e = rw (left_answer_lem f p ∙ e, e, left_call) (queued_same f (left_taken k l' r' f (left_answer_lem f p ∙ e)) (left_taken j l r f e))
-      go (Refused n) e = rw (left_answer_lem f p ∙ e, e, left_call) (record { answer = refl; join = refl; out = refl; live = a })
+      go : (x : Result Unit Refusal) → left_answer j l r f ≡ x → Same (left_call k l' r' f) (left_call j l r f)
+      go (Ok tt) e = rw (left_answer_lem f p ∙ e, e, left_call) (queued_same f (left_taken k l' r' f (left_answer_lem f p ∙ e)) (left_taken j l r f e))
+      go (Err n) e = rw (left_answer_lem f p ∙ e, e, left_call) (record { answer = refl; join = refl; out = refl; live = a })
 
   -- ---- a right frame
   right_answer_lem : (f : Words) → short (right_answer k l' r' f) ≡ short (right_answer j l r f) → right_answer k l' r' f ≡ right_answer j l r f
   unfolding right_judged
   right_answer_lem f e =
       let ended = j.right_ended || is_done j.state in
-      let u = cond (ltb most_rows (j.pruned + j.held + row_count f)) (Refused UsedUp) Accepted in
+      let u = cond (ltb most_rows (j.pruned + j.held + row_count f)) (Err UsedUp) (Ok tt) in
       let x' = ltb (capacity c r') (j.held + row_count f) in
       let x = ltb (capacity c r) (j.held + row_count f) in
-      let t5' = cond x' (Refused NoRoom) u in
-      let t5 = cond x (Refused NoRoom) u in
+      let t5' = cond x' (Err NoRoom) u in
+      let t5 = cond x (Err NoRoom) u in
       let lack = lacks_code j.options (frame_rows c f) in
-      let t12' = cond lack (Refused UnknownCode) t5' in
-      let t12 = cond lack (Refused UnknownCode) t5 in
-      let t4' = cond (not (is_frame c f)) (Refused BadFrame) t12' in
-      let t4 = cond (not (is_frame c f)) (Refused BadFrame) t12 in
-      let t3' = cond ended (Refused Closed) t4' in
-      let t3 = cond ended (Refused Closed) t4 in
-      let t2' = cond j.failed (Refused Failed) t3' in
-      let t2 = cond j.failed (Refused Failed) t3 in
+      let t12' = cond lack (Err UnknownCode) t5' in
+      let t12 = cond lack (Err UnknownCode) t5 in
+      let t4' = cond (not (is_frame c f)) (Err BadFrame) t12' in
+      let t4 = cond (not (is_frame c f)) (Err BadFrame) t12 in
+      let t3' = cond ended (Err Closed) t4' in
+      let t3 = cond ended (Err Closed) t4 in
+      let t2' = cond j.failed (Err Failed) t3' in
+      let t2 = cond j.failed (Err Failed) t3 in
       rw a.bad
       (past (bad_join j l r) BadJoin t2' t2
       (past j.failed Failed t3' t3
@@ -323,9 +321,9 @@ module _ (j : Join) (s b : ℕ) (l r l' r' : Words) (a : Live (placed_at j s b) 
   unfolding right_call
   right_same f p = go (right_answer j l r f) refl
     where
-      go : (x : Took) → right_answer j l r f ≡ x → Same (right_call k l' r' f) (right_call j l r f)
-      go Accepted e = rw (right_answer_lem f p ∙ e, e, right_call) (pushed_same f (right_taken k l' r' f (right_answer_lem f p ∙ e)) (right_taken j l r f e))
-      go (Refused n) e = rw (right_answer_lem f p ∙ e, e, right_call) (record { answer = refl; join = refl; out = refl; live = a })
+      go : (x : Result Unit Refusal) → right_answer j l r f ≡ x → Same (right_call k l' r' f) (right_call j l r f)
+      go (Ok tt) e = rw (right_answer_lem f p ∙ e, e, right_call) (pushed_same f (right_taken k l' r' f (right_answer_lem f p ∙ e)) (right_taken j l r f e))
+      go (Err n) e = rw (right_answer_lem f p ∙ e, e, right_call) (record { answer = refl; join = refl; out = refl; live = a })
 
   -- ---- the end of right, and ports
   pub end_answer_lem : end_answer k l' r' ≡ end_answer j l r
@@ -340,9 +338,9 @@ module _ (j : Join) (s b : ℕ) (l r l' r' : Words) (a : Live (placed_at j s b) 
   unfolding end_call
   end_same = go (end_answer j l r) refl
     where
-      go : (x : Took) → end_answer j l r ≡ x → Same (end_call k l' r') (end_call j l r)
-      go Accepted e = rw (end_answer_lem ∙ e, e, end_call) (record { answer = refl; join = refl; out = refl; live = ended_live })
-      go (Refused n) e = rw (end_answer_lem ∙ e, e, end_call) (record { answer = refl; join = refl; out = refl; live = a })
+      go : (x : Result Unit Refusal) → end_answer j l r ≡ x → Same (end_call k l' r') (end_call j l r)
+      go (Ok tt) e = rw (end_answer_lem ∙ e, e, end_call) (record { answer = refl; join = refl; out = refl; live = ended_live })
+      go (Err n) e = rw (end_answer_lem ∙ e, e, end_call) (record { answer = refl; join = refl; out = refl; live = a })
 
   pub ports_answer_lem : (x y z : PortState) → ports_answer k l' r' x y z ≡ ports_answer j l r x y z
   unfolding ports_judged
@@ -356,9 +354,9 @@ module _ (j : Join) (s b : ℕ) (l r l' r' : Words) (a : Live (placed_at j s b) 
   unfolding ports_call
   ports_same x y z = go (ports_answer j l r x y z) refl
     where
-      go : (p : Ported) → ports_answer j l r x y z ≡ p → Same (ports_call k l' r' x y z) (ports_call j l r x y z)
-      go (Ports d e f) q = rw (ports_answer_lem x y z ∙ q, q, ports_call) (record { answer = refl; join = refl; out = refl; live = state_live (ports_state j x z) })
-      go (PortsRefused n) q = rw (ports_answer_lem x y z ∙ q, q, ports_call) (record { answer = refl; join = refl; out = refl; live = a })
+      go : (p : Result Ports Refusal) → ports_answer j l r x y z ≡ p → Same (ports_call k l' r' x y z) (ports_call j l r x y z)
+      go (Ok p) q = rw (ports_answer_lem x y z ∙ q, q, ports_call) (record { answer = refl; join = refl; out = refl; live = state_live (ports_state j x z) })
+      go (Err n) q = rw (ports_answer_lem x y z ∙ q, q, ports_call) (record { answer = refl; join = refl; out = refl; live = a })
 
 -- ---- one call
 abbrev world : Join → Words → Words → World
@@ -371,7 +369,7 @@ Answered v w c = ((step v c).event ≡ (step w c).event) × SameLive (step v c).
 from_same : {A : Type 0} (on : A → Event) (x y : After A) → Same x y → ((stepped on x).event ≡ (stepped on y).event) × SameLive (stepped on x).world (stepped on y).world
 from_same on x y z = (ap on z.answer, record { join = z.join; bad = z.live.bad; waits = z.live.waits; values = z.live.values; marks = z.live.marks })
 
-from_turn : (x y : After Answer) → Same x y → ((stepped (λ z. on_turn z x.out) x).event ≡ (stepped (λ z. on_turn z y.out) y).event) × SameLive (stepped (λ z. on_turn z x.out) x).world (stepped (λ z. on_turn z y.out) y).world
+from_turn : (x y : After (Result Turn Refusal)) → Same x y → ((stepped (λ z. on_turn z x.out) x).event ≡ (stepped (λ z. on_turn z y.out) y).event) × SameLive (stepped (λ z. on_turn z x.out) x).world (stepped (λ z. on_turn z y.out) y).world
 from_turn x y z = (rw (z.answer, z.out), record { join = z.join; bad = z.live.bad; waits = z.live.waits; values = z.live.values; marks = z.live.marks })
 
 placed_step : (c : Call) (j : Join) (s b : ℕ) (l r l' r' : Words) → Live (placed_at j s b) l' r' j l r

@@ -13,7 +13,7 @@ use Rattle.order.proofs.OrderLaws.{AtMost, cmp_group_is, cmp_row_is, cmp_key_is,
 use Rattle.order.proofs.SortedLaws.{All, all_map}
 use Rattle.order.proofs.KeyLaws.{Inside, inside, key_at_most, key_less, key_up, farther_above}
 use Rattle.order.specs.declared.options.Options.{Options}
-use Rattle.order.specs.declared.Order.TheVariants.{Equal}
+use Rattle.std.specs.declared.cmp.Ordering.TheVariants.{Equal}
 use Rattle.order.specs.declared.options.Strategy.{Strategy}
 use Rattle.order.specs.declared.options.Strategy.TheVariants.{Backward, Forward, Nearest}
 use Rattle.searching.proofs.Promise.{Past, Enough, Settled}

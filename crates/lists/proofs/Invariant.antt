@@ -1,4 +1,5 @@
 -- What holds of the join and its areas after every list of calls from a fresh join, sorted or not; each call keeps it. Assumes nothing.
+use Rattle.std.specs.Prelude.{Result, Ok, Err}
 use mathlib.Core.Path.{◌≡◌, refl, sym, ap, ◌∙◌}
 use mathlib.Core.Bool.{Bool, true, false, cond, not, ◌&&◌, ◌||◌, or-false, or-true}
 use mathlib.Core.List.{List, [], ◌∷◌, ◌++◌, append-nil}
@@ -24,10 +25,7 @@ use Rattle.frames.specs.declared.outcomes.NodeState.TheVariants.{Running, Flush,
 use Rattle.frames.specs.declared.outcomes.PortState.{PortState}
 use Rattle.frames.specs.declared.refusals.Refusal.{Refusal}
 use Rattle.frames.specs.declared.refusals.Refusal.TheVariants.{Failed, Closed, BadFrame, UnknownCode, NoRoom, UsedUp}
-use Rattle.frames.specs.declared.outcomes.Took.{Took}
-use Rattle.frames.specs.declared.outcomes.Took.TheVariants.{Accepted, Refused}
-use Rattle.frames.specs.declared.outcomes.Ported.{Ported}
-use Rattle.frames.specs.declared.outcomes.Ported.TheVariants.{Ports, Refused as PortsRefused}
+use Rattle.frames.specs.declared.outcomes.Ports.{Ports}
 use Rattle.node.specs.State.{ended_right, state_at, left_width, right_width, bad_join, over_right, over_left, over_rows, odd_sequence}
 use Rattle.frames.specs.outcomes.Answers.{is_running, is_done, most_rows}
 use Rattle.frames.specs.refusals.Refusals.{number}
@@ -114,7 +112,7 @@ pub record Plain (n : ℕ) : Type 0 where
   pub not8 : eqb n 8 ≡ false
   pub not9 : eqb n 9 ≡ false
 
-plain_took : (b : Bool) (x y : Took) → Plain (took_refusal x) → Plain (took_refusal y) → Plain (took_refusal (cond b x y))
+plain_took : (b : Bool) (x y : Result Unit Refusal) → Plain (took_refusal x) → Plain (took_refusal y) → Plain (took_refusal (cond b x y))
 plain_took true x y p q = p
 plain_took false x y p q = q
 
@@ -225,7 +223,7 @@ module _ (o : Options) (l r : Words) (allowed : refused_options o ≡ false) (es
   }
 
   -- A refused left, right or end call.
-  quiet_left : (f : Words) (a : Took) → Plain (took_refusal a) → Adds es j (on_left f a) j
+  quiet_left : (f : Words) (a : Result Unit Refusal) → Plain (took_refusal a) → Adds es j (on_left f a) j
   unfolding done_by refused_with turns_in
   quiet_left f a p = record {
     ended = sym (or-false j.right_ended);
@@ -236,7 +234,7 @@ module _ (o : Options) (l r : Words) (allowed : refused_options o ≡ false) (es
     front = (refl, refl);
   }
 
-  quiet_right : (f : Words) (a : Took) → Plain (took_refusal a) → Adds es j (on_right f a) j
+  quiet_right : (f : Words) (a : Result Unit Refusal) → Plain (took_refusal a) → Adds es j (on_right f a) j
   unfolding done_by refused_with
   quiet_right f a p = let q = quiet_left f a p in record { ended = q.ended; done = q.done; running = q.running; failed = q.failed; unbroken = q.unbroken; front = q.front }
 
@@ -245,11 +243,11 @@ module _ (o : Options) (l r : Words) (allowed : refused_options o ≡ false) (es
   unfolding left_judged
   left_plain f =
       rw good
-      (plain_took j.failed (Refused Failed) _ plain3
-      (plain_took (not (is_running j.state)) (Refused Closed) _ plain4
-      (plain_took (not (is_frame (left_width j) f)) (Refused BadFrame) _ plain5
-      (plain_took (lacks_code j.options (frame_rows (left_width j) f)) (Refused UnknownCode) _ plain12
-      (plain_took (ltb (length w.left) (j.queue_words + length f)) (Refused NoRoom) Accepted plain6 plain0)))))
+      (plain_took j.failed (Err Failed) _ plain3
+      (plain_took (not (is_running j.state)) (Err Closed) _ plain4
+      (plain_took (not (is_frame (left_width j) f)) (Err BadFrame) _ plain5
+      (plain_took (lacks_code j.options (frame_rows (left_width j) f)) (Err UnknownCode) _ plain12
+      (plain_took (ltb (length w.left) (j.queue_words + length f)) (Err NoRoom) (Ok tt) plain6 plain0)))))
 
   -- What an accepted left frame passed.
   pub record LeftPassed (f : Words) : Type 0 where
@@ -257,7 +255,7 @@ module _ (o : Options) (l r : Words) (allowed : refused_options o ≡ false) (es
     pub codes : lacks_code o (frame_rows (columns o) f) ≡ false
     pub room : j.queue_words + length f ≤ length w.left
 
-  pub left_passed : (f : Words) → left_answer j w.left w.right f ≡ Accepted → LeftPassed f
+  pub left_passed : (f : Words) → left_answer j w.left w.right f ≡ Ok tt → LeftPassed f
   left_passed f e = let t = left_taken j w.left w.right f e in record { frame = rw s.options at t.frame; codes = rw s.options at t.codes; room = t.room }
 
   inv_queued : (f : Words) → LeftPassed f
@@ -266,31 +264,31 @@ module _ (o : Options) (l r : Words) (allowed : refused_options o ≡ false) (es
   unfolding queued left_frames right_frames outputs
   inv_queued f p = record {
     stock =
-        rw (left_append es (on_left f Accepted ∷ []), right_append es (on_left f Accepted ∷ []), outputs_append es (on_left f Accepted ∷ []), append-nil (right_frames es), append-nil (outputs es))
+        rw (left_append es (on_left f (Ok tt) ∷ []), right_append es (on_left f (Ok tt) ∷ []), outputs_append es (on_left f (Ok tt) ∷ []), append-nil (right_frames es), append-nil (outputs es))
         (stock_left o l r (left_frames es) (right_frames es) (outputs es) j w.left w.right s f p.frame p.codes p.room);
-    flags = flags_add es j (on_left f Accepted) (queued j w.left w.right f).join i.flags (adds_same es j (on_left f Accepted) (queued j w.left w.right f).join (quiet_left f Accepted plain0) (record { ended = refl; state = refl; failed = refl }));
-    strict = rw (left_append es (on_left f Accepted ∷ []), outputs_append es (on_left f Accepted ∷ []), append-nil (outputs es), turned_more o (left_frames es) (outputs es) f s.gone) i.strict;
+    flags = flags_add es j (on_left f (Ok tt)) (queued j w.left w.right f).join i.flags (adds_same es j (on_left f (Ok tt)) (queued j w.left w.right f).join (quiet_left f (Ok tt) plain0) (record { ended = refl; state = refl; failed = refl }));
+    strict = rw (left_append es (on_left f (Ok tt) ∷ []), outputs_append es (on_left f (Ok tt) ∷ []), append-nil (outputs es), turned_more o (left_frames es) (outputs es) f s.gone) i.strict;
   }
 
   pub inv_left : (f : Words) → Inv o l r (es ++ ((step w (left f)).event ∷ [])) (step w (left f)).world
   unfolding step left_call
   inv_left f = go (left_answer j w.left w.right f) refl
     where
-      go : (a : Took) → left_answer j w.left w.right f ≡ a → Inv o l r (es ++ ((step w (left f)).event ∷ [])) (step w (left f)).world
-      go (Refused n) e = rw (e, left_call) (keep (on_left f (Refused n)) j refl refl refl refl s (quiet_left f (Refused n) (rw e at (left_plain f))))
-      go Accepted e = rw (e, left_call) (inv_queued f (left_passed f e))
+      go : (a : Result Unit Refusal) → left_answer j w.left w.right f ≡ a → Inv o l r (es ++ ((step w (left f)).event ∷ [])) (step w (left f)).world
+      go (Err n) e = rw (e, left_call) (keep (on_left f (Err n)) j refl refl refl refl s (quiet_left f (Err n) (rw e at (left_plain f))))
+      go (Ok tt) e = rw (e, left_call) (inv_queued f (left_passed f e))
 
   -- ---- a right frame
   right_plain : (f : Words) → Plain (took_refusal (right_answer j w.left w.right f))
   unfolding right_judged
   right_plain f =
       rw good
-      (plain_took j.failed (Refused Failed) _ plain3
-      (plain_took (j.right_ended || is_done j.state) (Refused Closed) _ plain4
-      (plain_took (not (is_frame (right_width j) f)) (Refused BadFrame) _ plain5
-      (plain_took (lacks_code j.options (frame_rows (right_width j) f)) (Refused UnknownCode) _ plain12
-      (plain_took (ltb (capacity (right_width j) w.right) (j.held + row_count f)) (Refused NoRoom) _ plain6
-      (plain_took (ltb most_rows (j.pruned + j.held + row_count f)) (Refused UsedUp) Accepted plain7 plain0))))))
+      (plain_took j.failed (Err Failed) _ plain3
+      (plain_took (j.right_ended || is_done j.state) (Err Closed) _ plain4
+      (plain_took (not (is_frame (right_width j) f)) (Err BadFrame) _ plain5
+      (plain_took (lacks_code j.options (frame_rows (right_width j) f)) (Err UnknownCode) _ plain12
+      (plain_took (ltb (capacity (right_width j) w.right) (j.held + row_count f)) (Err NoRoom) _ plain6
+      (plain_took (ltb most_rows (j.pruned + j.held + row_count f)) (Err UsedUp) (Ok tt) plain7 plain0))))))
 
   -- What an accepted right frame passed.
   pub record RightPassed (f : Words) : Type 0 where
@@ -299,7 +297,7 @@ module _ (o : Options) (l r : Words) (allowed : refused_options o ≡ false) (es
     pub room : j.held + row_count f ≤ capacity (right_columns o) w.right
     pub few : j.pruned + j.held + row_count f ≤ most_rows
 
-  pub right_passed : (f : Words) → right_answer j w.left w.right f ≡ Accepted → RightPassed f
+  pub right_passed : (f : Words) → right_answer j w.left w.right f ≡ Ok tt → RightPassed f
   right_passed f e =
       let t = right_taken j w.left w.right f e in
       record { unended = t.unended; frame = rw s.options at t.frame; room = rw s.options at t.room; few = t.rows }
@@ -310,45 +308,45 @@ module _ (o : Options) (l r : Words) (allowed : refused_options o ≡ false) (es
   unfolding pushed_right left_frames right_frames outputs
   inv_pushed f p = record {
     stock =
-        rw (left_append es (on_right f Accepted ∷ []), right_append es (on_right f Accepted ∷ []), outputs_append es (on_right f Accepted ∷ []), append-nil (left_frames es), append-nil (outputs es))
+        rw (left_append es (on_right f (Ok tt) ∷ []), right_append es (on_right f (Ok tt) ∷ []), outputs_append es (on_right f (Ok tt) ∷ []), append-nil (left_frames es), append-nil (outputs es))
         (stock_right o l r (left_frames es) (right_frames es) (outputs es) j w.left w.right s f p.frame p.room p.few);
-    flags = flags_add es j (on_right f Accepted) (pushed_right j w.left w.right f).join i.flags (adds_same es j (on_right f Accepted) (pushed_right j w.left w.right f).join (quiet_right f Accepted plain0) (record { ended = refl; state = refl; failed = refl }));
-    strict = rw (left_append es (on_right f Accepted ∷ []), outputs_append es (on_right f Accepted ∷ []), append-nil (left_frames es), append-nil (outputs es)) i.strict;
+    flags = flags_add es j (on_right f (Ok tt)) (pushed_right j w.left w.right f).join i.flags (adds_same es j (on_right f (Ok tt)) (pushed_right j w.left w.right f).join (quiet_right f (Ok tt) plain0) (record { ended = refl; state = refl; failed = refl }));
+    strict = rw (left_append es (on_right f (Ok tt) ∷ []), outputs_append es (on_right f (Ok tt) ∷ []), append-nil (left_frames es), append-nil (outputs es)) i.strict;
   }
 
   pub inv_right : (f : Words) → Inv o l r (es ++ ((step w (right f)).event ∷ [])) (step w (right f)).world
   unfolding step right_call
   inv_right f = go (right_answer j w.left w.right f) refl
     where
-      go : (a : Took) → right_answer j w.left w.right f ≡ a → Inv o l r (es ++ ((step w (right f)).event ∷ [])) (step w (right f)).world
-      go (Refused n) e = rw (e, right_call) (keep (on_right f (Refused n)) j refl refl refl refl s (quiet_right f (Refused n) (rw e at (right_plain f))))
-      go Accepted e = rw (e, right_call) (inv_pushed f (right_passed f e))
+      go : (a : Result Unit Refusal) → right_answer j w.left w.right f ≡ a → Inv o l r (es ++ ((step w (right f)).event ∷ [])) (step w (right f)).world
+      go (Err n) e = rw (e, right_call) (keep (on_right f (Err n)) j refl refl refl refl s (quiet_right f (Err n) (rw e at (right_plain f))))
+      go (Ok tt) e = rw (e, right_call) (inv_pushed f (right_passed f e))
 
   -- ---- the end of right
   end_plain : Plain (took_refusal (end_answer j w.left w.right))
   unfolding end_judged
   end_plain =
       rw good
-      (plain_took j.failed (Refused Failed) _ plain3
-      (plain_took (j.right_ended || is_done j.state) (Refused Closed) Accepted plain4 plain0))
+      (plain_took j.failed (Err Failed) _ plain3
+      (plain_took (j.right_ended || is_done j.state) (Err Closed) (Ok tt) plain4 plain0))
 
-  quiet_end : (n : Refusal) → Plain (number n) → Adds es j (on_end (Refused n)) j
+  quiet_end : (n : Refusal) → Plain (number n) → Adds es j (on_end (Err n)) j
   unfolding done_by refused_with
-  quiet_end n p = let q = quiet_left [] (Refused n) p in record { ended = q.ended; done = q.done; running = q.running; failed = q.failed; unbroken = q.unbroken; front = q.front }
+  quiet_end n p = let q = quiet_left [] (Err n) p in record { ended = q.ended; done = q.done; running = q.running; failed = q.failed; unbroken = q.unbroken; front = q.front }
 
-  adds_end : Adds es j (on_end Accepted) (ended_right j)
+  adds_end : Adds es j (on_end (Ok tt)) (ended_right j)
   unfolding done_by refused_with
-  adds_end = let q = quiet_left [] Accepted plain0 in record { ended = sym (or-true j.right_ended); done = q.done; running = q.running; failed = q.failed; unbroken = q.unbroken; front = q.front }
+  adds_end = let q = quiet_left [] (Ok tt) plain0 in record { ended = sym (or-true j.right_ended); done = q.done; running = q.running; failed = q.failed; unbroken = q.unbroken; front = q.front }
 
   pub inv_end : Inv o l r (es ++ ((step w end).event ∷ [])) (step w end).world
   unfolding step end_call
   inv_end = go (end_answer j w.left w.right) refl
     where
-      go : (a : Took) → end_answer j w.left w.right ≡ a → Inv o l r (es ++ ((step w end).event ∷ [])) (step w end).world
-      go (Refused n) e = rw (e, end_call) (keep (on_end (Refused n)) j refl refl refl refl s (quiet_end n (rw e at end_plain)))
-      go Accepted e =
+      go : (a : Result Unit Refusal) → end_answer j w.left w.right ≡ a → Inv o l r (es ++ ((step w end).event ∷ [])) (step w end).world
+      go (Err n) e = rw (e, end_call) (keep (on_end (Err n)) j refl refl refl refl s (quiet_end n (rw e at end_plain)))
+      go (Ok tt) e =
           rw (e, end_call)
-          (keep (on_end Accepted) (ended_right j) refl refl refl refl (stock_same o l r (left_frames es) (right_frames es) (outputs es) j w.left w.right s (ended_right j) refl refl refl refl refl refl refl) adds_end)
+          (keep (on_end (Ok tt)) (ended_right j) refl refl refl refl (stock_same o l r (left_frames es) (right_frames es) (outputs es) j w.left w.right s (ended_right j) refl refl refl refl refl refl refl) adds_end)
 
   -- ---- ports
   -- No word waits exactly where no frame waits.
@@ -380,9 +378,9 @@ module _ (o : Options) (l r : Words) (allowed : refused_options o ≡ false) (es
   ports_move l' s' =
       rw (← settle_is (to_flush j.state l' s') j.queue_words, nothing_waits) (moves j.state (port_done s') (port_done l') (eqb (frames_waiting es) 0) (left_ended es) seen)
 
-  adds_ports : (a b d : PortState) (l' r' s' : PortState) → Adds es j (on_ports l' r' s' (Ports a b d)) (state_at j (ports_state j l' s'))
+  adds_ports : (p : Ports) (l' r' s' : PortState) → Adds es j (on_ports l' r' s' (Ok p)) (state_at j (ports_state j l' s'))
   unfolding done_by refused_with
-  adds_ports a b d l' r' s' =
+  adds_ports p l' r' s' =
       let m = ports_move l' s' in
       record {
         ended = sym (or-false j.right_ended);
@@ -397,23 +395,21 @@ module _ (o : Options) (l r : Words) (allowed : refused_options o ≡ false) (es
   unfolding ports_judged
   ports_plain l' r' s' = rw good (go j.failed (ports_state j l' s'))
     where
-      go : (b : Bool) (t : NodeState) → Plain (ports_refusal (cond b (PortsRefused Failed) (ports_in t l' r' s')))
+      go : (b : Bool) (t : NodeState) → Plain (ports_refusal (cond b (Err Failed) (Ok (ports_in t l' r' s'))))
       go true t = plain3
-      go false Running = plain0
-      go false Flush = plain0
-      go false Done = plain0
+      go false t = plain0
 
-  quiet_ports : (l' r' s' : PortState) (n : Refusal) → Plain (number n) → Adds es j (on_ports l' r' s' (PortsRefused n)) j
+  quiet_ports : (l' r' s' : PortState) (n : Refusal) → Plain (number n) → Adds es j (on_ports l' r' s' (Err n)) j
   unfolding done_by refused_with
-  quiet_ports l' r' s' n p = let q = quiet_left [] (Refused n) p in record { ended = q.ended; done = q.done; running = q.running; failed = q.failed; unbroken = q.unbroken; front = q.front }
+  quiet_ports l' r' s' n p = let q = quiet_left [] (Err n) p in record { ended = q.ended; done = q.done; running = q.running; failed = q.failed; unbroken = q.unbroken; front = q.front }
 
   pub inv_ports : (l' r' s' : PortState) → Inv o l r (es ++ ((step w (ports l' r' s')).event ∷ [])) (step w (ports l' r' s')).world
   unfolding step ports_call
   inv_ports l' r' s' = go (ports_answer j w.left w.right l' r' s') refl
     where
-      go : (a : Ported) → ports_answer j w.left w.right l' r' s' ≡ a → Inv o l r (es ++ ((step w (ports l' r' s')).event ∷ [])) (step w (ports l' r' s')).world
-      go (PortsRefused n) e = rw (e, ports_call) (keep (on_ports l' r' s' (PortsRefused n)) j refl refl refl refl s (quiet_ports l' r' s' n (rw e at (ports_plain l' r' s'))))
-      go (Ports a b d) e =
+      go : (a : Result Ports Refusal) → ports_answer j w.left w.right l' r' s' ≡ a → Inv o l r (es ++ ((step w (ports l' r' s')).event ∷ [])) (step w (ports l' r' s')).world
+      go (Err n) e = rw (e, ports_call) (keep (on_ports l' r' s' (Err n)) j refl refl refl refl s (quiet_ports l' r' s' n (rw e at (ports_plain l' r' s'))))
+      go (Ok p) e =
           rw (e, ports_call)
-          (keep (on_ports l' r' s' (Ports a b d)) (state_at j (ports_state j l' s')) refl refl refl refl
-          (stock_same o l r (left_frames es) (right_frames es) (outputs es) j w.left w.right s (state_at j (ports_state j l' s')) refl refl refl refl refl refl refl) (adds_ports a b d l' r' s'))
+          (keep (on_ports l' r' s' (Ok p)) (state_at j (ports_state j l' s')) refl refl refl refl
+          (stock_same o l r (left_frames es) (right_frames es) (outputs es) j w.left w.right s (state_at j (ports_state j l' s')) refl refl refl refl refl refl refl) (adds_ports p l' r' s'))

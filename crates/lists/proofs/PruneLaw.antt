@@ -14,7 +14,7 @@ use Rattle.order.proofs.OrderLaws.{AtMost, cmp_group_is, cmp_row_is, cmp_key_is,
 use Rattle.order.proofs.SortedLaws.{all_by, sorted_cut, sorted_at}
 use Rattle.order.proofs.KeyLaws.{Inside, inside, key_less, key_up, nearer_below}
 use Rattle.order.specs.declared.options.Options.{Options}
-use Rattle.order.specs.declared.Order.TheVariants.{Less, Equal}
+use Rattle.std.specs.declared.cmp.Ordering.TheVariants.{Less, Equal}
 use Rattle.order.specs.declared.options.Strategy.{Strategy}
 use Rattle.order.specs.declared.options.Strategy.TheVariants.{Backward, Forward, Nearest}
 use Rattle.searching.proofs.Promise.{Covered, Dropped, Split}

@@ -1,4 +1,8 @@
 -- A run is the list of its turns: by induction on k, each turn a call of its own. Assumes nothing.
+use Rattle.frames.specs.declared.outcomes.Turn.TheVariants.{Wrote, WantsRight, Idle}
+use Rattle.frames.specs.declared.outcomes.Turn.{Turn}
+use Rattle.frames.specs.declared.refusals.Refusal.{Refusal}
+use Rattle.std.specs.Prelude.{Result, Ok, Err}
 use mathlib.Core.Path.{◌≡◌, refl, ap, ◌∙◌}
 use mathlib.Core.Bool.{Bool, true, false}
 use mathlib.Core.List.{List, [], ◌∷◌, ◌++◌, append_assoc, map}
@@ -11,27 +15,25 @@ use Rattle.order.specs.options.Options.{answer_columns}
 use Rattle.node.specs.Calls.{After, turn_call}
 use Rattle.frames.specs.outcomes.Answers.{wrote}
 use Rattle.node.specs.runs.Run.{Ran, run_call, turn_words}
-use Rattle.frames.specs.declared.outcomes.Answer.{Answer}
-use Rattle.frames.specs.declared.outcomes.Answer.TheVariants.{Wrote, WantsRight, Idle, Refused}
 use Rattle.node.proofs.runs.RunLaws.{turn_fits, turn_length, turn_untouched, turn_areas, turn_options}
 use Rattle.lists.specs.Lists.{World, step, events, final, when_wrote, outputs, back_to_back}
 use Rattle.lists.specs.Runs.{lent_by, stop_in, written_words, answers_of, words_of, ran_from, RunIsTurns, Runs}
 
 -- A turn's output is kept where it wrote, and only there.
-kept : (a : Answer) (outs : List Words) → wrote a ≡ true → when_wrote a outs ≡ outs
-kept (Wrote s) outs g = refl
-kept WantsRight outs g = let z : ◌≡◌ {A = ℕ} 0 1 = cc in absurd (omega arith)
-kept Idle outs g = let z : ◌≡◌ {A = ℕ} 0 1 = cc in absurd (omega arith)
-kept (Refused n) outs g = let z : ◌≡◌ {A = ℕ} 0 1 = cc in absurd (omega arith)
+kept : (a : Result Turn Refusal) (outs : List Words) → wrote a ≡ true → when_wrote a outs ≡ outs
+kept (Ok (Wrote s)) outs g = refl
+kept (Ok WantsRight) outs g = let z : ◌≡◌ {A = ℕ} 0 1 = cc in absurd (omega arith)
+kept (Ok Idle) outs g = let z : ◌≡◌ {A = ℕ} 0 1 = cc in absurd (omega arith)
+kept (Err n) outs g = let z : ◌≡◌ {A = ℕ} 0 1 = cc in absurd (omega arith)
 
-unkept : (a : Answer) (outs : List Words) → wrote a ≡ false → when_wrote a outs ≡ []
-unkept (Wrote s) outs g = let z : ◌≡◌ {A = ℕ} 0 1 = cc in absurd (omega arith)
-unkept WantsRight outs g = refl
-unkept Idle outs g = refl
-unkept (Refused n) outs g = refl
+unkept : (a : Result Turn Refusal) (outs : List Words) → wrote a ≡ false → when_wrote a outs ≡ []
+unkept (Ok (Wrote s)) outs g = let z : ◌≡◌ {A = ℕ} 0 1 = cc in absurd (omega arith)
+unkept (Ok WantsRight) outs g = refl
+unkept (Ok Idle) outs g = refl
+unkept (Err n) outs g = refl
 
 module _ (k : ℕ) (w : World) (out : Words) where
-  abbrev t : After Answer
+  abbrev t : After (Result Turn Refusal)
   t = turn_call w.join w.left w.right out
 
   -- The join and the areas after the first turn, and the output behind its words.

@@ -1,7 +1,10 @@
 -- Call scripts: a list of calls, and what each answers, as plain data that `refl` can compare. Assumes nothing.
+use Rattle.frames.specs.declared.outcomes.Turn.TheVariants.{Wrote, WantsRight, Idle}
+use Rattle.frames.specs.declared.outcomes.Turn.{Turn}
+use Rattle.frames.specs.declared.refusals.Refusal.{Refusal}
+use Rattle.std.specs.Prelude.{Result, Ok, Err, Option, None, Some}
 use mathlib.Core.Bool.{Bool, cond}
 use mathlib.Core.List.{List, [], ◌∷◌, ◌++◌, map}
-use mathlib.Core.Option.{Option, none, some}
 use Prim.Native.Nat.{ℕ, zero, suc, ◌*◌, ◌%◌}
 use lib.IntN.{pos, negsuc, nat_abs, sub_ℕ}
 use lib.ListN.{take, get_or, replicate}
@@ -28,12 +31,7 @@ use Rattle.callrules.specs.Judged.{open_answer, left_judged, end_judged, right_j
 use Rattle.matchframe.specs.turnrows.Prunes.{bad_left, bad_right, first_prune, remembered, remembered_left}
 use Rattle.lists.specs.Lists.{Call, Event, on_left, on_right, on_end, on_ports, on_turn, World, start, step}
 use Rattle.node.specs.declared.Join.{Join}
-use Rattle.frames.specs.declared.outcomes.Answer.{Answer}
-use Rattle.frames.specs.declared.outcomes.Answer.TheVariants.{Wrote, WantsRight, Idle, Refused as TurnRefused}
-use Rattle.frames.specs.declared.outcomes.Took.{Took}
-use Rattle.frames.specs.declared.outcomes.Took.TheVariants.{Accepted, Refused}
-use Rattle.frames.specs.declared.outcomes.Ported.{Ported}
-use Rattle.frames.specs.declared.outcomes.Ported.TheVariants.{Ports, Refused as PortsRefused}
+use Rattle.frames.specs.declared.outcomes.Ports.{Ports}
 
 -- An answer: ok; refused N; wrote SEQ and the words written; wants; idle; ports L R S STATE; no join;
 -- areas: the words of both; state: base, held, pruned, queue start, queue words, state, ended, failed, sequence, and the cells of the left and right remembered row.
@@ -63,19 +61,19 @@ right_area n = fill n 0 5 13 6
 abbrev pub space : ℕ → Words
 space n = replicate n (negsuc 8)
 
-abbrev pub say_took : Took → Said
-say_took Accepted = ok
-say_took (Refused n) = refused (number n)
+abbrev pub say_took : Result Unit Refusal → Said
+say_took (Ok tt) = ok
+say_took (Err n) = refused (number n)
 
-abbrev pub say_turn : Answer → Words → Said
-say_turn (Wrote s) out = wrote s (take (frame_words (row_count out) (nat_abs (get_or out 1 (pos 0)))) out)
-say_turn WantsRight out = wants
-say_turn Idle out = idle
-say_turn (TurnRefused n) out = refused (number n)
+abbrev pub say_turn : Result Turn Refusal → Words → Said
+say_turn (Ok (Wrote s)) out = wrote s (take (frame_words (row_count out) (nat_abs (get_or out 1 (pos 0)))) out)
+say_turn (Ok WantsRight) out = wants
+say_turn (Ok Idle) out = idle
+say_turn (Err n) out = refused (number n)
 
-abbrev pub say_ports : Ported → Join → Said
-say_ports (Ports l r s) j = ports (port_code l) (port_code r) (port_code s) (state_code j.state)
-say_ports (PortsRefused n) j = refused (number n)
+abbrev pub say_ports : Result Ports Refusal → Join → Said
+say_ports (Ok p) j = ports (port_code p.left) (port_code p.right) (port_code p.send) (state_code j.state)
+say_ports (Err n) j = refused (number n)
 
 abbrev pub say : Event → Join → Said
 say (on_left f a) j = say_took a
@@ -108,13 +106,13 @@ pub record Spoke : Type 0 where
   pub next : Option World
 
 unfoldable pub speak : Option World → Line → Spoke
-speak w (opens o l r) = record { said = say_took (open_answer o); next = cond (refused_options o) none (some (start o (left_area l) (right_area r))) }
-speak none (call c) = record { said = no_join; next = none }
-speak (some w) (call c) = let s = step w c in record { said = say s.event s.world.join; next = some s.world }
-speak none state = record { said = no_join; next = none }
-speak (some w) state = record { said = look w.join; next = some w }
-speak none dump = record { said = no_join; next = none }
-speak (some w) dump = record { said = areas w.left w.right; next = some w }
+speak w (opens o l r) = record { said = say_took (open_answer o); next = cond (refused_options o) None (Some (start o (left_area l) (right_area r))) }
+speak None (call c) = record { said = no_join; next = None }
+speak (Some w) (call c) = let s = step w c in record { said = say s.event s.world.join; next = Some s.world }
+speak None state = record { said = no_join; next = None }
+speak (Some w) state = record { said = look w.join; next = Some w }
+speak None dump = record { said = no_join; next = None }
+speak (Some w) dump = record { said = areas w.left w.right; next = Some w }
 
 unfoldable pub speak_all : Option World → List Line → List Said
 unfolding speak look open_answer step left_call left_judged queued right_call right_judged pushed_right end_call end_judged ports_call ports_judged turn_call turn_answer turned bad_left bad_right first_prune remembered remembered_left dropped dequeued bad_join held_of waiting front answered laid table_of words_of answer_rows answer_row cells_from match_frame by_runs used pass passes runs join_run match_in tolerate choose takes_over fits need_more row_needs_more key_needs_more narrow narrow_by split_at prune_by row_before bad_split find search search_for held_rows moved_rows pushed remember_last remember recall last_below first_from sorted cmp_row cmp_first null_in refused_options bad_options bad_ranks is_frame is_table pairs_fine frame_rows rows_of cells_of
@@ -124,17 +122,17 @@ speak_all w (l ∷ ls) = let s = speak w l in s.said ∷ speak_all s.next ls
 -- What a script says. Whoever unfolds `speak_all`, or one of those below, unfolds all definitions.
 unfoldable pub script : List Line → List Said
 unfolding speak_all
-script ls = speak_all none ls
+script ls = speak_all None ls
 
 -- What a fresh join with these options and areas says to a list of calls.
 unfoldable pub says : Options → Words → Words → List Call → List Said
 unfolding speak_all
-says o l r calls = speak_all (some (start o l r)) (map call calls)
+says o l r calls = speak_all (Some (start o l r)) (map call calls)
 
 -- What any join and areas say, and how the join looks and what the areas hold afterwards; and a fresh one.
 unfoldable pub tells : World → List Call → List Said
 unfolding speak_all
-tells w calls = speak_all (some w) (map call calls ++ state ∷ dump ∷ [])
+tells w calls = speak_all (Some w) (map call calls ++ state ∷ dump ∷ [])
 
 unfoldable pub plays : Options → Words → Words → List Call → List Said
 unfolding tells

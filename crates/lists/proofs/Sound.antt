@@ -1,4 +1,5 @@
 -- Sorted rows: what is written are the matches of the whole table, what was dropped matters to no later row, and no order fault is told. Assumes nothing.
+use Rattle.std.specs.Prelude.{Option}
 use mathlib.Core.Path.{◌≡◌, refl, sym, ap, ◌∙◌}
 use mathlib.Core.Bool.{Bool, true, false, cond, ◌||◌, and-false}
 use mathlib.Core.List.{List, [], ◌∷◌, ◌++◌, append-nil, append_assoc, map}
@@ -22,7 +23,6 @@ use Rattle.searching.specs.Reach.{need_more, row_needs_more, prune_by, no_prune,
 use Rattle.searching.proofs.SplitLaw.{split}
 use Rattle.searching.proofs.EnoughLaw.{enough}
 use Rattle.searching.proofs.CheckLaw.{split_fine}
-use Rattle.matching.specs.declared.Choice.{Choice}
 use Rattle.matching.specs.Match.{match_table, whole_table}
 use Rattle.matching.specs.Answer.{answer_row, answer_rows, answered}
 use Rattle.matching.specs.Groups.{match_frame}
@@ -257,7 +257,7 @@ module _ (o : Options) (L R Os : List Words) (ended : Bool) (j : Join) (S : Soun
           let n = j.pruned + first in
           let kept = kept_rows o rows held in
           written_back o (answer_rows o n kept rows (match_frame o n kept rows)) out (matched_wide o j rows held)
-          ∙ ap (λ (ms : List Choice). map as_written (answer_rows o n kept rows ms)) (frame_match o n kept rows (kept_sorted o rows held sorted_held) sorted_rows)
+          ∙ ap (λ (ms : List (Option ℕ)). map as_written (answer_rows o n kept rows ms)) (frame_match o n kept rows (kept_sorted o rows held sorted_held) sorted_rows)
           ∙ ap (map as_written) (answer_map o n kept (match_table o n kept) rows)
           ∙ map-map as_written (λ x. answer_row o n kept x (match_table o n kept x)) rows
           ∙ map_same (λ x. as_written (answer_row o n kept x (match_table o n kept x))) (due_over o (A ++ F)) rows by_row

@@ -1,4 +1,7 @@
 -- From a fresh join, over any list of calls, sorted or not: a fault at the split comes only together with unsorted held rows. Assumes nothing.
+use Rattle.frames.specs.declared.outcomes.Turn.TheVariants.{Wrote, WantsRight, Idle}
+use Rattle.frames.specs.declared.outcomes.Turn.{Turn}
+use Rattle.std.specs.Prelude.{Result, Ok, Err}
 use mathlib.Core.Path.{◌≡◌, refl, sym, ap, ◌∙◌}
 use mathlib.Core.Bool.{Bool, true, false, not, ◌&&◌, ◌||◌, or-false}
 use mathlib.Core.List.{List, [], ◌∷◌, ◌++◌, append-nil, append_assoc}
@@ -19,12 +22,7 @@ use Rattle.node.specs.declared.Join.{Join}
 use Rattle.frames.specs.declared.outcomes.PortState.{PortState}
 use Rattle.frames.proofs.refusals.RefusalLaws.{marked_ind}
 use Rattle.frames.specs.declared.refusals.Refusal.{Refusal}
-use Rattle.frames.specs.declared.outcomes.Answer.{Answer}
-use Rattle.frames.specs.declared.outcomes.Answer.TheVariants.{Wrote, WantsRight, Idle, Refused as TurnRefused}
-use Rattle.frames.specs.declared.outcomes.Took.{Took}
-use Rattle.frames.specs.declared.outcomes.Took.TheVariants.{Accepted, Refused}
-use Rattle.frames.specs.declared.outcomes.Ported.{Ported}
-use Rattle.frames.specs.declared.outcomes.Ported.TheVariants.{Ports, Refused as PortsRefused}
+use Rattle.frames.specs.declared.outcomes.Ports.{Ports}
 use Rattle.node.specs.State.{ended_right, state_at, marked_failed, held_of}
 use Rattle.frames.specs.outcomes.Answers.{is_done}
 use Rattle.node.specs.Calls.{left_answer, left_call, queued, right_answer, right_call, pushed_right, end_answer, end_call, ports_answer, ports_call, ports_state, turn_answer, turn_call, turned, dropped, dequeued, spoiled}
@@ -90,50 +88,50 @@ module _ (o : Options) (l r : Words) (allowed : refused_options o ≡ false) (es
   unfolding step left_call queued
   low_left f = go (left_answer j w.left w.right f) refl
     where
-      go : (a : Took) → left_answer j w.left w.right f ≡ a → LowAt o (es ++ ((step w (left f)).event ∷ [])) (step w (left f)).world
-      go (Refused n) e = rw (e, left_call) (quiet (on_left f (Refused n)) j w.left w.right refl refl refl)
-      go Accepted e = rw (e, left_call) (quiet (on_left f Accepted) (queued j w.left w.right f).join (queued j w.left w.right f).left (queued j w.left w.right f).right refl refl refl)
+      go : (a : Result Unit Refusal) → left_answer j w.left w.right f ≡ a → LowAt o (es ++ ((step w (left f)).event ∷ [])) (step w (left f)).world
+      go (Err n) e = rw (e, left_call) (quiet (on_left f (Err n)) j w.left w.right refl refl refl)
+      go (Ok tt) e = rw (e, left_call) (quiet (on_left f (Ok tt)) (queued j w.left w.right f).join (queued j w.left w.right f).left (queued j w.left w.right f).right refl refl refl)
 
   pushes : (f : Words) → (j.right_ended || is_done j.state) ≡ false
-      → LowAt o (es ++ (on_right f Accepted ∷ [])) (record { join = (pushed_right j w.left w.right f).join; left = w.left; right = (pushed_right j w.left w.right f).right })
+      → LowAt o (es ++ (on_right f (Ok tt) ∷ [])) (record { join = (pushed_right j w.left w.right f).join; left = w.left; right = (pushed_right j w.left w.right f).right })
   unfolding pushed_right right_frames is_right_ended rows_in
   pushes f u =
       let open-still : is_right_ended es ≡ false = sym i.flags.ended ∙ or_first j.right_ended (is_done j.state) u in
       let A = rows_in (right_columns o) (right_frames es) in
       let few : j.pruned ≤ length A = omega (arith, i.stock.rows) in
-      rw (right_append es (on_right f Accepted ∷ []), ended_append es (on_right f Accepted ∷ []), or-false (is_right_ended es), rows_in_append (right_columns o) (right_frames es) (f ∷ []), append-nil (frame_rows (right_columns o) f), drop-append-le j.pruned A (frame_rows (right_columns o) f) few, open-still)
+      rw (right_append es (on_right f (Ok tt) ∷ []), ended_append es (on_right f (Ok tt) ∷ []), or-false (is_right_ended es), rows_in_append (right_columns o) (right_frames es) (f ∷ []), append-nil (frame_rows (right_columns o) f), drop-append-le j.pruned A (frame_rows (right_columns o) f) few, open-still)
       (λ on. low_push o j.last_right (drop j.pruned A) (frame_rows (right_columns o) f) (rw open-still at (S on)))
 
   low_right : (f : Words) → LowAt o (es ++ ((step w (right f)).event ∷ [])) (step w (right f)).world
   unfolding step right_call pushed_right
   low_right f = go (right_answer j w.left w.right f) refl
     where
-      go : (a : Took) → right_answer j w.left w.right f ≡ a → LowAt o (es ++ ((step w (right f)).event ∷ [])) (step w (right f)).world
-      go (Refused n) e = rw (e, right_call) (quiet (on_right f (Refused n)) j w.left w.right refl refl refl)
-      go Accepted e = rw (e, right_call) (pushes f (right_passed o l r allowed es w i f e).unended)
+      go : (a : Result Unit Refusal) → right_answer j w.left w.right f ≡ a → LowAt o (es ++ ((step w (right f)).event ∷ [])) (step w (right f)).world
+      go (Err n) e = rw (e, right_call) (quiet (on_right f (Err n)) j w.left w.right refl refl refl)
+      go (Ok tt) e = rw (e, right_call) (pushes f (right_passed o l r allowed es w i f e).unended)
 
   low_end : LowAt o (es ++ ((step w end).event ∷ [])) (step w end).world
   unfolding step end_call
   low_end = go (end_answer j w.left w.right) refl
     where
-      go : (a : Took) → end_answer j w.left w.right ≡ a → LowAt o (es ++ ((step w end).event ∷ [])) (step w end).world
-      go (Refused n) e = rw (e, end_call) (quiet (on_end (Refused n)) j w.left w.right refl refl refl)
-      go Accepted e = rw (e, end_call) (quiet (on_end Accepted) (ended_right j) w.left w.right refl refl refl)
+      go : (a : Result Unit Refusal) → end_answer j w.left w.right ≡ a → LowAt o (es ++ ((step w end).event ∷ [])) (step w end).world
+      go (Err n) e = rw (e, end_call) (quiet (on_end (Err n)) j w.left w.right refl refl refl)
+      go (Ok tt) e = rw (e, end_call) (quiet (on_end (Ok tt)) (ended_right j) w.left w.right refl refl refl)
 
   low_ports : (l' r' s' : PortState) → LowAt o (es ++ ((step w (ports l' r' s')).event ∷ [])) (step w (ports l' r' s')).world
   unfolding step ports_call
   low_ports l' r' s' = go (ports_answer j w.left w.right l' r' s') refl
     where
-      go : (a : Ported) → ports_answer j w.left w.right l' r' s' ≡ a → LowAt o (es ++ ((step w (ports l' r' s')).event ∷ [])) (step w (ports l' r' s')).world
-      go (PortsRefused n) e = rw (e, ports_call) (quiet (on_ports l' r' s' (PortsRefused n)) j w.left w.right refl refl refl)
-      go (Ports a b d) e = rw (e, ports_call) (quiet (on_ports l' r' s' (Ports a b d)) (state_at j (ports_state j l' s')) w.left w.right refl refl refl)
+      go : (a : Result Ports Refusal) → ports_answer j w.left w.right l' r' s' ≡ a → LowAt o (es ++ ((step w (ports l' r' s')).event ∷ [])) (step w (ports l' r' s')).world
+      go (Err n) e = rw (e, ports_call) (quiet (on_ports l' r' s' (Err n)) j w.left w.right refl refl refl)
+      go (Ok p) e = rw (e, ports_call) (quiet (on_ports l' r' s' (Ok p)) (state_at j (ports_state j l' s')) w.left w.right refl refl refl)
 
-  wrote : (out : Words) (q : ℕ) (f : Words) (rest : List Words) (d : drop (length (outputs es)) (left_frames es) ≡ f ∷ rest) → turn_answer j w.left w.right out ≡ Wrote q
-      → LowAt o (es ++ (on_turn (Wrote j.sequence) (answered o (matched_by o j (rows o l r allowed es w i f rest d) (held o l r allowed es w i)) out) ∷ []))
+  wrote : (out : Words) (q : ℕ) (f : Words) (rest : List Words) (d : drop (length (outputs es)) (left_frames es) ≡ f ∷ rest) → turn_answer j w.left w.right out ≡ Ok (Wrote q)
+      → LowAt o (es ++ (on_turn (Ok (Wrote j.sequence)) (answered o (matched_by o j (rows o l r allowed es w i f rest d) (held o l r allowed es w i)) out) ∷ []))
       (record { join = left_by o j (rows o l r allowed es w i f rest d) (held o l r allowed es w i) (length f); left = w.left; right = w.right })
   unfolding right_frames is_right_ended held
   wrote out q f rest d e =
-      let ev = on_turn (Wrote j.sequence) (answered o (matched_by o j (rows o l r allowed es w i f rest d) (held o l r allowed es w i)) out) in
+      let ev = on_turn (Ok (Wrote j.sequence)) (answered o (matched_by o j (rows o l r allowed es w i f rest d) (held o l r allowed es w i)) out) in
       let A = rows_in (right_columns o) (right_frames es) in
       let R = rows o l r allowed es w i f rest d in
       let p = passed o j R (drop j.pruned A) out q (sym (answer_is o l r allowed es w i f rest d out) ∙ e) in
@@ -144,27 +142,27 @@ module _ (o : Options) (l r : Words) (allowed : refused_options o ≡ false) (es
       (wide_drop (right_columns o) j.pruned A (rows_in_wide (right_columns o) (right_frames es) i.stock.right_frames))
       (λ t. p.need (i.flags.ended ∙ t))))
 
-  refuses : (n : Refusal) (out : Words) → LowAt o (es ++ (on_turn (TurnRefused n) out ∷ [])) (record { join = spoiled n j; left = w.left; right = w.right })
+  refuses : (n : Refusal) (out : Words) → LowAt o (es ++ (on_turn (Err n) out ∷ [])) (record { join = spoiled n j; left = w.left; right = w.right })
   refuses n out =
-      marked_ind (λ (k : Join). LowAt o (es ++ (on_turn (TurnRefused n) out ∷ [])) (record { join = k; left = w.left; right = w.right })) n
-      (λ t. quiet (on_turn (TurnRefused n) out) (marked_failed j) w.left w.right refl refl refl)
-      (λ not8 not9. quiet (on_turn (TurnRefused n) out) j w.left w.right refl refl refl)
+      marked_ind (λ (k : Join). LowAt o (es ++ (on_turn (Err n) out ∷ [])) (record { join = k; left = w.left; right = w.right })) n
+      (λ t. quiet (on_turn (Err n) out) (marked_failed j) w.left w.right refl refl refl)
+      (λ not8 not9. quiet (on_turn (Err n) out) j w.left w.right refl refl refl)
 
   low_on_turn : (out : Words) → LowAt o (es ++ ((step w (turn out)).event ∷ [])) (step w (turn out)).world
   unfolding step turn_call
   low_on_turn out = go (turn_answer j w.left w.right out) refl
     where
-      by : (q : ℕ) → turn_answer j w.left w.right out ≡ Wrote q → (fs : List Words) → drop (length (outputs es)) (left_frames es) ≡ fs
+      by : (q : ℕ) → turn_answer j w.left w.right out ≡ Ok (Wrote q) → (fs : List Words) → drop (length (outputs es)) (left_frames es) ≡ fs
           → LowAt o (es ++ (on_turn (turned j w.left w.right out).answer (turned j w.left w.right out).out ∷ []))
           (record { join = (turned j w.left w.right out).join; left = (turned j w.left w.right out).left; right = (turned j w.left w.right out).right })
       by q e [] d = absurd (no_write o l r allowed es w i out q d e)
       by q e (f ∷ rest) d = rw (turned_is o l r allowed es w i f rest d out) (wrote out q f rest d e)
 
-      go : (a : Answer) → turn_answer j w.left w.right out ≡ a → LowAt o (es ++ ((step w (turn out)).event ∷ [])) (step w (turn out)).world
-      go (Wrote q) e = rw (e, turn_call) (by q e (drop (length (outputs es)) (left_frames es)) refl)
-      go WantsRight e = rw (e, turn_call) (quiet (on_turn WantsRight out) j w.left w.right refl refl refl)
-      go Idle e = rw (e, turn_call) (quiet (on_turn Idle out) j w.left w.right refl refl refl)
-      go (TurnRefused n) e = rw (e, turn_call) (refuses n out)
+      go : (a : Result Turn Refusal) → turn_answer j w.left w.right out ≡ a → LowAt o (es ++ ((step w (turn out)).event ∷ [])) (step w (turn out)).world
+      go (Ok (Wrote q)) e = rw (e, turn_call) (by q e (drop (length (outputs es)) (left_frames es)) refl)
+      go (Ok WantsRight) e = rw (e, turn_call) (quiet (on_turn (Ok WantsRight) out) j w.left w.right refl refl refl)
+      go (Ok Idle) e = rw (e, turn_call) (quiet (on_turn (Ok Idle) out) j w.left w.right refl refl refl)
+      go (Err n) e = rw (e, turn_call) (refuses n out)
 
 module _ (o : Options) (l r : Words) (allowed : refused_options o ≡ false) where
   low_step : (es : List Event) (w : World) → Inv o l r es w → LowAt o es w → (c : Call) → LowAt o (es ++ ((step w c).event ∷ [])) (step w c).world

@@ -1,4 +1,7 @@
 -- Each call, from a join and areas that meet the invariant and are sound: what it leaves is sound. Then all lists of calls, by induction. Assumes nothing.
+use Rattle.frames.specs.declared.outcomes.Turn.TheVariants.{Wrote, WantsRight, Idle}
+use Rattle.frames.specs.declared.outcomes.Turn.{Turn}
+use Rattle.std.specs.Prelude.{Result, Ok, Err}
 use mathlib.Core.Path.{◌≡◌, refl, sym, ◌∙◌}
 use mathlib.Core.Bool.{Bool, true, false, cond, ◌||◌, or-false}
 use mathlib.Core.List.{List, [], ◌∷◌, ◌++◌, append-nil, append_assoc}
@@ -21,12 +24,7 @@ use Rattle.frames.specs.refusals.Refusals.{marks_failed}
 use Rattle.frames.proofs.refusals.RefusalLaws.{marked_ind}
 use Rattle.frames.specs.declared.refusals.Refusal.{Refusal}
 use Rattle.frames.specs.declared.refusals.Refusal.TheVariants.{Failed, Closed}
-use Rattle.frames.specs.declared.outcomes.Answer.{Answer}
-use Rattle.frames.specs.declared.outcomes.Answer.TheVariants.{Wrote, WantsRight, Idle, Refused as TurnRefused}
-use Rattle.frames.specs.declared.outcomes.Took.{Took}
-use Rattle.frames.specs.declared.outcomes.Took.TheVariants.{Accepted, Refused}
-use Rattle.frames.specs.declared.outcomes.Ported.{Ported}
-use Rattle.frames.specs.declared.outcomes.Ported.TheVariants.{Ports, Refused as PortsRefused}
+use Rattle.frames.specs.declared.outcomes.Ports.{Ports}
 use Rattle.node.specs.State.{waiting, held_values, held_marks, ended_right, state_at, marked_failed}
 use Rattle.frames.specs.outcomes.Answers.{is_done}
 use Rattle.node.specs.Calls.{left_answer, left_call, queued, right_answer, right_call, pushed_right, end_answer, end_call, ports_answer, ports_call, ports_state, turn_answer, turn_call, turned, spoiled}
@@ -47,7 +45,7 @@ SoundAt o es w =
 
 -- ---- sorted rows are never refused for their order
 -- Neither refusal 8 nor refusal 9.
-pub record Ordered (a : Answer) : Type 0 where
+pub record Ordered (a : Result Turn Refusal) : Type 0 where
   pub not8 : eqb (turn_refusal a) 8 ≡ false
   pub not9 : eqb (turn_refusal a) 9 ≡ false
 
@@ -56,7 +54,7 @@ judged_ordered o j rows held out bl br =
     judged_all Ordered o j rows held out (record { not8 = refl; not9 = refl }) (record { not8 = refl; not9 = refl }) (record { not8 = refl; not9 = refl }) (record { not8 = refl; not9 = refl })
     (record { not8 = refl; not9 = refl }) (λ t. contra t bl) (λ t. contra t br) (record { not8 = refl; not9 = refl })
 
-idle_ordered : (b d : Bool) → Ordered (cond b (TurnRefused Failed) (cond d (TurnRefused Closed) Idle))
+idle_ordered : (b d : Bool) → Ordered (cond b (Err Failed) (cond d (Err Closed) (Ok Idle)))
 idle_ordered true d = record { not8 = refl; not9 = refl }
 idle_ordered false true = record { not8 = refl; not9 = refl }
 idle_ordered false false = record { not8 = refl; not9 = refl }
@@ -87,7 +85,7 @@ module _ (o : Options) (l r : Words) (allowed : refused_options o ≡ false) (es
       (record { join = (queued j w.left w.right f).join; left = (queued j w.left w.right f).left; right = (queued j w.left w.right f).right })
   unfolding queued left_frames right_frames outputs is_right_ended
   sound_queued f =
-      rw (left_append es (on_left f Accepted ∷ []), right_append es (on_left f Accepted ∷ []), outputs_append es (on_left f Accepted ∷ []), append-nil (right_frames es), append-nil (outputs es), ended_append es (on_left f Accepted ∷ []), or-false (is_right_ended es), turned_more o (left_frames es) (outputs es) f i.stock.gone)
+      rw (left_append es (on_left f (Ok tt) ∷ []), right_append es (on_left f (Ok tt) ∷ []), outputs_append es (on_left f (Ok tt) ∷ []), append-nil (right_frames es), append-nil (outputs es), ended_append es (on_left f (Ok tt) ∷ []), or-false (is_right_ended es), turned_more o (left_frames es) (outputs es) f i.stock.gone)
       (λ st sr.
       let now = S st sr in
       sound_left o (left_frames es) (right_frames es) (outputs es) (is_right_ended es) (queued j w.left w.right f).join
@@ -98,9 +96,9 @@ module _ (o : Options) (l r : Words) (allowed : refused_options o ≡ false) (es
   unfolding step left_call
   sound_on_left f = go (left_answer j w.left w.right f) refl
     where
-      go : (a : Took) → left_answer j w.left w.right f ≡ a → SoundAt o (es ++ ((step w (left f)).event ∷ [])) (step w (left f)).world
-      go (Refused n) e = rw (e, left_call) (still (on_left f (Refused n)) refl refl refl)
-      go Accepted e = rw (e, left_call) (sound_queued f)
+      go : (a : Result Unit Refusal) → left_answer j w.left w.right f ≡ a → SoundAt o (es ++ ((step w (left f)).event ∷ [])) (step w (left f)).world
+      go (Err n) e = rw (e, left_call) (still (on_left f (Err n)) refl refl refl)
+      go (Ok tt) e = rw (e, left_call) (sound_queued f)
 
   or_false_both : (a b : Bool) → (a || b) ≡ false → a ≡ false
   or_false_both true b e = e
@@ -112,7 +110,7 @@ module _ (o : Options) (l r : Words) (allowed : refused_options o ≡ false) (es
   unfolding pushed_right left_frames right_frames outputs is_right_ended
   sound_pushed f u =
       let open-still : is_right_ended es ≡ false = sym i.flags.ended ∙ or_false_both j.right_ended (is_done j.state) u in
-      rw (left_append es (on_right f Accepted ∷ []), right_append es (on_right f Accepted ∷ []), outputs_append es (on_right f Accepted ∷ []), append-nil (left_frames es), append-nil (outputs es), ended_append es (on_right f Accepted ∷ []), or-false (is_right_ended es), rows_in_append (right_columns o) (right_frames es) (f ∷ []))
+      rw (left_append es (on_right f (Ok tt) ∷ []), right_append es (on_right f (Ok tt) ∷ []), outputs_append es (on_right f (Ok tt) ∷ []), append-nil (left_frames es), append-nil (outputs es), ended_append es (on_right f (Ok tt) ∷ []), or-false (is_right_ended es), rows_in_append (right_columns o) (right_frames es) (f ∷ []))
       (λ st sr.
       let now = S st (sorted_cut o (rows_in (right_columns o) (right_frames es)) (rows_in (right_columns o) (f ∷ [])) sr).0 in
       sound_right o (left_frames es) (right_frames es) (outputs es) (is_right_ended es) (pushed_right j w.left w.right f).join
@@ -123,25 +121,25 @@ module _ (o : Options) (l r : Words) (allowed : refused_options o ≡ false) (es
   unfolding step right_call
   sound_on_right f = go (right_answer j w.left w.right f) refl
     where
-      go : (a : Took) → right_answer j w.left w.right f ≡ a → SoundAt o (es ++ ((step w (right f)).event ∷ [])) (step w (right f)).world
-      go (Refused n) e = rw (e, right_call) (still (on_right f (Refused n)) refl refl refl)
-      go Accepted e = rw (e, right_call) (sound_pushed f (right_passed o l r allowed es w i f e).unended)
+      go : (a : Result Unit Refusal) → right_answer j w.left w.right f ≡ a → SoundAt o (es ++ ((step w (right f)).event ∷ [])) (step w (right f)).world
+      go (Err n) e = rw (e, right_call) (still (on_right f (Err n)) refl refl refl)
+      go (Ok tt) e = rw (e, right_call) (sound_pushed f (right_passed o l r allowed es w i f e).unended)
 
   pub sound_on_end : SoundAt o (es ++ ((step w end).event ∷ [])) (step w end).world
   unfolding step end_call
   sound_on_end = go (end_answer j w.left w.right) refl
     where
-      go : (a : Took) → end_answer j w.left w.right ≡ a → SoundAt o (es ++ ((step w end).event ∷ [])) (step w end).world
-      go (Refused n) e = rw (e, end_call) (still (on_end (Refused n)) refl refl refl)
-      go Accepted e = rw (e, end_call) (quiet (on_end Accepted) (ended_right j) refl refl refl refl refl refl (λ n sr. n.unfailed))
+      go : (a : Result Unit Refusal) → end_answer j w.left w.right ≡ a → SoundAt o (es ++ ((step w end).event ∷ [])) (step w end).world
+      go (Err n) e = rw (e, end_call) (still (on_end (Err n)) refl refl refl)
+      go (Ok tt) e = rw (e, end_call) (quiet (on_end (Ok tt)) (ended_right j) refl refl refl refl refl refl (λ n sr. n.unfailed))
 
   pub sound_on_ports : (l' r' s' : PortState) → SoundAt o (es ++ ((step w (ports l' r' s')).event ∷ [])) (step w (ports l' r' s')).world
   unfolding step ports_call
   sound_on_ports l' r' s' = go (ports_answer j w.left w.right l' r' s') refl
     where
-      go : (a : Ported) → ports_answer j w.left w.right l' r' s' ≡ a → SoundAt o (es ++ ((step w (ports l' r' s')).event ∷ [])) (step w (ports l' r' s')).world
-      go (PortsRefused n) e = rw (e, ports_call) (still (on_ports l' r' s' (PortsRefused n)) refl refl refl)
-      go (Ports a b d) e = rw (e, ports_call) (quiet (on_ports l' r' s' (Ports a b d)) (state_at j (ports_state j l' s')) refl refl refl refl refl refl (λ n sr. n.unfailed))
+      go : (a : Result Ports Refusal) → ports_answer j w.left w.right l' r' s' ≡ a → SoundAt o (es ++ ((step w (ports l' r' s')).event ∷ [])) (step w (ports l' r' s')).world
+      go (Err n) e = rw (e, ports_call) (still (on_ports l' r' s' (Err n)) refl refl refl)
+      go (Ok p) e = rw (e, ports_call) (quiet (on_ports l' r' s' (Ok p)) (state_at j (ports_state j l' s')) refl refl refl refl refl refl (λ n sr. n.unfailed))
 
   -- ---- turns
   module _ (sr : sorted o (rows_in (right_columns o) (right_frames es)) ≡ true) where
@@ -181,27 +179,27 @@ module _ (o : Options) (l r : Words) (allowed : refused_options o ≡ false) (es
             rw (answer_is o l r allowed es w i f rest e out) (judged_ordered o j (rows o l r allowed es w i f rest e) (held o l r allowed es w i) out (no_left_fault f rest e st) (no_right_fault f rest e st))
 
   -- A turn that is refused for the order of rows: they were not all sorted.
-  spoils : (n : Refusal) (out : Words) → marks_failed n ≡ true → turn_answer j w.left w.right out ≡ TurnRefused n
-      → SoundAt o (es ++ (on_turn (TurnRefused n) out ∷ [])) (record { join = marked_failed j; left = w.left; right = w.right })
+  spoils : (n : Refusal) (out : Words) → marks_failed n ≡ true → turn_answer j w.left w.right out ≡ Err n
+      → SoundAt o (es ++ (on_turn (Err n) out ∷ [])) (record { join = marked_failed j; left = w.left; right = w.right })
   spoils n out t e =
-      quiet (on_turn (TurnRefused n) out) (marked_failed j) refl refl refl refl refl refl (λ s sr sl. absurd (never (rw e at (turn_ordered sr sl out))))
+      quiet (on_turn (Err n) out) (marked_failed j) refl refl refl refl refl refl (λ s sr sl. absurd (never (rw e at (turn_ordered sr sl out))))
     where
-      never : Ordered (TurnRefused n) → ⊥
+      never : Ordered (Err n) → ⊥
       never p = let q : false ≡ true = rw (p.not8, p.not9) at t in let z : ◌≡◌ {A = ℕ} 0 1 = cc in omega arith
 
-  sound_refused : (n : Refusal) (out : Words) → turn_answer j w.left w.right out ≡ TurnRefused n
-      → SoundAt o (es ++ (on_turn (TurnRefused n) out ∷ [])) (record { join = spoiled n j; left = w.left; right = w.right })
+  sound_refused : (n : Refusal) (out : Words) → turn_answer j w.left w.right out ≡ Err n
+      → SoundAt o (es ++ (on_turn (Err n) out ∷ [])) (record { join = spoiled n j; left = w.left; right = w.right })
   sound_refused n out e =
-      marked_ind (λ (k : Join). SoundAt o (es ++ (on_turn (TurnRefused n) out ∷ [])) (record { join = k; left = w.left; right = w.right })) n
-      (λ t. spoils n out t e) (λ not8 not9. still (on_turn (TurnRefused n) out) refl refl refl)
+      marked_ind (λ (k : Join). SoundAt o (es ++ (on_turn (Err n) out ∷ [])) (record { join = k; left = w.left; right = w.right })) n
+      (λ t. spoils n out t e) (λ not8 not9. still (on_turn (Err n) out) refl refl refl)
 
-  sound_wrote : (out : Words) (q : ℕ) (f : Words) (rest : List Words) (d : drop (length (outputs es)) (left_frames es) ≡ f ∷ rest) → turn_answer j w.left w.right out ≡ Wrote q
-      → SoundAt o (es ++ (on_turn (Wrote j.sequence) (answered o (matched_by o j (rows o l r allowed es w i f rest d) (held o l r allowed es w i)) out) ∷ []))
+  sound_wrote : (out : Words) (q : ℕ) (f : Words) (rest : List Words) (d : drop (length (outputs es)) (left_frames es) ≡ f ∷ rest) → turn_answer j w.left w.right out ≡ Ok (Wrote q)
+      → SoundAt o (es ++ (on_turn (Ok (Wrote j.sequence)) (answered o (matched_by o j (rows o l r allowed es w i f rest d) (held o l r allowed es w i)) out) ∷ []))
       (record { join = left_by o j (rows o l r allowed es w i f rest d) (held o l r allowed es w i) (length f); left = w.left; right = w.right })
   unfolding left_frames right_frames outputs is_right_ended
   sound_wrote out q f rest d e =
       let out' = answered o (matched_by o j (rows o l r allowed es w i f rest d) (held o l r allowed es w i)) out in
-      let ev = on_turn (Wrote j.sequence) out' in
+      let ev = on_turn (Ok (Wrote j.sequence)) out' in
       let p = passed o j (rows o l r allowed es w i f rest d) (held o l r allowed es w i) out q (sym (answer_is o l r allowed es w i f rest d out) ∙ e) in
       rw (left_append es (ev ∷ []), right_append es (ev ∷ []), outputs_append es (ev ∷ []), append-nil (left_frames es), append-nil (right_frames es), ended_append es (ev ∷ []), or-false (is_right_ended es), turned_after o (left_frames es) (outputs es) f rest d out')
       (λ st sr. after_turn sr f rest d st out p)
@@ -210,17 +208,17 @@ module _ (o : Options) (l r : Words) (allowed : refused_options o ≡ false) (es
   unfolding step turn_call
   sound_on_turn out = go (turn_answer j w.left w.right out) refl
     where
-      wrote : (q : ℕ) → turn_answer j w.left w.right out ≡ Wrote q → (fs : List Words) → drop (length (outputs es)) (left_frames es) ≡ fs
+      wrote : (q : ℕ) → turn_answer j w.left w.right out ≡ Ok (Wrote q) → (fs : List Words) → drop (length (outputs es)) (left_frames es) ≡ fs
           → SoundAt o (es ++ (on_turn (turned j w.left w.right out).answer (turned j w.left w.right out).out ∷ []))
           (record { join = (turned j w.left w.right out).join; left = (turned j w.left w.right out).left; right = (turned j w.left w.right out).right })
       wrote q e [] d = absurd (no_write o l r allowed es w i out q d e)
       wrote q e (f ∷ rest) d = rw (turned_is o l r allowed es w i f rest d out) (sound_wrote out q f rest d e)
 
-      go : (a : Answer) → turn_answer j w.left w.right out ≡ a → SoundAt o (es ++ ((step w (turn out)).event ∷ [])) (step w (turn out)).world
-      go (Wrote q) e = rw (e, turn_call) (wrote q e (drop (length (outputs es)) (left_frames es)) refl)
-      go WantsRight e = rw (e, turn_call) (still (on_turn WantsRight out) refl refl refl)
-      go Idle e = rw (e, turn_call) (still (on_turn Idle out) refl refl refl)
-      go (TurnRefused n) e = rw (e, turn_call) (sound_refused n out e)
+      go : (a : Result Turn Refusal) → turn_answer j w.left w.right out ≡ a → SoundAt o (es ++ ((step w (turn out)).event ∷ [])) (step w (turn out)).world
+      go (Ok (Wrote q)) e = rw (e, turn_call) (wrote q e (drop (length (outputs es)) (left_frames es)) refl)
+      go (Ok WantsRight) e = rw (e, turn_call) (still (on_turn (Ok WantsRight) out) refl refl refl)
+      go (Ok Idle) e = rw (e, turn_call) (still (on_turn (Ok Idle) out) refl refl refl)
+      go (Err n) e = rw (e, turn_call) (sound_refused n out e)
 
 -- ---- every list of calls
 module _ (o : Options) (l r : Words) (allowed : refused_options o ≡ false) where

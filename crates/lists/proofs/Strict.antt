@@ -1,4 +1,8 @@
 -- The strict order check, proved: the statements of specs/Strict.antt, for all options that are not refused, areas and lists of calls. Assumes nothing.
+use Rattle.frames.specs.declared.outcomes.Turn.TheVariants.{Wrote, WantsRight, Idle}
+use Rattle.frames.specs.declared.outcomes.Turn.{Turn}
+use Rattle.frames.specs.declared.refusals.Refusal.{Refusal}
+use Rattle.std.specs.Prelude.{Result, Ok, Err}
 use mathlib.Core.Path.{◌≡◌, refl, ◌∙◌}
 use mathlib.Core.Bool.{Bool, true, false, cond, not, ◌&&◌}
 use mathlib.Core.List.{List, [], ◌∷◌, ◌++◌, append-nil}
@@ -13,8 +17,6 @@ use Rattle.order.specs.Order.{sorted}
 use Rattle.searching.specs.Reach.{need_more}
 use Rattle.frames.specs.declared.refusals.Refusal.TheVariants.{Failed, Closed, NoRoom, UsedUp, LeftOrder, RightOrder}
 use Rattle.frames.specs.outcomes.Answers.{is_done, last_sequence}
-use Rattle.frames.specs.declared.outcomes.Answer.{Answer}
-use Rattle.frames.specs.declared.outcomes.Answer.TheVariants.{Wrote, WantsRight, Idle, Refused}
 use Rattle.node.specs.declared.Join.{Join}
 use Rattle.node.specs.Calls.{turn_answer, turn_call, turned}
 use Rattle.matchframe.specs.turnrows.Prunes.{bad_left, bad_right}
@@ -28,7 +30,7 @@ use Rattle.lists.proofs.Steps.{SoundAt, inv_list, sound_list, inv_start, sound_s
 use Rattle.lists.proofs.WholeTableTheorem.{each_correct, written_so_far}
 
 -- ---- a turn that has judged the order of its left rows answers 8 exactly if they are out of order
-idle_unjudged : (a b : Bool) → judged_order (cond a (Refused Failed) (cond b (Refused Closed) Idle)) ≡ false
+idle_unjudged : (a b : Bool) → judged_order (cond a (Err Failed) (cond b (Err Closed) (Ok Idle))) ≡ false
 idle_unjudged true b = refl
 idle_unjudged false true = refl
 idle_unjudged false false = refl
@@ -38,16 +40,16 @@ unfolding judged
 judged_eight o j rows held out =
     go j.failed (is_done j.state) (not j.right_ended && need_more o rows held) (ltb (length out) (frame_words (length rows) (answer_columns o))) (eqb j.sequence last_sequence) (bad_left o j.last_left rows) (bad_right o j.last_right rows held)
   where
-    chain : Bool → Bool → Bool → Bool → Bool → Bool → Bool → Answer
+    chain : Bool → Bool → Bool → Bool → Bool → Bool → Bool → Result Turn Refusal
     chain failed done more short last left right =
-        cond failed (Refused Failed)
-        (cond done (Refused Closed)
-        (cond more WantsRight
-        (cond short (Refused NoRoom)
-        (cond last (Refused UsedUp)
-        (cond left (Refused LeftOrder)
-        (cond right (Refused RightOrder)
-        (Wrote j.sequence)))))))
+        cond failed (Err Failed)
+        (cond done (Err Closed)
+        (cond more (Ok WantsRight)
+        (cond short (Err NoRoom)
+        (cond last (Err UsedUp)
+        (cond left (Err LeftOrder)
+        (cond right (Err RightOrder)
+        (Ok (Wrote j.sequence))))))))
 
     go : (failed done more short last left right : Bool) → judged_order (chain failed done more short last left right) ≡ true → is_left_order (chain failed done more short last left right) ≡ left
     go true done more short last left right h = contra h refl
@@ -64,7 +66,7 @@ module _ (o : Options) (l r : Words) (allowed : refused_options o ≡ false) (es
   j = w.join
 
   -- What is asked of an answer.
-  abbrev Exact : Answer → Type 0
+  abbrev Exact : Result Turn Refusal → Type 0
   Exact a =
       judged_order a ≡ true
       → is_left_order a ≡ not (sorted o (turned_of o (left_frames es) (outputs es) ++ rows_in (columns o) (take 1 (drop (length (outputs es)) (left_frames es)))))
@@ -87,11 +89,11 @@ module _ (o : Options) (l r : Words) (allowed : refused_options o ≡ false) (es
   unfolding turn_call turned
   call_exact = go (turn_answer j w.left w.right out) refl
     where
-      go : (a : Answer) → turn_answer j w.left w.right out ≡ a → Exact (turn_call j w.left w.right out).answer
-      go (Wrote s) e = rw (e, turn_call) (rw e at answer_exact)
-      go WantsRight e = rw (e, turn_call) (rw e at answer_exact)
-      go Idle e = rw (e, turn_call) (rw e at answer_exact)
-      go (Refused n) e = rw (e, turn_call) (rw e at answer_exact)
+      go : (a : Result Turn Refusal) → turn_answer j w.left w.right out ≡ a → Exact (turn_call j w.left w.right out).answer
+      go (Ok (Wrote s)) e = rw (e, turn_call) (rw e at answer_exact)
+      go (Ok WantsRight) e = rw (e, turn_call) (rw e at answer_exact)
+      go (Ok Idle) e = rw (e, turn_call) (rw e at answer_exact)
+      go (Err n) e = rw (e, turn_call) (rw e at answer_exact)
 
 pub strict_theorem : StrictTheorem
 unfolding turned_of

@@ -1,4 +1,7 @@
 -- A turn over the stock: what it answers and leaves, told by the accepted frames; and that it keeps the invariant. Assumes nothing.
+use Rattle.frames.specs.declared.outcomes.Turn.TheVariants.{Wrote, WantsRight, Idle}
+use Rattle.frames.specs.declared.outcomes.Turn.{Turn}
+use Rattle.std.specs.Prelude.{Result, Ok, Err}
 use mathlib.Core.Path.{◌≡◌, refl, sym, ap, ◌∙◌}
 use mathlib.Core.Bool.{Bool, true, false, cond, not, ◌&&◌, or-false, or-true}
 use mathlib.Core.List.{List, [], ◌∷◌, ◌++◌, append-nil}
@@ -29,8 +32,6 @@ use Rattle.frames.proofs.refusals.RefusalLaws.{marked_ind}
 use Rattle.frames.proofs.outcomes.Tests.{past}
 use Rattle.frames.specs.declared.refusals.Refusal.{Refusal}
 use Rattle.frames.specs.declared.refusals.Refusal.TheVariants.{Failed, Closed, NoRoom, UsedUp, LeftOrder, RightOrder}
-use Rattle.frames.specs.declared.outcomes.Answer.{Answer}
-use Rattle.frames.specs.declared.outcomes.Answer.TheVariants.{Wrote, WantsRight, Idle, Refused as TurnRefused}
 use Rattle.node.specs.State.{next_turn, marked_failed, bad_join, held_of, waiting}
 use Rattle.frames.specs.outcomes.Answers.{is_running, is_done, last_sequence}
 use Rattle.node.specs.Calls.{after, turn_answer, turn_call, turned, dropped, dequeued, spoiled}
@@ -45,15 +46,15 @@ use Rattle.lists.proofs.Stock.{Stock, stock_same, stock_turn, waiting_length, ne
 use Rattle.lists.proofs.Invariant.{Inv, Adds, SameFlags, adds_same, flags_add, good, keep}
 
 -- ---- the turn's answer and what it leaves, told by the frame's rows and the held rows
-unfoldable pub judged : Options → Join → Rows → Rows → Words → Answer
+unfoldable pub judged : Options → Join → Rows → Rows → Words → Result Turn Refusal
 judged o j rows held out =
     first_of (
-    test j.failed (TurnRefused Failed)
-    ∷ test (is_done j.state) (TurnRefused Closed)
+    test j.failed (Err Failed)
+    ∷ test (is_done j.state) (Err Closed)
     ∷ room_tests o j.right_ended j.sequence rows held (length out)
     ++ order_tests (bad_left o j.last_left rows) (bad_right o j.last_right rows held)
     )
-    (Wrote j.sequence)
+    (Ok (Wrote j.sequence))
 
 -- The join that a turn that writes leaves, and what it writes.
 unfoldable pub left_by : Options → Join → Rows → Rows → ℕ → Join
@@ -86,30 +87,30 @@ module _ (o : Options) (j : Join) (left right f : Words) (rows : Rows) (opened :
   answer_by fine some frame codes out = rw (fine, own_front, some, holds, opened, frame, codes)
 
   pub turned_by_lem : (out : Words) → turned j left right out
-      ≡ after (Wrote j.sequence) (left_by o j (frame_rows (columns o) f) rows (length f)) left right (answered o (matched_by o j (frame_rows (columns o) f) rows) out)
+      ≡ after (Ok (Wrote j.sequence)) (left_by o j (frame_rows (columns o) f) rows (length f)) left right (answered o (matched_by o j (frame_rows (columns o) f) rows) out)
   unfolding turned left_by kept_rows last_prune matched_by
   turned_by_lem out = rw (own_front, holds, opened)
 
 -- ---- what no turn answers
 -- Neither refusal 2, nor 5, nor 12.
-pub record Fine (a : Answer) : Type 0 where
+pub record Fine (a : Result Turn Refusal) : Type 0 where
   pub not2 : eqb (turn_refusal a) 2 ≡ false
   pub not5 : eqb (turn_refusal a) 5 ≡ false
   pub not12 : eqb (turn_refusal a) 12 ≡ false
 
-fine_idle : (b d : Bool) → Fine (cond b (TurnRefused Failed) (cond d (TurnRefused Closed) Idle))
+fine_idle : (b d : Bool) → Fine (cond b (Err Failed) (cond d (Err Closed) (Ok Idle)))
 fine_idle true d = record { not2 = refl; not5 = refl; not12 = refl }
 fine_idle false true = record { not2 = refl; not5 = refl; not12 = refl }
 fine_idle false false = record { not2 = refl; not5 = refl; not12 = refl }
 
-idle_writes : (b d : Bool) (q : ℕ) → cond b (TurnRefused Failed) (cond d (TurnRefused Closed) Idle) ≡ Wrote q → ⊥
+idle_writes : (b d : Bool) (q : ℕ) → cond b (Err Failed) (cond d (Err Closed) (Ok Idle)) ≡ Ok (Wrote q) → ⊥
 idle_writes true d q e = let z : ◌≡◌ {A = ℕ} 0 1 = cc in omega arith
 idle_writes false true q e = let z : ◌≡◌ {A = ℕ} 0 1 = cc in omega arith
 idle_writes false false q e = let z : ◌≡◌ {A = ℕ} 0 1 = cc in omega arith
 
 -- What holds of each answer that a turn over a waiting frame can give holds of its answer.
-pub judged_all : (P : Answer → Type 0) (o : Options) (j : Join) (rows held : Rows) (out : Words) → P (TurnRefused Failed) → P (TurnRefused Closed) → P WantsRight → P (TurnRefused NoRoom) → P (TurnRefused UsedUp)
-    → (bad_left o j.last_left rows ≡ true → P (TurnRefused LeftOrder)) → (bad_right o j.last_right rows held ≡ true → P (TurnRefused RightOrder)) → P (Wrote j.sequence) → P (judged o j rows held out)
+pub judged_all : (P : Result Turn Refusal → Type 0) (o : Options) (j : Join) (rows held : Rows) (out : Words) → P (Err Failed) → P (Err Closed) → P (Ok WantsRight) → P (Err NoRoom) → P (Err UsedUp)
+    → (bad_left o j.last_left rows ≡ true → P (Err LeftOrder)) → (bad_right o j.last_right rows held ≡ true → P (Err RightOrder)) → P (Ok (Wrote j.sequence)) → P (judged o j rows held out)
 unfolding judged
 judged_all P o j rows held out p3 p4 pw p6 p7 p8 p9 p =
     cond_ind P j.failed (λ t. p3) (λ t.
@@ -135,22 +136,22 @@ not_and : (a b : Bool) → (not a && b) ≡ false → a ≡ false → b ≡ fals
 not_and true b e f = let z : ◌≡◌ {A = ℕ} 0 1 = cc in absurd (omega arith)
 not_and false b e f = e
 
-refused_apart : (n : Refusal) (q : ℕ) → ◌≡◌ {A = Answer} (TurnRefused n) (Wrote q) → ⊥
+refused_apart : (n : Refusal) (q : ℕ) → ◌≡◌ {A = Result Turn Refusal} (Err n) (Ok (Wrote q)) → ⊥
 refused_apart n q e = let z : ◌≡◌ {A = ℕ} 0 1 = cc in omega arith
 
-wants_apart : (q : ℕ) → ◌≡◌ {A = Answer} WantsRight (Wrote q) → ⊥
+wants_apart : (q : ℕ) → ◌≡◌ {A = Result Turn Refusal} (Ok WantsRight) (Ok (Wrote q)) → ⊥
 wants_apart q e = let z : ◌≡◌ {A = ℕ} 0 1 = cc in omega arith
 
-pub passed : (o : Options) (j : Join) (rows held : Rows) (out : Words) (q : ℕ) → judged o j rows held out ≡ Wrote q → Passed o j rows held
+pub passed : (o : Options) (j : Join) (rows held : Rows) (out : Words) (q : ℕ) → judged o j rows held out ≡ Ok (Wrote q) → Passed o j rows held
 unfolding judged
 passed o j rows held out q e =
-    let p3 = past j.failed (TurnRefused Failed) _ (Wrote q) (refused_apart Failed q) e in
-    let p4 = past (is_done j.state) (TurnRefused Closed) _ (Wrote q) (refused_apart Closed q) p3.1 in
-    let p = past (not j.right_ended && need_more o rows held) WantsRight _ (Wrote q) (wants_apart q) p4.1 in
-    let p6 = past (ltb (length out) (frame_words (length rows) (answer_columns o))) (TurnRefused NoRoom) _ (Wrote q) (refused_apart NoRoom q) p.1 in
-    let p7 = past (eqb j.sequence last_sequence) (TurnRefused UsedUp) _ (Wrote q) (refused_apart UsedUp q) p6.1 in
-    let p8 = past (bad_left o j.last_left rows) (TurnRefused LeftOrder) _ (Wrote q) (refused_apart LeftOrder q) p7.1 in
-    let p9 = past (bad_right o j.last_right rows held) (TurnRefused RightOrder) _ (Wrote q) (refused_apart RightOrder q) p8.1 in
+    let p3 = past j.failed (Err Failed) _ (Ok (Wrote q)) (refused_apart Failed q) e in
+    let p4 = past (is_done j.state) (Err Closed) _ (Ok (Wrote q)) (refused_apart Closed q) p3.1 in
+    let p = past (not j.right_ended && need_more o rows held) (Ok WantsRight) _ (Ok (Wrote q)) (wants_apart q) p4.1 in
+    let p6 = past (ltb (length out) (frame_words (length rows) (answer_columns o))) (Err NoRoom) _ (Ok (Wrote q)) (refused_apart NoRoom q) p.1 in
+    let p7 = past (eqb j.sequence last_sequence) (Err UsedUp) _ (Ok (Wrote q)) (refused_apart UsedUp q) p6.1 in
+    let p8 = past (bad_left o j.last_left rows) (Err LeftOrder) _ (Ok (Wrote q)) (refused_apart LeftOrder q) p7.1 in
+    let p9 = past (bad_right o j.last_right rows held) (Err RightOrder) _ (Ok (Wrote q)) (refused_apart RightOrder q) p8.1 in
     record { need = not_and j.right_ended (need_more o rows held) p.0; left_order = p8.0; right_order = p9.0 }
 
 -- The flags that a turn that writes leaves as they were.
@@ -178,7 +179,7 @@ module _ (o : Options) (l r : Words) (allowed : refused_options o ≡ false) (es
   held_length = length-drop j.pruned (rows_in (right_columns o) (right_frames es)) ∙ omega (arith, s.rows)
 
   -- A turn that breaks nothing and tells of no order leaves the flags.
-  quiet_turn : (a : Answer) (out : Words) → Fine a → eqb (turn_refusal a) 8 ≡ false → eqb (turn_refusal a) 9 ≡ false → Adds es j (on_turn a out) j
+  quiet_turn : (a : Result Turn Refusal) (out : Words) → Fine a → eqb (turn_refusal a) 8 ≡ false → eqb (turn_refusal a) 9 ≡ false → Adds es j (on_turn a out) j
   unfolding done_by refused_with
   quiet_turn a out p n8 n9 = record {
     ended = sym (or-false j.right_ended);
@@ -217,7 +218,7 @@ module _ (o : Options) (l r : Words) (allowed : refused_options o ≡ false) (es
     answer_is = answer_by o j w.left w.right f held s.options is_front held_is (good o l r allowed es w i) some_words frame codes
 
     pub turned_is : (out : Words) → turned j w.left w.right out
-        ≡ after (Wrote j.sequence) (left_by o j rows held (length f)) w.left w.right (answered o (matched_by o j rows held) out)
+        ≡ after (Ok (Wrote j.sequence)) (left_by o j rows held (length f)) w.left w.right (answered o (matched_by o j rows held) out)
     unfolding rows
     turned_is = turned_by_lem o j w.left w.right f held s.options is_front held_is
 
@@ -243,11 +244,11 @@ module _ (o : Options) (l r : Words) (allowed : refused_options o ≡ false) (es
 
     -- A turn that writes keeps the invariant.
     pub inv_wrote : (out : Words) → Passed o j rows held
-        → Inv o l r (es ++ (on_turn (Wrote j.sequence) (answered o (matched_by o j rows held) out) ∷ [])) (record { join = left_by o j rows held (length f); left = w.left; right = w.right })
+        → Inv o l r (es ++ (on_turn (Ok (Wrote j.sequence)) (answered o (matched_by o j rows held) out) ∷ [])) (record { join = left_by o j rows held (length f); left = w.left; right = w.right })
     unfolding left_frames right_frames outputs left_by dequeued dropped
     inv_wrote out p =
         let out' = answered o (matched_by o j rows held) out in
-        let ev = on_turn (Wrote j.sequence) out' in
+        let ev = on_turn (Ok (Wrote j.sequence)) out' in
         record {
           stock =
               rw (left_append es (ev ∷ []), right_append es (ev ∷ []), outputs_append es (ev ∷ []), append-nil (left_frames es), append-nil (right_frames es)) (turned_stock out);
@@ -255,12 +256,12 @@ module _ (o : Options) (l r : Words) (allowed : refused_options o ≡ false) (es
           strict = rw (left_append es (ev ∷ []), outputs_append es (ev ∷ []), append-nil (left_frames es)) (strict_wrote p out');
         }
       where
-        adds_wrote : (out : Words) → Adds es j (on_turn (Wrote j.sequence) (answered o (matched_by o j rows held) out)) (left_by o j rows held (length f))
-        adds_wrote out = adds_same es j (on_turn (Wrote j.sequence) (answered o (matched_by o j rows held) out)) (left_by o j rows held (length f)) (quiet_turn (Wrote j.sequence) (answered o (matched_by o j rows held) out) (record { not2 = refl; not5 = refl; not12 = refl }) refl refl) (by_fields o j rows held (length f))
+        adds_wrote : (out : Words) → Adds es j (on_turn (Ok (Wrote j.sequence)) (answered o (matched_by o j rows held) out)) (left_by o j rows held (length f))
+        adds_wrote out = adds_same es j (on_turn (Ok (Wrote j.sequence)) (answered o (matched_by o j rows held) out)) (left_by o j rows held (length f)) (quiet_turn (Ok (Wrote j.sequence)) (answered o (matched_by o j rows held) out) (record { not2 = refl; not5 = refl; not12 = refl }) refl refl) (by_fields o j rows held (length f))
 
   -- ---- every turn
   -- An empty queue is Idle, or refused for the join's state.
-  pub idle_is : (out : Words) → drop (length (outputs es)) (left_frames es) ≡ [] → turn_answer j w.left w.right out ≡ cond j.failed (TurnRefused Failed) (cond (is_done j.state) (TurnRefused Closed) Idle)
+  pub idle_is : (out : Words) → drop (length (outputs es)) (left_frames es) ≡ [] → turn_answer j w.left w.right out ≡ cond j.failed (Err Failed) (cond (is_done j.state) (Err Closed) (Ok Idle))
   unfolding turn_answer back_to_back
   idle_is out e =
       let z : j.queue_words ≡ 0 = sym (waiting_length o l r (left_frames es) (right_frames es) (outputs es) j w.left w.right s) ∙ ap length (s.waits ∙ ap back_to_back e) in
@@ -274,10 +275,10 @@ module _ (o : Options) (l r : Words) (allowed : refused_options o ≡ false) (es
       go [] e = rw (idle_is out e) (fine_idle j.failed (is_done j.state))
       go (f ∷ rest) e = rw (answer_is f rest e out) (fine_judged o j (rows f rest e) held out)
 
-  pub no_write : (out : Words) (q : ℕ) → drop (length (outputs es)) (left_frames es) ≡ [] → turn_answer j w.left w.right out ≡ Wrote q → ⊥
+  pub no_write : (out : Words) (q : ℕ) → drop (length (outputs es)) (left_frames es) ≡ [] → turn_answer j w.left w.right out ≡ Ok (Wrote q) → ⊥
   no_write out q e h = idle_writes j.failed (is_done j.state) q (sym (idle_is out e) ∙ h)
 
-  spoils : (n : Refusal) (out : Words) → Fine (TurnRefused n) → marks_failed n ≡ true → Adds es j (on_turn (TurnRefused n) out) (marked_failed j)
+  spoils : (n : Refusal) (out : Words) → Fine (Err n) → marks_failed n ≡ true → Adds es j (on_turn (Err n) out) (marked_failed j)
   unfolding done_by refused_with
   spoils n out p t = record {
     ended = sym (or-false j.right_ended);
@@ -288,33 +289,33 @@ module _ (o : Options) (l r : Words) (allowed : refused_options o ≡ false) (es
     front = (rw p.not5, rw p.not12);
   }
 
-  stays : (a : Answer) (out : Words) → Fine a → eqb (turn_refusal a) 8 ≡ false → eqb (turn_refusal a) 9 ≡ false → output_in (on_turn a out) ≡ []
+  stays : (a : Result Turn Refusal) (out : Words) → Fine a → eqb (turn_refusal a) 8 ≡ false → eqb (turn_refusal a) 9 ≡ false → output_in (on_turn a out) ≡ []
       → Inv o l r (es ++ (on_turn a out ∷ [])) (record { join = j; left = w.left; right = w.right })
   stays a out p n8 n9 eo = keep o l r allowed es w i (on_turn a out) j refl refl eo refl s (quiet_turn a out p n8 n9)
 
-  marks : (n : Refusal) (out : Words) → Fine (TurnRefused n) → marks_failed n ≡ true
-      → Inv o l r (es ++ (on_turn (TurnRefused n) out ∷ [])) (record { join = marked_failed j; left = w.left; right = w.right })
+  marks : (n : Refusal) (out : Words) → Fine (Err n) → marks_failed n ≡ true
+      → Inv o l r (es ++ (on_turn (Err n) out ∷ [])) (record { join = marked_failed j; left = w.left; right = w.right })
   marks n out p t =
-      keep o l r allowed es w i (on_turn (TurnRefused n) out) (marked_failed j) refl refl refl refl
+      keep o l r allowed es w i (on_turn (Err n) out) (marked_failed j) refl refl refl refl
       (stock_same o l r (left_frames es) (right_frames es) (outputs es) j w.left w.right s (marked_failed j) refl refl refl refl refl refl refl) (spoils n out p t)
 
-  inv_refused : (n : Refusal) (out : Words) → Fine (TurnRefused n) → Inv o l r (es ++ (on_turn (TurnRefused n) out ∷ [])) (record { join = spoiled n j; left = w.left; right = w.right })
+  inv_refused : (n : Refusal) (out : Words) → Fine (Err n) → Inv o l r (es ++ (on_turn (Err n) out ∷ [])) (record { join = spoiled n j; left = w.left; right = w.right })
   inv_refused n out p =
-      marked_ind (λ (k : Join). Inv o l r (es ++ (on_turn (TurnRefused n) out ∷ [])) (record { join = k; left = w.left; right = w.right })) n
-      (marks n out p) (λ not8 not9. stays (TurnRefused n) out p not8 not9 refl)
+      marked_ind (λ (k : Join). Inv o l r (es ++ (on_turn (Err n) out ∷ [])) (record { join = k; left = w.left; right = w.right })) n
+      (marks n out p) (λ not8 not9. stays (Err n) out p not8 not9 refl)
 
   pub inv_turn : (out : Words) → Inv o l r (es ++ ((step w (turn out)).event ∷ [])) (step w (turn out)).world
   unfolding step turn_call
   inv_turn out = go (turn_answer j w.left w.right out) refl
     where
-      wrote : (q : ℕ) → turn_answer j w.left w.right out ≡ Wrote q → (fs : List Words) → drop (length (outputs es)) (left_frames es) ≡ fs
+      wrote : (q : ℕ) → turn_answer j w.left w.right out ≡ Ok (Wrote q) → (fs : List Words) → drop (length (outputs es)) (left_frames es) ≡ fs
           → Inv o l r (es ++ (on_turn (turned j w.left w.right out).answer (turned j w.left w.right out).out ∷ []))
           (record { join = (turned j w.left w.right out).join; left = (turned j w.left w.right out).left; right = (turned j w.left w.right out).right })
       wrote q e [] d = absurd (no_write out q d e)
       wrote q e (f ∷ rest) d = rw (turned_is f rest d out) (inv_wrote f rest d out (passed o j (rows f rest d) held out q (sym (answer_is f rest d out) ∙ e)))
 
-      go : (a : Answer) → turn_answer j w.left w.right out ≡ a → Inv o l r (es ++ ((step w (turn out)).event ∷ [])) (step w (turn out)).world
-      go (Wrote q) e = rw (e, turn_call) (wrote q e (drop (length (outputs es)) (left_frames es)) refl)
-      go WantsRight e = rw (e, turn_call) (stays WantsRight out (rw e at (turn_fine out)) refl refl refl)
-      go Idle e = rw (e, turn_call) (stays Idle out (rw e at (turn_fine out)) refl refl refl)
-      go (TurnRefused n) e = rw (e, turn_call) (inv_refused n out (rw e at (turn_fine out)))
+      go : (a : Result Turn Refusal) → turn_answer j w.left w.right out ≡ a → Inv o l r (es ++ ((step w (turn out)).event ∷ [])) (step w (turn out)).world
+      go (Ok (Wrote q)) e = rw (e, turn_call) (wrote q e (drop (length (outputs es)) (left_frames es)) refl)
+      go (Ok WantsRight) e = rw (e, turn_call) (stays (Ok WantsRight) out (rw e at (turn_fine out)) refl refl refl)
+      go (Ok Idle) e = rw (e, turn_call) (stays (Ok Idle) out (rw e at (turn_fine out)) refl refl refl)
+      go (Err n) e = rw (e, turn_call) (inv_refused n out (rw e at (turn_fine out)))

@@ -1,5 +1,9 @@
 -- Free words are unread: over areas that are alike one join holds the same, so all answers are the same (Elsewhere); and since the areas are as long, so are the places.
 -- Assumes nothing.
+use Rattle.frames.specs.declared.outcomes.Turn.TheVariants.{Wrote, WantsRight, Idle}
+use Rattle.frames.specs.declared.outcomes.Turn.{Turn}
+use Rattle.frames.specs.declared.refusals.Refusal.{Refusal}
+use Rattle.std.specs.Prelude.{Result, Ok, Err}
 use mathlib.Core.Path.{◌≡◌, refl, sym, ◌∙◌}
 use mathlib.Core.List.{List, [], ◌∷◌}
 use lib.ListN.{length}
@@ -9,12 +13,7 @@ use Rattle.buffer.specs.area.Area.{new_base}
 use Rattle.buffer.proofs.area.PushLaws.{new_base_room, append_length, pushed_length}
 use Rattle.node.specs.declared.Join.{Join}
 use Rattle.frames.specs.declared.outcomes.PortState.{PortState}
-use Rattle.frames.specs.declared.outcomes.Answer.{Answer}
-use Rattle.frames.specs.declared.outcomes.Answer.TheVariants.{Wrote, WantsRight, Idle, Refused as TurnRefused}
-use Rattle.frames.specs.declared.outcomes.Took.{Took}
-use Rattle.frames.specs.declared.outcomes.Took.TheVariants.{Accepted, Refused}
-use Rattle.frames.specs.declared.outcomes.Ported.{Ported}
-use Rattle.frames.specs.declared.outcomes.Ported.TheVariants.{Ports, Refused as PortsRefused}
+use Rattle.frames.specs.declared.outcomes.Ports.{Ports}
 use Rattle.node.specs.State.{ended_right, right_width, bad_join}
 use Rattle.node.specs.Calls.{After, after, left_answer, left_call, queued, right_answer, right_call, pushed_right, end_answer, end_call, ports_answer, ports_call, turn_answer, turn_call, turned}
 use Rattle.node.proofs.Good.{left_taken, right_taken}
@@ -29,9 +28,9 @@ record Lengths {A : Type 0} (x : After A) (l r : Words) : Type 0 where
   in_right : length x.right ≡ length r
 
 module _ (j : Join) (l r : Words) where
-  took_lengths : (t : Took) (done : After Took) → (t ≡ Accepted → Lengths done l r) → Lengths (by_took t done j l r) l r
-  took_lengths Accepted done f = f refl
-  took_lengths (Refused n) done f = record { in_left = refl; in_right = refl }
+  took_lengths : (t : Result Unit Refusal) (done : After (Result Unit Refusal)) → (t ≡ Ok tt → Lengths done l r) → Lengths (by_took t done j l r) l r
+  took_lengths (Ok tt) done f = f refl
+  took_lengths (Err n) done f = record { in_left = refl; in_right = refl }
 
   left_lengths : (f : Words) → Lengths (left_call j l r f) l r
   unfolding left_call queued
@@ -53,25 +52,25 @@ module _ (j : Join) (l r : Words) where
 
   end_lengths : Lengths (end_call j l r) l r
   unfolding end_call
-  end_lengths = took_lengths (end_answer j l r) (after Accepted (ended_right j) l r []) (λ e. record { in_left = refl; in_right = refl })
+  end_lengths = took_lengths (end_answer j l r) (after (Ok tt) (ended_right j) l r []) (λ e. record { in_left = refl; in_right = refl })
 
   ports_lengths : (x y z : PortState) → Lengths (ports_call j l r x y z) l r
   unfolding ports_call
   ports_lengths x y z = go (ports_answer j l r x y z) refl
     where
-      go : (p : Ported) → ports_answer j l r x y z ≡ p → Lengths (ports_call j l r x y z) l r
-      go (Ports b c d) e = rw (e, ports_call) (record { in_left = refl; in_right = refl })
-      go (PortsRefused n) e = rw (e, ports_call) (record { in_left = refl; in_right = refl })
+      go : (p : Result Ports Refusal) → ports_answer j l r x y z ≡ p → Lengths (ports_call j l r x y z) l r
+      go (Ok p) e = rw (e, ports_call) (record { in_left = refl; in_right = refl })
+      go (Err n) e = rw (e, ports_call) (record { in_left = refl; in_right = refl })
 
   turn_lengths : (out : Words) → Lengths (turn_call j l r out) l r
   unfolding turn_call turned
   turn_lengths out = go (turn_answer j l r out) refl
     where
-      go : (x : Answer) → turn_answer j l r out ≡ x → Lengths (turn_call j l r out) l r
-      go (Wrote q) e = rw (e, turn_call) (record { in_left = refl; in_right = refl })
-      go WantsRight e = rw (e, turn_call) (record { in_left = refl; in_right = refl })
-      go Idle e = rw (e, turn_call) (record { in_left = refl; in_right = refl })
-      go (TurnRefused n) e = rw (e, turn_call) (record { in_left = refl; in_right = refl })
+      go : (x : Result Turn Refusal) → turn_answer j l r out ≡ x → Lengths (turn_call j l r out) l r
+      go (Ok (Wrote q)) e = rw (e, turn_call) (record { in_left = refl; in_right = refl })
+      go (Ok WantsRight) e = rw (e, turn_call) (record { in_left = refl; in_right = refl })
+      go (Ok Idle) e = rw (e, turn_call) (record { in_left = refl; in_right = refl })
+      go (Err n) e = rw (e, turn_call) (record { in_left = refl; in_right = refl })
 
 -- ---- one join over areas that are alike
 module _ (j : Join) (l r l' r' : Words) (a : Alike j l r l' r') where
@@ -96,17 +95,17 @@ module _ (j : Join) (l r l' r' : Words) (a : Alike j l r l' r') where
   unfolding left_call queued
   left_join f = go (left_answer j l r f) refl
     where
-      go : (x : Took) → left_answer j l r f ≡ x → (left_call j l' r' f).join ≡ (left_call j l r f).join
-      go Accepted e = rw (left_answer_lem f ∙ e, e, left_call, a.left_length)
-      go (Refused n) e = rw (left_answer_lem f ∙ e, e, left_call)
+      go : (x : Result Unit Refusal) → left_answer j l r f ≡ x → (left_call j l' r' f).join ≡ (left_call j l r f).join
+      go (Ok tt) e = rw (left_answer_lem f ∙ e, e, left_call, a.left_length)
+      go (Err n) e = rw (left_answer_lem f ∙ e, e, left_call)
 
   right_join : (f : Words) → (right_call j l' r' f).join ≡ (right_call j l r f).join
   unfolding right_call pushed_right
   right_join f = go (right_answer j l r f) refl
     where
-      go : (x : Took) → right_answer j l r f ≡ x → (right_call j l' r' f).join ≡ (right_call j l r f).join
-      go Accepted e = rw (right_answer_lem f ∙ e, e, right_call, a.right_length)
-      go (Refused n) e = rw (right_answer_lem f ∙ e, e, right_call)
+      go : (x : Result Unit Refusal) → right_answer j l r f ≡ x → (right_call j l' r' f).join ≡ (right_call j l r f).join
+      go (Ok tt) e = rw (right_answer_lem f ∙ e, e, right_call, a.right_length)
+      go (Err n) e = rw (right_answer_lem f ∙ e, e, right_call)
 
   end_join : (end_call j l' r').join ≡ (end_call j l r).join
   unfolding end_call
@@ -115,9 +114,9 @@ module _ (j : Join) (l r l' r' : Words) (a : Alike j l r l' r') where
       same : end_answer j l' r' ≡ end_answer j l r
       same = end_answer_lem j j.queue_start j.base l r l' r' alike_live
 
-      go : (x : Took) → end_answer j l r ≡ x → (end_call j l' r').join ≡ (end_call j l r).join
-      go Accepted e = rw (same ∙ e, e, end_call)
-      go (Refused n) e = rw (same ∙ e, e, end_call)
+      go : (x : Result Unit Refusal) → end_answer j l r ≡ x → (end_call j l' r').join ≡ (end_call j l r).join
+      go (Ok tt) e = rw (same ∙ e, e, end_call)
+      go (Err n) e = rw (same ∙ e, e, end_call)
 
   ports_join : (x y z : PortState) → (ports_call j l' r' x y z).join ≡ (ports_call j l r x y z).join
   unfolding ports_call
@@ -126,9 +125,9 @@ module _ (j : Join) (l r l' r' : Words) (a : Alike j l r l' r') where
       same : ports_answer j l' r' x y z ≡ ports_answer j l r x y z
       same = ports_answer_lem j j.queue_start j.base l r l' r' alike_live x y z
 
-      go : (p : Ported) → ports_answer j l r x y z ≡ p → (ports_call j l' r' x y z).join ≡ (ports_call j l r x y z).join
-      go (Ports b c d) e = rw (same ∙ e, e, ports_call)
-      go (PortsRefused n) e = rw (same ∙ e, e, ports_call)
+      go : (p : Result Ports Refusal) → ports_answer j l r x y z ≡ p → (ports_call j l' r' x y z).join ≡ (ports_call j l r x y z).join
+      go (Ok p) e = rw (same ∙ e, e, ports_call)
+      go (Err n) e = rw (same ∙ e, e, ports_call)
 
   turned_join : (out : Words) → (turned j l' r' out).join ≡ (turned j l r out).join
   unfolding turned
@@ -141,11 +140,11 @@ module _ (j : Join) (l r l' r' : Words) (a : Alike j l r l' r') where
       same : turn_answer j l' r' out ≡ turn_answer j l r out
       same = turn_answer_lem j j.queue_start j.base l r l' r' alike_live out
 
-      go : (x : Answer) → turn_answer j l r out ≡ x → (turn_call j l' r' out).join ≡ (turn_call j l r out).join
-      go (Wrote q) e = rw (same ∙ e, e, turn_call) (turned_join out)
-      go WantsRight e = rw (same ∙ e, e, turn_call)
-      go Idle e = rw (same ∙ e, e, turn_call)
-      go (TurnRefused n) e = rw (same ∙ e, e, turn_call)
+      go : (x : Result Turn Refusal) → turn_answer j l r out ≡ x → (turn_call j l' r' out).join ≡ (turn_call j l r out).join
+      go (Ok (Wrote q)) e = rw (same ∙ e, e, turn_call) (turned_join out)
+      go (Ok WantsRight) e = rw (same ∙ e, e, turn_call)
+      go (Ok Idle) e = rw (same ∙ e, e, turn_call)
+      go (Err n) e = rw (same ∙ e, e, turn_call)
 
 -- ---- one call, and lists of calls
 -- Worlds that are alike hold the same.

@@ -1,4 +1,6 @@
 -- The whole-table theorem, proved: the statement of specs/WholeTables.antt, for all options that are not refused, areas and lists of calls. Assumes nothing.
+use Rattle.frames.specs.declared.outcomes.Turn.TheVariants.{Wrote}
+use Rattle.std.specs.Prelude.{Option, Some, None, Ok}
 use mathlib.Core.Path.{◌≡◌, refl, sym, ap, ◌∙◌}
 use mathlib.Core.Bool.{Bool, true, false, ◌||◌, or-false}
 use mathlib.Core.List.{List, [], ◌∷◌, ◌++◌, append-nil, append_assoc, map}
@@ -18,11 +20,8 @@ use Rattle.frames.proofs.FrameLaws.{frame_length, count_append}
 use Rattle.order.proofs.SortedLaws.{sorted_cut}
 use Rattle.matching.specs.Match.{match_table, whole_table}
 use Rattle.matching.specs.Answer.{answer_row}
-use Rattle.matching.specs.declared.Choice.{Choice}
-use Rattle.matching.specs.declared.Choice.TheVariants.{Row, Nothing}
 use Rattle.matching.proofs.PickedLaw.{picked_none, picked_row}
 use Rattle.node.specs.declared.Join.{Join}
-use Rattle.frames.specs.declared.outcomes.Answer.TheVariants.{Wrote}
 use Rattle.node.specs.State.{waiting}
 use Rattle.frames.specs.outcomes.Answers.{last_sequence, is_done}
 use Rattle.node.specs.Calls.{turn_answer, turn_call, turned}
@@ -47,9 +46,9 @@ module _ (o : Options) (rights : Rows) (s : sorted o rights ≡ true) where
   unfolding whole_table answer_row
   correct x = go (match_table o 0 rights x) refl
     where
-      go : (m : Choice) → match_table o 0 rights x ≡ m → Correct o rights x (as_written (answer_row o 0 rights x (match_table o 0 rights x)))
-      go Nothing e = rw (e, nulls value_word refl (answer_columns o), nulls mark_word refl (answer_columns o)) (is_none (picked_none o rights s x e))
-      go (Row k) e = let z : k - 0 ≡ k = omega arith in rw (e, z) (is_row k (picked_row o rights s x k e))
+      go : (m : Option ℕ) → match_table o 0 rights x ≡ m → Correct o rights x (as_written (answer_row o 0 rights x (match_table o 0 rights x)))
+      go None e = rw (e, nulls value_word refl (answer_columns o), nulls mark_word refl (answer_columns o)) (is_none (picked_none o rights s x e))
+      go (Some k) e = let z : k - 0 ≡ k = omega arith in rw (e, z) (is_row k (picked_row o rights s x k e))
 
   pub each_correct : (xs : Rows) → Each (Correct o rights) xs (map (due_over o rights) xs)
   each_correct [] = ends
@@ -75,7 +74,7 @@ frames_back c (suc fuel) (f ∷ fs) p h =
 -- ---- 3. a turn that nothing stops writes
 judged_writes : (o : Options) (j : Join) (rows held : Rows) (out : Words) → j.failed ≡ false → is_done j.state ≡ false → j.right_ended ≡ true
     → ltb (length out) (frame_words (length rows) (answer_columns o)) ≡ false → eqb j.sequence last_sequence ≡ false → bad_left o j.last_left rows ≡ false → bad_right o j.last_right rows held ≡ false
-    → judged o j rows held out ≡ Wrote j.sequence
+    → judged o j rows held out ≡ Ok (Wrote j.sequence)
 unfolding judged
 judged_writes o j rows held out e₁ e₂ e₃ e₄ e₅ e₆ e₇ = rw (e₁, e₂, e₃, e₄, e₅, e₆, e₇)
 
@@ -100,7 +99,7 @@ module _ (o : Options) (l r : Words) (allowed : refused_options o ≡ false) whe
       abbrev j : Join
       j = w.join
 
-      turn_writes : turn_answer j w.left w.right out ≡ Wrote j.sequence
+      turn_writes : turn_answer j w.left w.right out ≡ Ok (Wrote j.sequence)
       turn_writes =
           let rs = rows o l r allowed es w i f rest e in
           let hs = held o l r allowed es w i in
@@ -113,7 +112,7 @@ module _ (o : Options) (l r : Words) (allowed : refused_options o ≡ false) whe
           ∙ judged_writes o j rs hs out ((S (turned_sorted o (left_frames es) (outputs es) sl) sr).unfailed sl) (i.flags.done ∙ undone) (i.flags.ended ∙ ended) fits seq (no_left_fault o l r allowed es w i S sr f rest e st) (no_right_fault o l r allowed es w i S sr f rest e st)
 
       -- Its event and what it leaves.
-      step_writes : step w (turn out) ≡ record { event = on_turn (Wrote j.sequence) (turned j w.left w.right out).out; world = record { join = (turned j w.left w.right out).join; left = (turned j w.left w.right out).left; right = (turned j w.left w.right out).right } }
+      step_writes : step w (turn out) ≡ record { event = on_turn (Ok (Wrote j.sequence)) (turned j w.left w.right out).out; world = record { join = (turned j w.left w.right out).join; left = (turned j w.left w.right out).left; right = (turned j w.left w.right out).right } }
       unfolding step turn_call turned
       step_writes = rw (turn_writes, turn_call)
 
@@ -130,25 +129,25 @@ stitch c xs out ys = rw (matches_append c (out ∷ []) ys, matches_append c xs (
 -- A turn that wrote adds its output, and nothing else.
 module _ (es : List Event) (q : ℕ) (out : Words) where
   abbrev wrote : Event
-  wrote = on_turn (Wrote q) out
+  wrote = on_turn (Ok (Wrote q)) out
 
-  wrote_left : left_frames (es ++ (on_turn (Wrote q) out ∷ [])) ≡ left_frames es
+  wrote_left : left_frames (es ++ (on_turn (Ok (Wrote q)) out ∷ [])) ≡ left_frames es
   unfolding left_frames
   wrote_left = left_append es (wrote ∷ []) ∙ append-nil (left_frames es)
 
-  wrote_right : right_frames (es ++ (on_turn (Wrote q) out ∷ [])) ≡ right_frames es
+  wrote_right : right_frames (es ++ (on_turn (Ok (Wrote q)) out ∷ [])) ≡ right_frames es
   unfolding right_frames
   wrote_right = right_append es (wrote ∷ []) ∙ append-nil (right_frames es)
 
-  wrote_out : outputs (es ++ (on_turn (Wrote q) out ∷ [])) ≡ outputs es ++ (out ∷ [])
+  wrote_out : outputs (es ++ (on_turn (Ok (Wrote q)) out ∷ [])) ≡ outputs es ++ (out ∷ [])
   unfolding outputs
   wrote_out = outputs_append es (wrote ∷ [])
 
-  wrote_ended : is_right_ended (es ++ (on_turn (Wrote q) out ∷ [])) ≡ is_right_ended es
+  wrote_ended : is_right_ended (es ++ (on_turn (Ok (Wrote q)) out ∷ [])) ≡ is_right_ended es
   unfolding is_right_ended
   wrote_ended = ended_append es (wrote ∷ []) ∙ or-false (is_right_ended es)
 
-  wrote_done : node_done (es ++ (on_turn (Wrote q) out ∷ [])) ≡ node_done es
+  wrote_done : node_done (es ++ (on_turn (Ok (Wrote q)) out ∷ [])) ≡ node_done es
   unfolding done_by
   wrote_done = done_snoc [] es wrote ∙ or-false (node_done es)
 
@@ -177,7 +176,7 @@ module _ (o : Options) (l r : Words) (allowed : refused_options o ≡ false) whe
       let st = step_writes o l r allowed es w i S sl sr en un few c.0 c.1 c.2 out c.3 in
       let q = w.join.sequence in
       let out' = (turned w.join w.left w.right out).out in
-      let se : (step w (turn out)).event ≡ on_turn (Wrote q) out' = ap (λ s. s.event) st in
+      let se : (step w (turn out)).event ≡ on_turn (Ok (Wrote q)) out' = ap (λ s. s.event) st in
       let es' = es ++ ((step w (turn out)).event ∷ []) in
       let w' = (step w (turn out)).world in
       let el : left_frames es' ≡ left_frames es = rw se (wrote_left es q out') in

@@ -1,5 +1,8 @@
 -- Lists of calls: what they answer and leave, and what the whole-table theorem reads off them (SCOPE 15). Assumes nothing.
-use Rattle.std.specs.Prelude.{Bool, true, false, ◌&&◌, ◌||◌, List, [], ◌∷◌, ◌++◌, ℕ, zero, suc, ◌+◌, ◌-◌, ◌*◌, eqb, length, take, drop}
+use Rattle.frames.specs.declared.outcomes.Turn.TheVariants.{Wrote, WantsRight, Idle}
+use Rattle.frames.specs.declared.outcomes.Turn.{Turn}
+use Rattle.frames.specs.declared.refusals.Refusal.{Refusal}
+use Rattle.std.specs.Prelude.{Bool, true, false, ◌&&◌, ◌||◌, List, [], ◌∷◌, ◌++◌, ℕ, zero, suc, ◌+◌, ◌-◌, ◌*◌, eqb, length, take, drop, Result, Ok, Err}
 use Rattle.frames.specs.Cells.{Rows, Words}
 use Rattle.frames.specs.Frame.{row_count, frame_rows, frame_words, front}
 use Rattle.order.specs.declared.options.Options.{Options}
@@ -9,12 +12,7 @@ use Rattle.node.specs.Calls.{After, left_call, right_call, end_call, ports_call,
 use Rattle.callrules.specs.ports.Ports.{port_done}
 use Rattle.node.specs.declared.Join.{Join}
 use Rattle.frames.specs.declared.outcomes.PortState.{PortState}
-use Rattle.frames.specs.declared.outcomes.Answer.{Answer}
-use Rattle.frames.specs.declared.outcomes.Answer.TheVariants.{Wrote, WantsRight, Idle, Refused as TurnRefused}
-use Rattle.frames.specs.declared.outcomes.Took.{Took}
-use Rattle.frames.specs.declared.outcomes.Took.TheVariants.{Accepted, Refused}
-use Rattle.frames.specs.declared.outcomes.Ported.{Ported}
-use Rattle.frames.specs.declared.outcomes.Ported.TheVariants.{Ports, Refused as PortsRefused}
+use Rattle.frames.specs.declared.outcomes.Ports.{Ports}
 
 -- A call: a left or right frame of any words, the end of right, ports (left, right, send), a turn with any words as its output.
 pub data Call : Type 0 where
@@ -26,11 +24,11 @@ pub data Call : Type 0 where
 
 -- A call with its answer; of a turn also its output as it returned.
 pub data Event : Type 0 where
-  on_left : Words → Took → Event
-  on_right : Words → Took → Event
-  on_end : Took → Event
-  on_ports : PortState → PortState → PortState → Ported → Event
-  on_turn : Answer → Words → Event
+  on_left : Words → Result Unit Refusal → Event
+  on_right : Words → Result Unit Refusal → Event
+  on_end : Result Unit Refusal → Event
+  on_ports : PortState → PortState → PortState → Result Ports Refusal → Event
+  on_turn : Result Turn Refusal → Words → Event
 
 -- A join and its two areas.
 pub record World : Type 0 where
@@ -71,9 +69,9 @@ final w (c ∷ cs) = final (step w c).world cs
 
 -- ---- what the theorem reads off the events
 -- Something, if a call was accepted; else nothing.
-abbrev pub when {ℓ} : {A : Type ℓ} → Took → List A → List A
-when Accepted xs = xs
-when (Refused n) xs = []
+abbrev pub when {ℓ} : {A : Type ℓ} → Result Unit Refusal → List A → List A
+when (Ok tt) xs = xs
+when (Err n) xs = []
 
 -- SCOPE 15.3: the frame of a left call, if it was accepted.
 abbrev pub left_in : Event → List Words
@@ -107,11 +105,11 @@ rows_in c [] = []
 rows_in c (f ∷ fs) = frame_rows c f ++ rows_in c fs
 
 -- The outputs of the turns that answered Wrote, as each returned.
-abbrev pub when_wrote : Answer → List Words → List Words
-when_wrote (Wrote s) outs = outs
-when_wrote WantsRight outs = []
-when_wrote Idle outs = []
-when_wrote (TurnRefused n) outs = []
+abbrev pub when_wrote : Result Turn Refusal → List Words → List Words
+when_wrote (Ok (Wrote s)) outs = outs
+when_wrote (Ok WantsRight) outs = []
+when_wrote (Ok Idle) outs = []
+when_wrote (Err n) outs = []
 
 -- The output of a turn that answered Wrote.
 abbrev pub output_in : Event → List Words
@@ -146,9 +144,9 @@ matches_in c [] = []
 matches_in c (out ∷ outs) = written_in c out ++ matches_in c outs
 
 -- Whether a call was accepted.
-abbrev pub accepted : Took → Bool
-accepted Accepted = true
-accepted (Refused n) = false
+abbrev pub accepted : Result Unit Refusal → Bool
+accepted (Ok tt) = true
+accepted (Err n) = false
 
 -- An end-of-right call that was accepted.
 abbrev pub ends_right : Event → Bool
@@ -164,9 +162,9 @@ is_right_ended [] = false
 is_right_ended (e ∷ es) = ends_right e || is_right_ended es
 
 -- Whether a port call was accepted.
-abbrev pub accepted_ports : Ported → Bool
-accepted_ports (Ports l r s) = true
-accepted_ports (PortsRefused n) = false
+abbrev pub accepted_ports : Result Ports Refusal → Bool
+accepted_ports (Ok p) = true
+accepted_ports (Err n) = false
 
 -- An accepted port call that had left Done.
 abbrev pub left_done : Event → Bool
@@ -208,21 +206,21 @@ back_to_back [] = []
 back_to_back (f ∷ fs) = f ++ back_to_back fs
 
 -- The number of the refusal that a call met, or 0.
-abbrev pub took_refusal : Took → ℕ
-took_refusal Accepted = 0
-took_refusal (Refused n) = number n
+abbrev pub took_refusal : Result Unit Refusal → ℕ
+took_refusal (Ok tt) = 0
+took_refusal (Err n) = number n
 
 -- The same of a port call.
-abbrev pub ports_refusal : Ported → ℕ
-ports_refusal (Ports l r s) = 0
-ports_refusal (PortsRefused n) = number n
+abbrev pub ports_refusal : Result Ports Refusal → ℕ
+ports_refusal (Ok p) = 0
+ports_refusal (Err n) = number n
 
 -- The same of a turn.
-abbrev pub turn_refusal : Answer → ℕ
-turn_refusal (Wrote s) = 0
-turn_refusal WantsRight = 0
-turn_refusal Idle = 0
-turn_refusal (TurnRefused n) = number n
+abbrev pub turn_refusal : Result Turn Refusal → ℕ
+turn_refusal (Ok (Wrote s)) = 0
+turn_refusal (Ok WantsRight) = 0
+turn_refusal (Ok Idle) = 0
+turn_refusal (Err n) = number n
 
 -- The same of any call.
 abbrev pub refusal_in : Event → ℕ

@@ -1,12 +1,13 @@
 -- SCOPE 17.5: a run is the list of its turns, so the whole-table theorem needs no case for it. The statement; its proof is in proofs/. Assumes nothing.
-use Rattle.std.specs.Prelude.{◌≡◌, cond, List, [], ◌∷◌, ◌++◌, map, ℕ, zero, suc, length, take, drop}
+use Rattle.frames.specs.declared.outcomes.Stop.{Stop}
+use Rattle.frames.specs.declared.outcomes.Stop.TheVariants.{Used}
+use Rattle.frames.specs.declared.refusals.Refusal.{Refusal}
+use Rattle.std.specs.Prelude.{◌≡◌, cond, List, [], ◌∷◌, ◌++◌, map, ℕ, zero, suc, length, take, drop, Result, Ok}
 use Rattle.frames.specs.Cells.{Words}
 use Rattle.order.specs.options.Options.{answer_columns}
 use Rattle.node.specs.Calls.{turn_call}
 use Rattle.frames.specs.outcomes.Answers.{wrote}
 use Rattle.node.specs.runs.Run.{Ran, run_call, turn_words, stop_of}
-use Rattle.frames.specs.declared.outcomes.Stop.{Stop}
-use Rattle.frames.specs.declared.outcomes.Stop.TheVariants.{Used}
 use Rattle.lists.specs.Lists.{Call, turn, Event, on_left, on_right, on_end, on_ports, on_turn, World, step, events, final, outputs, back_to_back}
 
 -- The outputs that a run lends to its turns: each the words behind those that the turn before it wrote. A turn that did not write is the last.
@@ -21,7 +22,7 @@ abbrev pub written_words : ℕ → Words → Words
 written_words c out = take (turn_words c out) out
 
 -- What an event ends a run with: a turn that did not write ends it by its answer, anything else leaves it to what comes after.
-abbrev pub stop_by : Event → Stop → Stop
+abbrev pub stop_by : Event → Result Stop Refusal → Result Stop Refusal
 stop_by (on_left f a) s = s
 stop_by (on_right f a) s = s
 stop_by (on_end a) s = s
@@ -29,8 +30,8 @@ stop_by (on_ports l r p a) s = s
 stop_by (on_turn a out) s = cond (wrote a) s (stop_of a)
 
 -- What a list of turns ends a run with; where all wrote, k is used.
-unfoldable pub stop_in : List Event → Stop
-stop_in [] = Used
+unfoldable pub stop_in : List Event → Result Stop Refusal
+stop_in [] = Ok Used
 stop_in (e ∷ es) = stop_by e (stop_in es)
 
 module _ (k : ℕ) (w : World) (out : Words) where

@@ -1,4 +1,5 @@
 -- The best row so far, and the row that it meets: what the leaves' tests say of the rows, one argument for the three strategies. Assumes nothing.
+use Rattle.std.specs.Prelude.{Some, None}
 use mathlib.Core.Path.{◌≡◌, sym, ◌∙◌}
 use mathlib.Core.Bool.{Bool, true, false, cond, not, ◌&&◌}
 use mathlib.Core.List.{List, [], ◌∷◌}
@@ -21,7 +22,6 @@ use Rattle.order.specs.declared.options.Strategy.{Strategy}
 use Rattle.matching.specs.Match.{Hit, nobody, hit, on_side, fits, takes_over, meet, choose, too_far, tolerate, match_in}
 use Rattle.matching.specs.Stretches.{between, hit_at}
 use Rattle.matching.specs.Loops.{Small, BestIn, TakesOver, Meets, Met}
-use Rattle.matching.specs.declared.Choice.TheVariants.{Row, Nothing}
 use Rattle.matching.proofs.ChoiceLaws.{cond_ind, choose_dead}
 use Rattle.matching.proofs.WalkLaws.{between_more, between_none}
 use Rattle.matching.proofs.ScanLaws.{present}
@@ -92,24 +92,24 @@ module _ (o : Options) (x : List Cell) (w to : ℕ) (vs ms : Words) where
 
 -- ---- the choice, after the tolerance
 -- A left null key gets none.
-pub none_null : (o : Options) (x : List Cell) (i : ℕ) (rows : Rows) → null_key o x ≡ true → match_in o i rows x ≡ Nothing
+pub none_null : (o : Options) (x : List Cell) (i : ℕ) (rows : Rows) → null_key o x ≡ true → match_in o i rows x ≡ None
 unfolding match_in tolerate fits
 none_null o x i rows e = rw (choose_dead o x (fits o x) nobody i rows (all_by _ rows (λ k h. rw e)))
 
 module _ (o : Options) (x : List Cell) (first w to : ℕ) (vs ms : Words) (rows : Rows) where
   module _ (from best : ℕ) (e : hit_at first w to vs ms best ≡ choose o x (fits o x) nobody from rows) where
-    pub none_best : best ≡ to → match_in o from rows x ≡ Nothing
+    pub none_best : best ≡ to → match_in o from rows x ≡ None
     unfolding match_in tolerate
     none_best b = rw (← e, hit_none first w to vs ms best b)
 
     -- the test of the tolerance, by the words of the two keys
     module _ (h : best < to) (v a : ℤ) (ex : key_of o x ≡ value v) (ea : key_of o (row_from w (best * w) vs ms) ≡ value a) (t : Bool)
         (q : t ≡ (le_z (pos 0) o.tolerance && ltb (nat_abs o.tolerance) (nat_abs (a -ℤ v)))) where
-      pub none_far : t ≡ true → match_in o from rows x ≡ Nothing
+      pub none_far : t ≡ true → match_in o from rows x ≡ None
       unfolding match_in tolerate
       none_far d = rw (← e, hit_some first w to vs ms best h, ex, ea, ← q, d)
 
-      pub row_near : t ≡ false → match_in o from rows x ≡ Row (first + best)
+      pub row_near : t ≡ false → match_in o from rows x ≡ Some (first + best)
       unfolding match_in tolerate
       row_near d = rw (← e, hit_some first w to vs ms best h, ex, ea, ← q, d)
 

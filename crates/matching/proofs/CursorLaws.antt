@@ -14,8 +14,8 @@ use Rattle.order.specs.Order.{cmp_cell, distance}
 use Rattle.order.proofs.OrderLaws.{AtMost, IsOrder, cmp_cell_is, cell_equal, three, less_or, less_then, then_less, same_right, less_greater, greater_less, less_at_most}
 use Rattle.order.proofs.KeyLaws.{gap, distance_gap, key_up, nearer_below, nearer_above, farther_above}
 use Rattle.frames.proofs.BoolLaws.{and-true}
-use Rattle.order.specs.declared.Order.{Order}
-use Rattle.order.specs.declared.Order.TheVariants.{Less, Equal, Greater}
+use Rattle.std.specs.declared.cmp.Ordering.{Ordering}
+use Rattle.std.specs.declared.cmp.Ordering.TheVariants.{Less, Equal, Greater}
 use Rattle.order.specs.declared.options.Strategy.{Strategy}
 use Rattle.order.specs.declared.options.Strategy.TheVariants.{Backward, Forward, Nearest}
 use Rattle.matching.specs.Match.{on_side, nearer}
@@ -48,12 +48,12 @@ contra true true f e = e
 contra false true f e = let z : false ≡ true = f refl in cc
 
 -- ---- Backward's side and Forward's: they go with the keys
-back_equal : (q : Bool) (z : Order) → on_side Backward q Equal ≡ true → (z ≡ Greater → ⊥) → on_side Backward q z ≡ true
+back_equal : (q : Bool) (z : Ordering) → on_side Backward q Equal ≡ true → (z ≡ Greater → ⊥) → on_side Backward q z ≡ true
 back_equal q Less e h = refl
 back_equal q Equal e h = e
 back_equal q Greater e h = absurd (h refl)
 
-fore_equal : (q : Bool) (z : Order) → on_side Forward q Equal ≡ true → (z ≡ Less → ⊥) → on_side Forward q z ≡ true
+fore_equal : (q : Bool) (z : Ordering) → on_side Forward q Equal ≡ true → (z ≡ Less → ⊥) → on_side Forward q z ≡ true
 fore_equal q Less e h = absurd (h refl)
 fore_equal q Equal e h = e
 fore_equal q Greater e h = refl

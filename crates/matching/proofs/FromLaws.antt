@@ -1,4 +1,5 @@
 -- A choice among rows that are numbered from i has the number of one of them; so the row of an answer is the same over the kept rows and over all right rows. Assumes nothing.
+use Rattle.std.specs.Prelude.{Option, Some, None}
 use mathlib.Core.Path.{◌≡◌, refl, sym, ◌∙◌}
 use mathlib.Core.Bool.{Bool, true, false, cond, ◌&&◌}
 use mathlib.Core.List.{List, [], ◌∷◌, ◌++◌, map, flatten}
@@ -11,8 +12,6 @@ use Rattle.frames.specs.Cells.{Cell, Rows}
 use Rattle.order.specs.options.Options.{strategy_of}
 use Rattle.order.specs.declared.options.Options.{Options}
 use Rattle.order.specs.Order.{cmp_group, is_equal, null_group}
-use Rattle.matching.specs.declared.Choice.{Choice}
-use Rattle.matching.specs.declared.Choice.TheVariants.{Row, Nothing}
 use Rattle.matching.specs.Match.{Hit, nobody, hit, fits, takes_over, meet, choose, too_far, tolerate, same_group, match_in, match_table}
 use Rattle.matching.specs.Groups.{Cursor, head_of, passes, pass, used, runs, by_runs, match_frame}
 use Rattle.matching.specs.Answer.{answer_row}
@@ -24,9 +23,9 @@ abbrev HitFrom : ℕ → ℕ → Hit → Type 0
 HitFrom i n nobody = Unit {0}
 HitFrom i n (hit k r) = (i ≤ k) × (k < n)
 
-abbrev pub From : ℕ → ℕ → Choice → Type 0
-From i n (Row k) = (i ≤ k) × (k < n)
-From i n Nothing = Unit {0}
+abbrev pub From : ℕ → ℕ → Option ℕ → Type 0
+From i n (Some k) = (i ≤ k) × (k < n)
+From i n None = Unit {0}
 
 module _ (o : Options) (x : List Cell) (i n : ℕ) where
   meet_from : (k : ℕ) (r : List Cell) (c : Hit) → i ≤ k → k < n → HitFrom i n c → HitFrom i n (meet o x k r c)
@@ -51,7 +50,7 @@ module _ (o : Options) (x : List Cell) (i n : ℕ) where
   tolerate_from nobody h = tt
   tolerate_from (hit k r) h = go (too_far o x r)
     where
-      go : (b : Bool) → From i n (cond b Nothing (Row k))
+      go : (b : Bool) → From i n (cond b None (Some k))
       go true = tt
       go false = h
 
@@ -69,43 +68,43 @@ module _ (o : Options) (x : List Cell) (i : ℕ) (rows : Rows) where
   run_from = chosen_from (fits o x)
 
 -- A row of the answer does not ask for the rows behind those that its choice is among.
-pub row_within : (o : Options) (d : ℕ) (rights F : Rows) (x : List Cell) (m : Choice) → From d (d + length rights) m → answer_row o d (rights ++ F) x m ≡ answer_row o d rights x m
+pub row_within : (o : Options) (d : ℕ) (rights F : Rows) (x : List Cell) (m : Option ℕ) → From d (d + length rights) m → answer_row o d (rights ++ F) x m ≡ answer_row o d rights x m
 unfolding answer_row
-row_within o d rights F x (Row k) h = let there : k - d < length rights = omega arith in rw get_or-append
-row_within o d rights F x Nothing h = refl
+row_within o d rights F x (Some k) h = let there : k - d < length rights = omega arith in rw get_or-append
+row_within o d rights F x None h = refl
 
 -- Of all right rows, those from d on are kept, numbered from d, and more may come behind them: a row of the answer is the same over the kept rows and over all.
-pub row_from_lem : (o : Options) (d : ℕ) (rights F : Rows) (x : List Cell) (m : Choice) → From d (d + length (drop d rights)) m → answer_row o d (drop d rights) x m ≡ answer_row o 0 (rights ++ F) x m
+pub row_from_lem : (o : Options) (d : ℕ) (rights F : Rows) (x : List Cell) (m : Option ℕ) → From d (d + length (drop d rights)) m → answer_row o d (drop d rights) x m ≡ answer_row o 0 (rights ++ F) x m
 unfolding answer_row
 row_from_lem o d rights F x m h = all m h ∙ sym (row_within o 0 rights F x m (up m h))
   where
-    up : (m : Choice) → From d (d + length (drop d rights)) m → From 0 (0 + length rights) m
-    up (Row k) h = (omega arith, omega (arith, length-drop d rights))
-    up Nothing h = tt
+    up : (m : Option ℕ) → From d (d + length (drop d rights)) m → From 0 (0 + length rights) m
+    up (Some k) h = (omega arith, omega (arith, length-drop d rights))
+    up None h = tt
 
-    all : (m : Choice) → From d (d + length (drop d rights)) m → answer_row o d (drop d rights) x m ≡ answer_row o 0 rights x m
-    all (Row k) h =
+    all : (m : Option ℕ) → From d (d + length (drop d rights)) m → answer_row o d (drop d rights) x m ≡ answer_row o 0 rights x m
+    all (Some k) h =
         let z : d + (k - d) ≡ k - 0 = omega arith in
         rw (get_or-drop d rights (k - d) [], z)
-    all Nothing h = refl
+    all None h = refl
 
 -- ---- the choices of a frame
 -- So each of a list.
-abbrev pub AllFrom : ℕ → ℕ → List Choice → Type 0
+abbrev pub AllFrom : ℕ → ℕ → List (Option ℕ) → Type 0
 AllFrom i n [] = Unit {0}
 AllFrom i n (m ∷ ms) = From i n m × AllFrom i n ms
 
 module _ (o : Options) (i n : ℕ) where
   -- More rows below the same end.
-  from_up : (k : ℕ) (m : Choice) (j : ℕ) → i ≤ j → j + k ≤ n → From j (j + k) m → From i n m
-  from_up k (Row q) j l u h = (omega arith, omega arith)
-  from_up k Nothing j l u h = tt
+  from_up : (k : ℕ) (m : Option ℕ) (j : ℕ) → i ≤ j → j + k ≤ n → From j (j + k) m → From i n m
+  from_up k (Some q) j l u h = (omega arith, omega arith)
+  from_up k None j l u h = tt
 
   all_from : (j : ℕ) (rows : Rows) → i ≤ j → j + length rows ≤ n → (xs : Rows) → AllFrom i n (map (match_in o j rows) xs)
   all_from j rows l u [] = tt
   all_from j rows l u (x ∷ xs) = (from_up (length rows) (match_in o j rows x) j l u (run_from o x j rows), all_from j rows l u xs)
 
-  all_append : (ms ks : List Choice) → AllFrom i n ms → AllFrom i n ks → AllFrom i n (ms ++ ks)
+  all_append : (ms ks : List (Option ℕ)) → AllFrom i n ms → AllFrom i n ks → AllFrom i n (ms ++ ks)
   all_append [] ks h k = k
   all_append (m ∷ ms) ks h k = (h.0, all_append ms ks h.1 k)
 
@@ -131,7 +130,7 @@ module _ (o : Options) (i n : ℕ) where
       let p = pass_from (head_of xs) j gs l u in
       let c = pass o (head_of xs) j gs in
       let w = used_from (head_of xs) c.rest in
-      pick_ind (λ (z : List Choice). AllFrom i n z) (null_group o (head_of xs))
+      pick_ind (λ (z : List (Option ℕ)). AllFrom i n z) (null_group o (head_of xs))
       (λ e. all_append (map (match_in o j []) xs) (by_runs o j gs ls) (all_from j [] l (omega arith) xs) (runs_from j gs ls l u))
       (λ e. all_append (map (match_in o c.at (used o (head_of xs) c.rest)) xs) (by_runs o c.at c.rest ls) (all_from c.at (used o (head_of xs) c.rest) p.0 (omega (arith, p.1, w)) xs) (runs_from c.at c.rest ls p.0 p.1))
 
@@ -139,6 +138,6 @@ module _ (o : Options) (i n : ℕ) where
 pub frame_from_lem : (o : Options) (i : ℕ) (held left : Rows) → AllFrom i (i + length held) (match_frame o i held left)
 unfolding match_frame
 frame_from_lem o i held left =
-    cond_ind (λ (z : List Choice). AllFrom i (i + length held) z) (eqb o.by 0)
+    cond_ind (λ (z : List (Option ℕ)). AllFrom i (i + length held) z) (eqb o.by 0)
     (λ e. all_from o i (i + length held) i held (omega arith) (omega arith) left)
     (λ e. runs_from o i (i + length held) i (runs o held) (runs o left) (omega arith) (rw (runs_flat o held) (omega arith)))

@@ -1,5 +1,6 @@
 -- One right cursor serves a frame: on sorted rows the matches by runs are those over all held rows of equal group; and every left row gets one answer, sorted or not.
 -- Assumes nothing.
+use Rattle.std.specs.Prelude.{Option}
 use mathlib.Core.Path.{◌≡◌, refl, sym, ap, ◌∙◌}
 use mathlib.Core.Bool.{Bool, true, false, not, ◌&&◌}
 use mathlib.Core.List.{List, [], ◌∷◌, ◌++◌, map, map-append, flatten}
@@ -13,28 +14,27 @@ use Rattle.order.specs.Order.{cmp_first, cmp_group, is_less, is_equal, null_in, 
 use Rattle.order.proofs.OrderLaws.{AtMost, cmp_group_is, equal_at_most, less_at_most, less_greater, greater_less, less_then, then_less, not_less, same_right}
 use Rattle.order.proofs.SortedLaws.{All, all_map, all_by, all_join}
 use Rattle.order.specs.declared.options.Options.{Options}
-use Rattle.order.specs.declared.Order.{Order}
-use Rattle.order.specs.declared.Order.TheVariants.{Less, Equal, Greater}
+use Rattle.std.specs.declared.cmp.Ordering.{Ordering}
+use Rattle.std.specs.declared.cmp.Ordering.TheVariants.{Less, Equal, Greater}
 use Rattle.matching.specs.Match.{fits, nobody, choose, same_group, match_in, match_table}
 use Rattle.matching.specs.Groups.{runs, Cursor, head_of, passes, pass, used, by_runs, match_frame}
-use Rattle.matching.specs.declared.Choice.{Choice}
 use Rattle.matching.proofs.ChoiceLaws.{cond_ind, choose_same, choose_append, choose_dead, pick_ind}
 use Rattle.matching.proofs.Runs.{is_equal_lem, or-false, Near, run_near, Behind, Parted, runs_flat, sorted_parted}
 
 -- ---- tests and maps
-is_less_lem : (c : Order) → is_less c ≡ true → c ≡ Less
+is_less_lem : (c : Ordering) → is_less c ≡ true → c ≡ Less
 is_less_lem Less e = refl
 is_less_lem Equal e = cc
 is_less_lem Greater e = cc
 
-less_is : (c : Order) → is_less c ≡ false → c ≡ Less → ⊥
+less_is : (c : Ordering) → is_less c ≡ false → c ≡ Less → ⊥
 less_is c e h = let z : ◌≡◌ {A = ℕ} 0 1 = cc in omega arith
 
 and-false : (a b : Bool) → b ≡ false → (a && b) ≡ false
 and-false true b e = e
 and-false false b e = refl
 
-only_greater : (c : Order) → is_less c ≡ false → is_equal c ≡ false → c ≡ Greater
+only_greater : (c : Ordering) → is_less c ≡ false → is_equal c ≡ false → c ≡ Greater
 only_greater Less h e = cc
 only_greater Equal h e = cc
 only_greater Greater h e = refl
@@ -42,14 +42,14 @@ only_greater Greater h e = refl
 all_of : (P : List Cell → Type 0) → ((r : List Cell) → P r) → (rs : Rows) → All P rs
 all_of P h rs = all_by P rs (λ i l. h (get_or rs i []))
 
-pub map_same : (f g : List Cell → Choice) (rs : Rows) → All (λ x. f x ≡ g x) rs → map f rs ≡ map g rs
+pub map_same : (f g : List Cell → Option ℕ) (rs : Rows) → All (λ x. f x ≡ g x) rs → map f rs ≡ map g rs
 map_same f g [] h = refl
 map_same f g (r ∷ rs) h = rw (h.0, map_same f g rs h.1)
 
-map_parts : (f g : List Cell → Choice) (A B : Rows) (cs : List Choice) → All (λ x. f x ≡ g x) A → cs ≡ map g B → map f A ++ cs ≡ map g (A ++ B)
+map_parts : (f g : List Cell → Option ℕ) (A B : Rows) (cs : List (Option ℕ)) → All (λ x. f x ≡ g x) A → cs ≡ map g B → map f A ++ cs ≡ map g (A ++ B)
 map_parts f g A B cs h e = rw (map-append g A B, map_same f g A h, e)
 
-length_parts : (f : List Cell → Choice) (A B : Rows) (cs : List Choice) → length cs ≡ length B → length (map f A ++ cs) ≡ length (A ++ B)
+length_parts : (f : List Cell → Option ℕ) (A B : Rows) (cs : List (Option ℕ)) → length cs ≡ length B → length (map f A ++ cs) ≡ length (A ++ B)
 length_parts f A B cs e = simp (length-append, length-map, e)
 
 -- ---- every left row gets one answer
@@ -58,7 +58,7 @@ module _ (o : Options) where
   unfolding by_runs flatten
   runs_length i gs [] = refl
   runs_length i gs (l ∷ ls) =
-      pick_ind (λ (z : List Choice). length z ≡ length (l ++ flatten ls)) (null_group o (head_of l))
+      pick_ind (λ (z : List (Option ℕ)). length z ≡ length (l ++ flatten ls)) (null_group o (head_of l))
       (λ e. length_parts (match_in o i []) l (flatten ls) (by_runs o i gs ls) (runs_length i gs ls))
       (λ e.
       let c = pass o (head_of l) i gs in
@@ -67,7 +67,7 @@ module _ (o : Options) where
 pub frame_length : (o : Options) (i : ℕ) (held left : Rows) → length (match_frame o i held left) ≡ length left
 unfolding match_frame
 frame_length o i held left =
-    cond_ind (λ (z : List Choice). length z ≡ length left) (eqb o.by 0)
+    cond_ind (λ (z : List (Option ℕ)). length z ≡ length left) (eqb o.by 0)
     (λ e. length-map left (match_in o i held))
     (λ e. runs_length o i (runs o held) (runs o left) ∙ ap length (runs_flat o left))
 

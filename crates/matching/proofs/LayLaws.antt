@@ -1,4 +1,5 @@
 -- The words of the choices, laid into an answer: of a run's rows one by one, of runs one behind the other. Assumes nothing.
+use Rattle.std.specs.Prelude.{Option}
 use mathlib.Core.Path.{◌≡◌, refl, ap, ◌∙◌}
 use mathlib.Core.List.{List, [], ◌∷◌, ◌++◌, map}
 use Prim.Native.Nat.{ℕ, suc, ◌+◌, ◌*◌, ◌<◌}
@@ -15,11 +16,10 @@ use Rattle.matching.specs.Answer.{number_word, choice_mark}
 use Rattle.matching.specs.Stretches.{between, run_length, lay}
 use Rattle.matching.specs.Loops.{Serves}
 use Rattle.matching.specs.declared.RunCursor.{RunCursor}
-use Rattle.matching.specs.declared.Choice.{Choice}
 use Rattle.matching.proofs.WalkLaws.{between_all, between_more, between_none, between_length, run_up, run_first, run_head, runs_past}
 
 module _ (m : ℕ) where
-  pub lay_append : (i : ℕ) (A B : List Choice) (out : Words) → lay m i (A ++ B) out ≡ lay m (i + length A) B (lay m i A out)
+  pub lay_append : (i : ℕ) (A B : List (Option ℕ)) (out : Words) → lay m i (A ++ B) out ≡ lay m (i + length A) B (lay m i A out)
   unfolding lay
   lay_append i [] B out = rw add-zero
   lay_append i (a ∷ A) B out =
@@ -27,7 +27,7 @@ module _ (m : ℕ) where
       rw z (lay_append (suc i) A B (set (set out (2 + i) (number_word a)) (2 + m + i) (choice_mark a)))
 
   -- One row more of from..to.
-  module _ (f : List Cell → Choice) (w : ℕ) (vs ms : Words) where
+  module _ (f : List Cell → Option ℕ) (w : ℕ) (vs ms : Words) where
     pub lay_more : (i to : ℕ) (out : Words) → i < to → lay m i (map f (between w i to vs ms)) out
         ≡ lay m (i + 1) (map f (between w (i + 1) to vs ms)) (set (set out (2 + i) (number_word (f (row_from w (i * w) vs ms)))) (2 + m + i) (choice_mark (f (row_from w (i * w) vs ms))))
     unfolding lay
@@ -43,7 +43,7 @@ module _ (m : ℕ) where
 
 -- ---- the left runs from row i on, with the cursor at row `at` of the right rows
 module _ (o : Options) (number m wl nl : ℕ) (lv lm : Words) (wr nr : ℕ) (rv rm : Words) where
-  abbrev pub groups_from : ℕ → ℕ → List Choice
+  abbrev pub groups_from : ℕ → ℕ → List (Option ℕ)
   groups_from at i = by_runs o (number + at) (runs o (between wr at nr rv rm)) (runs o (between wl i nl lv lm))
 
   pub groups_all : by_runs o number (runs o (rows_of wr nr rv rm)) (runs o (rows_of wl nl lv lm)) ≡ groups_from 0 0
@@ -61,7 +61,7 @@ module _ (o : Options) (number m wl nl : ℕ) (lv lm : Words) (wr nr : ℕ) (rv 
       let u = run_up o wl nl lv lm i h in
       let n : i + length (map f g) ≡ e = (let l = length-map g f in let k = between_length wl lv lm i e in omega arith) in
       ap (λ (ls : List Rows). lay m i (by_runs o (number + at) (runs o (between wr at nr rv rm)) ls) out) (run_first o wl nl lv lm i e h q)
-      ∙ ap (λ (ks : List Choice). lay m i ks out) (s.step number g (runs o (between wl e nl lv lm)) (run_head o [] wl nl lv lm i e h q))
+      ∙ ap (λ (ks : List (Option ℕ)). lay m i ks out) (s.step number g (runs o (between wl e nl lv lm)) (run_head o [] wl nl lv lm i e h q))
       ∙ lay_append m i (map f g) (groups_from r.at e) out
       ∙ ap (λ (k : ℕ). lay m k (groups_from r.at e) (lay m i (map f g) out)) n
 

@@ -15,8 +15,8 @@ use Rattle.order.proofs.OrderLaws.{AtMost, cmp_cell_is, cmp_key, at_most, less_g
 use Rattle.frames.proofs.BoolLaws.{and-true}
 use Rattle.order.proofs.KeyLaws.{null_group_lem}
 use Rattle.order.specs.declared.options.Options.{Options}
-use Rattle.order.specs.declared.Order.{Order}
-use Rattle.order.specs.declared.Order.TheVariants.{Less, Equal, Greater}
+use Rattle.std.specs.declared.cmp.Ordering.{Ordering}
+use Rattle.std.specs.declared.cmp.Ordering.TheVariants.{Less, Equal, Greater}
 use Rattle.order.specs.declared.options.Strategy.{Strategy}
 use Rattle.order.specs.declared.options.Strategy.TheVariants.{Backward, Forward, Nearest}
 use Rattle.matching.specs.Match.{on_side, fits, nearer, takes_over, same_group}
@@ -41,7 +41,7 @@ pub record May (o : Options) (x r : List Cell) : Type 0 where
   pub right : null_key o r ≡ false
   pub side : on_side (strategy_of o) o.allow_eq (cmp_key o r x) ≡ true
 
-is_equal_lem : (z : Order) → is_equal z ≡ true → z ≡ Equal
+is_equal_lem : (z : Ordering) → is_equal z ≡ true → z ≡ Equal
 is_equal_lem Less e = cc
 is_equal_lem Equal e = refl
 is_equal_lem Greater e = cc
@@ -72,24 +72,24 @@ pub may_too : (o : Options) (x r s : List Cell) → May o x r → cmp_group o s 
 may_too o x r s m g n d = may_in o x s (record { group = g; whole = m.whole; left = m.left; right = n; side = d })
 
 -- ---- the sides: Backward's keys are at most the left key, less where equality is off; Forward's are at least it
-pub back_side : (q : Bool) (z : Order) → on_side Backward q z ≡ true → z ≡ Greater → ⊥
+pub back_side : (q : Bool) (z : Ordering) → on_side Backward q z ≡ true → z ≡ Greater → ⊥
 back_side q Less e g = let u : ◌≡◌ {A = ℕ} 0 1 = cc in omega arith
 back_side q Equal e g = let u : ◌≡◌ {A = ℕ} 0 1 = cc in omega arith
 back_side true Greater e g = let u : ◌≡◌ {A = ℕ} 0 1 = cc in omega arith
 back_side false Greater e g = let u : ◌≡◌ {A = ℕ} 0 1 = cc in omega arith
 
-pub back_less : (z : Order) → on_side Backward false z ≡ true → z ≡ Less
+pub back_less : (z : Ordering) → on_side Backward false z ≡ true → z ≡ Less
 back_less Less e = refl
 back_less Equal e = cc
 back_less Greater e = cc
 
-pub fore_side : (q : Bool) (z : Order) → on_side Forward q z ≡ true → z ≡ Less → ⊥
+pub fore_side : (q : Bool) (z : Ordering) → on_side Forward q z ≡ true → z ≡ Less → ⊥
 fore_side true Less e g = let u : ◌≡◌ {A = ℕ} 0 1 = cc in omega arith
 fore_side false Less e g = let u : ◌≡◌ {A = ℕ} 0 1 = cc in omega arith
 fore_side q Equal e g = let u : ◌≡◌ {A = ℕ} 0 1 = cc in omega arith
 fore_side q Greater e g = let u : ◌≡◌ {A = ℕ} 0 1 = cc in omega arith
 
-pub side_fore : (z : Order) → (z ≡ Less → ⊥) → on_side Forward true z ≡ true
+pub side_fore : (z : Ordering) → (z ≡ Less → ⊥) → on_side Forward true z ≡ true
 side_fore Less h = absurd (h refl)
 side_fore Equal h = refl
 side_fore Greater h = refl
@@ -103,7 +103,7 @@ tests true b c e = inl refl
 tests false true c e = inr (refl, not-true c e)
 tests false false c e = inl e
 
-less_not : (z : Order) → (z ≡ Less → ⊥) → is_less z ≡ false
+less_not : (z : Ordering) → (z ≡ Less → ⊥) → is_less z ≡ false
 less_not Less h = absurd (h refl)
 less_not Equal h = refl
 less_not Greater h = refl

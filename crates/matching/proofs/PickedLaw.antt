@@ -1,4 +1,5 @@
 -- The match over sorted right rows is the row that the strategy picks: it qualifies and none that qualifies is better; or none qualifies. Assumes nothing.
+use Rattle.std.specs.Prelude.{Some, None}
 use mathlib.Core.Path.{◌≡◌, refl, sym, ap, ◌∙◌}
 use mathlib.Core.Bool.{Bool, true, false, cond, not, ◌&&◌, ◌||◌}
 use mathlib.Core.List.{List, [], ◌∷◌}
@@ -18,23 +19,22 @@ use Rattle.order.proofs.SortedLaws.{sorted_at}
 use Rattle.frames.proofs.BoolLaws.{and-true}
 use Rattle.order.proofs.KeyLaws.{key_at_most, nearer_below, nearer_above}
 use Rattle.order.specs.declared.options.Options.{Options}
-use Rattle.order.specs.declared.Order.{Order}
-use Rattle.order.specs.declared.Order.TheVariants.{Less, Equal, Greater}
+use Rattle.std.specs.declared.cmp.Ordering.{Ordering}
+use Rattle.std.specs.declared.cmp.Ordering.TheVariants.{Less, Equal, Greater}
 use Rattle.order.specs.declared.options.Strategy.{Strategy}
 use Rattle.order.specs.declared.options.Strategy.TheVariants.{Backward, Forward, Nearest}
 use Rattle.matching.specs.Match.{Hit, nobody, hit, on_side, takes_over, meet, choose, too_far, tolerate, match_table, qualifies}
 use Rattle.matching.specs.Picked.{better, Picked, NoneQualifies}
-use Rattle.matching.specs.declared.Choice.TheVariants.{Row, Nothing}
 use Rattle.matching.proofs.ChoiceLaws.{cond_ind}
 use Rattle.matching.proofs.MayLaws.{may, May, may_out, never, is_false, back_side, fore_side, nearer_least, not_nearer_least, over_then, over_or}
 
 -- ---- better, told by what takes over: of an earlier row, that it is not taken over; of a later one, that it takes over
-even : (z : Order) → (is_greater z || (is_equal z && false)) ≡ not (not (is_less (flip z)))
+even : (z : Ordering) → (is_greater z || (is_equal z && false)) ≡ not (not (is_less (flip z)))
 even Less = refl
 even Equal = refl
 even Greater = refl
 
-early : (d e : ℕ) (z : Order) → (ltb d e || (eqb d e && (is_greater z || (is_equal z && false)))) ≡ not (ltb e d || (eqb e d && not (is_less (flip z))))
+early : (d e : ℕ) (z : Ordering) → (ltb d e || (eqb d e && (is_greater z || (is_equal z && false)))) ≡ not (ltb e d || (eqb e d && not (is_less (flip z))))
 early d e z = by (dec_lt d e) (dec_lt e d)
   where
     by : Dec (d < e) → Dec (e < d) → (ltb d e || (eqb d e && (is_greater z || (is_equal z && false)))) ≡ not (ltb e d || (eqb e d && not (is_less (flip z))))
@@ -42,7 +42,7 @@ early d e z = by (dec_lt d e) (dec_lt e d)
     by (no l) (yes g) = rw (le-ltb d e (omega arith), lt-ltb e d g, ne_eqb d e (λ p. omega arith))
     by (no l) (no g) = rw (le-ltb d e (omega arith), le-ltb e d (omega arith), eq-eqb d e (omega arith), eq-eqb e d (omega arith)) (even z)
 
-late : (z : Order) → (is_greater z || (is_equal z && true)) ≡ not (is_less z)
+late : (z : Ordering) → (is_greater z || (is_equal z && true)) ≡ not (is_less z)
 late Less = refl
 late Equal = refl
 late Greater = refl
@@ -195,15 +195,15 @@ module _ (o : Options) (rights : Rows) (x : List Cell) where
       (omega (arith, ltb-true (nat_abs o.tolerance) (distance (key_of o c) (key_of o x)) p.1)))
 
   -- ---- the tolerance
-  too_far_lem : (t : Bool) (n : ℕ) → cond t Nothing (Row n) ≡ Nothing → t ≡ true
+  too_far_lem : (t : Bool) (n : ℕ) → cond t None (Some n) ≡ None → t ≡ true
   too_far_lem true n e = refl
   too_far_lem false n e = cc
 
-  not_far : (t : Bool) (n i : ℕ) → cond t Nothing (Row n) ≡ Row i → (t ≡ false) × (n ≡ i)
+  not_far : (t : Bool) (n i : ℕ) → cond t None (Some n) ≡ Some i → (t ≡ false) × (n ≡ i)
   not_far true n i e = ((cc), (cc))
   not_far false n i e = (refl, (cc))
 
-  none : sorted o rights ≡ true → (c : Hit) → Best (length rights) c → tolerate o x c ≡ Nothing → NoneQualifies o rights x
+  none : sorted o rights ≡ true → (c : Hit) → Best (length rights) c → tolerate o x c ≡ None → NoneQualifies o rights x
   unfolding tolerate qualifies
   none e nobody b t = λ k l. rw (b k l)
   none e (hit n c) b t = λ k l. is_false _ (λ u.
@@ -224,17 +224,17 @@ module _ (o : Options) (rights : Rows) (x : List Cell) where
       by k l u (no h) (yes d) = better_behind o x (row k) (row n) k n (strategy_of o) d ∙ b.behind k d l u
       by k l u (no h) (no d) = let q : k ≡ n = omega arith in rw q (better_same o x (row n) n (strategy_of o))
 
-  one : (i : ℕ) (c : Hit) → Best (length rights) c → tolerate o x c ≡ Row i → Picked o rights x i
+  one : (i : ℕ) (c : Hit) → Best (length rights) c → tolerate o x c ≡ Some i → Picked o rights x i
   unfolding tolerate
   one i nobody b t = let z : ◌≡◌ {A = ℕ} 0 1 = cc in absurd (omega arith)
   one i (hit n c) b t =
       let p = not_far (too_far o x c) n i t in
       rw (← p.1) (picked n (rw b.at at b) (rw b.at at p.0))
 
-pub picked_none : (o : Options) (rights : Rows) → sorted o rights ≡ true → (x : List Cell) → match_table o 0 rights x ≡ Nothing → NoneQualifies o rights x
+pub picked_none : (o : Options) (rights : Rows) → sorted o rights ≡ true → (x : List Cell) → match_table o 0 rights x ≡ None → NoneQualifies o rights x
 unfolding match_table
 picked_none o rights e x t = none o rights x e (choose o x (may o x) nobody 0 rights) (best o rights x) t
 
-pub picked_row : (o : Options) (rights : Rows) → sorted o rights ≡ true → (x : List Cell) (i : ℕ) → match_table o 0 rights x ≡ Row i → Picked o rights x i
+pub picked_row : (o : Options) (rights : Rows) → sorted o rights ≡ true → (x : List Cell) (i : ℕ) → match_table o 0 rights x ≡ Some i → Picked o rights x i
 unfolding match_table
 picked_row o rights e x i t = one o rights x i (choose o x (may o x) nobody 0 rights) (best o rights x) t

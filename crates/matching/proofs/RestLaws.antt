@@ -18,7 +18,7 @@ use Rattle.order.proofs.SortedLaws.{All, all_by, all_map, not_greater}
 use Rattle.frames.proofs.BoolLaws.{and-true}
 use Rattle.order.proofs.RowLaws.{rows_from}
 use Rattle.order.specs.declared.options.Options.{Options}
-use Rattle.order.specs.declared.Order.TheVariants.{Equal}
+use Rattle.std.specs.declared.cmp.Ordering.TheVariants.{Equal}
 use Rattle.order.specs.declared.options.Strategy.{Strategy}
 use Rattle.order.specs.declared.options.Strategy.TheVariants.{Backward, Forward, Nearest}
 use Rattle.matching.specs.Match.{nobody, hit, fits, takes_over, choose}

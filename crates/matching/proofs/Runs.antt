@@ -10,18 +10,18 @@ use Rattle.order.specs.Order.{cmp_group, cmp_row, is_equal, null_in, null_group,
 use Rattle.order.proofs.OrderLaws.{AtMost, cmp_group_is, group_equal, group_at_most, less_then}
 use Rattle.order.proofs.SortedLaws.{All, all_map, Ordered, ordered}
 use Rattle.order.specs.declared.options.Options.{Options}
-use Rattle.order.specs.declared.Order.{Order}
-use Rattle.order.specs.declared.Order.TheVariants.{Less, Equal, Greater}
+use Rattle.std.specs.declared.cmp.Ordering.{Ordering}
+use Rattle.std.specs.declared.cmp.Ordering.TheVariants.{Less, Equal, Greater}
 use Rattle.matching.specs.Groups.{same_run, join_run, runs, head_of}
 use Rattle.matching.proofs.ChoiceLaws.{cond_ind}
 
 -- ---- tests of an order
-pub is_equal_lem : (c : Order) → is_equal c ≡ true → c ≡ Equal
+pub is_equal_lem : (c : Ordering) → is_equal c ≡ true → c ≡ Equal
 is_equal_lem Equal e = refl
 is_equal_lem Less e = cc
 is_equal_lem Greater e = cc
 
-pub only_less : (c : Order) → (c ≡ Greater → ⊥) → is_equal c ≡ false → c ≡ Less
+pub only_less : (c : Ordering) → (c ≡ Greater → ⊥) → is_equal c ≡ false → c ≡ Less
 only_less Less h e = refl
 only_less Equal h e = cc
 only_less Greater h e = absurd (h refl)
@@ -54,7 +54,7 @@ module _ (o : Options) where
   same_near : (r s : List Cell) → same_run o r s ≡ true → Near r s
   same_near r s e = go (null_group o r) (null_group o s) (cmp_group o r s) e (group_null r s)
     where
-      go : (a b : Bool) (c : Order) → ((a && b) || is_equal c) ≡ true → (c ≡ Equal → a ≡ b) → (a ≡ b) × (a ≡ false → c ≡ Equal)
+      go : (a b : Bool) (c : Ordering) → ((a && b) || is_equal c) ≡ true → (c ≡ Equal → a ≡ b) → (a ≡ b) × (a ≡ false → c ≡ Equal)
       go true true c e h = (refl, λ n. cc)
       go true false c e h = (h (is_equal_lem c e), λ n. is_equal_lem c e)
       go false b c e h = (h (is_equal_lem c e), λ n. is_equal_lem c e)

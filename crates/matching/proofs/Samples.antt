@@ -1,4 +1,5 @@
 -- Matches at small tables. Assumes nothing.
+use Rattle.std.specs.Prelude.{Some, None}
 use mathlib.Core.Path.{◌≡◌, refl}
 use mathlib.Core.Bool.{true, false}
 use mathlib.Core.List.{[], ◌∷◌}
@@ -11,7 +12,6 @@ use Rattle.order.specs.declared.options.Options.{Options}
 use Rattle.matching.specs.Match.{fits, takes_over, choose, tolerate, match_in, match_table, whole_table}
 use Rattle.matching.specs.Moves.{Move, left_on, right_on, walk_on, walk}
 use Rattle.matching.specs.Groups.{match_frame, by_runs, runs, join_run, pass, passes, used}
-use Rattle.matching.specs.declared.Choice.TheVariants.{Row, Nothing}
 
 abbrev grouped : Options
 grouped = options 1 0 true (negsuc 0) false [] []
@@ -20,18 +20,18 @@ grouped = options 1 0 true (negsuc 0) false [] []
 pub ties :
     match_in (plain 2 true) 0 (keys (10 ∷ 20 ∷ [])) (row (15 ∷ [])) ∷ match_in (plain 2 true) 0 (keys (10 ∷ 20 ∷ 20 ∷ [])) (row (15 ∷ []))
     ∷ match_in (plain 2 true) 0 ((value (negsuc (2 ^ 63 - 1)) ∷ []) ∷ (value (pos 0) ∷ []) ∷ []) (value (pos (2 ^ 63 - 1)) ∷ []) ∷ []
-    ≡ Row 1 ∷ Row 2 ∷ Row 1 ∷ []
+    ≡ Some 1 ∷ Some 2 ∷ Some 1 ∷ []
 unfolding match_in choose tolerate fits takes_over
 ties = refl
 
 -- Null groups do not match each other: by runs, and in the whole table.
 pub nulls :
-    match_frame grouped 0 ((null ∷ value (pos 1) ∷ []) ∷ row (1 ∷ 1 ∷ []) ∷ []) ((null ∷ value (pos 2) ∷ []) ∷ row (1 ∷ 2 ∷ []) ∷ row (1 ∷ 0 ∷ []) ∷ row (3 ∷ 2 ∷ []) ∷ []) ≡ Nothing ∷ Row 1 ∷ Nothing ∷ Nothing ∷ []
+    match_frame grouped 0 ((null ∷ value (pos 1) ∷ []) ∷ row (1 ∷ 1 ∷ []) ∷ []) ((null ∷ value (pos 2) ∷ []) ∷ row (1 ∷ 2 ∷ []) ∷ row (1 ∷ 0 ∷ []) ∷ row (3 ∷ 2 ∷ []) ∷ []) ≡ None ∷ Some 1 ∷ None ∷ None ∷ []
 unfolding match_frame by_runs runs join_run pass passes used match_in choose tolerate fits takes_over cmp_first null_in
 nulls = refl
 
 pub nulls_whole :
-    whole_table grouped ((null ∷ value (pos 1) ∷ []) ∷ row (1 ∷ 1 ∷ []) ∷ []) (null ∷ value (pos 2) ∷ []) ≡ Nothing
+    whole_table grouped ((null ∷ value (pos 1) ∷ []) ∷ row (1 ∷ 1 ∷ []) ∷ []) (null ∷ value (pos 2) ∷ []) ≡ None
 unfolding whole_table match_table choose tolerate fits takes_over cmp_first null_in
 nulls_whole = refl
 
@@ -39,14 +39,14 @@ nulls_whole = refl
 pub equals :
     match_in (plain 0 true) 0 (keys (10 ∷ 20 ∷ 20 ∷ 30 ∷ [])) (row (20 ∷ [])) ∷ match_in (plain 0 false) 0 (keys (10 ∷ 20 ∷ 20 ∷ 30 ∷ [])) (row (20 ∷ []))
     ∷ match_in (plain 1 true) 0 (keys (10 ∷ 20 ∷ 20 ∷ 30 ∷ [])) (row (20 ∷ [])) ∷ match_in (plain 1 false) 0 (keys (10 ∷ 20 ∷ 20 ∷ 30 ∷ [])) (row (20 ∷ [])) ∷ []
-    ≡ Row 2 ∷ Row 0 ∷ Row 1 ∷ Row 3 ∷ []
+    ≡ Some 2 ∷ Some 0 ∷ Some 1 ∷ Some 3 ∷ []
 unfolding match_in choose tolerate fits takes_over
 equals = refl
 
 -- A distance equal to the tolerance is within it.
 pub tolerances :
     match_in (options 0 0 true (pos 4) false [] []) 0 (keys (20 ∷ [])) (row (25 ∷ [])) ∷ match_in (options 0 0 true (pos 5) false [] []) 0 (keys (20 ∷ [])) (row (25 ∷ [])) ∷ []
-    ≡ Nothing ∷ Row 0 ∷ []
+    ≡ None ∷ Some 0 ∷ []
 unfolding match_in choose tolerate fits takes_over
 tolerances = refl
 
@@ -70,11 +70,11 @@ abbrev lasting : Options
 lasting = options 1 0 true (negsuc 0) false [] (true ∷ [])
 
 pub cursor :
-    match_frame lasting 0 ((null ∷ value (pos 1) ∷ []) ∷ row (1 ∷ 1 ∷ []) ∷ []) (row (1 ∷ 1 ∷ []) ∷ []) ≡ Row 1 ∷ []
+    match_frame lasting 0 ((null ∷ value (pos 1) ∷ []) ∷ row (1 ∷ 1 ∷ []) ∷ []) (row (1 ∷ 1 ∷ []) ∷ []) ≡ Some 1 ∷ []
 unfolding match_frame by_runs runs join_run pass passes used match_in choose tolerate fits takes_over cmp_first null_in
 cursor = refl
 
 pub cursor_stays :
-    match_frame lasting 0 (row (1 ∷ 1 ∷ []) ∷ []) ((null ∷ value (pos 1) ∷ []) ∷ row (1 ∷ 1 ∷ []) ∷ []) ≡ Nothing ∷ Row 0 ∷ []
+    match_frame lasting 0 (row (1 ∷ 1 ∷ []) ∷ []) ((null ∷ value (pos 1) ∷ []) ∷ row (1 ∷ 1 ∷ []) ∷ []) ≡ None ∷ Some 0 ∷ []
 unfolding match_frame by_runs runs join_run pass passes used match_in choose tolerate fits takes_over cmp_first null_in
 cursor_stays = refl

@@ -14,9 +14,9 @@ use Rattle.frames.specs.Cells.{Cell, null, value, is_zero, cell_of, is_null}
 use Rattle.order.specs.options.Options.{key_rule}
 use Rattle.order.specs.Order.{cmp_z, cmp_cell, cmp_group, null_group, is_less, is_equal, is_greater}
 use Rattle.order.specs.declared.options.Options.{Options}
-use Rattle.order.specs.declared.Order.{Order}
-use Rattle.order.specs.declared.Order.TheVariants.{Less, Equal, Greater}
-use Rattle.order.specs.contracts.Order.{the_type}
+use Rattle.std.specs.declared.cmp.Ordering.{Ordering}
+use Rattle.std.specs.declared.cmp.Ordering.TheVariants.{Less, Equal, Greater}
+use Rattle.std.specs.contracts.cmp.Ordering.{the_type}
 use Rattle.order.proofs.OrderLaws.{cmp_z_is, less_greater}
 use Rattle.order.proofs.RowLaws.{next_stop}
 use Rattle.matching.specs.Groups.{same_run}
@@ -88,7 +88,7 @@ module _ (o : Options) (r s : List Cell) where
   same_nulls e q = rw (q, e) (sym (or-false (null_group o s)))
 
 -- Where Equal has an arm of its own.
-pub not_equal_arm : (x : Order) → (tag_of the_type x ≡ 0) ⊎ (tag_of the_type x ≡ 2) → is_equal x ≡ false
+pub not_equal_arm : (x : Ordering) → (tag_of the_type x ≡ 0) ⊎ (tag_of the_type x ≡ 2) → is_equal x ≡ false
 not_equal_arm Less t = refl
 not_equal_arm Equal t = let e = next_stop Equal Less t in cc
 not_equal_arm Greater t = refl

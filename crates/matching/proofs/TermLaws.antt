@@ -1,4 +1,5 @@
 -- Of what looks at keys and carried cells alone, options with a list and without one are the same. Assumes nothing.
+use Rattle.std.specs.Prelude.{Option, Some, None}
 use mathlib.Core.Path.{◌≡◌, refl, ap, ◌∙◌}
 use mathlib.Core.Bool.{Bool, true, false, cond, not, ◌&&◌}
 use mathlib.Core.List.{List, [], ◌∷◌, map}
@@ -15,8 +16,6 @@ use Rattle.matching.specs.Moves.{keys_sorted, Move, left_on, right_on, passes_ro
 use Rattle.matching.specs.Answer.{answer_row, answer_rows}
 use Rattle.matching.specs.Stretches.{lay}
 use Rattle.matching.specs.Loops.{RunRoom}
-use Rattle.matching.specs.declared.Choice.{Choice}
-use Rattle.matching.specs.declared.Choice.TheVariants.{Row, Nothing}
 
 module _ (t : Terms) (codes : Words) (rising : List ℕ) where
   -- ---- what is asked of words
@@ -100,19 +99,19 @@ module _ (t : Terms) (codes : Words) (rising : List ℕ) where
   pub matches_terms : (i : ℕ) (rows xs : Rows) → map (match_in (without_list t) i rows) xs ≡ map (match_in (with_list t codes rising) i rows) xs
   matches_terms i rows [] = refl
   matches_terms i rows (x ∷ xs) =
-      ap (λ (k : Choice). k ∷ map (match_in (without_list t) i rows) xs) (match_terms i rows x)
-      ∙ ap (λ (ks : List Choice). match_in (with_list t codes rising) i rows x ∷ ks) (matches_terms i rows xs)
+      ap (λ (k : Option ℕ). k ∷ map (match_in (without_list t) i rows) xs) (match_terms i rows x)
+      ∙ ap (λ (ks : List (Option ℕ)). match_in (with_list t codes rising) i rows x ∷ ks) (matches_terms i rows xs)
 
   pub lay_terms : (m j i : ℕ) (rows xs : Rows) (out : Words) → lay m j (map (match_in (without_list t) i rows) xs) out ≡ lay m j (map (match_in (with_list t codes rising) i rows) xs) out
-  lay_terms m j i rows xs out = ap (λ (ks : List Choice). lay m j ks out) (matches_terms i rows xs)
+  lay_terms m j i rows xs out = ap (λ (ks : List (Option ℕ)). lay m j ks out) (matches_terms i rows xs)
 
   -- ---- the rows of an answer
-  answer_terms : (i : ℕ) (rights : Rows) (x : List Cell) (k : Choice) → answer_row (without_list t) i rights x k ≡ answer_row (with_list t codes rising) i rights x k
+  answer_terms : (i : ℕ) (rights : Rows) (x : List Cell) (k : Option ℕ) → answer_row (without_list t) i rights x k ≡ answer_row (with_list t codes rising) i rights x k
   unfolding answer_row
-  answer_terms i rights x (Row k) = refl
-  answer_terms i rights x Nothing = refl
+  answer_terms i rights x (Some k) = refl
+  answer_terms i rights x None = refl
 
-  pub answers_terms : (i : ℕ) (rights xs : Rows) (ms : List Choice) → answer_rows (without_list t) i rights xs ms ≡ answer_rows (with_list t codes rising) i rights xs ms
+  pub answers_terms : (i : ℕ) (rights xs : Rows) (ms : List (Option ℕ)) → answer_rows (without_list t) i rights xs ms ≡ answer_rows (with_list t codes rising) i rights xs ms
   unfolding answer_rows
   answers_terms i rights [] ms = refl
   answers_terms i rights (x ∷ xs) [] = refl

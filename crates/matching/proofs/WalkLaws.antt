@@ -1,4 +1,5 @@
 -- A walk over rows: what is left of a stretch, of a run, of the cursor's way and of a scan, each told one step further. Assumes nothing.
+use Rattle.std.specs.Prelude.{Option}
 use mathlib.Core.Path.{◌≡◌, refl, sym, ap, ◌∙◌}
 use mathlib.Core.Bool.{Bool, true, false, cond, ◌||◌}
 use mathlib.Core.List.{List, [], ◌∷◌, ◌++◌, map}
@@ -10,14 +11,13 @@ use Rattle.frames.specs.Cells.{Cell, Rows, Words, rows_of, row_from}
 use Rattle.order.specs.Order.{cmp_group, null_group, is_less}
 use Rattle.frames.proofs.WordLaws.{rows_length}
 use Rattle.order.specs.declared.options.Options.{Options}
-use Rattle.order.specs.declared.Order.{Order}
-use Rattle.order.specs.declared.Order.TheVariants.{Less, Equal, Greater}
+use Rattle.std.specs.declared.cmp.Ordering.{Ordering}
+use Rattle.std.specs.declared.cmp.Ordering.TheVariants.{Less, Equal, Greater}
 use Rattle.matching.specs.Match.{match_in}
 use Rattle.matching.specs.Groups.{Cursor, same_run, join_run, runs, head_of, passes, pass, used, by_runs}
 use Rattle.matching.specs.Stretches.{between, run_on, run_length, standing}
 use Rattle.matching.specs.Loops.{Passed, Serves}
 use Rattle.matching.specs.declared.RunCursor.{RunCursor}
-use Rattle.matching.specs.declared.Choice.{Choice}
 use Rattle.matching.proofs.ChoiceLaws.{pick_ind}
 
 -- ---- the rows of a stretch
@@ -156,17 +156,17 @@ module _ (o : Options) (x : List Cell) where
   unfolding standing
   stand_less r e = by (null_group o r) (cmp_group o r x) e
     where
-      by : (b : Bool) (c : Order) → cond b Less c ≡ Less → (b || is_less c) ≡ true
+      by : (b : Bool) (c : Ordering) → cond b Less c ≡ Less → (b || is_less c) ≡ true
       by true c e = refl
       by false Less e = refl
       by false Equal e = cc
       by false Greater e = cc
 
-  stand_not : (r : List Cell) (y : Order) → is_less y ≡ false → standing o x r ≡ y → ((null_group o r || is_less (cmp_group o r x)) ≡ false) × (cmp_group o r x ≡ y)
+  stand_not : (r : List Cell) (y : Ordering) → is_less y ≡ false → standing o x r ≡ y → ((null_group o r || is_less (cmp_group o r x)) ≡ false) × (cmp_group o r x ≡ y)
   unfolding standing
   stand_not r y n e = by (null_group o r) (cmp_group o r x) y n e
     where
-      by : (b : Bool) (c y : Order) → is_less y ≡ false → cond b Less c ≡ y → ((b || is_less c) ≡ false) × (c ≡ y)
+      by : (b : Bool) (c y : Ordering) → is_less y ≡ false → cond b Less c ≡ y → ((b || is_less c) ≡ false) × (c ≡ y)
       by true c Less n e = ((cc), (cc))
       by true c Equal n e = ((cc), (cc))
       by true c Greater n e = ((cc), (cc))
@@ -189,7 +189,7 @@ module _ (o : Options) (x : List Cell) where
         (pick_ind (λ (z : Cursor). z ≡ pass o x (k + e) (runs o (between w e n vs ms))) (null_group o (head_of g) || is_less (cmp_group o (head_of g) x))
         (λ t. rw (between_length w vs ms i e, a)) (λ t. cc))
 
-    pub pass_stop : (k : ℕ) (y : Order) → is_less y ≡ false → standing o x (row_from w (i * w) vs ms) ≡ y → pass o x k (runs o (between w i n vs ms)) ≡ record { at = k; rest = runs o (between w i n vs ms) }
+    pub pass_stop : (k : ℕ) (y : Ordering) → is_less y ≡ false → standing o x (row_from w (i * w) vs ms) ≡ y → pass o x k (runs o (between w i n vs ms)) ≡ record { at = k; rest = runs o (between w i n vs ms) }
     unfolding pass passes
     pass_stop k y l s =
         let g : Rows = between w i e vs ms in
@@ -224,13 +224,13 @@ module _ (o : Options) (x : List Cell) where
 module _ (o : Options) (i : ℕ) (rights : List Rows) (l : Rows) (ls : List Rows) where
   by_null : null_group o (head_of l) ≡ true → by_runs o i rights (l ∷ ls) ≡ map (match_in o i []) l ++ by_runs o i rights ls
   unfolding by_runs
-  by_null e = pick_ind (λ (z : List Choice). z ≡ map (match_in o i []) l ++ by_runs o i rights ls) (null_group o (head_of l)) (λ t. refl) (λ t. cc)
+  by_null e = pick_ind (λ (z : List (Option ℕ)). z ≡ map (match_in o i []) l ++ by_runs o i rights ls) (null_group o (head_of l)) (λ t. refl) (λ t. cc)
 
   by_some : (c : Cursor) → null_group o (head_of l) ≡ false → pass o (head_of l) i rights ≡ c
       → by_runs o i rights (l ∷ ls) ≡ map (match_in o c.at (used o (head_of l) c.rest)) l ++ by_runs o c.at c.rest ls
   unfolding by_runs
   by_some c e q =
-      pick_ind (λ (z : List Choice). z ≡ map (match_in o c.at (used o (head_of l) c.rest)) l ++ by_runs o c.at c.rest ls) (null_group o (head_of l)) (λ t. cc) (λ t. rw q)
+      pick_ind (λ (z : List (Option ℕ)). z ≡ map (match_in o c.at (used o (head_of l) c.rest)) l ++ by_runs o c.at c.rest ls) (null_group o (head_of l)) (λ t. cc) (λ t. rw q)
 
 module _ (o : Options) (w n : ℕ) (vs ms : Words) (i : ℕ) (x : List Cell) where
   pub serve_null : (e : ℕ) → null_group o x ≡ true → Serves o w n vs ms i x (record { at = i; end = e; used = i })

@@ -1,5 +1,5 @@
 -- What the inner functions of matching require of their arguments, and what they return: small records. Assumes nothing.
-use Rattle.std.specs.Prelude.{◌≡◌, Bool, false, cond, List, ◌∷◌, ◌++◌, map, ℕ, ◌+◌, ◌-◌, ◌*◌, ◌^◌, ◌≤◌, ◌<◌, ℤ, length}
+use Rattle.std.specs.Prelude.{◌≡◌, Bool, false, cond, List, ◌∷◌, ◌++◌, map, ℕ, ◌+◌, ◌-◌, ◌*◌, ◌^◌, ◌≤◌, ◌<◌, ℤ, length, Option, Some, None}
 use Rattle.frames.specs.Cells.{Cell, value, Rows, Words, row_from}
 use Rattle.order.specs.options.Options.{strategy_of}
 use Rattle.order.specs.Order.{key_of, null_key}
@@ -9,14 +9,12 @@ use Rattle.order.specs.declared.options.Strategy.{Strategy}
 use Rattle.matching.specs.Match.{fits, takes_over, meet, match_in}
 use Rattle.matching.specs.Groups.{runs, pass, used, head_of, by_runs}
 use Rattle.matching.specs.Stretches.{between, run_length, hit_at}
-use Rattle.matching.specs.declared.Choice.{Choice}
-use Rattle.matching.specs.declared.Choice.TheVariants.{Row, Nothing}
 use Rattle.matching.specs.declared.RunCursor.{RunCursor}
 
 -- A number that an answer has room for: at most 2^63 − 1.
-abbrev pub Small : Choice → Type 0
-Small (Row i) = i < 2 ^ 63
-Small Nothing = Unit {0}
+abbrev pub Small : Option ℕ → Type 0
+Small (Some i) = i < 2 ^ 63
+Small None = Unit {0}
 
 -- n rows are there, and i is one of them or their end.
 pub record Within (o : Options) (w n : ℕ) (vs ms : Words) (i : ℕ) : Type 0 where

@@ -1,15 +1,13 @@
 -- Matching by the three strategies; the whole table; qualifies. Assumes nothing.
-use Rattle.std.specs.Prelude.{Bool, true, false, cond, not, ◌&&◌, ◌||◌, List, [], ◌∷◌, ℕ, suc, ltb, eqb, pos, nat_abs}
+use Rattle.std.specs.Prelude.{Bool, true, false, cond, not, ◌&&◌, ◌||◌, List, [], ◌∷◌, ℕ, suc, ltb, eqb, pos, nat_abs, Option, Some, None}
 use Rattle.std.specs.Int.Signed.{le_z}
 use Rattle.frames.specs.Cells.{Cell, Rows}
 use Rattle.order.specs.options.Options.{strategy_of, key_rule}
 use Rattle.order.specs.Order.{cmp_cell, cmp_group, is_less, is_equal, is_greater, key_of, null_group, null_key, distance}
 use Rattle.order.specs.declared.options.Options.{Options}
-use Rattle.order.specs.declared.Order.{Order}
+use Rattle.std.specs.declared.cmp.Ordering.{Ordering}
 use Rattle.order.specs.declared.options.Strategy.{Strategy}
 use Rattle.order.specs.declared.options.Strategy.TheVariants.{Backward, Forward, Nearest}
-use Rattle.matching.specs.declared.Choice.{Choice}
-use Rattle.matching.specs.declared.Choice.TheVariants.{Row, Nothing}
 
 -- The best row so far, with its number; or none.
 pub data Hit : Type 0 where
@@ -17,7 +15,7 @@ pub data Hit : Type 0 where
   hit : ℕ → List Cell → Hit
 
 -- SCOPE 10.2: the side of the left key on which a right key may lie, by how it compares with the left key.
-abbrev pub on_side : Strategy → Bool → Order → Bool
+abbrev pub on_side : Strategy → Bool → Ordering → Bool
 on_side Backward eq x = is_less x || (eq && is_equal x)
 on_side Forward eq x = is_greater x || (eq && is_equal x)
 on_side Nearest eq x = true
@@ -51,12 +49,12 @@ abbrev pub too_far : Options → List Cell → List Cell → Bool
 too_far o x r = le_z (pos 0) o.tolerance && ltb (nat_abs o.tolerance) (distance (key_of o r) (key_of o x))
 
 -- SCOPE 10.4: the choice, unless it is too far.
-unfoldable pub tolerate : Options → List Cell → Hit → Choice
-tolerate o x nobody = Nothing
-tolerate o x (hit i r) = cond (too_far o x r) Nothing (Row i)
+unfoldable pub tolerate : Options → List Cell → Hit → Option ℕ
+tolerate o x nobody = None
+tolerate o x (hit i r) = cond (too_far o x r) None (Some i)
 
 -- Matching: the choice for x among the rows of a run, numbered from i.
-unfoldable pub match_in : Options → ℕ → Rows → List Cell → Choice
+unfoldable pub match_in : Options → ℕ → Rows → List Cell → Option ℕ
 match_in o i rows x = tolerate o x (choose o x (fits o x) nobody i rows)
 
 -- Two rows of equal group, of which neither is null.
@@ -64,11 +62,11 @@ abbrev pub same_group : Options → List Cell → List Cell → Bool
 same_group o x r = not (null_group o x) && not (null_group o r) && is_equal (cmp_group o r x)
 
 -- Matching over all rows of equal group among the rows given, which are numbered from i.
-unfoldable pub match_table : Options → ℕ → Rows → List Cell → Choice
+unfoldable pub match_table : Options → ℕ → Rows → List Cell → Option ℕ
 match_table o i rows x = tolerate o x (choose o x (λ r. same_group o x r && fits o x r) nobody i rows)
 
 -- SCOPE 14: the whole-table rule.
-unfoldable pub whole_table : Options → Rows → List Cell → Choice
+unfoldable pub whole_table : Options → Rows → List Cell → Option ℕ
 whole_table o rights x = match_table o 0 rights x
 
 -- SCOPE 10.5: the right row r qualifies for the left row x.

@@ -5,7 +5,7 @@ use Rattle.order.specs.options.Options.{strategy_of, key_rule}
 use Rattle.order.specs.Order.{cmp_cell, is_greater, key_of, null_key}
 use Rattle.order.specs.Requires.{cell_at, RowsIn}
 use Rattle.order.specs.declared.options.Options.{Options}
-use Rattle.order.specs.declared.Order.TheVariants.{Greater}
+use Rattle.std.specs.declared.cmp.Ordering.TheVariants.{Greater}
 use Rattle.order.specs.declared.options.Strategy.{Strategy}
 use Rattle.order.specs.declared.options.Strategy.TheVariants.{Backward, Forward, Nearest}
 use Rattle.matching.specs.Match.{on_side, nearer}

@@ -1,4 +1,5 @@
 -- A sorted run from its first row with a key on: each row there has one, and what is left out before it changes no match. Assumes nothing.
+use Rattle.std.specs.Prelude.{Option, None}
 use mathlib.Core.Path.{◌≡◌, ◌∙◌}
 use mathlib.Core.Bool.{true, false, not, and-false}
 use mathlib.Core.List.{List, ◌++◌, map, map-append}
@@ -14,8 +15,6 @@ use Rattle.order.specs.declared.options.Options.{Options}
 use Rattle.matching.specs.Match.{nobody, fits, tolerate, match_in}
 use Rattle.matching.specs.Moves.{FirstKey, key_at, Rising, walk_on, walk_moves}
 use Rattle.matching.specs.Stretches.{between, lay}
-use Rattle.matching.specs.declared.Choice.{Choice}
-use Rattle.matching.specs.declared.Choice.TheVariants.{Nothing}
 use Rattle.matching.proofs.ScanLaws.{present}
 use Rattle.matching.proofs.ChoiceLaws.{choose_dead}
 use Rattle.matching.proofs.MayLaws.{never}
@@ -44,7 +43,7 @@ module _ (o : Options) (w from to : ℕ) (vs ms : Words) (rows : RowsIn o w to v
     keyed_rising i k l h t = rw (has_key i l (omega (arith, h, t)), has_key k (omega (arith, l, h)) t) at (rising i k (omega (arith, q.start, l)) h t)
 
   -- ---- the rows before it as left rows: they get none
-  pub left_null : (i : ℕ) (rs : Rows) (k : ℕ) → from ≤ k → k < r → match_in o i rs (row_from w (k * w) vs ms) ≡ Nothing
+  pub left_null : (i : ℕ) (rs : Rows) (k : ℕ) → from ≤ k → k < r → match_in o i rs (row_from w (k * w) vs ms) ≡ None
   left_null i rs k l h = none_null o (row_from w (k * w) vs ms) i rs (rw (key_at_lem o w to vs ms rows k (omega (arith, h, q.within))) (q.before vs k l h))
 
   -- ---- and as right rows: they fit nothing
@@ -52,7 +51,7 @@ module _ (o : Options) (w from to : ℕ) (vs ms : Words) (rows : RowsIn o w to v
   unfolding fits
   right_dead x k l h = rw (key_at_lem o w to vs ms rows k (omega (arith, h, q.within)), q.before vs k l h, and-false (not (null_key o x)))
 
-  pub right_none : r ≡ to → (i : ℕ) (x : List Cell) → match_in o i (between w from to vs ms) x ≡ Nothing
+  pub right_none : r ≡ to → (i : ℕ) (x : List Cell) → match_in o i (between w from to vs ms) x ≡ None
   unfolding match_in tolerate
   right_none e i x = rw (choose_dead o x (fits o x) nobody i (between w from to vs ms) (all_between w vs ms (λ a. fits o x a ≡ false) from to (λ k l h. right_dead x k l (omega (arith, e, h)))))
 
@@ -83,7 +82,7 @@ module _ (o : Options) (w from to : ℕ) (vs ms : Words) (rows : RowsIn o w to v
       rw z at (lefts_passed o w to vs ms rs (r - from) from (omega (arith, q.start, q.within)) (λ k l h. null_at k l (omega (arith, h, q.start))))
 
 -- ---- rows from..mid are laid, then mid..to
-module _ (m w : ℕ) (vs ms : Words) (f g : List Cell → Choice) (from mid to : ℕ) (l : from ≤ mid) (h : mid ≤ to) where
+module _ (m w : ℕ) (vs ms : Words) (f g : List Cell → Option ℕ) (from mid to : ℕ) (l : from ≤ mid) (h : mid ≤ to) where
   pub lay_two : ((x : List Cell) → f x ≡ g x) → (out : Words) → lay m mid (map g (between w mid to vs ms)) (lay m from (map f (between w from mid vs ms)) out) ≡ lay m from (map f (between w from to vs ms)) out
   lay_two same out =
       let A = between w from mid vs ms in

@@ -13,11 +13,11 @@ pub struct Position {
     pub moves: usize,
 }
 
-// `yes` where the key a is below u, else `no`: a choice between two numbers, not a jump.
-fn choose(a: i64, u: i64, yes: usize, no: usize) -> usize
-    ensures { result ≡ cond (lt_z a u) yes no }
+// `yes` where a test holds, else `no`: a choice between two numbers, not a jump.
+pub fn choose(test: bool, yes: usize, no: usize) -> usize
+    ensures { result ≡ cond test yes no }
 {
-    if a < u { yes } else { no }
+    if test { yes } else { no }
 }
 
 // `start` and one step more for each of three rows, up to the last whose key is below u; the key of the first is at place p, and a fourth row is there too.
@@ -29,9 +29,9 @@ fn stepped(rv: &[i64], p: usize, w: usize, u: i64, start: usize, step: usize) ->
     let r = q + w;
     let one = start + step;
     let two = one + step;
-    let first = choose(rv[p], u, one, start);
-    let second = choose(rv[q], u, two, first);
-    choose(rv[r], u, two + step, second)
+    let first = choose(rv[p] < u, one, start);
+    let second = choose(rv[q] < u, two, first);
+    choose(rv[r] < u, two + step, second)
 }
 
 // Whether the key a is below v, or at it where that counts too.
@@ -61,25 +61,19 @@ fn rest(
     requires at_bound { moved + (end - at) < 2 ^ 64 }
     ensures { Skipped w (p - at * w) at end rv.now (below inclusive v) moved result }
 {
-    let mut row = at;
     let mut place = p;
     let mut moves = moved;
-    while row < end {
+    for row in at..end {
         if !is_below(rv[place], v, inclusive) {
-            return Position {
-                row: row,
-                place: place,
-                moves: moves,
-            };
+            return Position { row, place, moves };
         }
-        row += 1;
         place += w;
         moves += 1;
     }
     Position {
-        row: row,
-        place: place,
-        moves: moves,
+        row: end,
+        place,
+        moves,
     }
 }
 
@@ -119,6 +113,7 @@ pub fn advance(
     let mut row = at;
     let mut place = p;
     let mut moves = moved;
+    // A while: four rows a turn, and the last fewer than four begin where it stops.
     while row + 3 < stop {
         let last = place + w + w + w;
         let u = bound(v, inclusive);

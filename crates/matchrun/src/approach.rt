@@ -1,12 +1,12 @@
 // How the right cursor moves on for Nearest, over keys that do not fall: to the nearest key, three rows at a time.
-ghost use Rattle.std.specs.Prelude.{◌≡◌, cond, ◌&&◌, ◌+◌, ◌-◌, ◌*◌, ◌^◌, ◌<◌, leb};
+ghost use Rattle.std.specs.Prelude.{◌≡◌, ◌&&◌, ◌+◌, ◌-◌, ◌*◌, ◌^◌, ◌<◌};
 ghost use Rattle.frames.specs.Cells.{value};
 ghost use Rattle.matching.specs.Match.{nearer};
 ghost use Rattle.matching.specs.Moves.{NotAbove, Rising};
 ghost use Rattle.matchrun.specs.advance.Below.{keyed, AtPlace};
 ghost use Rattle.matchrun.specs.approach.Near.{closes, steps_on, Approached};
 
-use crate::advance::Position;
+use crate::advance::{Position, choose};
 use rows::cells::distance;
 
 // Whether b, which is not below a and stands behind it, is as near to v as a, or nearer.
@@ -26,34 +26,21 @@ fn creep(rv: &[i64], at: usize, p: usize, moved: usize, end: usize, w: usize, v:
     requires at_bound { moved + (end - at) < 2 ^ 64 }
     ensures { Approached w (p - at * w) at end rv.now v moved result }
 {
-    let mut row = at;
     let mut place = p;
     let mut moves = moved;
-    while 1 < end - row {
+    for row in at..end - 1 {
         let next = place + w;
         if !as_near(v, rv[next], rv[place]) {
-            return Position {
-                row: row,
-                place: place,
-                moves: moves,
-            };
+            return Position { row, place, moves };
         }
-        row += 1;
         place = next;
         moves += 1;
     }
     Position {
-        row: row,
-        place: place,
-        moves: moves,
+        row: end - 1,
+        place,
+        moves,
     }
-}
-
-// `yes` where the distance x is at most y, else `no`: a choice between two numbers, not a jump.
-fn choose(x: u64, y: u64, yes: usize, no: usize) -> usize
-    ensures { result ≡ cond (leb x y) yes no }
-{
-    if x <= y { yes } else { no }
 }
 
 // `start` and one step more for each of two moves that the cursor makes for v, from the key a to b and from b to c.
@@ -63,8 +50,8 @@ fn settled(v: i64, a: i64, b: i64, c: i64, start: usize, step: usize) -> usize
 {
     let y = distance(b, v);
     let one = start + step;
-    let second = choose(distance(c, v), y, one + step, one);
-    choose(y, distance(a, v), second, start)
+    let second = choose(distance(c, v) <= y, one + step, one);
+    choose(y <= distance(a, v), second, start)
 }
 
 // Whether the cursor moves on for v over all of four keys: where the last is not above v; else the last move is asked first, as it is mostly not made.
@@ -99,6 +86,7 @@ fn approach(rv: &[i64], at: usize, p: usize, moved: usize, end: usize, w: usize,
     let mut row = at;
     let mut place = p;
     let mut moves = moved;
+    // A while: three rows a turn, and the last fewer than three begin where it stops.
     while 3 < end - row {
         let q = place + w;
         let r = q + w;

@@ -8,6 +8,7 @@ ghost use Rattle.matching.specs.Stretches.{between};
 ghost use Rattle.matching.specs.Moves.{keys_sorted, FirstKey, key_at};
 ghost use Rattle.matchrun.specs.cursor.Risen.{Risen};
 
+use frames::RowSlice;
 use order::options::Terms;
 use rows::keyed::null_at;
 
@@ -17,60 +18,59 @@ pub fn first_key(marks: &[i64], from: usize, to: usize, w: usize, o: Terms) -> u
     ensures { FirstKey (without_list o) w from to marks.now result }
 {
     let by = o.by;
-    let mut i = from;
-    while i < to {
+    for i in from..to {
         let k = i * w + by;
         if !null_at(marks, k) {
             return i;
         }
-        i += 1;
     }
-    i
+    to
 }
 
 // Whether the key at p, which is there, is not greater than the key at q: a null comes first.
-fn rises(values: &[i64], marks: &[i64], p: usize, q: usize) -> bool
-    requires { (p < length values.now) × CellIn q values.now marks.now × (is_null (cell_at p values.now marks.now) ≡ false) }
-    ensures { result ≡ not (is_greater (cmp_cell key_rule (cell_at p values.now marks.now) (cell_at q values.now marks.now))) }
+fn rises(rows: RowSlice<'_>, p: usize, q: usize) -> bool
+    requires { (p < length rows.values.now) × CellIn q rows.values.now rows.marks.now × (is_null (cell_at p rows.values.now rows.marks.now) ≡ false) }
+    ensures { result ≡ not (is_greater (cmp_cell key_rule (cell_at p rows.entry.values.now rows.entry.marks.now) (cell_at q rows.entry.values.now rows.entry.marks.now))) }
 {
-    if null_at(marks, q) {
+    if null_at(rows.marks, q) {
         return false;
     }
-    if values[q] < values[p] {
+    if rows.values[q] < rows.values[p] {
         return false;
     }
     true
 }
 
 // Whether none of the four keys from row i on, of which the first is there, is greater than the next.
-fn four_rise(values: &[i64], marks: &[i64], i: usize, w: usize, by: usize) -> bool
-    requires { (by < w) × ((i + 5) * w ≤ length values.now) × ((i + 5) * w ≤ length marks.now) × (is_null (cell_at (i * w + by) values.now marks.now) ≡ false) }
-    ensures { result ≡ true → Risen w by i values.now marks.now (i + 4) }
+fn four_rise(rows: RowSlice<'_>, i: usize, by: usize) -> bool
+    requires { (by < rows.width) × ((i + 5) * rows.width ≤ length rows.values.now) × ((i + 5) * rows.width ≤ length rows.marks.now) × (is_null (cell_at (i * rows.width + by) rows.values.now rows.marks.now) ≡ false) }
+    ensures { result ≡ true → Risen rows.entry.width by i rows.entry.values.now rows.entry.marks.now (i + 4) }
 {
-    let a = i * w + by;
-    let b = a + w;
-    if !rises(values, marks, a, b) {
+    let a = i * rows.width + by;
+    let b = a + rows.width;
+    if !rises(rows, a, b) {
         return false;
     }
-    let c = b + w;
-    if !rises(values, marks, b, c) {
+    let c = b + rows.width;
+    if !rises(rows, b, c) {
         return false;
     }
-    let d = c + w;
-    if !rises(values, marks, c, d) {
+    let d = c + rows.width;
+    if !rises(rows, c, d) {
         return false;
     }
-    rises(values, marks, d, d + w)
+    rises(rows, d, d + rows.width)
 }
 
 // A row up to `end` before which no key is greater than the next: looked for four rows at a time.
-fn skip_four(values: &[i64], marks: &[i64], from: usize, end: usize, w: usize, by: usize) -> usize
-    requires { (by < w) × (from ≤ end) × ((end - from) % 4 ≡ 0) × ((end + 1) * w ≤ length values.now) × ((end + 1) * w ≤ length marks.now) × (is_null (cell_at (from * w + by) values.now marks.now) ≡ false) }
-    ensures { (result ≤ end) × Risen w by from values.now marks.now result }
+fn skip_four(rows: RowSlice<'_>, from: usize, end: usize, by: usize) -> usize
+    requires { (by < rows.width) × (from ≤ end) × ((end - from) % 4 ≡ 0) × ((end + 1) * rows.width ≤ length rows.values.now) × ((end + 1) * rows.width ≤ length rows.marks.now) × (is_null (cell_at (from * rows.width + by) rows.values.now rows.marks.now) ≡ false) }
+    ensures { (result ≤ end) × Risen rows.entry.width by from rows.entry.values.now rows.entry.marks.now result }
 {
     let mut i = from;
+    // A while: four rows a turn, and the row where it stops is returned.
     while i < end {
-        if !four_rise(values, marks, i, w, by) {
+        if !four_rise(rows, i, by) {
             return i;
         }
         i += 4;
@@ -79,57 +79,49 @@ fn skip_four(values: &[i64], marks: &[i64], from: usize, end: usize, w: usize, b
 }
 
 // A row of from..to before which no key is greater than the next. Rows that are one or two words wide are looked at four at a time, with the width a constant, unless they are few.
-fn skip_risen(values: &[i64], marks: &[i64], from: usize, to: usize, w: usize, o: Terms) -> usize
-    requires { RowsIn (without_list o) w to values.now marks.now × (from < to) × (is_null (key_at (without_list o) w values.now marks.now from) ≡ false) }
-    ensures { (result < to) × Risen w o.by from values.now marks.now result }
+fn skip_risen(rows: RowSlice<'_>, from: usize, to: usize, o: Terms) -> usize
+    requires { RowsIn (without_list o) rows.width to rows.values.now rows.marks.now × (from < to) × (is_null (key_at (without_list o) rows.width rows.values.now rows.marks.now from) ≡ false) }
+    ensures { (result < to) × Risen rows.entry.width o.by from rows.entry.values.now rows.entry.marks.now result }
 {
     let by = o.by;
-    let rows = to - from;
-    if rows < 9 {
+    let count = to - from;
+    if count < 9 {
         return from;
     }
-    let end = from + (rows - 1) / 4 * 4;
-    if w == 1 {
-        return skip_four(values, marks, from, end, 1, by);
+    let end = from + (count - 1) / 4 * 4;
+    if rows.width == 1 {
+        return skip_four(RowSlice { width: 1, ..rows }, from, end, by);
     }
-    if w == 2 {
-        return skip_four(values, marks, from, end, 2, by);
+    if rows.width == 2 {
+        return skip_four(RowSlice { width: 2, ..rows }, from, end, by);
     }
     from
 }
 
 // Whether no key of rows from..to, each w wide, is greater than the next, where the first of them has a key: so each has one.
-fn keys_rise(values: &[i64], marks: &[i64], from: usize, to: usize, w: usize, o: Terms) -> bool
-    requires { RowsIn (without_list o) w to values.now marks.now × (from < to) × (is_null (key_at (without_list o) w values.now marks.now from) ≡ false) }
-    ensures { result ≡ keys_sorted (without_list o) (between w from to values.now marks.now) }
+fn keys_rise(rows: RowSlice<'_>, from: usize, to: usize, o: Terms) -> bool
+    requires { RowsIn (without_list o) rows.width to rows.values.now rows.marks.now × (from < to) × (is_null (key_at (without_list o) rows.width rows.values.now rows.marks.now from) ≡ false) }
+    ensures { result ≡ keys_sorted (without_list o) (between rows.entry.width from to rows.entry.values.now rows.entry.marks.now) }
 {
     let by = o.by;
-    let mut i = skip_risen(values, marks, from, to, w, o);
-    while 1 < to - i {
-        let p = i * w + by;
-        if !rises(values, marks, p, p + w) {
+    let start = skip_risen(rows, from, to, o);
+    for i in start..to - 1 {
+        let p = i * rows.width + by;
+        if !rises(rows, p, p + rows.width) {
             return false;
         }
-        i += 1;
     }
     true
 }
 
 // Whether no key of rows from..to, each w wide, is greater than the next.
-pub fn keys_sorted(
-    values: &[i64],
-    marks: &[i64],
-    from: usize,
-    to: usize,
-    w: usize,
-    o: Terms,
-) -> bool
-    requires { RowsIn (without_list o) w to values.now marks.now × (from ≤ to) }
-    ensures { result ≡ keys_sorted (without_list o) (between w from to values.now marks.now) }
+pub fn keys_sorted(rows: RowSlice<'_>, from: usize, to: usize, o: Terms) -> bool
+    requires { RowsIn (without_list o) rows.width to rows.values.now rows.marks.now × (from ≤ to) }
+    ensures { result ≡ keys_sorted (without_list o) (between rows.entry.width from to rows.entry.values.now rows.entry.marks.now) }
 {
-    let start = first_key(marks, from, to, w, o);
+    let start = first_key(rows.marks, from, to, rows.width, o);
     if start == to {
         return true;
     }
-    keys_rise(values, marks, start, to, w, o)
+    keys_rise(rows, start, to, o)
 }

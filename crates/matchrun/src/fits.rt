@@ -8,29 +8,30 @@ ghost use Rattle.order.specs.Requires.{cell_at, CellIn};
 ghost use Rattle.matching.specs.Match.{on_side, nearer};
 ghost use Rattle.matching.specs.Loops.{TakesOver};
 
-use order::Order;
+use frames::RowSlice;
 use order::options::Strategy;
 use rows::cells::{cmp_cell, distance};
 use rows::keyed::null_at;
+use std::cmp::Ordering;
 
 // Whether a right key lies on the strategy's side of a left one, by its order to it.
-fn on_side(s: Strategy, eq: bool, c: Order) -> bool
+fn on_side(s: Strategy, eq: bool, c: Ordering) -> bool
     ensures { result ≡ on_side s eq c }
 {
     match s {
         // Backward "selects the last row in the right DataFrame whose 'on' key is less than or
         // equal to the left's key."
         Strategy::Backward => match c {
-            Order::Less => true,
-            Order::Equal => eq,
-            Order::Greater => false,
+            Ordering::Less => true,
+            Ordering::Equal => eq,
+            Ordering::Greater => false,
         },
         // Forward "selects the first row in the right DataFrame whose 'on' key is greater than or
         // equal to the left's key."
         Strategy::Forward => match c {
-            Order::Less => false,
-            Order::Equal => eq,
-            Order::Greater => true,
+            Ordering::Less => false,
+            Ordering::Equal => eq,
+            Ordering::Greater => true,
         },
         // Nearest "selects the last row in the right DataFrame whose value is nearest to the left's
         // key."
@@ -39,14 +40,14 @@ fn on_side(s: Strategy, eq: bool, c: Order) -> bool
 }
 
 // Whether the right key at place k may be chosen for the left key v: it is not null and lies on the strategy's side.
-pub fn fits_key(rv: &[i64], rm: &[i64], k: usize, v: i64, s: Strategy, eq: bool) -> bool
-    requires { CellIn k rv.now rm.now }
-    ensures { result ≡ (not (is_null (cell_at k rv.now rm.now)) && on_side s eq (cmp_cell key_rule (cell_at k rv.now rm.now) (value v))) }
+pub fn fits_key(right: RowSlice<'_>, k: usize, v: i64, s: Strategy, eq: bool) -> bool
+    requires { CellIn k right.values.now right.marks.now }
+    ensures { result ≡ (not (is_null (cell_at k right.entry.values.now right.entry.marks.now)) && on_side s eq (cmp_cell key_rule (cell_at k right.entry.values.now right.entry.marks.now) (value v))) }
 {
-    if null_at(rm, k) {
+    if null_at(right.marks, k) {
         return false;
     }
-    on_side(s, eq, cmp_cell(rv[k], 1, v, 1, false, false))
+    on_side(s, eq, cmp_cell(right.values[k], 1, v, 1, false, false))
 }
 
 // Whether a is nearer to v than b, which stands before it: by distance, then the greater key, then the last position.

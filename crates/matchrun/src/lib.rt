@@ -26,99 +26,88 @@ use crate::cursor::{first_key, keys_sorted};
 use crate::nearwalk::nearest;
 use crate::scan::match_row;
 use crate::walk::{backward, forward};
+use frames::RowSlice;
 use order::options::{Strategy, Terms, strategy_of};
 
 // Left rows from..to, each matched by a scan over right rows at..end, into an answer of m cells.
 pub fn scan_run(
-    lv: &[i64],
-    lm: &[i64],
+    left: RowSlice<'_>,
     m: usize,
-    wl: usize,
     from: usize,
     to: usize,
-    rv: &[i64],
-    rm: &[i64],
-    wr: usize,
+    right: RowSlice<'_>,
     at: usize,
     end: usize,
     number: usize,
     o: Terms,
     out: &mut [i64],
 )
-    requires { RunRoom (without_list o) wl m lv.now lm.now from to wr rv.now rm.now at end number out.old }
-    ensures { out.new ≡ lay m from (map (match_in (without_list o) (number + at) (between wr at end rv.now rm.now)) (between wl from to lv.now lm.now)) out.old }
+    requires { RunRoom (without_list o) left.width m left.values.now left.marks.now from to right.width right.values.now right.marks.now at end number out.old }
+    ensures { out.new ≡ lay m from (map (match_in (without_list o) (number + at) (between right.entry.width at end right.entry.values.now right.entry.marks.now)) (between left.entry.width from to left.entry.values.now left.entry.marks.now)) out.old }
 {
-    let mut i = from;
-    while i < to {
-        let choice = match_row(lv, lm, i * wl, rv, rm, at, end, wr, number, o);
+    for i in from..to {
+        let choice = match_row(left, i * left.width, right, at, end, number, o);
         put(out, m, i, choice);
-        i += 1;
     }
 }
 
 // A walk by strategy, each headed by the sentence of the join_asof documentation.
 fn walk_keys(
-    lv: &[i64],
+    left: RowSlice<'_>,
     m: usize,
-    wl: usize,
     from: usize,
     to: usize,
-    rv: &[i64],
-    wr: usize,
+    right: RowSlice<'_>,
     at: usize,
     end: usize,
     number: usize,
     o: Terms,
     out: &mut [i64],
 ) -> usize
-    requires { KeysRoom (without_list o) wl m lv.now from to wr rv.now at end number out.old × (at < end) }
-    ensures { Walked (without_list o) wl m lv.now from to wr rv.now at end number out.old result out.new }
+    requires { KeysRoom (without_list o) left.width m left.values.now from to right.width right.values.now at end number out.old × (at < end) }
+    ensures { Walked (without_list o) left.entry.width m left.entry.values.now from to right.entry.width right.entry.values.now at end number out.old result out.new }
 {
     let s = strategy_of(o);
     match s {
         // Backward "selects the last row in the right DataFrame whose 'on' key is less than or
         // equal to the left's key."
-        Strategy::Backward => backward(lv, m, wl, from, to, rv, wr, at, end, number, o, out),
+        Strategy::Backward => backward(left, m, from, to, right, at, end, number, o, out),
         // Forward "selects the first row in the right DataFrame whose 'on' key is greater than or
         // equal to the left's key."
-        Strategy::Forward => forward(lv, m, wl, from, to, rv, wr, at, end, number, o, out),
+        Strategy::Forward => forward(left, m, from, to, right, at, end, number, o, out),
         // Nearest "selects the last row in the right DataFrame whose value is nearest to the left's
         // key."
-        Strategy::Nearest => nearest(lv, m, wl, from, to, rv, wr, at, end, number, o, out),
+        Strategy::Nearest => nearest(left, m, from, to, right, at, end, number, o, out),
     }
 }
 
 // Left rows from..to, each matched at the right cursor, which walks right rows at..end, into an answer of m cells. How many moves the cursors made: each takes one of them one row forward.
 pub fn walk_run(
-    lv: &[i64],
-    lm: &[i64],
+    left: RowSlice<'_>,
     m: usize,
-    wl: usize,
     from: usize,
     to: usize,
-    rv: &[i64],
-    rm: &[i64],
-    wr: usize,
+    right: RowSlice<'_>,
     at: usize,
     end: usize,
     number: usize,
     o: Terms,
     out: &mut [i64],
 ) -> usize
-    requires { WalkRoom (without_list o) wl m lv.now lm.now from to wr rv.now rm.now at end number out.old }
-    ensures result_value { let lefts = between wl from to lv.now lm.now in
-        let rights = between wr at end rv.now rm.now in
+    requires { WalkRoom (without_list o) left.width m left.values.now left.marks.now from to right.width right.values.now right.marks.now at end number out.old }
+    ensures result_value { let lefts = between left.entry.width from to left.entry.values.now left.entry.marks.now in
+        let rights = between right.entry.width at end right.entry.values.now right.entry.marks.now in
         result ≡ walk_moves (without_list o) lefts rights }
-    ensures out_after { out.new ≡ lay m from (map (match_in (without_list o) (number + at) (between wr at end rv.now rm.now)) (between wl from to lv.now lm.now)) out.old }
+    ensures out_after { out.new ≡ lay m from (map (match_in (without_list o) (number + at) (between right.entry.width at end right.entry.values.now right.entry.marks.now)) (between left.entry.width from to left.entry.values.now left.entry.marks.now)) out.old }
 {
-    let start = first_key(rm, at, end, wr, o);
+    let start = first_key(right.marks, at, end, right.width, o);
     if start == end {
         put_nothing(out, m, from, to);
         return (to - from) + (end - at);
     }
-    let first = first_key(lm, from, to, wl, o);
+    let first = first_key(left.marks, from, to, left.width, o);
     put_nothing(out, m, from, first);
-    let moves = walk_keys(lv, m, wl, first, to, rv, wr, start, end, number, o, out);
+    let moves = walk_keys(left, m, first, to, right, start, end, number, o, out);
     (first - from) + (start - at) + moves
 }
 
@@ -145,34 +134,30 @@ pub fn is_short(from: usize, to: usize, at: usize, end: usize) -> bool
 // moves is of the two cursors of a walk, not of the passes that look for candidates or test
 // whether a run is sorted.
 pub fn match_run(
-    lv: &[i64],
-    lm: &[i64],
+    left: RowSlice<'_>,
     m: usize,
-    wl: usize,
     from: usize,
     to: usize,
-    rv: &[i64],
-    rm: &[i64],
-    wr: usize,
+    right: RowSlice<'_>,
     at: usize,
     end: usize,
     number: usize,
     o: Terms,
     out: &mut [i64],
 )
-    requires { RunRoom (without_list o) wl m lv.now lm.now from to wr rv.now rm.now at end number out.old }
-    ensures { out.new ≡ lay m from (map (match_in (without_list o) (number + at) (between wr at end rv.now rm.now)) (between wl from to lv.now lm.now)) out.old }
+    requires { RunRoom (without_list o) left.width m left.values.now left.marks.now from to right.width right.values.now right.marks.now at end number out.old }
+    ensures { out.new ≡ lay m from (map (match_in (without_list o) (number + at) (between right.entry.width at end right.entry.values.now right.entry.marks.now)) (between left.entry.width from to left.entry.values.now left.entry.marks.now)) out.old }
 {
-    if !keys_sorted(lv, lm, from, to, wl, o) {
-        scan_run(lv, lm, m, wl, from, to, rv, rm, wr, at, end, number, o, out);
+    if !keys_sorted(left, from, to, o) {
+        scan_run(left, m, from, to, right, at, end, number, o, out);
         return;
     }
-    let part = candidates(lv, lm, from, to, wl, rv, rm, at, end, wr, o);
+    let part = candidates(left, from, to, right, at, end, o);
     let lo = part.from;
     let hi = part.to;
-    if keys_sorted(rv, rm, lo, hi, wr, o) {
-        let _moved = walk_run(lv, lm, m, wl, from, to, rv, rm, wr, lo, hi, number, o, out);
+    if keys_sorted(right, lo, hi, o) {
+        let _moved = walk_run(left, m, from, to, right, lo, hi, number, o, out);
     } else {
-        scan_run(lv, lm, m, wl, from, to, rv, rm, wr, lo, hi, number, o, out);
+        scan_run(left, m, from, to, right, lo, hi, number, o, out);
     }
 }

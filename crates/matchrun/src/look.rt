@@ -9,6 +9,7 @@ ghost use Rattle.matching.specs.Moves.{fits_key, key_at};
 ghost use Rattle.matchrun.specs.look.Fit.{Above, LastFit, FirstFit};
 
 use crate::fits::fits_key;
+use frames::RowSlice;
 use order::options::{Strategy, Terms};
 
 // Whether the value at place k is above v.
@@ -45,6 +46,7 @@ fn skip_above(rv: &[i64], at: usize, end: usize, w: usize, by: usize, v: i64) ->
     ensures { Above w by at end rv.now v result }
 {
     let mut i = end;
+    // A while: four rows a turn, and the row where it stops is returned.
     while 3 < i - at {
         if !four_above(rv, i, w, by, v) {
             return i;
@@ -55,64 +57,43 @@ fn skip_above(rv: &[i64], at: usize, end: usize, w: usize, by: usize, v: i64) ->
 }
 
 // Behind the last row of at..end that fits v for Backward, looked for from the end back; `at` where none does.
-pub fn last_fit(
-    rv: &[i64],
-    rm: &[i64],
-    at: usize,
-    end: usize,
-    w: usize,
-    v: i64,
-    eq: bool,
-    o: Terms,
-) -> usize
-    requires { RowsIn (without_list o) w end rv.now rm.now × (at ≤ end) }
-    ensures { LastFit eq (key_at (without_list o) w rv.now rm.now) at end (value v) result }
+pub fn last_fit(right: RowSlice<'_>, at: usize, end: usize, v: i64, eq: bool, o: Terms) -> usize
+    requires { RowsIn (without_list o) right.width end right.values.now right.marks.now × (at ≤ end) }
+    ensures { LastFit eq (key_at (without_list o) right.entry.width right.entry.values.now right.entry.marks.now) at end (value v) result }
 {
     let by = o.by;
-    let mut i = skip_above(rv, at, end, w, by, v);
-    while at < i {
-        let k = (i - 1) * w + by;
-        if fits_key(rv, rm, k, v, Strategy::Backward, eq) {
-            return i;
+    let below = skip_above(right.values, at, end, right.width, by, v);
+    for i in (at..below).rev() {
+        let k = i * right.width + by;
+        if fits_key(right, k, v, Strategy::Backward, eq) {
+            return i + 1;
         }
-        i -= 1;
     }
-    i
+    at
 }
 
 // Whether the right key at place k fits v for Forward. A value below v is told first: its mark need not be read.
-fn fits_fore(rv: &[i64], rm: &[i64], k: usize, v: i64, eq: bool) -> bool
-    requires { CellIn k rv.now rm.now }
-    ensures { result ≡ fits_key Forward eq (value v) (cell_at k rv.now rm.now) }
+fn fits_fore(right: RowSlice<'_>, k: usize, v: i64, eq: bool) -> bool
+    requires { CellIn k right.values.now right.marks.now }
+    ensures { result ≡ fits_key Forward eq (value v) (cell_at k right.entry.values.now right.entry.marks.now) }
 {
-    if rv[k] < v {
+    if right.values[k] < v {
         return false;
     }
-    fits_key(rv, rm, k, v, Strategy::Forward, eq)
+    fits_key(right, k, v, Strategy::Forward, eq)
 }
 
 // The first row of at..end that fits v for Forward; `end` where none does.
-pub fn first_fit(
-    rv: &[i64],
-    rm: &[i64],
-    at: usize,
-    end: usize,
-    w: usize,
-    v: i64,
-    eq: bool,
-    o: Terms,
-) -> usize
-    requires { RowsIn (without_list o) w end rv.now rm.now × (at ≤ end) }
-    ensures { FirstFit eq (key_at (without_list o) w rv.now rm.now) at end (value v) result }
+pub fn first_fit(right: RowSlice<'_>, at: usize, end: usize, v: i64, eq: bool, o: Terms) -> usize
+    requires { RowsIn (without_list o) right.width end right.values.now right.marks.now × (at ≤ end) }
+    ensures { FirstFit eq (key_at (without_list o) right.entry.width right.entry.values.now right.entry.marks.now) at end (value v) result }
 {
     let by = o.by;
-    let mut i = at;
-    while i < end {
-        let k = i * w + by;
-        if fits_fore(rv, rm, k, v, eq) {
+    for i in at..end {
+        let k = i * right.width + by;
+        if fits_fore(right, k, v, eq) {
             return i;
         }
-        i += 1;
     }
-    i
+    end
 }

@@ -10,111 +10,95 @@ ghost use Rattle.matching.specs.Loops.{BestIn, Meets, Met};
 ghost use Rattle.matching.specs.Requires.{RowRoom};
 
 use crate::fits::{fits_key, takes_over, too_far};
-use matching::Choice;
+use frames::RowSlice;
 use order::options::{Strategy, Terms, strategy_of};
 use rows::keyed::null_at;
 
 // The best of what was the best and row j, which stands behind it; `to` stands for none.
 fn meet_row(
-    rv: &[i64],
-    rm: &[i64],
+    right: RowSlice<'_>,
     best: usize,
     j: usize,
     to: usize,
-    w: usize,
     v: i64,
     s: Strategy,
     o: Terms,
 ) -> usize
-    requires { Meets (without_list o) s w to rv.now rm.now best j }
-    ensures { Met (without_list o) w to rv.now rm.now best j v result }
+    requires { Meets (without_list o) s right.width to right.values.now right.marks.now best j }
+    ensures { Met (without_list o) right.entry.width to right.entry.values.now right.entry.marks.now best j v result }
 {
     let by = o.by;
-    let k = j * w + by;
-    if !fits_key(rv, rm, k, v, s, o.allow_eq) {
+    let k = j * right.width + by;
+    if !fits_key(right, k, v, s, o.allow_eq) {
         return best;
     }
     if best == to {
         return j;
     }
-    let b = best * w + by;
-    if takes_over(s, v, rv[k], rv[b]) {
+    let b = best * right.width + by;
+    if takes_over(s, v, right.values[k], right.values[b]) {
         return j;
     }
     best
 }
 
 // The best row of from..to for the left key v by the strategy s, by its index; `to` where there is none.
-fn best_row(
-    rv: &[i64],
-    rm: &[i64],
-    from: usize,
-    to: usize,
-    w: usize,
-    v: i64,
-    s: Strategy,
-    o: Terms,
-) -> usize
-    requires { RowsIn (without_list o) w to rv.now rm.now × (from ≤ to) × (s ≡ strategy_of (without_list o)) }
-    ensures { BestIn (without_list o) w to rv.now rm.now result × ((first : ℕ) (x : List Cell) → key_of (without_list o) x ≡ value v → hit_at first w to rv.now rm.now result ≡ choose (without_list o) x (fits (without_list o) x) nobody (first + from) (between w from to rv.now rm.now)) }
+fn best_row(right: RowSlice<'_>, from: usize, to: usize, v: i64, s: Strategy, o: Terms) -> usize
+    requires { RowsIn (without_list o) right.width to right.values.now right.marks.now × (from ≤ to) × (s ≡ strategy_of (without_list o)) }
+    ensures { BestIn (without_list o) right.entry.width to right.entry.values.now right.entry.marks.now result × ((first : ℕ) (x : List Cell) → key_of (without_list o) x ≡ value v → hit_at first right.entry.width to right.entry.values.now right.entry.marks.now result ≡ choose (without_list o) x (fits (without_list o) x) nobody (first + from) (between right.entry.width from to right.entry.values.now right.entry.marks.now)) }
 {
     let mut best = to;
-    let mut j = from;
-    while j < to {
-        best = meet_row(rv, rm, best, j, to, w, v, s, o);
-        j += 1;
+    for j in from..to {
+        best = meet_row(right, best, j, to, v, s, o);
     }
     best
 }
 
 // The best row of from..to for the left key v, by its index; `to` where there is none. The strategies stand in the order of the join_asof documentation, each headed by its sentence.
-fn choose_row(rv: &[i64], rm: &[i64], from: usize, to: usize, w: usize, v: i64, o: Terms) -> usize
-    requires { RowsIn (without_list o) w to rv.now rm.now × (from ≤ to) }
-    ensures { BestIn (without_list o) w to rv.now rm.now result × ((first : ℕ) (x : List Cell) → key_of (without_list o) x ≡ value v → hit_at first w to rv.now rm.now result ≡ choose (without_list o) x (fits (without_list o) x) nobody (first + from) (between w from to rv.now rm.now)) }
+fn choose_row(right: RowSlice<'_>, from: usize, to: usize, v: i64, o: Terms) -> usize
+    requires { RowsIn (without_list o) right.width to right.values.now right.marks.now × (from ≤ to) }
+    ensures { BestIn (without_list o) right.entry.width to right.entry.values.now right.entry.marks.now result × ((first : ℕ) (x : List Cell) → key_of (without_list o) x ≡ value v → hit_at first right.entry.width to right.entry.values.now right.entry.marks.now result ≡ choose (without_list o) x (fits (without_list o) x) nobody (first + from) (between right.entry.width from to right.entry.values.now right.entry.marks.now)) }
 {
     let s = strategy_of(o);
     match s {
         // Backward "selects the last row in the right DataFrame whose 'on' key is less than or
         // equal to the left's key."
-        Strategy::Backward => best_row(rv, rm, from, to, w, v, Strategy::Backward, o),
+        Strategy::Backward => best_row(right, from, to, v, Strategy::Backward, o),
         // Forward "selects the first row in the right DataFrame whose 'on' key is greater than or
         // equal to the left's key."
-        Strategy::Forward => best_row(rv, rm, from, to, w, v, Strategy::Forward, o),
+        Strategy::Forward => best_row(right, from, to, v, Strategy::Forward, o),
         // Nearest "selects the last row in the right DataFrame whose value is nearest to the left's
         // key."
-        Strategy::Nearest => best_row(rv, rm, from, to, w, v, Strategy::Nearest, o),
+        Strategy::Nearest => best_row(right, from, to, v, Strategy::Nearest, o),
     }
 }
 
 // The choice for the left row at p among right rows from..to, each w wide; row i of them has the number `number` + i.
 pub fn match_row(
-    lv: &[i64],
-    lm: &[i64],
+    left: RowSlice<'_>,
     p: usize,
-    rv: &[i64],
-    rm: &[i64],
+    right: RowSlice<'_>,
     from: usize,
     to: usize,
-    w: usize,
     number: usize,
     o: Terms,
-) -> Choice
-    requires { RowRoom (without_list o) p lv.now lm.now w from to rv.now rm.now number }
-    ensures { (wl : ℕ) → o.by < wl → result ≡ match_in (without_list o) (number + from) (between w from to rv.now rm.now) (row_from wl p lv.now lm.now) }
+) -> Option<usize>
+    requires { RowRoom (without_list o) p left.values.now left.marks.now right.width from to right.values.now right.marks.now number }
+    ensures { (wl : ℕ) → o.by < wl → result ≡ match_in (without_list o) (number + from) (between right.entry.width from to right.entry.values.now right.entry.marks.now) (row_from wl p left.entry.values.now left.entry.marks.now) }
 {
     let by = o.by;
     let k = p + by;
-    if null_at(lm, k) {
-        return Choice::Nothing;
+    if null_at(left.marks, k) {
+        return None;
     }
-    let v = lv[k];
-    let best = choose_row(rv, rm, from, to, w, v, o);
+    let v = left.values[k];
+    let best = choose_row(right, from, to, v, o);
     if best == to {
-        return Choice::Nothing;
+        return None;
     }
-    let q = best * w + by;
-    if too_far(rv[q], v, o.tolerance) {
-        return Choice::Nothing;
+    let q = best * right.width + by;
+    if too_far(right.values[q], v, o.tolerance) {
+        return None;
     }
-    Choice::Row(number + best)
+    Some(number + best)
 }

@@ -5,14 +5,13 @@ ghost use Rattle.order.specs.options.Options.{without_list, strategy_of};
 ghost use Rattle.order.specs.declared.options.Strategy.TheVariants.{Backward, Forward};
 ghost use Rattle.matching.specs.Loops.{Small};
 ghost use Rattle.matching.specs.Moves.{Rising};
-ghost use Rattle.matching.specs.declared.Choice.TheVariants.{Nothing};
 ghost use Rattle.matchrun.specs.advance.Below.{value_at, keyed, HasNext};
 ghost use Rattle.matchrun.specs.choices.Choices.{unless_far};
 ghost use Rattle.matchrun.specs.walk.Keyed.{KeysRoom, Walked};
 
 use crate::advance::advance;
 use crate::choices::{near_row, put};
-use matching::Choice;
+use frames::RowSlice;
 use order::options::Terms;
 
 // Whether v is the greatest word: then there is no next one.
@@ -58,12 +57,12 @@ fn choice_back(
     v: i64,
     tolerance: i64,
     number: usize,
-) -> Choice
+) -> Option<usize>
     requires { (at ≤ c) × (at < c → w ≤ k) × (at < c → k - w < length rv.now) × (number + c < 2 ^ 63) }
-    ensures { Small result × (c ≡ at → result ≡ Nothing) × (at < c → result ≡ unless_far tolerance v (get_or rv.now (k - w) (pos 0)) (number + (c - 1))) }
+    ensures { Small result × (c ≡ at → result ≡ None) × (at < c → result ≡ unless_far tolerance v (get_or rv.now (k - w) (pos 0)) (number + (c - 1))) }
 {
     if c == at {
-        return Choice::Nothing;
+        return None;
     }
     near_row(rv, k - w, v, tolerance, number + (c - 1))
 }
@@ -77,52 +76,67 @@ fn choice_fore(
     v: i64,
     tolerance: i64,
     number: usize,
-) -> Choice
+) -> Option<usize>
     requires { (c ≤ end) × (c < end → k < length rv.now) × (number + c < 2 ^ 63) }
-    ensures { Small result × (c ≡ end → result ≡ Nothing) × (c < end → result ≡ unless_far tolerance v (get_or rv.now k (pos 0)) (number + c)) }
+    ensures { Small result × (c ≡ end → result ≡ None) × (c < end → result ≡ unless_far tolerance v (get_or rv.now k (pos 0)) (number + c)) }
 {
     if c == end {
-        return Choice::Nothing;
+        return None;
     }
     near_row(rv, k, v, tolerance, number + c)
 }
 
 // Left rows from..to, each matched to the last right row of at..end on its side: the one before the cursor. How many moves the cursors made.
 pub fn backward(
-    lv: &[i64],
+    left: RowSlice<'_>,
     m: usize,
-    wl: usize,
     from: usize,
     to: usize,
-    rv: &[i64],
-    wr: usize,
+    right: RowSlice<'_>,
     at: usize,
     end: usize,
     number: usize,
     o: Terms,
     out: &mut [i64],
 ) -> usize
-    requires { KeysRoom (without_list o) wl m lv.now from to wr rv.now at end number out.old × (strategy_of (without_list o) ≡ Backward) }
-    ensures { Walked (without_list o) wl m lv.now from to wr rv.now at end number out.old result out.new }
+    requires { KeysRoom (without_list o) left.width m left.values.now from to right.width right.values.now at end number out.old × (strategy_of (without_list o) ≡ Backward) }
+    ensures { Walked (without_list o) left.entry.width m left.entry.values.now from to right.entry.width right.entry.values.now at end number out.old result out.new }
 {
     let by = o.by;
-    let stop = fours_to(lv, wl, by, from, to, at, end);
-    let start = at * wr + by;
+    let stop = fours_to(left.values, left.width, by, from, to, at, end);
+    let start = at * right.width + by;
     let mut row = at;
     let mut place = start;
-    let mut i = from;
-    let mut p = from * wl + by;
+    let mut p = from * left.width + by;
     let mut moves = 0;
-    while i < to {
-        let v = lv[p];
-        let c = advance(rv, row, place, moves, stop, end, wr, v, o.allow_eq);
+    for i in from..to {
+        let v = left.values[p];
+        let c = advance(
+            right.values,
+            row,
+            place,
+            moves,
+            stop,
+            end,
+            right.width,
+            v,
+            o.allow_eq,
+        );
         row = c.row;
         place = c.place;
         moves = c.moves;
-        let choice = choice_back(rv, at, row, place, wr, v, o.tolerance, number);
+        let choice = choice_back(
+            right.values,
+            at,
+            row,
+            place,
+            right.width,
+            v,
+            o.tolerance,
+            number,
+        );
         put(out, m, i, choice);
-        i += 1;
-        p += wl;
+        p += left.width;
         moves += 1;
     }
     moves
@@ -130,39 +144,45 @@ pub fn backward(
 
 // Left rows from..to, each matched to the first right row of at..end on its side: the one at the cursor. How many moves the cursors made.
 pub fn forward(
-    lv: &[i64],
+    left: RowSlice<'_>,
     m: usize,
-    wl: usize,
     from: usize,
     to: usize,
-    rv: &[i64],
-    wr: usize,
+    right: RowSlice<'_>,
     at: usize,
     end: usize,
     number: usize,
     o: Terms,
     out: &mut [i64],
 ) -> usize
-    requires { KeysRoom (without_list o) wl m lv.now from to wr rv.now at end number out.old × (strategy_of (without_list o) ≡ Forward) }
-    ensures { Walked (without_list o) wl m lv.now from to wr rv.now at end number out.old result out.new }
+    requires { KeysRoom (without_list o) left.width m left.values.now from to right.width right.values.now at end number out.old × (strategy_of (without_list o) ≡ Forward) }
+    ensures { Walked (without_list o) left.entry.width m left.entry.values.now from to right.entry.width right.entry.values.now at end number out.old result out.new }
 {
     let by = o.by;
-    let stop = fours_to(lv, wl, by, from, to, at, end);
+    let stop = fours_to(left.values, left.width, by, from, to, at, end);
     let mut row = at;
-    let mut place = at * wr + by;
-    let mut i = from;
-    let mut p = from * wl + by;
+    let mut place = at * right.width + by;
+    let mut p = from * left.width + by;
     let mut moves = 0;
-    while i < to {
-        let v = lv[p];
-        let c = advance(rv, row, place, moves, stop, end, wr, v, !o.allow_eq);
+    for i in from..to {
+        let v = left.values[p];
+        let c = advance(
+            right.values,
+            row,
+            place,
+            moves,
+            stop,
+            end,
+            right.width,
+            v,
+            !o.allow_eq,
+        );
         row = c.row;
         place = c.place;
         moves = c.moves;
-        let choice = choice_fore(rv, row, end, place, v, o.tolerance, number);
+        let choice = choice_fore(right.values, row, end, place, v, o.tolerance, number);
         put(out, m, i, choice);
-        i += 1;
-        p += wl;
+        p += left.width;
         moves += 1;
     }
     moves

@@ -1,4 +1,5 @@
 -- The calls by their answers: what a refused call leaves and what an accepted one does, over plain values. Assumes nothing.
+use Rattle.std.specs.Prelude.{Result, Ok, Err}
 use mathlib.Core.Path.{◌≡◌, refl, ◌∙◌}
 use mathlib.Core.Bool.{Bool, true, false}
 use Rattle.frames.specs.Cells.{Words}
@@ -13,14 +14,10 @@ use Rattle.callrules.specs.declared.FedLeft.{FedLeft}
 use Rattle.callrules.specs.declared.FedRight.{FedRight}
 use Rattle.node.specs.declared.Join.{Join}
 use Rattle.frames.specs.declared.outcomes.NodeState.{NodeState}
-use Rattle.frames.specs.declared.outcomes.NodeState.TheVariants.{Running, Flush, Done}
 use Rattle.frames.specs.declared.outcomes.PortState.{PortState}
+use Rattle.frames.specs.declared.outcomes.Ports.{Ports}
 use Rattle.frames.specs.declared.refusals.Refusal.{Refusal}
 use Rattle.frames.specs.declared.refusals.Refusal.TheVariants.{BadJoin, Failed}
-use Rattle.frames.specs.declared.outcomes.Took.{Took}
-use Rattle.frames.specs.declared.outcomes.Took.TheVariants.{Accepted, Refused}
-use Rattle.frames.specs.declared.outcomes.Ported.{Ported}
-use Rattle.frames.specs.declared.outcomes.Ported.TheVariants.{Refused as PortsRefused}
 
 -- The join whose right has ended, or not.
 abbrev pub ended_at : Join → Bool → Join
@@ -41,9 +38,9 @@ module _ (j : Join) (left right : Words) where
     unfolding end_call
     end_leaves = go (end_answer j left right) refl
       where
-        go : (t : Took) → end_answer j left right ≡ t → EndContract j left right (record { answer = r.answer; join = ended_at j r.ended })
-        go Accepted e = let s = end_same ∙ e in record { answer = rw (e, end_call) (rw s at end_known.answer); join = rw (e, end_call, rw s at end_known.ended_is) }
-        go (Refused n) e = let s = end_same ∙ e in record { answer = rw (e, end_call) (rw s at end_known.answer); join = rw (e, end_call, rw s at end_known.ended_is) }
+        go : (t : Result Unit Refusal) → end_answer j left right ≡ t → EndContract j left right (record { answer = r.answer; join = ended_at j r.ended })
+        go (Ok tt) e = let s = end_same ∙ e in record { answer = rw (e, end_call) (rw s at end_known.answer); join = rw (e, end_call, rw s at end_known.ended_is) }
+        go (Err n) e = let s = end_same ∙ e in record { answer = rw (e, end_call) (rw s at end_known.answer); join = rw (e, end_call, rw s at end_known.ended_is) }
 
   -- ---- a left frame
   module _ (f : Words) (b : Bool) (is : b ≡ bad_join j left right) (r : FedLeft) (left' : Words)
@@ -59,11 +56,11 @@ module _ (j : Join) (left right : Words) where
     unfolding left_call queued
     left_leaves = go (left_answer j left right f) refl
       where
-        go : (t : Took) → left_answer j left right f ≡ t → LeftContract j left right f (record { answer = r.answer; join = queue_at j r.start r.words }) left'
-        go Accepted e =
+        go : (t : Result Unit Refusal) → left_answer j left right f ≡ t → LeftContract j left right f (record { answer = r.answer; join = queue_at j r.start r.words }) left'
+        go (Ok tt) e =
             let s = left_same ∙ e in
             record { answer = rw (e, left_call) (rw s at left_known.answer); join = rw (e, left_call, rw s at left_known.start_is, rw s at left_known.words_are); words = rw (e, left_call) (rw s at left_known.area) }
-        go (Refused n) e =
+        go (Err n) e =
             let s = left_same ∙ e in
             record { answer = rw (e, left_call) (rw s at left_known.answer); join = rw (e, left_call, rw s at left_known.start_is, rw s at left_known.words_are); words = rw (e, left_call) (rw s at left_known.area) }
 
@@ -81,25 +78,23 @@ module _ (j : Join) (left right : Words) where
     unfolding right_call pushed_right
     right_leaves = go (right_answer j left right f) refl
       where
-        go : (t : Took) → right_answer j left right f ≡ t → RightContract j left right f (record { answer = r.answer; join = held_at j r.base r.held j.pruned }) right'
-        go Accepted e =
+        go : (t : Result Unit Refusal) → right_answer j left right f ≡ t → RightContract j left right f (record { answer = r.answer; join = held_at j r.base r.held j.pruned }) right'
+        go (Ok tt) e =
             let s = right_same ∙ e in
             record { answer = rw (e, right_call) (rw s at right_known.answer); join = rw (e, right_call, rw s at right_known.base_is, rw s at right_known.held_is); words = rw (e, right_call) (rw s at right_known.area) }
-        go (Refused n) e =
+        go (Err n) e =
             let s = right_same ∙ e in
             record { answer = rw (e, right_call) (rw s at right_known.answer); join = rw (e, right_call, rw s at right_known.base_is, rw s at right_known.held_is); words = rw (e, right_call) (rw s at right_known.area) }
 
   -- ---- ports
   module _ (l r s : PortState) where
     -- Ports are told in every state.
-    told_call : (u : NodeState) (a : Ported) → u ≡ ports_state j l s → a ≡ ports_in u l r s → ports_answer j left right l r s ≡ ports_in u l r s
+    told_call : (u : NodeState) (a : Result Ports Refusal) → u ≡ ports_state j l s → a ≡ Ok (ports_in u l r s) → ports_answer j left right l r s ≡ Ok (ports_in u l r s)
         → PortsContract j left right l r s (record { answer = a; join = state_at j u })
     unfolding ports_call
-    told_call Running a at is e = record { answer = rw (e, ports_call) is; join = rw (e, ports_call, ← at) }
-    told_call Flush a at is e = record { answer = rw (e, ports_call) is; join = rw (e, ports_call, ← at) }
-    told_call Done a at is e = record { answer = rw (e, ports_call) is; join = rw (e, ports_call, ← at) }
+    told_call u a at is e = record { answer = rw (e, ports_call) is; join = rw (e, ports_call, ← at) }
 
-    ports_refused : (n : Refusal) → ports_answer j left right l r s ≡ PortsRefused n → PortsContract j left right l r s (record { answer = PortsRefused n; join = j })
+    ports_refused : (n : Refusal) → ports_answer j left right l r s ≡ Err n → PortsContract j left right l r s (record { answer = Err n; join = j })
     unfolding ports_call
     ports_refused n e = record { answer = rw (e, ports_call); join = rw (e, ports_call) }
 

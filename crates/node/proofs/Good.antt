@@ -1,4 +1,5 @@
 -- What is known of a join that is not bad, and of a frame that is accepted. Assumes nothing.
+use Rattle.std.specs.Prelude.{Result, Ok, Err}
 use mathlib.Core.Path.{◌≡◌, refl}
 use mathlib.Core.Bool.{Bool, true, false, cond, not, ◌||◌}
 use Prim.Native.Nat.{ℕ, ◌+◌, ◌%◌, ◌≤◌}
@@ -9,8 +10,7 @@ use lib.ListN.{length}
 use Rattle.callrules.specs.Judged.{left_judged, end_judged, right_judged}
 use Rattle.frames.specs.Cells.{Words}
 use Rattle.frames.specs.Frame.{row_count, is_frame, frame_rows}
-use Rattle.order.specs.options.Options.{refused_options, bad_ranked, Few, terms_of, with_list}
-use Rattle.order.specs.declared.options.Terms.{Terms}
+use Rattle.order.specs.options.Options.{refused_options, bad_ranked, Few}
 use Rattle.callrules.specs.Judged.{bad_numbers}
 use Rattle.frames.specs.Front.{HasCount}
 use Rattle.order.specs.declared.options.Options.{Options}
@@ -24,12 +24,10 @@ use Rattle.node.specs.Calls.{left_answer, right_answer, end_answer}
 use Rattle.node.specs.declared.Join.{Join}
 use Rattle.frames.specs.declared.refusals.Refusal.{Refusal}
 use Rattle.frames.specs.declared.refusals.Refusal.TheVariants.{BadJoin, Failed, Closed, BadFrame, UnknownCode, NoRoom, UsedUp}
-use Rattle.frames.specs.declared.outcomes.Took.{Took}
-use Rattle.frames.specs.declared.outcomes.Took.TheVariants.{Accepted, Refused}
 
 -- ---- tests
 -- A chain of refusals that came to Accepted did not stop at its first.
-passed : (b : Bool) (n : Refusal) (t : Took) → cond b (Refused n) t ≡ Accepted → (b ≡ false) × (t ≡ Accepted)
+passed : (b : Bool) (n : Refusal) (t : Result Unit Refusal) → cond b (Err n) t ≡ Ok tt → (b ≡ false) × (t ≡ Ok tt)
 passed true n t e = let z : ◌≡◌ {A = ℕ} 0 1 = cc in absurd (omega arith)
 passed false n t e = (refl, e)
 
@@ -68,11 +66,14 @@ good j left right h =
 pub few_told : (j : Join) (left right : Words) → Good j left right → length j.options.ranks.codes ≡ 64 → length j.options.ranks.rising ≡ 64 → Few j.options
 few_told j left right g a b = record { by = g.by; list = g.list; there = λ e. (omega arith, omega arith) }
 
--- What is told by the numbers of the join and the parts of its options.
-pub bad_told : (j : Join) (left right : Words) (t : Terms) (b : Bool) → t ≡ terms_of j.options
-    → b ≡ bad_numbers (with_list t j.options.ranks.codes j.options.ranks.rising) j.base j.held j.pruned j.queue_start j.queue_words j.sequence left right → b ≡ bad_join j left right
+-- What is told by the numbers of the join and by rules that are its options'.
+pub bad_told : (j : Join) (left right : Words) (o : Options) (b : Bool) → o ≡ j.options → b ≡ bad_numbers o j.base j.held j.pruned j.queue_start j.queue_words j.sequence left right → b ≡ bad_join j left right
 unfolding bad_join bad_numbers
-bad_told j left right t b e h = rw e at h
+bad_told j left right o b e h = rw e at h
+
+-- Rules that are a join's options, with all words of the list there, are few where the join is good.
+pub few_by : (j : Join) (left right : Words) (o : Options) → Good j left right → o ≡ j.options → length o.ranks.codes ≡ 64 → length o.ranks.rising ≡ 64 → Few o
+few_by j left right o g e a b = rw e (few_told j left right g (rw e at a) (rw e at b))
 
 -- The join of a refused opening is bad, with any areas.
 pub opened_bad : (o : Options) (left right : Words) → refused_options o ≡ true → bad_join (fresh o) left right ≡ true
@@ -93,12 +94,12 @@ module _ (j : Join) (left right : Words) where
     pub unfailed : j.failed ≡ false
     pub unended : (j.right_ended || is_done j.state) ≡ false
 
-  pub end_taken : end_answer j left right ≡ Accepted → EndTaken
+  pub end_taken : end_answer j left right ≡ Ok tt → EndTaken
   unfolding end_judged
   end_taken e =
       let p2 = passed (bad_join j left right) BadJoin _ e in
       let p3 = passed j.failed Failed _ p2.1 in
-      let p4 = passed (j.right_ended || is_done j.state) Closed Accepted p3.1 in
+      let p4 = passed (j.right_ended || is_done j.state) Closed (Ok tt) p3.1 in
       record { unbroken = p2.0; good = good j left right p2.0; unfailed = p3.0; unended = p4.0 }
 
   pub record LeftTaken (f : Words) : Type 0 where
@@ -109,7 +110,7 @@ module _ (j : Join) (left right : Words) where
     pub codes : lacks_code j.options (frame_rows (left_width j) f) ≡ false
     pub room : j.queue_words + length f ≤ length left
 
-  pub left_taken : (f : Words) → left_answer j left right f ≡ Accepted → LeftTaken f
+  pub left_taken : (f : Words) → left_answer j left right f ≡ Ok tt → LeftTaken f
   unfolding left_judged
   left_taken f e =
       let p2 = passed (bad_join j left right) BadJoin _ e in
@@ -117,7 +118,7 @@ module _ (j : Join) (left right : Words) where
       let p4 = passed (not (is_running j.state)) Closed _ p3.1 in
       let p5 = passed (not (is_frame (left_width j) f)) BadFrame _ p4.1 in
       let p12 = passed (lacks_code j.options (frame_rows (left_width j) f)) UnknownCode _ p5.1 in
-      let p6 = passed (ltb (length left) (j.queue_words + length f)) NoRoom Accepted p12.1 in
+      let p6 = passed (ltb (length left) (j.queue_words + length f)) NoRoom (Ok tt) p12.1 in
       record {
         good = good j left right p2.0;
         unfailed = p3.0;
@@ -136,7 +137,7 @@ module _ (j : Join) (left right : Words) where
     pub room : j.held + row_count f ≤ capacity (right_width j) right
     pub rows : j.pruned + j.held + row_count f ≤ most_rows
 
-  pub right_taken : (f : Words) → right_answer j left right f ≡ Accepted → RightTaken f
+  pub right_taken : (f : Words) → right_answer j left right f ≡ Ok tt → RightTaken f
   unfolding right_judged
   right_taken f e =
       let p2 = passed (bad_join j left right) BadJoin _ e in
@@ -145,7 +146,7 @@ module _ (j : Join) (left right : Words) where
       let p5 = passed (not (is_frame (right_width j) f)) BadFrame _ p4.1 in
       let p12 = passed (lacks_code j.options (frame_rows (right_width j) f)) UnknownCode _ p5.1 in
       let p6 = passed (ltb (capacity (right_width j) right) (j.held + row_count f)) NoRoom _ p12.1 in
-      let p7 = passed (ltb most_rows (j.pruned + j.held + row_count f)) UsedUp Accepted p6.1 in
+      let p7 = passed (ltb most_rows (j.pruned + j.held + row_count f)) UsedUp (Ok tt) p6.1 in
       record {
         good = good j left right p2.0;
         unfailed = p3.0;

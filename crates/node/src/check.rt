@@ -4,19 +4,13 @@ ghost use Rattle.node.specs.State.{bad_join};
 
 use crate::Join;
 use callrules::consistency::bad_numbers;
-use order::options::terms_of;
 
 // Whether the join, with these areas, meets refusal 2.
 pub fn bad_join(j: Join, left: &[i64], right: &[i64]) -> bool
     ensures { result ≡ bad_join j left.now right.now }
 {
-    let o = j.options;
-    let codes = o.ranks.codes;
-    let rising = o.ranks.rising;
     bad_numbers(
-        terms_of(o),
-        &codes,
-        &rising,
+        j.options.rules(),
         j.base,
         j.held,
         j.pruned,

@@ -12,15 +12,13 @@ use frames::outcomes::NodeState;
 pub(crate) fn at_state(j: Join, state: NodeState) -> Join
     ensures { result ≡ state_at j state }
 {
-    Join { state: state, ..j }
+    Join { state, ..j }
 }
 
 // The join without its options and its state.
 pub(crate) fn part_of(j: Join) -> Part
     ensures { result ≡ part_of j }
 {
-    let l = j.last_left;
-    let r = j.last_right;
     Part {
         base: j.base,
         held: j.held,
@@ -30,8 +28,8 @@ pub(crate) fn part_of(j: Join) -> Part
         right_ended: j.right_ended,
         failed: j.failed,
         sequence: j.sequence,
-        last_left: l,
-        last_right: r,
+        last_left: j.last_left,
+        last_right: j.last_right,
     }
 }
 
@@ -40,26 +38,21 @@ pub(crate) fn turned(j: Join, t: TurnedPart) -> TurnedJoin
     ensures { result ≡ record { answer = t.answer; join = join_with j t.part } }
 {
     let p = t.part;
-    let answer = t.answer;
-    let o = j.options;
-    let state = j.state;
-    let l = p.last_left;
-    let r = p.last_right;
     TurnedJoin {
-        answer: answer,
+        answer: t.answer,
         join: Join {
-            options: o,
+            options: j.options,
             base: p.base,
             held: p.held,
             pruned: p.pruned,
             queue_start: p.queue_start,
             queue_words: p.queue_words,
-            state: state,
+            state: j.state,
             right_ended: p.right_ended,
             failed: p.failed,
             sequence: p.sequence,
-            last_left: l,
-            last_right: r,
+            last_left: p.last_left,
+            last_right: p.last_right,
         },
     }
 }

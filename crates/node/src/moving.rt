@@ -6,7 +6,6 @@ ghost use Rattle.node.specs.moves.Requires.{LeftIn, BothFit, RightIn, right_copi
 
 use crate::{Join, TookJoin, bad_join};
 use buffer::area::{append, held_marks, held_values};
-use frames::outcomes::Took;
 use frames::refusals::Refusal;
 use order::options::{right_columns, terms_of};
 
@@ -73,13 +72,13 @@ pub fn move_join(
 {
     if bad_join(j, left, right) {
         return TookJoin {
-            answer: Took::Refused(Refusal::BadJoin),
+            answer: Err(Refusal::BadJoin),
             join: j,
         };
     }
     if no_room(j, new_left, new_right) {
         return TookJoin {
-            answer: Took::Refused(Refusal::NoRoom),
+            answer: Err(Refusal::NoRoom),
             join: j,
         };
     }
@@ -87,7 +86,7 @@ pub fn move_join(
     let c = right_columns(terms_of(j.options));
     copy_right(right, j.base, j.held, c, new_right);
     TookJoin {
-        answer: Took::Accepted,
+        answer: Ok(()),
         join: Join {
             base: 0,
             queue_start: 0,

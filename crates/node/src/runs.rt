@@ -7,28 +7,28 @@ ghost use Rattle.node.specs.runs.RunContract.{RunContract};
 
 use crate::Join;
 pub use frames::outcomes::Stop;
-use frames::outcomes::{Answer, goes_on};
+use frames::outcomes::{Turn, goes_on};
+use frames::refusals::Refusal;
 use order::options::{answer_columns, terms_of};
 use rows::framerule::row_count;
 
-// What a run made: the turns that wrote, the words that they wrote back to back, what ended it, and the join.
+// What a run made: the turns that wrote, the words that they wrote back to back, what ended it, and the join, which a run has whatever ends it.
 #[derive(Clone, Copy)]
 pub struct RanJoin {
     pub turns: usize,
     pub words: usize,
-    pub stop: Stop,
+    pub stop: Result<Stop, Refusal>,
     pub join: Join,
 }
 
 // What a turn's answer ends a run with.
-fn stop_of(answer: Answer) -> Stop
+fn stop_of(answer: Result<Turn, Refusal>) -> Result<Stop, Refusal>
     ensures { result ≡ stop_of answer }
 {
-    match answer {
-        Answer::Wrote(_) => Stop::Used,
-        Answer::WantsRight => Stop::WantsRight,
-        Answer::Idle => Stop::Idle,
-        Answer::Refused(n) => Stop::Refused(n),
+    match answer? {
+        Turn::Wrote(_) => Ok(Stop::Used),
+        Turn::WantsRight => Ok(Stop::WantsRight),
+        Turn::Idle => Ok(Stop::Idle),
     }
 }
 
@@ -44,28 +44,25 @@ fn turn_words(out: &[i64], c: usize) -> usize
 pub fn run(mut join: Join, k: usize, left: &[i64], right: &[i64], out: &mut [i64]) -> RanJoin
     ensures { RunContract join k left.now right.now out.old result out.new }
 {
-    let mut made = 0;
     let mut at = 0;
-    while made < k {
+    for made in 0..k {
         let t = join.turn(left, right, &mut out[at..]);
         join = t.join;
-        let answer = t.answer;
-        if !goes_on(answer) {
+        if !goes_on(t.answer) {
             return RanJoin {
                 turns: made,
                 words: at,
-                stop: stop_of(answer),
-                join: join,
+                stop: stop_of(t.answer),
+                join,
             };
         }
         let c = answer_columns(terms_of(join.options));
         at += turn_words(&out[at..], c);
-        made += 1;
     }
     RanJoin {
-        turns: made,
+        turns: k,
         words: at,
-        stop: Stop::Used,
-        join: join,
+        stop: Ok(Stop::Used),
+        join,
     }
 }

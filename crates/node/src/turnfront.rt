@@ -1,67 +1,86 @@
 // A turn over the frame at the front of the queue. Inside a turn the answer Wrote is that of one that goes on.
 ghost use Rattle.std.specs.Prelude.{◌≡◌, length};
-ghost use Rattle.frames.specs.Cells.{rows_of};
+ghost use Rattle.frames.specs.declared.outcomes.Turn.TheVariants.{Wrote};
+ghost use Rattle.frames.specs.Cells.{rows_of, rows_in};
 ghost use Rattle.frames.specs.Frame.{frame_rows, frame_words};
-ghost use Rattle.order.specs.options.Options.{with_list, columns, right_columns};
+ghost use Rattle.order.specs.options.Options.{columns, right_columns, options_of};
 ghost use Rattle.buffer.specs.area.Area.{held_rows};
-ghost use Rattle.frames.specs.declared.outcomes.Answer.TheVariants.{Wrote};
 ghost use Rattle.node.specs.turnparts.Part.{room_answer, TurnIn};
 ghost use Rattle.node.specs.turnfront.Turns.{RowsTurned, FrameIn};
 
 use crate::turnparts::{Part, fail, judge_order, judge_room, write_turn};
 use buffer::area::{held_marks, held_values};
-use frames::outcomes::{Answer, goes_on};
+use frames::RowSlice;
+use frames::outcomes::{Turn, goes_on};
+use frames::refusals::Refusal;
 use matchframe::turnrows::{first_prune, from_row, last_prune};
-use order::options::{Terms, left_columns, right_columns};
+use order::options::{Rules, left_columns, right_columns};
 use rows::framerule::row_count;
 
-// What a turn answers, and what it leaves of its part of the join.
+// What a turn answers, and what it leaves of its part of the join, which a refused turn leaves too.
 #[derive(Clone, Copy)]
 pub struct TurnedPart {
-    pub answer: Answer,
+    pub answer: Result<Turn, Refusal>,
     pub part: Part,
 }
 
 // What a turn that does not write hands back.
-fn unturned(answer: Answer, j: Part) -> TurnedPart
+fn unturned(answer: Result<Turn, Refusal>, j: Part) -> TurnedPart
     ensures { result ≡ record { answer = answer; part = j } }
 {
-    TurnedPart {
-        answer: answer,
-        part: j,
-    }
+    TurnedPart { answer, part: j }
 }
 
 // A turn that has what it needs: its prunes, its order, its answer. With the check on, the split of the prune by the last row is checked.
 fn turn_pruned(
     j: Part,
-    o: Terms,
-    codes: &[i64],
-    rising: &[u8],
-    c: usize,
-    w: usize,
-    n: usize,
-    lv: &[i64],
-    lm: &[i64],
-    rv: &[i64],
-    rm: &[i64],
+    rules: Rules<'_>,
+    left: RowSlice<'_>,
+    right: RowSlice<'_>,
     out: &mut [i64],
 ) -> TurnedPart
-    requires { TurnIn (with_list o codes.now rising.now) j c w n lv.now lm.now rv.now rm.now × (room_answer (with_list o codes.now rising.now) j (rows_of c n lv.now lm.now) (rows_of w j.held rv.now rm.now) (length out.old) ≡ Wrote j.sequence) }
-    ensures { RowsTurned (with_list o codes.now rising.now) j (rows_of c n lv.now lm.now) (rows_of w j.held rv.now rm.now) (frame_words n c) out.old result out.new }
+    requires { TurnIn (options_of rules) j left.width right.width left.count left.values.now left.marks.now right.values.now right.marks.now × (room_answer (options_of rules) j (rows_in left) (rows_of right.width j.held right.values.now right.marks.now) (length out.old) ≡ Ok (Wrote j.sequence)) }
+    ensures { RowsTurned (options_of rules.entry) j (rows_in left.entry) (rows_of right.entry.width j.held right.entry.values.now right.entry.marks.now) (frame_words left.entry.count left.entry.width) out.old result out.new }
 {
-    let first = first_prune(lv, lm, n, rv, rm, j.held, c, w, o, codes, rising);
-    let kv = from_row(rv, first, w);
-    let km = from_row(rm, first, w);
-    let last = last_prune(lv, lm, n, kv, km, j.held - first, c, w, o, codes, rising);
-    let order = judge_order(j, o, codes, rising, c, w, n, last, lv, lm, rv, rm);
+    let first = first_prune(
+        left,
+        RowSlice {
+            count: j.held,
+            ..right
+        },
+        rules,
+    );
+    let kv = from_row(right.values, first, right.width);
+    let km = from_row(right.marks, first, right.width);
+    let last = last_prune(
+        left,
+        RowSlice {
+            values: kv,
+            marks: km,
+            count: j.held - first,
+            width: right.width,
+        },
+        rules,
+    );
+    let order = judge_order(j, rules, left, right, last);
     if !goes_on(order) {
         return unturned(order, fail(j));
     }
     TurnedPart {
         answer: order,
         part: write_turn(
-            j, o, codes, rising, c, w, n, lv, lm, first, last, kv, km, out,
+            j,
+            rules,
+            left,
+            RowSlice {
+                values: kv,
+                marks: km,
+                count: j.held - first,
+                width: right.width,
+            },
+            first,
+            last,
+            out,
         ),
     }
 }
@@ -69,59 +88,53 @@ fn turn_pruned(
 // A turn over n left rows and the held rows.
 fn turn_rows(
     j: Part,
-    o: Terms,
-    codes: &[i64],
-    rising: &[u8],
-    c: usize,
-    w: usize,
-    n: usize,
-    lv: &[i64],
-    lm: &[i64],
-    rv: &[i64],
-    rm: &[i64],
+    rules: Rules<'_>,
+    left: RowSlice<'_>,
+    right: RowSlice<'_>,
     out: &mut [i64],
 ) -> TurnedPart
-    requires { TurnIn (with_list o codes.now rising.now) j c w n lv.now lm.now rv.now rm.now }
-    ensures { RowsTurned (with_list o codes.now rising.now) j (rows_of c n lv.now lm.now) (rows_of w j.held rv.now rm.now) (frame_words n c) out.old result out.new }
+    requires { TurnIn (options_of rules) j left.width right.width left.count left.values.now left.marks.now right.values.now right.marks.now }
+    ensures { RowsTurned (options_of rules.entry) j (rows_in left.entry) (rows_of right.entry.width j.held right.entry.values.now right.entry.marks.now) (frame_words left.entry.count left.entry.width) out.old result out.new }
 {
-    let room = judge_room(j, o, codes, rising, c, w, n, lv, lm, rv, rm, out.len());
+    let room = judge_room(j, rules, left, right, out.len());
     if !goes_on(room) {
         return unturned(room, j);
     }
-    turn_pruned(j, o, codes, rising, c, w, n, lv, lm, rv, rm, out)
+    turn_pruned(j, rules, left, right, out)
 }
 
 // A turn over the frame at the front of the queue.
 pub fn turn_frame(
     j: Part,
-    o: Terms,
-    codes: &[i64],
-    rising: &[u8],
+    rules: Rules<'_>,
     frame: &[i64],
     right: &[i64],
     out: &mut [i64],
 ) -> TurnedPart
-    requires { FrameIn (with_list o codes.now rising.now) j frame.now right.now }
-    ensures { RowsTurned (with_list o codes.now rising.now) j (frame_rows (columns (with_list o codes.now rising.now)) frame.now) (held_rows (right_columns (with_list o codes.now rising.now)) j.base j.held right.now) (length frame.now) out.old result out.new }
+    requires { FrameIn (options_of rules) j frame.now right.now }
+    ensures { RowsTurned (options_of rules.entry) j (frame_rows (columns (options_of rules.entry)) frame.now) (held_rows (right_columns (options_of rules.entry)) j.base j.held right.now) (length frame.now) out.old result out.new }
 {
-    let c = left_columns(o);
-    let w = right_columns(o);
+    let c = left_columns(rules.terms);
+    let w = right_columns(rules.terms);
     let n = row_count(frame);
     let e = 2 + n * c;
     let rv = held_values(right, j.base, w);
     let rm = held_marks(right, j.base, w);
     turn_rows(
         j,
-        o,
-        codes,
-        rising,
-        c,
-        w,
-        n,
-        &frame[2..e],
-        &frame[e..],
-        rv,
-        rm,
+        rules,
+        RowSlice {
+            values: &frame[2..e],
+            marks: &frame[e..],
+            count: n,
+            width: c,
+        },
+        RowSlice {
+            values: rv,
+            marks: rm,
+            count: j.held,
+            width: w,
+        },
         out,
     )
 }

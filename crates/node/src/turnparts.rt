@@ -1,18 +1,19 @@
 // What a turn works on: the join without its options, which no turn moves, and its state, which none reads or moves; what the turn has and needs, and what it writes and leaves.
 ghost use Rattle.std.specs.Prelude.{◌≡◌, not, ◌&&◌, ◌+◌, ◌-◌, ◌^◌, ◌≤◌, ◌<◌};
-ghost use Rattle.frames.specs.Cells.{rows_of};
+ghost use Rattle.frames.specs.Cells.{rows_of, rows_in};
 ghost use Rattle.frames.specs.Frame.{frame_words};
-ghost use Rattle.order.specs.options.Options.{with_list};
+ghost use Rattle.order.specs.options.Options.{options_of};
 ghost use Rattle.searching.specs.Reach.{need_more};
 ghost use Rattle.node.specs.turnparts.Part.{room_answer, order_answer, left_at, failed_part, Written, Counts, TurnIn, WriteIn};
 
 use buffer::pruning::need_more;
-use frames::outcomes::Answer;
+use frames::RowSlice;
+use frames::outcomes::Turn;
 use frames::refusals::Refusal;
 use matchframe::turnanswer::answer_turn;
 use matchframe::turnrows::{bad_left, bad_right, remembered, remembered_left};
 use order::Row;
-use order::options::{Terms, answer_columns};
+use order::options::{Rules, answer_columns};
 
 // A join without its options, which come beside it, and its state.
 #[derive(Clone, Copy)]
@@ -33,83 +34,73 @@ pub struct Part {
 const LAST_SEQUENCE: u64 = 18446744073709551614;
 
 // Whether a turn with these n left rows waits for right rows: it never does once right has ended.
-fn wants_right(
-    j: Part,
-    o: Terms,
-    codes: &[i64],
-    rising: &[u8],
-    c: usize,
-    w: usize,
-    n: usize,
-    lv: &[i64],
-    lm: &[i64],
-    rv: &[i64],
-    rm: &[i64],
-) -> bool
-    requires { TurnIn (with_list o codes.now rising.now) j c w n lv.now lm.now rv.now rm.now }
-    ensures { result ≡ (not j.right_ended && need_more (with_list o codes.now rising.now) (rows_of c n lv.now lm.now) (rows_of w j.held rv.now rm.now)) }
+fn wants_right(j: Part, rules: Rules<'_>, left: RowSlice<'_>, right: RowSlice<'_>) -> bool
+    requires { TurnIn (options_of rules) j left.width right.width left.count left.values.now left.marks.now right.values.now right.marks.now }
+    ensures { result ≡ (not j.right_ended && need_more (options_of rules.entry) (rows_in left.entry) (rows_of right.entry.width j.held right.entry.values.now right.entry.marks.now)) }
 {
     if j.right_ended {
         return false;
     }
-    need_more(lv, lm, n, c, rv, rm, j.held, w, o, codes, rising)
+    need_more(
+        left,
+        RowSlice {
+            count: j.held,
+            ..right
+        },
+        rules,
+    )
 }
 
 // Whether a turn with these n left rows has what it needs: right rows, room in the output, a sequence.
 pub fn judge_room(
     j: Part,
-    o: Terms,
-    codes: &[i64],
-    rising: &[u8],
-    c: usize,
-    w: usize,
-    n: usize,
-    lv: &[i64],
-    lm: &[i64],
-    rv: &[i64],
-    rm: &[i64],
+    rules: Rules<'_>,
+    left: RowSlice<'_>,
+    right: RowSlice<'_>,
     room: usize,
-) -> Answer
-    requires { TurnIn (with_list o codes.now rising.now) j c w n lv.now lm.now rv.now rm.now }
-    ensures { result ≡ room_answer (with_list o codes.now rising.now) j (rows_of c n lv.now lm.now) (rows_of w j.held rv.now rm.now) room }
+) -> Result<Turn, Refusal>
+    requires { TurnIn (options_of rules) j left.width right.width left.count left.values.now left.marks.now right.values.now right.marks.now }
+    ensures { result ≡ room_answer (options_of rules.entry) j (rows_in left.entry) (rows_of right.entry.width j.held right.entry.values.now right.entry.marks.now) room }
 {
-    if wants_right(j, o, codes, rising, c, w, n, lv, lm, rv, rm) {
-        return Answer::WantsRight;
+    if wants_right(j, rules, left, right) {
+        return Ok(Turn::WantsRight);
     }
-    if room < 2 + 2 * (n * answer_columns(o)) {
-        return Answer::Refused(Refusal::NoRoom);
+    if room < 2 + 2 * (left.count * answer_columns(rules.terms)) {
+        return Err(Refusal::NoRoom);
     }
     if j.sequence == LAST_SEQUENCE {
-        return Answer::Refused(Refusal::UsedUp);
+        return Err(Refusal::UsedUp);
     }
-    Answer::Wrote(j.sequence)
+    Ok(Turn::Wrote(j.sequence))
 }
 
 // Whether the order of the rows lets the turn go on; s is the split of the prune by the last row.
 pub fn judge_order(
     j: Part,
-    o: Terms,
-    codes: &[i64],
-    rising: &[u8],
-    c: usize,
-    w: usize,
-    n: usize,
+    rules: Rules<'_>,
+    left: RowSlice<'_>,
+    right: RowSlice<'_>,
     s: usize,
-    lv: &[i64],
-    lm: &[i64],
-    rv: &[i64],
-    rm: &[i64],
-) -> Answer
-    requires { TurnIn (with_list o codes.now rising.now) j c w n lv.now lm.now rv.now rm.now × (s ≤ j.held) }
-    ensures { result ≡ order_answer (with_list o codes.now rising.now) j (rows_of c n lv.now lm.now) (rows_of w j.held rv.now rm.now) s }
+) -> Result<Turn, Refusal>
+    requires { TurnIn (options_of rules) j left.width right.width left.count left.values.now left.marks.now right.values.now right.marks.now × (s ≤ j.held) }
+    ensures { result ≡ order_answer (options_of rules.entry) j (rows_in left.entry) (rows_of right.entry.width j.held right.entry.values.now right.entry.marks.now) s }
 {
-    if bad_left(j.last_left, lv, lm, n, c, o, codes, rising) {
-        return Answer::Refused(Refusal::LeftOrder);
+    if bad_left(j.last_left, left, rules) {
+        return Err(Refusal::LeftOrder);
     }
-    if bad_right(j.last_right, n, s, rv, rm, j.held, w, o, codes, rising) {
-        return Answer::Refused(Refusal::RightOrder);
+    if bad_right(
+        j.last_right,
+        left.count,
+        s,
+        RowSlice {
+            count: j.held,
+            ..right
+        },
+        rules,
+    ) {
+        return Err(Refusal::RightOrder);
     }
-    Answer::Wrote(j.sequence)
+    Ok(Turn::Wrote(j.sequence))
 }
 
 // The join without d held rows and without a waiting frame of k words, at the next sequence, with the rows that are remembered now.
@@ -139,27 +130,27 @@ pub fn fail(mut j: Part) -> Part
 // Writes the answer of n left rows over the kept rows, from which `last` are then dropped; `first` were dropped before.
 pub fn write_turn(
     j: Part,
-    o: Terms,
-    codes: &[i64],
-    rising: &[u8],
-    c: usize,
-    w: usize,
-    n: usize,
-    lv: &[i64],
-    lm: &[i64],
+    rules: Rules<'_>,
+    left: RowSlice<'_>,
+    kept: RowSlice<'_>,
     first: usize,
     last: usize,
-    kv: &[i64],
-    km: &[i64],
     out: &mut [i64],
 ) -> Part
-    requires { WriteIn (with_list o codes.now rising.now) j c w n lv.now lm.now first last kv.now km.now out.old }
-    ensures { Written (with_list o codes.now rising.now) j (rows_of c n lv.now lm.now) (rows_of w (j.held - first) kv.now km.now) first last (frame_words n c) out.old result out.new }
+    requires { WriteIn (options_of rules) j left.width kept.width left.count left.values.now left.marks.now first last kept.values.now kept.marks.now out.old }
+    ensures { Written (options_of rules.entry) j (rows_in left.entry) (rows_of kept.entry.width (j.held - first) kept.entry.values.now kept.entry.marks.now) first last (frame_words left.entry.count left.entry.width) out.old result out.new }
 {
-    let kept = j.held - first;
+    let count = j.held - first;
     let number = j.pruned + first;
-    answer_turn(lv, lm, n, c, kv, km, kept, w, number, o, codes, rising, out);
-    let l = remembered_left(j.last_left, lv, lm, n, c, o);
-    let r = remembered(j.last_right, kv, km, last, w, o);
-    leave(j, first + last, 2 + 2 * (n * c), l, r)
+    answer_turn(left, RowSlice { count, ..kept }, number, rules, out);
+    let l = remembered_left(j.last_left, left, rules.terms);
+    let r = remembered(
+        j.last_right,
+        RowSlice {
+            count: last,
+            ..kept
+        },
+        rules.terms,
+    );
+    leave(j, first + last, 2 + 2 * (left.count * left.width), l, r)
 }

@@ -13,7 +13,7 @@ use Rattle.frames.specs.Cells.{Cell, null, value, cell, is_null}
 use Rattle.order.specs.options.Options.{key_rule}
 use Rattle.order.specs.Order.{cmp_z, cmp_cell, cmp_group, cmp_row, null_in, null_group, distance}
 use Rattle.order.specs.declared.options.Options.{Options}
-use Rattle.order.specs.declared.Order.TheVariants.{Less, Equal, Greater}
+use Rattle.std.specs.declared.cmp.Ordering.TheVariants.{Less, Equal, Greater}
 use Rattle.order.proofs.OrderLaws.{AtMost, three, three_less, less_greater, equal_at_most, equal_flip, at_most, at_most_equal, cmp_z_is, cmp_cell_is, cell_equal, cmp_group_is, cmp_key, group_equal, group_at_most, row_by_key}
 
 -- ---- rows of one group compare by their keys

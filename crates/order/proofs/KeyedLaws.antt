@@ -1,8 +1,8 @@
 -- Rows with a key: the place found is in the stretch; what is remembered stands below what comes in order. Assumes nothing.
+use Rattle.std.specs.Prelude.{Some, None, Option}
 use mathlib.Core.Path.{◌≡◌, refl, sym, subst, ◌∙◌}
 use mathlib.Core.Bool.{Bool, true, false}
 use mathlib.Core.List.{List, [], ◌∷◌, map}
-use mathlib.Core.Option.{Option, none, some}
 use Prim.Native.Nat.{ℕ, zero, suc, ◌+◌, ◌-◌, ◌≤◌, ◌<◌}
 use native.Mathlib.Omega.{arith}
 use lib.IntN.{pos}
@@ -14,14 +14,12 @@ use Rattle.order.specs.Order.{cmp_first, cmp_row, null_key}
 use Rattle.order.specs.Keyed.{first_from, first_keyed, last_below, last_keyed, first_row, last_row, first_left, last_left_at, row_at, recall, remember, remember_last, remember_at, compared, out_of_order}
 use Rattle.order.specs.declared.options.Options.{Options}
 use Rattle.order.specs.declared.Row.{Row}
-use Rattle.order.specs.declared.Keyed.{Keyed}
-use Rattle.order.specs.declared.Keyed.TheVariants.{At, Nothing}
 use Rattle.frames.proofs.WordLaws.{cells_back}
 use Rattle.order.proofs.OrderLaws.{AtMost}
 use Rattle.order.proofs.SortedLaws.{All, all_at, all_map, greater_not}
 
 -- ---- what is remembered is what it was
-pub recall_remember : (r : List Cell) (w : ℕ) → length r ≡ w → recall w (remember r) ≡ some r
+pub recall_remember : (r : List Cell) (w : ℕ) → length r ≡ w → recall w (remember r) ≡ Some r
 unfolding recall remember
 recall_remember r w e =
     let v = take_at (map value_word r) (replicate (5 - length (map value_word r)) (pos 0)) w (length-map r value_word ∙ e) in
@@ -29,19 +27,19 @@ recall_remember r w e =
     rw (v, m, cells_back r)
 
 -- A place that was found is from a place on, and below another.
-abbrev pub Found : ℕ → ℕ → Keyed → Type 0
-Found from to (At i) = (from ≤ i) × (i < to)
-Found from to Nothing = Unit {0}
+abbrev pub Found : ℕ → ℕ → Option ℕ → Type 0
+Found from to (Some i) = (from ≤ i) × (i < to)
+Found from to None = Unit {0}
 
-found_less : (from to : ℕ) (k : Keyed) → Found (suc from) to k → Found from to k
-found_less from to (At i) h = (omega arith, h.1)
-found_less from to Nothing h = tt
+found_less : (from to : ℕ) (k : Option ℕ) → Found (suc from) to k → Found from to k
+found_less from to (Some i) h = (omega arith, h.1)
+found_less from to None h = tt
 
-found_more : (from to : ℕ) (k : Keyed) → Found from to k → Found from (suc to) k
-found_more from to (At i) h = (h.0, omega arith)
-found_more from to Nothing h = tt
+found_more : (from to : ℕ) (k : Option ℕ) → Found from to k → Found from (suc to) k
+found_more from to (Some i) h = (h.0, omega arith)
+found_more from to None h = tt
 
-found_to : (from to more : ℕ) → to ≡ more → (k : Keyed) → Found from to k → Found from more k
+found_to : (from to more : ℕ) → to ≡ more → (k : Option ℕ) → Found from to k → Found from more k
 found_to from to more e k h = rw e at h
 
 module _ (o : Options) where
@@ -50,7 +48,7 @@ module _ (o : Options) where
   first_found i [] = tt
   first_found i (r ∷ rs) = go (first_found (suc i) rs) (null_key o r)
     where
-      go : Found (suc i) (suc i + length rs) (first_from o (suc i) rs) → (b : Bool) → Found i (i + suc (length rs)) (elim b [ true ↦ first_from o (suc i) rs | false ↦ At i ])
+      go : Found (suc i) (suc i + length rs) (first_from o (suc i) rs) → (b : Bool) → Found i (i + suc (length rs)) (elim b [ true ↦ first_from o (suc i) rs | false ↦ Some i ])
       go ih true = found_to i (suc i + length rs) (i + suc (length rs)) (omega arith) (first_from o (suc i) rs) (found_less i (suc i + length rs) (first_from o (suc i) rs) ih)
       go ih false = (omega arith, omega arith)
 
@@ -59,14 +57,14 @@ module _ (o : Options) where
   last_found rs zero = tt
   last_found rs (suc n) = go (last_found rs n) (null_key o (get_or rs n []))
     where
-      go : Found 0 n (last_below o rs n) → (b : Bool) → Found 0 (suc n) (elim b [ true ↦ last_below o rs n | false ↦ At n ])
+      go : Found 0 n (last_below o rs n) → (b : Bool) → Found 0 (suc n) (elim b [ true ↦ last_below o rs n | false ↦ Some n ])
       go ih true = found_more 0 n (last_below o rs n) ih
       go ih false = (omega arith, omega arith)
 
   -- A row, if there is one, is at most x.
   abbrev pub Below : Option (List Cell) → List Cell → Type 0
-  Below none x = Unit {0}
-  Below (some m) x = AtMost (cmp_row o) m x
+  Below None x = Unit {0}
+  Below (Some m) x = AtMost (cmp_row o) m x
 
   pub keyed_found : (rs : Rows) → Found 0 (length rs) (first_keyed o rs)
   keyed_found rs = found_to 0 (0 + length rs) (length rs) (omega arith) (first_keyed o rs) (first_found 0 rs)
@@ -110,10 +108,10 @@ module _ (o : Options) where
       go false e = subst (Found 0 (length rs)) (sym (last_loose rs e)) (last_found rs (length rs))
 
   -- What is below every row of a stretch is not out of order before any of them.
-  pub below_fine : (m : Option (List Cell)) (rs : Rows) → ((i : ℕ) → i < length rs → Below m (get_or rs i [])) → (k : Keyed) → Found 0 (length rs) k → out_of_order o m (row_at rs k) ≡ false
-  below_fine none rs h k f = refl
-  below_fine (some m) rs h (At i) f = greater_not (cmp_row o m (get_or rs i [])) (h i (omega arith))
-  below_fine (some m) rs h Nothing f = refl
+  pub below_fine : (m : Option (List Cell)) (rs : Rows) → ((i : ℕ) → i < length rs → Below m (get_or rs i [])) → (k : Option ℕ) → Found 0 (length rs) k → out_of_order o m (row_at rs k) ≡ false
+  below_fine None rs h k f = refl
+  below_fine (Some m) rs h (Some i) f = greater_not (cmp_row o m (get_or rs i [])) (h i (omega arith))
+  below_fine (Some m) rs h None f = refl
 
   -- Order ignores what stands behind the key: a row's first b + 1 cells compare as the row does.
   first_take : (n : ℕ) (r s : List Cell) (j : ℕ) → j ≤ n → cmp_first o j (take n r) s ≡ cmp_first o j r s
@@ -126,17 +124,17 @@ module _ (o : Options) where
   compared_alike r s = rw (first_take (columns o) r s o.by (omega arith), get_or-take (columns o) r o.by null (omega arith))
 
   -- Where no row is found, what was remembered stays.
-  pub remember_none : (m : Row) (rs : Rows) → remember_at o m rs Nothing ≡ m
+  pub remember_none : (m : Row) (rs : Rows) → remember_at o m rs None ≡ m
   remember_none m rs = refl
 
   -- A row of a stretch is remembered: it, or what was remembered, is below x.
   pub remember_below : (m : Row) (rs : Rows) → All (λ r. columns o ≤ length r) rs → (x : List Cell) → All (λ r. AtMost (cmp_row o) r x) rs
-      → (k : Keyed) → Found 0 (length rs) k → Below (recall (columns o) m) x → Below (recall (columns o) (remember_at o m rs k)) x
-  remember_below m rs wide x h (At i) f b =
+      → (k : Option ℕ) → Found 0 (length rs) k → Below (recall (columns o) m) x → Below (recall (columns o) (remember_at o m rs k)) x
+  remember_below m rs wide x h (Some i) f b =
       let w : columns o ≤ length (get_or rs i []) = all_at (λ r. columns o ≤ length r) rs wide i (omega arith) in
       rw (recall_remember (compared o (get_or rs i [])) (columns o) (length-take-le (columns o) (get_or rs i []) w), compared_alike (get_or rs i []) x)
       (all_at (λ r. AtMost (cmp_row o) r x) rs h i (omega arith))
-  remember_below m rs wide x h Nothing f b = rw (remember_none m rs) b
+  remember_below m rs wide x h None f b = rw (remember_none m rs) b
 
   -- So the last row with a key, if there is one.
   pub remember_last_below : (m : Row) (rs : Rows) → All (λ r. columns o ≤ length r) rs → (x : List Cell) → All (λ r. AtMost (cmp_row o) r x) rs

@@ -15,28 +15,28 @@ use Rattle.order.specs.ranks.Ranks.{place_in}
 use Rattle.order.specs.options.Options.{Rule, by_rule, key_rule}
 use Rattle.order.specs.Order.{next, cmp_z, cmp_value, cmp_cell, cmp_first, cmp_group, cmp_row, key_of}
 use Rattle.order.specs.declared.options.Options.{Options}
-use Rattle.order.specs.declared.Order.{Order}
-use Rattle.order.specs.declared.Order.TheVariants.{Less, Equal, Greater}
+use Rattle.std.specs.declared.cmp.Ordering.{Ordering}
+use Rattle.std.specs.declared.cmp.Ordering.TheVariants.{Less, Equal, Greater}
 
 -- An order with its sides swapped.
-abbrev pub flip : Order → Order
+abbrev pub flip : Ordering → Ordering
 flip Less = Greater
 flip Equal = Equal
 flip Greater = Less
 
 -- The laws of a comparison.
-pub record IsOrder {A : Type 0} (f : A → A → Order) : Type 0 where
+pub record IsOrder {A : Type 0} (f : A → A → Ordering) : Type 0 where
   pub equal : (x : A) → f x x ≡ Equal
   pub flipped : (x y : A) → f x y ≡ flip (f y x)
   pub same : (x y z : A) → f x y ≡ Equal → f x z ≡ f y z
   pub less : (x y z : A) → f x y ≡ Less → f y z ≡ Less → f x z ≡ Less
 
 -- At most: not greater.
-abbrev pub AtMost : {A : Type 0} → (A → A → Order) → A → A → Type 0
+abbrev pub AtMost : {A : Type 0} → (A → A → Ordering) → A → A → Type 0
 AtMost f x y = f x y ≡ Greater → ⊥
 
 -- ---- what follows from the laws
-module _ {A : Type 0} {f : A → A → Order} (F : IsOrder f) where
+module _ {A : Type 0} {f : A → A → Ordering} (F : IsOrder f) where
   -- Equals compare alike on the right too.
   pub same_right : (x y z : A) → f y z ≡ Equal → f x z ≡ f x y
   same_right x y z e = F.flipped x z ∙ ap flip (F.same z y x (F.flipped z y ∙ ap flip e)) ∙ sym (F.flipped x y)
@@ -45,7 +45,7 @@ module _ {A : Type 0} {f : A → A → Order} (F : IsOrder f) where
   pub three : (x y : A) → (f x y ≡ Less) ⊎ ((f x y ≡ Equal) ⊎ (f x y ≡ Greater))
   three x y = by (f x y) refl
     where
-      by : (r : Order) → f x y ≡ r → (f x y ≡ Less) ⊎ ((f x y ≡ Equal) ⊎ (f x y ≡ Greater))
+      by : (r : Ordering) → f x y ≡ r → (f x y ≡ Less) ⊎ ((f x y ≡ Equal) ⊎ (f x y ≡ Greater))
       by Less e = inl e
       by Equal e = inr (inl e)
       by Greater e = inr (inr e)
@@ -114,7 +114,7 @@ module _ {A : Type 0} {f : A → A → Order} (F : IsOrder f) where
 
 -- ---- ways to make one
 -- What is pulled back along a function.
-module _ {A B : Type 0} {f : B → B → Order} (h : A → B) (F : IsOrder f) where
+module _ {A B : Type 0} {f : B → B → Ordering} (h : A → B) (F : IsOrder f) where
   pub on : IsOrder (λ (x y : A). f (h x) (h y))
   on = record {
     equal = λ x. F.equal (h x);
@@ -124,7 +124,7 @@ module _ {A B : Type 0} {f : B → B → Order} (h : A → B) (F : IsOrder f) wh
   }
 
 -- What is reversed.
-module _ {A : Type 0} {f : A → A → Order} (F : IsOrder f) where
+module _ {A : Type 0} {f : A → A → Ordering} (F : IsOrder f) where
   pub reversed : IsOrder (λ (x y : A). f y x)
   reversed = record {
     equal = F.equal;
@@ -133,23 +133,23 @@ module _ {A : Type 0} {f : A → A → Order} (F : IsOrder f) where
     less = λ x y z p q. F.less z y x q p;
   }
 
-next_flip : (o r : Order) → next (flip o) (flip r) ≡ flip (next o r)
+next_flip : (o r : Ordering) → next (flip o) (flip r) ≡ flip (next o r)
 next_flip Less r = refl
 next_flip Equal r = refl
 next_flip Greater r = refl
 
-pub next_equal : (o r : Order) → next o r ≡ Equal → (o ≡ Equal) × (r ≡ Equal)
+pub next_equal : (o r : Ordering) → next o r ≡ Equal → (o ≡ Equal) × (r ≡ Equal)
 next_equal Equal r e = (refl, e)
 next_equal Less r e = ((cc), (cc))
 next_equal Greater r e = ((cc), (cc))
 
-pub next_less : (o r : Order) → next o r ≡ Less → (o ≡ Less) ⊎ ((o ≡ Equal) × (r ≡ Less))
+pub next_less : (o r : Ordering) → next o r ≡ Less → (o ≡ Less) ⊎ ((o ≡ Equal) × (r ≡ Less))
 next_less Less r e = inl refl
 next_less Equal r e = inr (refl, e)
 next_less Greater r e = inl (cc)
 
 -- Two, the second where the first says Equal.
-module _ {A : Type 0} {f g : A → A → Order} (F : IsOrder f) (G : IsOrder g) where
+module _ {A : Type 0} {f g : A → A → Ordering} (F : IsOrder f) (G : IsOrder g) where
   both_less : (x y z : A) → (f x y ≡ Less) ⊎ ((f x y ≡ Equal) × (g x y ≡ Less)) → (f y z ≡ Less) ⊎ ((f y z ≡ Equal) × (g y z ≡ Less)) → next (f x z) (g x z) ≡ Less
   both_less x y z (inl p) (inl q) = rw (F.less x y z p q)
   both_less x y z (inl p) (inr q) = rw (same_right F x y z q.0 ∙ p)
@@ -297,7 +297,7 @@ module _ (o : Options) where
   cmp_first_is zero = record { equal = λ x. refl; flipped = λ x y. refl; same = λ x y z e. refl; less = λ x y z p q. p }
   cmp_first_is (suc j) = then (cmp_first_is j) (on (λ (r : List Cell). cell j r) (cmp_cell_is (by_rule o j)))
 
-  abbrev pub cmp_key : List Cell → List Cell → Order
+  abbrev pub cmp_key : List Cell → List Cell → Ordering
   cmp_key r s = cmp_cell key_rule (key_of o r) (key_of o s)
 
   pub cmp_group_is : IsOrder (cmp_group o)

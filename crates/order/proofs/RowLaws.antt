@@ -1,4 +1,5 @@
 -- Rows by the places of their words: the cells of a row, the rows of a stretch, and what a walk over the columns or the rows has left to do. Assumes nothing.
+use Rattle.std.specs.Prelude.{Some, None}
 use mathlib.Core.Path.{◌≡◌, refl, sym, ◌∙◌, subst}
 use mathlib.Core.Bool.{Bool, true, false, cond, not, ◌&&◌, ◌||◌}
 use mathlib.Core.List.{List, [], ◌∷◌, ◌++◌, map, append_assoc}
@@ -18,10 +19,9 @@ use Rattle.order.specs.Order.{next, cmp_cell, cmp_first, cmp_row, is_greater, so
 use Rattle.order.specs.Keyed.{first_from, last_below, five}
 use Rattle.order.specs.Requires.{cell_at}
 use Rattle.order.specs.declared.options.Options.{Options}
-use Rattle.order.specs.declared.Order.{Order}
-use Rattle.order.specs.declared.Order.TheVariants.{Less, Equal, Greater}
-use Rattle.order.specs.declared.Keyed.TheVariants.{At, Nothing}
-use Rattle.order.specs.contracts.Order.{the_type}
+use Rattle.std.specs.declared.cmp.Ordering.{Ordering}
+use Rattle.std.specs.declared.cmp.Ordering.TheVariants.{Less, Equal, Greater}
+use Rattle.std.specs.contracts.cmp.Ordering.{the_type}
 use Rattle.frames.proofs.WordLaws.{rows_at, cells_length, map-append}
 
 -- ---- the cells of a row
@@ -64,18 +64,18 @@ null_mark v m = by (is_zero m)
 
 -- ---- the groups of two rows, column by column
 -- Where Equal has an arm of its own, the other arm's answer decides.
-pub next_stop : (x y : Order) → (tag_of the_type x ≡ 0) ⊎ (tag_of the_type x ≡ 2) → next x y ≡ x
+pub next_stop : (x y : Ordering) → (tag_of the_type x ≡ 0) ⊎ (tag_of the_type x ≡ 2) → next x y ≡ x
 next_stop Less y t = refl
 next_stop Equal y t = absurd (⊎_elim (λ l. omega arith) (λ l. omega arith) t)
 next_stop Greater y t = refl
 
 module _ (o : Options) (r s : List Cell) where
-  pub first_more : (j : ℕ) (x : Order) → cmp_first o j r s ≡ Equal → x ≡ cmp_cell (by_rule o j) (cell j r) (cell j s) → cmp_first o (j + 1) r s ≡ x
+  pub first_more : (j : ℕ) (x : Ordering) → cmp_first o j r s ≡ Equal → x ≡ cmp_cell (by_rule o j) (cell j r) (cell j s) → cmp_first o (j + 1) r s ≡ x
   unfolding cmp_first
   first_more j x e q = rw (add-one j, e) (sym q)
 
   -- What a column has decided, the columns behind it leave.
-  pub first_stays : (x : Order) → ((y : Order) → next x y ≡ x) → (j k : ℕ) → j ≤ k → cmp_first o j r s ≡ x → cmp_first o k r s ≡ x
+  pub first_stays : (x : Ordering) → ((y : Ordering) → next x y ≡ x) → (j k : ℕ) → j ≤ k → cmp_first o j r s ≡ x → cmp_first o k r s ≡ x
   unfolding cmp_first
   first_stays x t j zero h e = let z : j ≡ 0 = omega arith in rw z at e
   first_stays x t j (suc k) h e = by (λ l. first_stays x t j k l e) (ℕ_discrete j (suc k))
@@ -129,29 +129,29 @@ module _ (o : Options) (w : ℕ) (vs ms : Words) where
   sorted_few p (suc zero) h = refl
   sorted_few p (suc (suc n)) h = absurd (omega arith)
 
-  pub first_none : (i p : ℕ) → first_from o i (rest w p 0 vs ms) ≡ Nothing
+  pub first_none : (i p : ℕ) → first_from o i (rest w p 0 vs ms) ≡ None
   unfolding first_from rest rows_of
   first_none i p = refl
 
-  pub first_found : (i p n : ℕ) → 0 < n → null_key o (row_from w p vs ms) ≡ false → first_from o i (rest w p n vs ms) ≡ At i
+  pub first_found : (i p n : ℕ) → 0 < n → null_key o (row_from w p vs ms) ≡ false → first_from o i (rest w p n vs ms) ≡ Some i
   unfolding first_from
   first_found i p n h e =
-      rw (rest_more p n h) (subst (λ (b : Bool). elim b [ true ↦ first_from o (suc i) (rest w (p + w) (n - 1) vs ms) | false ↦ At i ] ≡ At i) (sym e) refl)
+      rw (rest_more p n h) (subst (λ (b : Bool). elim b [ true ↦ first_from o (suc i) (rest w (p + w) (n - 1) vs ms) | false ↦ Some i ] ≡ Some i) (sym e) refl)
 
   pub first_passed : (i p n : ℕ) → 0 < n → null_key o (row_from w p vs ms) ≡ true → first_from o i (rest w p n vs ms) ≡ first_from o (i + 1) (rest w (p + w) (n - 1) vs ms)
   unfolding first_from
   first_passed i p n h e =
       let t : Rows = rest w (p + w) (n - 1) vs ms in
-      rw (rest_more p n h, add-one i) (subst (λ (b : Bool). elim b [ true ↦ first_from o (suc i) t | false ↦ At i ] ≡ first_from o (suc i) t) (sym e) refl)
+      rw (rest_more p n h, add-one i) (subst (λ (b : Bool). elim b [ true ↦ first_from o (suc i) t | false ↦ Some i ] ≡ first_from o (suc i) t) (sym e) refl)
 
 module _ (o : Options) (rs : Rows) where
-  pub last_found : (i : ℕ) → 0 < i → null_key o (get_or rs (i - 1) []) ≡ false → last_below o rs i ≡ At (i - 1)
+  pub last_found : (i : ℕ) → 0 < i → null_key o (get_or rs (i - 1) []) ≡ false → last_below o rs i ≡ Some (i - 1)
   unfolding last_below
   last_found zero h e = absurd (omega arith)
   last_found (suc i) h e =
       let z : suc i - 1 ≡ i = omega arith in
       let q : null_key o (get_or rs i []) ≡ false = rw z at e in
-      rw z (subst (λ (b : Bool). elim b [ true ↦ last_below o rs i | false ↦ At i ] ≡ At i) (sym q) refl)
+      rw z (subst (λ (b : Bool). elim b [ true ↦ last_below o rs i | false ↦ Some i ] ≡ Some i) (sym q) refl)
 
   pub last_passed : (i : ℕ) → 0 < i → null_key o (get_or rs (i - 1) []) ≡ true → last_below o rs i ≡ last_below o rs (i - 1)
   unfolding last_below
@@ -159,9 +159,9 @@ module _ (o : Options) (rs : Rows) where
   last_passed (suc i) h e =
       let z : suc i - 1 ≡ i = omega arith in
       let q : null_key o (get_or rs i []) ≡ true = rw z at e in
-      rw z (subst (λ (b : Bool). elim b [ true ↦ last_below o rs i | false ↦ At i ] ≡ last_below o rs i) (sym q) refl)
+      rw z (subst (λ (b : Bool). elim b [ true ↦ last_below o rs i | false ↦ Some i ] ≡ last_below o rs i) (sym q) refl)
 
-  pub last_none : last_below o rs 0 ≡ Nothing
+  pub last_none : last_below o rs 0 ≡ None
   unfolding last_below
   last_none = refl
 
@@ -182,7 +182,7 @@ one_row zero w h = absurd (omega arith)
 one_row (suc n) w h = let z : suc n - 1 ≡ n = omega arith in rw z (omega arith)
 
 -- Where Greater has an arm of its own.
-pub not_greater_arm : (x : Order) → (tag_of the_type x ≡ 0) ⊎ (tag_of the_type x ≡ 1) → is_greater x ≡ false
+pub not_greater_arm : (x : Ordering) → (tag_of the_type x ≡ 0) ⊎ (tag_of the_type x ≡ 1) → is_greater x ≡ false
 not_greater_arm Less t = refl
 not_greater_arm Equal t = refl
 not_greater_arm Greater t = absurd (⊎_elim (λ l. omega arith) (λ l. omega arith) t)

@@ -14,7 +14,7 @@ use Rattle.order.specs.ranks.Ranks.{ranks_for}
 use Rattle.order.specs.declared.ranks.Ranks.{Ranks}
 use Rattle.order.specs.declared.options.Check.{Check}
 use Rattle.order.specs.declared.options.Check.TheVariants.{Off, On, Strict}
-use Rattle.order.specs.declared.Order.TheVariants.{Less}
+use Rattle.std.specs.declared.cmp.Ordering.TheVariants.{Less}
 use Rattle.order.specs.declared.Row.{Row}
 
 -- Four flags: those given, and false behind them.

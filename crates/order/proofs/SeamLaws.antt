@@ -1,9 +1,9 @@
 -- Where a left frame is put behind sorted rows: it is sorted with them exactly if their last row is not greater than its first row, and it is sorted itself.
 -- This is what a strict turn asks (SCOPE 8.9, 15.22), and what it remembers asks it of the next frame. Assumes nothing.
+use Rattle.std.specs.Prelude.{Some, None, ℕ, Option}
 use mathlib.Core.Path.{◌≡◌, refl, sym, ap, ◌∙◌}
 use mathlib.Core.Bool.{Bool, true, false, not, ◌&&◌, ◌||◌}
 use mathlib.Core.List.{List, [], ◌∷◌, ◌++◌, append-nil}
-use mathlib.Core.Option.{Option, some}
 use Prim.Native.Nat.{suc, ◌+◌, ◌≤◌}
 use native.Mathlib.Omega.{arith}
 use lib.ListN.{length, get_or, length-append}
@@ -15,8 +15,6 @@ use Rattle.order.specs.declared.options.Options.{Options}
 use Rattle.order.specs.Order.{cmp_row, is_greater, sorted}
 use Rattle.order.specs.Keyed.{first_row, last_row, first_left, last_left_at, row_at, recall, remember, remember_at, compared, no_row, out_of_order}
 use Rattle.order.specs.declared.Row.{Row}
-use Rattle.order.specs.declared.Keyed.{Keyed}
-use Rattle.order.specs.declared.Keyed.TheVariants.{At, Nothing}
 use Rattle.order.proofs.SortedLaws.{All, all_at}
 use Rattle.order.proofs.KeyedLaws.{recall_remember, compared_alike, first_strict, last_strict, remember_none}
 
@@ -25,7 +23,7 @@ or_not true s = refl
 or_not false s = refl
 
 -- The last row of some rows behind others is the last of all.
-pub last_behind : (T : Rows) (r : List Cell) (rs : Rows) → row_at (T ++ (r ∷ rs)) (last_row (T ++ (r ∷ rs))) ≡ some (get_or (r ∷ rs) (length rs) [])
+pub last_behind : (T : Rows) (r : List Cell) (rs : Rows) → row_at (T ++ (r ∷ rs)) (last_row (T ++ (r ∷ rs))) ≡ Some (get_or (r ∷ rs) (length rs) [])
 last_behind [] r rs = refl
 last_behind (t ∷ T) r rs = tail (T ++ (r ∷ rs)) (length-append T (r ∷ rs)) ∙ last_behind T r rs
   where
@@ -51,7 +49,7 @@ module _ (o : Options) where
     asked : (last : Option (List Cell)) (rows : Rows) → unsorted last rows ≡ (out_of_order o last (row_at rows (first_row rows)) || not (sorted o rows))
     asked last rows = rw (first_strict o rows strict)
 
-    one : (t : List Cell) (rows : Rows) → (out_of_order o (some t) (row_at rows (first_row rows)) || not (sorted o rows)) ≡ not (sorted o (t ∷ rows))
+    one : (t : List Cell) (rows : Rows) → (out_of_order o (Some t) (row_at rows (first_row rows)) || not (sorted o rows)) ≡ not (sorted o (t ∷ rows))
     unfolding sorted
     one t [] = refl
     one t (r ∷ rows) = or_not (is_greater (cmp_row o t r)) (sorted o (r ∷ rows))
@@ -69,13 +67,13 @@ module _ (o : Options) where
     seam T rows h = asked (row_at T (last_row T)) rows ∙ behind T rows h
 
     -- What is remembered of a row is asked as the row itself.
-    alike : (t : List Cell) (rows : Rows) → columns o ≤ length t → unsorted (recall (columns o) (remember (compared o t))) rows ≡ unsorted (some t) rows
+    alike : (t : List Cell) (rows : Rows) → columns o ≤ length t → unsorted (recall (columns o) (remember (compared o t))) rows ≡ unsorted (Some t) rows
     alike t rows w =
         ap (λ (m : Option (List Cell)). unsorted m rows) (recall_remember (compared o t) (columns o) (length-take-le (columns o) t w)) ∙ go (first_left o rows)
       where
-        go : (k : Keyed) → (out_of_order o (some (compared o t)) (row_at rows k) || not (sorted o rows)) ≡ (out_of_order o (some t) (row_at rows k) || not (sorted o rows))
-        go (At i) = rw (compared_alike o t (get_or rows i []))
-        go Nothing = refl
+        go : (k : Option ℕ) → (out_of_order o (Some (compared o t)) (row_at rows k) || not (sorted o rows)) ≡ (out_of_order o (Some t) (row_at rows k) || not (sorted o rows))
+        go (Some i) = rw (compared_alike o t (get_or rows i []))
+        go None = refl
 
     -- So it is once a frame went by: its last row is remembered, or what was, if it has no rows.
     pub recalled : (T rows : Rows) (m : Row) → All (λ r. columns o ≤ length r) rows → Recalls T m → Recalls (T ++ rows) (remember_at o m rows (last_left_at o rows))

@@ -8,18 +8,18 @@ use lib.ListN.{length, get_or, take, drop, take-append-drop}
 use Rattle.frames.specs.Cells.{Cell, Rows}
 use Rattle.order.specs.Order.{cmp_row, is_greater, sorted}
 use Rattle.order.specs.declared.options.Options.{Options}
-use Rattle.order.specs.declared.Order.{Order}
-use Rattle.order.specs.declared.Order.TheVariants.{Less, Equal, Greater}
+use Rattle.std.specs.declared.cmp.Ordering.{Ordering}
+use Rattle.std.specs.declared.cmp.Ordering.TheVariants.{Less, Equal, Greater}
 use Rattle.frames.proofs.BoolLaws.{and-true}
 use Rattle.order.proofs.OrderLaws.{AtMost, at_most, at_most_refl, cmp_row_is}
 
 -- ---- tests
-pub not_greater : (r : Order) → not (is_greater r) ≡ true → r ≡ Greater → ⊥
+pub not_greater : (r : Ordering) → not (is_greater r) ≡ true → r ≡ Greater → ⊥
 not_greater Less e = λ g. let z : ◌≡◌ {A = ℕ} 0 1 = cc in omega arith
 not_greater Equal e = λ g. let z : ◌≡◌ {A = ℕ} 0 1 = cc in omega arith
 not_greater Greater e = λ g. let z : ◌≡◌ {A = ℕ} 0 1 = cc in omega arith
 
-pub greater_not : (r : Order) → (r ≡ Greater → ⊥) → is_greater r ≡ false
+pub greater_not : (r : Ordering) → (r ≡ Greater → ⊥) → is_greater r ≡ false
 greater_not Less h = refl
 greater_not Equal h = refl
 greater_not Greater h = absurd (h refl)

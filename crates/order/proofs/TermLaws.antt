@@ -1,4 +1,5 @@
 -- Of what looks at keys alone, options with a list and without one are the same. Assumes nothing.
+use Rattle.std.specs.Prelude.{Option, Some, None}
 use mathlib.Core.Path.{◌≡◌, refl, ap}
 use mathlib.Core.Bool.{true, false, cond}
 use mathlib.Core.List.{List, [], ◌∷◌}
@@ -12,8 +13,6 @@ use Rattle.order.specs.Order.{null_key}
 use Rattle.order.specs.Keyed.{first_from, last_below, first_row, last_row, first_left, last_left_at, remember_at}
 use Rattle.order.specs.Requires.{RowAt, RowsIn, KeysIn}
 use Rattle.order.specs.declared.Row.{Row}
-use Rattle.order.specs.declared.Keyed.{Keyed}
-use Rattle.order.specs.declared.Keyed.TheVariants.{At, Nothing}
 
 module _ (t : Terms) (codes : Words) (rising : List ℕ) where
   -- ---- what is asked of words
@@ -30,20 +29,20 @@ module _ (t : Terms) (codes : Words) (rising : List ℕ) where
   pub first_terms : (i : ℕ) (rs : Rows) → first_from (without_list t) i rs ≡ first_from (with_list t codes rising) i rs
   unfolding first_from
   first_terms i [] = refl
-  first_terms i (r ∷ rs) = ap (λ (k : Keyed). elim (null_key (with_list t codes rising) r) [ true ↦ k | false ↦ At i ]) (first_terms (suc i) rs)
+  first_terms i (r ∷ rs) = ap (λ (k : Option ℕ). elim (null_key (with_list t codes rising) r) [ true ↦ k | false ↦ Some i ]) (first_terms (suc i) rs)
 
   pub last_terms : (rs : Rows) (n : ℕ) → last_below (without_list t) rs n ≡ last_below (with_list t codes rising) rs n
   unfolding last_below
   last_terms rs zero = refl
-  last_terms rs (suc n) = ap (λ (k : Keyed). elim (null_key (with_list t codes rising) (get_or rs n [])) [ true ↦ k | false ↦ At n ]) (last_terms rs n)
+  last_terms rs (suc n) = ap (λ (k : Option ℕ). elim (null_key (with_list t codes rising) (get_or rs n [])) [ true ↦ k | false ↦ Some n ]) (last_terms rs n)
 
   -- The row of a left frame that is compared, and the one that is remembered.
   pub first_left_terms : (rs : Rows) → first_left (without_list t) rs ≡ first_left (with_list t codes rising) rs
-  first_left_terms rs = ap (λ (k : Keyed). cond (is_strict t.check) (first_row rs) k) (first_terms 0 rs)
+  first_left_terms rs = ap (λ (k : Option ℕ). cond (is_strict t.check) (first_row rs) k) (first_terms 0 rs)
 
   pub last_left_terms : (rs : Rows) → last_left_at (without_list t) rs ≡ last_left_at (with_list t codes rising) rs
-  last_left_terms rs = ap (λ (k : Keyed). cond (is_strict t.check) (last_row rs) k) (last_terms rs (length rs))
+  last_left_terms rs = ap (λ (k : Option ℕ). cond (is_strict t.check) (last_row rs) k) (last_terms rs (length rs))
 
-  pub remember_terms : (m : Row) (rs : Rows) (k : Keyed) → remember_at (without_list t) m rs k ≡ remember_at (with_list t codes rising) m rs k
-  remember_terms m rs (At i) = refl
-  remember_terms m rs Nothing = refl
+  pub remember_terms : (m : Row) (rs : Rows) (k : Option ℕ) → remember_at (without_list t) m rs k ≡ remember_at (with_list t codes rising) m rs k
+  remember_terms m rs (Some i) = refl
+  remember_terms m rs None = refl

@@ -4,25 +4,10 @@
 pub mod options;
 pub mod ranks;
 
-// How two compare.
-#[derive(Clone, Copy)]
-pub enum Order {
-    Less,
-    Equal,
-    Greater,
-}
-
-// A row that a side remembers, or none.
+// A row that a side remembers, or none. A flag and no Option: a host hands in a join in numbers, and those beside a 0 go back as they came.
 #[derive(Clone, Copy)]
 pub struct Row {
     pub some: bool,
     pub values: [i64; 5],
     pub marks: [i64; 5],
-}
-
-// The place of a row that is looked for, mostly the first or the last with a key, or none.
-#[derive(Clone, Copy)]
-pub enum Keyed {
-    At(usize),
-    Nothing,
 }

@@ -1,11 +1,11 @@
 // The options that a join is opened with: their definitions, and tests of them.
-ghost use Rattle.std.specs.Prelude.{◌≡◌, ◌≤◌};
-ghost use Rattle.order.specs.options.Options.{terms_of, without_list, has_list, bad_options, many_carried, strategy_of, is_on, is_strict, columns, right_columns, shared_columns, answer_columns};
+ghost use Rattle.std.specs.Prelude.{◌≡◌, ◌≤◌, length};
+ghost use Rattle.order.specs.options.Options.{terms_of, options_of, without_list, has_list, bad_options, many_carried, strategy_of, check_code, is_on, is_strict, columns, right_columns, shared_columns, answer_columns};
 
 use crate::ranks::Ranks;
 
 // The strategies of a match. In the options a strategy is its number, since a host may hand in any.
-#[derive(Clone, Copy)]
+#[derive(Clone, Copy, PartialEq, Eq, Debug)]
 pub enum Strategy {
     Backward,
     Forward,
@@ -13,11 +13,40 @@ pub enum Strategy {
 }
 
 // Whether the order of the rows is checked; strict compares rows without a key between left frames too.
-#[derive(Clone, Copy)]
+#[derive(Clone, Copy, PartialEq, Eq, Debug)]
 pub enum Check {
     Off,
     On,
     Strict,
+}
+
+impl Check {
+    // Whether the order check is on.
+    pub fn is_on(self) -> bool
+        ensures { result ≡ is_on self }
+    {
+        !matches!(&self, Check::Off)
+    }
+
+    // Whether the order check is strict.
+    pub fn is_strict(self) -> bool
+        ensures { result ≡ is_strict self }
+    {
+        matches!(&self, Check::Strict)
+    }
+}
+
+// The number of the order check's setting.
+impl From<Check> for u64 {
+    ghost from_gives = { λ check n. n ≡ check_code check };
+
+    fn from(check: Check) -> u64 {
+        match check {
+            Check::Off => 0,
+            Check::On => 1,
+            Check::Strict => 2,
+        }
+    }
 }
 
 // What a join is opened with.
@@ -35,7 +64,7 @@ pub struct Options {
     pub with_distance: bool,
 }
 
-// The options without the codes of the list, which functions take beside them as two slices: a list is 576 bytes, and most joins have none. What is less
+// The options without the codes of the list, which stand beside them as two slices: a list is 576 bytes, and most joins have none. What is less
 // than a word stands last, so that a copy has no gaps: terms are copied at every call.
 #[derive(Clone, Copy)]
 pub struct Terms {
@@ -53,11 +82,34 @@ pub struct Terms {
     pub nulls_last: [bool; 4],
 }
 
+// The rules by which rows are compared: the terms, the codes of the list of ranks, and their places in rising order.
+#[derive(Clone, Copy)]
+pub struct Rules<'a> {
+    pub terms: Terms,
+    pub codes: &'a [i64],
+    pub rising: &'a [u8],
+}
+
+impl Options {
+    // The rules that the options tell.
+    pub fn rules(&self) -> Rules<'_>
+        ensures told { options_of result ≡ self.now }
+        ensures terms { result.terms ≡ terms_of self.now }
+        ensures codes { length result.codes.now ≡ 64 }
+        ensures rising { length result.rising.now ≡ 64 }
+    {
+        Rules {
+            terms: terms_of(*self),
+            codes: &self.ranks.codes,
+            rising: &self.ranks.rising,
+        }
+    }
+}
+
 // The options without the codes of the list.
 pub fn terms_of(o: Options) -> Terms
     ensures { result ≡ terms_of o }
 {
-    let check = o.check;
     let descending = o.descending;
     let nulls_last = o.nulls_last;
     Terms {
@@ -65,7 +117,7 @@ pub fn terms_of(o: Options) -> Terms
         strategy: o.strategy,
         allow_eq: o.allow_eq,
         tolerance: o.tolerance,
-        check: check,
+        check: o.check,
         descending: descending,
         nulls_last: nulls_last,
         carried: o.carried,
@@ -126,34 +178,11 @@ pub fn strategy_of(o: Terms) -> Strategy
     Strategy::Nearest
 }
 
-// Whether the order check is on.
-pub fn is_on(check: Check) -> bool
-    ensures { result ≡ is_on check }
-{
-    match check {
-        Check::Off => false,
-        Check::On => true,
-        Check::Strict => true,
-    }
-}
-
 // Whether terms ask for the order of the rows to be checked.
 pub fn checks(o: Terms) -> bool
     ensures { result ≡ is_on o.check }
 {
-    let check = o.check;
-    is_on(check)
-}
-
-// Whether the order check is strict.
-pub fn is_strict(check: Check) -> bool
-    ensures { result ≡ is_strict check }
-{
-    match check {
-        Check::Off => false,
-        Check::On => false,
-        Check::Strict => true,
-    }
+    o.check.is_on()
 }
 
 // The columns of a left frame: by-columns and key.

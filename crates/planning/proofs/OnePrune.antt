@@ -13,8 +13,8 @@ use Rattle.frames.specs.Cells.{Cell, Rows}
 use Rattle.order.specs.options.Options.{is_on, strategy_of}
 use Rattle.order.specs.Order.{cmp_group, cmp_row, key_of, sorted}
 use Rattle.order.specs.declared.options.Options.{Options}
-use Rattle.order.specs.declared.Order.{Order}
-use Rattle.order.specs.declared.Order.TheVariants.{Less, Equal, Greater}
+use Rattle.std.specs.declared.cmp.Ordering.{Ordering}
+use Rattle.std.specs.declared.cmp.Ordering.TheVariants.{Less, Equal, Greater}
 use Rattle.order.specs.declared.options.Strategy.{Strategy}
 use Rattle.order.specs.declared.options.Strategy.TheVariants.{Backward, Forward, Nearest}
 use Rattle.order.proofs.OrderLaws.{AtMost, cmp_group_is, cmp_row_is, less_then, group_at_most}
@@ -61,10 +61,10 @@ module _ (o : Options) (t : List Cell) (held : Rows) (e : sorted o held ≡ true
   bounds : Bounds (cmp_group o) held t (narrowed o held t)
   bounds = group_bounds o t held (sorted_at o held e)
 
-  not_equal : (x : Order) → x ≡ Equal → x ≡ Less → ⊥
+  not_equal : (x : Ordering) → x ≡ Equal → x ≡ Less → ⊥
   not_equal x p q = let z : ◌≡◌ {A = ℕ} 0 1 = cc in omega arith
 
-  not_greater : (x : Order) → x ≡ Greater → x ≡ Less → ⊥
+  not_greater : (x : Ordering) → x ≡ Greater → x ≡ Less → ⊥
   not_greater x p q = let z : ◌≡◌ {A = ℕ} 0 1 = cc in omega arith
 
   start_ends : Ends (λ i. cmp_group o (get_or held i []) t ≡ Less) (length held) start_of

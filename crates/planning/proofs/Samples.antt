@@ -1,4 +1,6 @@
 -- Plans by computation: the figures of frames, and what the call answers. Assumes nothing.
+use Rattle.frames.specs.declared.refusals.Refusal.{Refusal}
+use Rattle.std.specs.Prelude.{Result, Ok, Err}
 use mathlib.Core.Path.{◌≡◌, refl}
 use mathlib.Core.Bool.{true, false}
 use mathlib.Core.List.{List, [], ◌∷◌, map}
@@ -17,8 +19,6 @@ use Rattle.searching.specs.Reach.{need_more, row_needs_more, key_needs_more, nar
 use Rattle.matchframe.specs.turnrows.Prunes.{first_prune, kept_rows, last_prune}
 use Rattle.frames.specs.declared.refusals.Refusal.TheVariants.{BadOptions, TooManyCarried, BadRanks, BadFrame, UnknownCode, Unsorted, BadHeights}
 use Rattle.planning.specs.declared.Figures.{Figures}
-use Rattle.planning.specs.declared.Planned.{Planned}
-use Rattle.planning.specs.declared.Planned.TheVariants.{Needs, Refused}
 use Rattle.planning.specs.Heights.{total, any_bad, heights_of, bad_heights, in_frames}
 use Rattle.planning.specs.Plan.{plan_from, plan}
 use Rattle.planning.specs.Call.{plan_call}
@@ -41,7 +41,7 @@ planned_apart = refl
 
 -- Nine carried columns: 10, behind 1 and before 5.
 pub too_many : plan_call (carrying 9 (plain 0 true)) [] [] [] [] ∷ plan_call (carrying 9 (options 5 0 true (negsuc 0) false [] [])) [] [] [] [] ∷ plan_call (carrying 8 (plain 0 true)) [] [] [] [] ∷ []
-    ≡ Refused TooManyCarried ∷ Refused BadOptions ∷ Refused BadFrame ∷ []
+    ≡ Err TooManyCarried ∷ Err BadOptions ∷ Err BadFrame ∷ []
 unfolding plan_call is_table bad_options bad_ranks
 too_many = refl
 
@@ -59,33 +59,33 @@ sold = map row ((7 ∷ 15 ∷ []) ∷ (3 ∷ 4 ∷ []) ∷ (5 ∷ 9 ∷ []) ∷ 
 unfoldable pub posted : Rows
 posted = map row ((7 ∷ 10 ∷ []) ∷ (7 ∷ 12 ∷ []) ∷ (3 ∷ 1 ∷ []) ∷ (5 ∷ 2 ∷ []) ∷ (5 ∷ 20 ∷ []) ∷ [])
 
-abbrev pub answers : Options → Rows → Rows → Planned
+abbrev pub answers : Options → Rows → Rows → Result Figures Refusal
 answers o left right = plan_call o (frame_of 2 left) (frame_of 2 right) (map pos (2 ∷ 1 ∷ [])) (map pos (2 ∷ 2 ∷ 1 ∷ []))
 
-pub by_rank : answers bands sold posted ∷ answers (options 1 0 true (negsuc 0) false [] []) sold posted ∷ answers (banded (3 ∷ 5 ∷ 7 ∷ [])) sold posted ∷ [] ≡ Needs (told 4 5 3) ∷ Refused Unsorted ∷ Refused Unsorted ∷ []
+pub by_rank : answers bands sold posted ∷ answers (options 1 0 true (negsuc 0) false [] []) sold posted ∷ answers (banded (3 ∷ 5 ∷ 7 ∷ [])) sold posted ∷ [] ≡ Ok (told 4 5 3) ∷ Err Unsorted ∷ Err Unsorted ∷ []
 unfolding sold posted plan_call bad_options bad_ranks is_table pairs_fine frame_rows rows_of cells_of sorted cmp_row cmp_first bad_heights any_bad heights_of total in_frames plan plan_from need_more row_needs_more key_needs_more narrow narrow_by split_at prune_by find search search_for first_prune last_prune kept_rows rises rises_behind placed below listed unlisted_in
 by_rank = refl
 
 -- A list that is empty, that has a code twice, and one for a column that is no by-column: 11, behind 1 and 10 and before 5.
 pub bad_lists : plan_call (banded []) [] [] [] [] ∷ plan_call (banded (7 ∷ 3 ∷ 7 ∷ [])) [] [] [] [] ∷ plan_call (ranking (ranks_by 0 (pos 7 ∷ [])) (plain 0 true)) [] [] [] []
     ∷ plan_call (carrying 9 (banded [])) [] [] [] [] ∷ plan_call (ranking (ranks_by 0 []) (options 5 0 true (negsuc 0) false [] [])) [] [] [] [] ∷ plan_call bands [] [] [] [] ∷ []
-    ≡ Refused BadRanks ∷ Refused BadRanks ∷ Refused BadRanks ∷ Refused TooManyCarried ∷ Refused BadOptions ∷ Refused BadFrame ∷ []
+    ≡ Err BadRanks ∷ Err BadRanks ∷ Err BadRanks ∷ Err TooManyCarried ∷ Err BadOptions ∷ Err BadFrame ∷ []
 unfolding plan_call is_table bad_options bad_ranks rises rises_behind placed below
 bad_lists = refl
 
 -- A code that the list lacks, on the left alone and on the right alone: 12, behind 5 and before 14. A null is none.
 pub unknown_codes : answers bands (row (4 ∷ 1 ∷ []) ∷ sold) posted ∷ answers bands sold (row (4 ∷ 1 ∷ []) ∷ posted) ∷ answers bands (row (4 ∷ []) ∷ sold) posted
     ∷ answers bands ((null ∷ value (pos 1) ∷ []) ∷ map row ((7 ∷ 15 ∷ []) ∷ (3 ∷ 4 ∷ []) ∷ [])) posted ∷ []
-    ≡ Refused UnknownCode ∷ Refused UnknownCode ∷ Refused BadFrame ∷ Needs (told 4 4 2) ∷ []
+    ≡ Err UnknownCode ∷ Err UnknownCode ∷ Err BadFrame ∷ Ok (told 4 4 2) ∷ []
 unfolding sold posted plan_call bad_options bad_ranks is_table pairs_fine frame_rows rows_of cells_of sorted cmp_row cmp_first bad_heights any_bad heights_of total in_frames plan plan_from need_more row_needs_more key_needs_more narrow narrow_by split_at prune_by find search search_for first_prune last_prune kept_rows rises rises_behind placed below listed unlisted_in
 unknown_codes = refl
 
 -- Heights below 0, above 4,096, or of another sum, on the left alone and on the right alone: 17.
-abbrev pub cut_in : Words → Words → Planned
+abbrev pub cut_in : Words → Words → Result Figures Refusal
 cut_in hl hr = plan_call (plain 0 true) (frame_of 1 (keys (5 ∷ 15 ∷ []))) (frame_of 1 (keys (10 ∷ []))) hl hr
 
 pub heights : cut_in (pos 2 ∷ []) (pos 1 ∷ []) ∷ cut_in (pos 3 ∷ negsuc 0 ∷ []) (pos 1 ∷ []) ∷ cut_in (pos 1 ∷ []) (pos 1 ∷ []) ∷ cut_in (pos 2 ∷ []) (pos 4097 ∷ []) ∷ cut_in (pos 2 ∷ []) []
     ∷ cut_in (pos 0 ∷ pos 2 ∷ pos 0 ∷ []) (pos 1 ∷ []) ∷ []
-    ≡ Needs (told 1 2 1) ∷ Refused BadHeights ∷ Refused BadHeights ∷ Refused BadHeights ∷ Refused BadHeights ∷ Needs (told 1 4 1) ∷ []
+    ≡ Ok (told 1 2 1) ∷ Err BadHeights ∷ Err BadHeights ∷ Err BadHeights ∷ Err BadHeights ∷ Ok (told 1 4 1) ∷ []
 unfolding plan_call bad_options bad_ranks is_table pairs_fine frame_rows rows_of cells_of sorted cmp_row cmp_first bad_heights any_bad heights_of total in_frames plan plan_from need_more row_needs_more key_needs_more narrow narrow_by split_at prune_by find search search_for first_prune last_prune kept_rows
 heights = refl

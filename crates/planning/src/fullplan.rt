@@ -1,14 +1,15 @@
 // The first figure of a plan in full frames: as many of 4,096 rows as there are, then one with what is left over.
 ghost use Rattle.std.specs.Prelude.{◌≡◌, suc, ◌+◌, ◌<◌, min};
-ghost use Rattle.order.specs.options.Options.{with_list};
-ghost use Rattle.frames.specs.Cells.{rows_of};
+ghost use Rattle.order.specs.options.Options.{options_of};
+ghost use Rattle.frames.specs.Cells.{rows_in};
 ghost use Rattle.order.specs.Requires.{TableIn};
 ghost use Rattle.planning.specs.Plan.{plan};
 ghost use Rattle.planning.specs.Heights.{full_frames};
 ghost use Rattle.planning.specs.fullplan.Full.{FullStands};
 
 use crate::planwalk::{Walk, take_turn};
-use order::options::Terms;
+use frames::RowSlice;
+use order::options::Rules;
 
 // As many rows as a frame can have.
 const FULL: usize = 4096;
@@ -24,45 +25,20 @@ fn full_height(n: usize) -> usize
 }
 
 // The turn over the next full frames.
-fn full_turn(
-    s: Walk,
-    lv: &[i64],
-    lm: &[i64],
-    nl: usize,
-    c: usize,
-    rv: &[i64],
-    rm: &[i64],
-    nr: usize,
-    w: usize,
-    o: Terms,
-    codes: &[i64],
-    rising: &[u8],
-) -> Walk
-    requires { TableIn (with_list o codes.now rising.now) c nl lv.now lm.now × TableIn (with_list o codes.now rising.now) w nr rv.now rm.now × FullStands (with_list o codes.now rising.now) nl nr (rows_of c nl lv.now lm.now) (rows_of w nr rv.now rm.now) s × (s.passed < nl) }
-    ensures { FullStands (with_list o codes.now rising.now) nl nr (rows_of c nl lv.now lm.now) (rows_of w nr rv.now rm.now) result × (result.lefts + result.rights ≡ suc (s.lefts + s.rights)) }
+fn full_turn(s: Walk, left: RowSlice<'_>, right: RowSlice<'_>, rules: Rules<'_>) -> Walk
+    requires { TableIn (options_of rules) left.width left.count left.values.now left.marks.now × TableIn (options_of rules) right.width right.count right.values.now right.marks.now × FullStands (options_of rules) left.count right.count (rows_in left) (rows_in right) s × (s.passed < left.count) }
+    ensures { FullStands (options_of rules.entry) left.entry.count right.entry.count (rows_in left.entry) (rows_in right.entry) result × (result.lefts + result.rights ≡ suc (s.lefts + s.rights)) }
 {
-    let n = full_height(nl - s.passed);
-    let h = full_height(nr - s.to);
-    let some = s.to < nr;
-    take_turn(s, n, some, h, lv, lm, c, rv, rm, w, o, codes, rising)
+    let n = full_height(left.count - s.passed);
+    let h = full_height(right.count - s.to);
+    let some = s.to < right.count;
+    take_turn(s, n, some, h, left, right, rules)
 }
 
 // The most right rows that the schedule over two sorted tables, c and w wide, holds at once.
-pub fn most_held(
-    lv: &[i64],
-    lm: &[i64],
-    nl: usize,
-    c: usize,
-    rv: &[i64],
-    rm: &[i64],
-    nr: usize,
-    w: usize,
-    o: Terms,
-    codes: &[i64],
-    rising: &[u8],
-) -> usize
-    requires { TableIn (with_list o codes.now rising.now) c nl lv.now lm.now × TableIn (with_list o codes.now rising.now) w nr rv.now rm.now }
-    ensures { result ≡ (plan (with_list o codes.now rising.now) (full_frames (rows_of c nl lv.now lm.now)) (full_frames (rows_of w nr rv.now rm.now))).rows }
+pub fn most_held(left: RowSlice<'_>, right: RowSlice<'_>, rules: Rules<'_>) -> usize
+    requires { TableIn (options_of rules) left.width left.count left.values.now left.marks.now × TableIn (options_of rules) right.width right.count right.values.now right.marks.now }
+    ensures { result ≡ (plan (options_of rules.entry) (full_frames (rows_in left.entry)) (full_frames (rows_in right.entry))).rows }
 {
     let mut s = Walk {
         lefts: 0,
@@ -72,8 +48,9 @@ pub fn most_held(
         to: 0,
         most: 0,
     };
-    while s.passed < nl {
-        s = full_turn(s, lv, lm, nl, c, rv, rm, nr, w, o, codes, rising);
+    // A while: a turn passes left rows only where it wants no right ones.
+    while s.passed < left.count {
+        s = full_turn(s, left, right, rules);
     }
     s.most
 }

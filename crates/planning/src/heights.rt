@@ -28,13 +28,11 @@ pub fn fit_heights(heights: &[i64], n: usize) -> bool
     ensures { result ≡ not (bad_heights n heights.now) }
 {
     let mut left = n;
-    let mut i = 0;
-    while i < heights.len() {
-        if !is_height(heights[i], left) {
+    for &word in heights {
+        if !is_height(word, left) {
             return false;
         }
-        left -= height_at(heights, i);
-        i += 1;
+        left -= word as usize;
     }
     left == 0
 }

@@ -7,19 +7,10 @@ pub mod plancall;
 pub mod planjudge;
 pub mod planwalk;
 
-use frames::refusals::Refusal;
-
 // The right rows that have to find room at once; the turn calls up to the last frame written, those that want right rows among them; and the right frames taken.
-#[derive(Clone, Copy)]
+#[derive(Clone, Copy, PartialEq, Eq, Debug)]
 pub struct Figures {
     pub rows: usize,
     pub turns: usize,
     pub rights: usize,
-}
-
-// What a plan answers: the figures that its schedule needs, or a refusal.
-#[derive(Clone, Copy)]
-pub enum Planned {
-    Needs(Figures),
-    Refused(Refusal),
 }

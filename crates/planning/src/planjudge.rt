@@ -1,37 +1,33 @@
 // The refusals of a plan before rows are compared: 1, 10 and 11 by the options, 5, 12. Nothing is altered here.
 ghost use Rattle.std.specs.Prelude.{◌≡◌, ◌≤◌, length};
-ghost use Rattle.order.specs.options.Options.{with_list};
+ghost use Rattle.order.specs.options.Options.{options_of};
 ghost use Rattle.planning.specs.planjudge.Judged.{tables_judged};
 
 use callrules::judges::judge_open;
 use callrules::listed::lacks_code;
-use frames::outcomes::Took;
 use frames::refusals::Refusal;
-use order::options::{Terms, left_columns, right_columns};
+use order::options::{Rules, left_columns, right_columns};
 use rows::framerule::is_table;
 
 // A left table and a right one, under these options: both must be tables of their columns before the list of ranks is asked.
-pub fn judge_tables(left: &[i64], right: &[i64], o: Terms, codes: &[i64], rising: &[u8]) -> Took
-    requires { (64 ≤ length codes.now) × (64 ≤ length rising.now) }
-    ensures { result ≡ tables_judged (with_list o codes.now rising.now) left.now right.now }
+pub fn judge_tables(left: &[i64], right: &[i64], rules: Rules<'_>) -> Result<(), Refusal>
+    requires { (64 ≤ length rules.codes.now) × (64 ≤ length rules.rising.now) }
+    ensures { result ≡ tables_judged (options_of rules.entry) left.now right.now }
 {
-    let open = judge_open(o, codes, rising);
-    if let Took::Refused(_) = open {
-        return open;
-    }
-    let c = left_columns(o);
-    let w = right_columns(o);
+    judge_open(rules)?;
+    let c = left_columns(rules.terms);
+    let w = right_columns(rules.terms);
     if !is_table(left, c) {
-        return Took::Refused(Refusal::BadFrame);
+        return Err(Refusal::BadFrame);
     }
     if !is_table(right, w) {
-        return Took::Refused(Refusal::BadFrame);
+        return Err(Refusal::BadFrame);
     }
-    if lacks_code(left, c, o, codes, rising) {
-        return Took::Refused(Refusal::UnknownCode);
+    if lacks_code(left, c, rules) {
+        return Err(Refusal::UnknownCode);
     }
-    if lacks_code(right, w, o, codes, rising) {
-        return Took::Refused(Refusal::UnknownCode);
+    if lacks_code(right, w, rules) {
+        return Err(Refusal::UnknownCode);
     }
-    Took::Accepted
+    Ok(())
 }

@@ -1,7 +1,7 @@
 // The figures of a plan, by one walk over the frames of two sorted tables: no row is copied, no match is written, no area is needed.
 ghost use Rattle.std.specs.Prelude.{◌≡◌, suc, ◌+◌, ◌^◌, ◌≤◌, ◌<◌, max, false, ◌&&◌, pos, nat_abs, length, get_or};
-ghost use Rattle.frames.specs.Cells.{rows_of};
-ghost use Rattle.order.specs.options.Options.{with_list};
+ghost use Rattle.frames.specs.Cells.{rows_in};
+ghost use Rattle.order.specs.options.Options.{options_of};
 ghost use Rattle.order.specs.Requires.{RowsIn};
 ghost use Rattle.searching.specs.Reach.{need_more};
 ghost use Rattle.planning.specs.Heights.{any_bad, heights_of};
@@ -10,8 +10,9 @@ ghost use Rattle.planning.specs.planwalk.Walk.{left_rows, right_rows, taken_by, 
 use crate::Figures;
 use crate::heights::height_at;
 use buffer::pruning::need_more;
+use frames::RowSlice;
 use matchframe::turnrows::{from_row, last_prune};
-use order::options::Terms;
+use order::options::Rules;
 
 // Where the walk stands: the left frames written and the rows in them; the right frames taken; the right rows held, from `from` on and below `to`; and the most that were held at once.
 #[derive(Clone, Copy)]
@@ -45,7 +46,7 @@ fn take_right(s: Walk, h: usize) -> Walk
         passed: s.passed,
         rights: s.rights + 1,
         from: s.from,
-        to: to,
+        to,
         most: larger(s.most, to - s.from),
     }
 }
@@ -66,27 +67,14 @@ fn write_left(s: Walk, n: usize, d: usize) -> Walk
 }
 
 // Whether a turn takes a right frame: some is left, and the held rows do not suffice for its left frame.
-fn wants(
-    some: bool,
-    lv: &[i64],
-    lm: &[i64],
-    n: usize,
-    c: usize,
-    rv: &[i64],
-    rm: &[i64],
-    held: usize,
-    w: usize,
-    o: Terms,
-    codes: &[i64],
-    rising: &[u8],
-) -> bool
-    requires { RowsIn (with_list o codes.now rising.now) c n lv.now lm.now × RowsIn (with_list o codes.now rising.now) w held rv.now rm.now }
-    ensures { result ≡ (some && need_more (with_list o codes.now rising.now) (rows_of c n lv.now lm.now) (rows_of w held rv.now rm.now)) }
+fn wants(some: bool, left: RowSlice<'_>, right: RowSlice<'_>, rules: Rules<'_>) -> bool
+    requires { RowsIn (options_of rules) left.width left.count left.values.now left.marks.now × RowsIn (options_of rules) right.width right.count right.values.now right.marks.now }
+    ensures { result ≡ (some && need_more (options_of rules.entry) (rows_in left.entry) (rows_in right.entry)) }
 {
     if !some {
         return false;
     }
-    need_more(lv, lm, n, c, rv, rm, held, w, o, codes, rising)
+    need_more(left, right, rules)
 }
 
 // One turn: it takes a right frame, of h rows, where some is left and wanted, else it writes its left frame, of n rows.
@@ -95,28 +83,51 @@ pub fn take_turn(
     n: usize,
     some: bool,
     h: usize,
-    lv: &[i64],
-    lm: &[i64],
-    c: usize,
-    rv: &[i64],
-    rm: &[i64],
-    w: usize,
-    o: Terms,
-    codes: &[i64],
-    rising: &[u8],
+    left: RowSlice<'_>,
+    right: RowSlice<'_>,
+    rules: Rules<'_>,
 ) -> Walk
-    requires { TurnIn (with_list o codes.now rising.now) c lv.now lm.now w rv.now rm.now s n some h }
-    ensures { result ≡ turned_by (with_list o codes.now rising.now) s n some h (frame_from c lv.now lm.now s n) (held_from w rv.now rm.now s) }
+    requires { TurnIn (options_of rules) left.width left.values.now left.marks.now right.width right.values.now right.marks.now s n some h }
+    ensures { result ≡ turned_by (options_of rules.entry) s n some h (frame_from left.entry.width left.entry.values.now left.entry.marks.now s n) (held_from right.entry.width right.entry.values.now right.entry.marks.now s) }
 {
-    let fv = from_row(lv, s.passed, c);
-    let fm = from_row(lm, s.passed, c);
-    let kv = from_row(rv, s.from, w);
-    let km = from_row(rm, s.from, w);
+    let fv = from_row(left.values, s.passed, left.width);
+    let fm = from_row(left.marks, s.passed, left.width);
+    let kv = from_row(right.values, s.from, right.width);
+    let km = from_row(right.marks, s.from, right.width);
     let held = s.to - s.from;
-    if wants(some, fv, fm, n, c, kv, km, held, w, o, codes, rising) {
+    if wants(
+        some,
+        RowSlice {
+            values: fv,
+            marks: fm,
+            count: n,
+            width: left.width,
+        },
+        RowSlice {
+            values: kv,
+            marks: km,
+            count: held,
+            width: right.width,
+        },
+        rules,
+    ) {
         return take_right(s, h);
     }
-    let d = last_prune(fv, fm, n, kv, km, held, c, w, o, codes, rising);
+    let d = last_prune(
+        RowSlice {
+            values: fv,
+            marks: fm,
+            count: n,
+            width: left.width,
+        },
+        RowSlice {
+            values: kv,
+            marks: km,
+            count: held,
+            width: right.width,
+        },
+        rules,
+    );
     write_left(s, n, d)
 }
 
@@ -134,43 +145,31 @@ fn height_or_none(heights: &[i64], i: usize) -> usize
 // The turn over the next frames of these heights.
 fn step(
     s: Walk,
-    lv: &[i64],
-    lm: &[i64],
-    c: usize,
+    left: RowSlice<'_>,
     hl: &[i64],
-    rv: &[i64],
-    rm: &[i64],
-    w: usize,
+    right: RowSlice<'_>,
     hr: &[i64],
-    o: Terms,
-    codes: &[i64],
-    rising: &[u8],
+    rules: Rules<'_>,
 ) -> Walk
-    requires { WalkIn (with_list o codes.now rising.now) c hl.now lv.now lm.now w hr.now rv.now rm.now × Stands (with_list o codes.now rising.now) (heights_of hl.now) (heights_of hr.now) (left_rows c hl.now lv.now lm.now) (right_rows w hr.now rv.now rm.now) s × (s.lefts < length hl.now) }
-    ensures { Stands (with_list o codes.now rising.now) (heights_of hl.now) (heights_of hr.now) (left_rows c hl.now lv.now lm.now) (right_rows w hr.now rv.now rm.now) result × (result.lefts + result.rights ≡ suc (s.lefts + s.rights)) }
+    requires { WalkIn (options_of rules) left.width hl.now left.values.now left.marks.now right.width hr.now right.values.now right.marks.now × Stands (options_of rules) (heights_of hl.now) (heights_of hr.now) (left_rows left.width hl.now left.values.now left.marks.now) (right_rows right.width hr.now right.values.now right.marks.now) s × (s.lefts < length hl.now) }
+    ensures { Stands (options_of rules.entry) (heights_of hl.now) (heights_of hr.now) (left_rows left.entry.width hl.now left.entry.values.now left.entry.marks.now) (right_rows right.entry.width hr.now right.entry.values.now right.entry.marks.now) result × (result.lefts + result.rights ≡ suc (s.lefts + s.rights)) }
 {
     let n = height_or_none(hl, s.lefts);
     let h = height_or_none(hr, s.rights);
     let some = s.rights < hr.len();
-    take_turn(s, n, some, h, lv, lm, c, rv, rm, w, o, codes, rising)
+    take_turn(s, n, some, h, left, right, rules)
 }
 
 // The figures of the schedule over two sorted tables, c and w wide, cut in frames of these heights.
 pub fn walk_frames(
-    lv: &[i64],
-    lm: &[i64],
-    c: usize,
+    left: RowSlice<'_>,
     hl: &[i64],
-    rv: &[i64],
-    rm: &[i64],
-    w: usize,
+    right: RowSlice<'_>,
     hr: &[i64],
-    o: Terms,
-    codes: &[i64],
-    rising: &[u8],
+    rules: Rules<'_>,
 ) -> Figures
-    requires { WalkIn (with_list o codes.now rising.now) c hl.now lv.now lm.now w hr.now rv.now rm.now }
-    ensures { result ≡ walked (with_list o codes.now rising.now) hl.now hr.now (left_rows c hl.now lv.now lm.now) (right_rows w hr.now rv.now rm.now) }
+    requires { WalkIn (options_of rules) left.width hl.now left.values.now left.marks.now right.width hr.now right.values.now right.marks.now }
+    ensures { result ≡ walked (options_of rules.entry) hl.now hr.now (left_rows left.entry.width hl.now left.entry.values.now left.entry.marks.now) (right_rows right.entry.width hr.now right.entry.values.now right.entry.marks.now) }
 {
     let mut s = Walk {
         lefts: 0,
@@ -180,8 +179,9 @@ pub fn walk_frames(
         to: 0,
         most: 0,
     };
+    // A while: a turn writes a left frame only where it wants no right one.
     while s.lefts < hl.len() {
-        s = step(s, lv, lm, c, hl, rv, rm, w, hr, o, codes, rising);
+        s = step(s, left, hl, right, hr, rules);
     }
     Figures {
         rows: s.most,

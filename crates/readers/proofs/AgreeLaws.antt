@@ -1,4 +1,6 @@
 -- The two readers agree. Assumes nothing.
+use Rattle.frames.specs.declared.refusals.Refusal.{Refusal}
+use Rattle.std.specs.Prelude.{Result, Err, Ok}
 use mathlib.Core.Path.{◌≡◌, refl, sym, ap, ◌∙◌}
 use mathlib.Core.Bool.{Bool, true, false, cond, not}
 use mathlib.Core.List.{List, [], ◌∷◌, map}
@@ -16,31 +18,30 @@ use Rattle.order.proofs.SortedLaws.{All, all_by}
 use Rattle.tables.specs.Table.{table_of}
 use Rattle.tables.proofs.TableLaws.{Wide, table_is, table_rows_lem}
 use Rattle.frames.specs.declared.refusals.Refusal.TheVariants.{TooManyCarried, BadColumns}
-use Rattle.readers.specs.declared.Viewed.{Viewed}
-use Rattle.readers.specs.declared.Viewed.TheVariants.{Frame, Refused}
-use Rattle.readers.specs.declared.Shown.TheVariants.{Refused as Unshown}
+use Rattle.readers.specs.declared.View.{View}
+use Rattle.readers.specs.Reader.{view_of}
 use Rattle.readers.specs.Reader.{plain_knows, distance_knows, cell_in, shown, read_in, read_by, without_last}
 use Rattle.readers.specs.Laws.{Agreement}
 use Rattle.readers.proofs.ViewLaws.{view_frame, plain_knows_lem, plain_not, distance_knows_plain, distance_knows_lem}
 
 -- ---- what a reader shows of a frame of c columns
 module _ (c : ℕ) (f : Words) (h : is_frame c f ≡ true) (knows : ℕ → ℕ → Bool) (p row column : ℕ) where
-  by_view : (a b : Bool) (n : ℕ) → read_in (cond a (Refused TooManyCarried) (cond (not b) (Refused BadColumns) (Frame n c))) f row column
-      ≡ cond a (Unshown TooManyCarried) (cond b (shown (cell_in (frame_rows c f) row column)) (Unshown BadColumns))
+  by_view : (a b : Bool) (n : ℕ) → read_in (cond a (Err TooManyCarried) (cond (not b) (Err BadColumns) (Ok (view_of n c)))) f row column
+      ≡ cond a (Err TooManyCarried) (cond b (shown (cell_in (frame_rows c f) row column)) (Err BadColumns))
   by_view true b n = refl
   by_view false true n = refl
   by_view false false n = refl
 
-  read_frame : read_by knows p f row column ≡ cond (ltb 8 p) (Unshown TooManyCarried) (cond (knows p c) (shown (cell_in (frame_rows c f) row column)) (Unshown BadColumns))
+  read_frame : read_by knows p f row column ≡ cond (ltb 8 p) (Err TooManyCarried) (cond (knows p c) (shown (cell_in (frame_rows c f) row column)) (Err BadColumns))
   unfolding read_by
-  read_frame = ap (λ (v : Viewed). read_in v f row column) (view_frame knows p f c h) ∙ by_view (ltb 8 p) (knows p c) (row_count f)
+  read_frame = ap (λ (v : Result View Refusal). read_in v f row column) (view_frame knows p f c h) ∙ by_view (ltb 8 p) (knows p c) (row_count f)
 
   -- Where it knows c, the cell; p above 8 is refused before.
-  pub read_known : knows p c ≡ true → read_by knows p f row column ≡ cond (ltb 8 p) (Unshown TooManyCarried) (shown (cell_in (frame_rows c f) row column))
+  pub read_known : knows p c ≡ true → read_by knows p f row column ≡ cond (ltb 8 p) (Err TooManyCarried) (shown (cell_in (frame_rows c f) row column))
   read_known k = read_frame ∙ rw k
 
   -- Where it does not, 13.
-  pub read_unknown : knows p c ≡ false → read_by knows p f row column ≡ cond (ltb 8 p) (Unshown TooManyCarried) (Unshown BadColumns)
+  pub read_unknown : knows p c ≡ false → read_by knows p f row column ≡ cond (ltb 8 p) (Err TooManyCarried) (Err BadColumns)
   read_unknown k = read_frame ∙ rw k
 
 -- ---- rows without their last cell
@@ -84,7 +85,7 @@ agreement p f row column = record {
   alike = λ h. read_known (suc p) f h distance_knows p row column (distance_knows_plain p) ∙ sym (read_known (suc p) f h plain_knows p row column (plain_knows_lem p));
   shared = λ h l.
       read_known (suc (suc p)) f h distance_knows p row column (distance_knows_lem p)
-      ∙ ap (λ (x : Cell). cond (ltb 8 p) (Unshown TooManyCarried) (shown x)) (sym (ap (λ (rs : Rows). cell_in rs row column) (without_rows (suc p) f h) ∙ cell_short (suc p) column l (frame_rows (suc (suc p)) f) row))
+      ∙ ap (λ (x : Cell). cond (ltb 8 p) (Err TooManyCarried) (shown x)) (sym (ap (λ (rs : Rows). cell_in rs row column) (without_rows (suc p) f h) ∙ cell_short (suc p) column l (frame_rows (suc (suc p)) f) row))
       ∙ sym (read_known (suc p) (without_last (suc p) f) (without_frame (suc p) f h) plain_knows p row column (plain_knows_lem p));
   refused = λ h. read_unknown (suc (suc p)) f h plain_knows p row column (plain_not p);
 }

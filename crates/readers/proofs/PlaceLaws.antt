@@ -1,4 +1,6 @@
 -- Where the words of a place stand, and that a view reads as the reader does. Assumes nothing.
+use Rattle.frames.specs.declared.refusals.Refusal.{Refusal}
+use Rattle.std.specs.Prelude.{Result, Ok}
 use mathlib.Core.Path.{◌≡◌, refl, sym, ap, ◌∙◌}
 use mathlib.Core.Bool.{Bool, true, false}
 use mathlib.Core.List.{List, [], ◌∷◌}
@@ -16,8 +18,9 @@ use Rattle.frames.proofs.FrontLaws.{frame_parts}
 use Rattle.order.specs.Requires.{cell_at}
 use Rattle.order.proofs.RowLaws.{row_cell, rows_from, row_room}
 use Rattle.tables.proofs.CellLaws.{fine_at}
-use Rattle.readers.specs.declared.Viewed.{Viewed}
-use Rattle.readers.specs.declared.Shown.TheVariants.{Pair}
+use Rattle.readers.specs.declared.View.{View}
+use Rattle.readers.specs.declared.CellWords.{CellWords}
+use Rattle.readers.specs.Reader.{words_shown}
 use Rattle.readers.specs.Reader.{cell_in, shown, read_in, read_by}
 use Rattle.readers.specs.Places.{Place, place_words, null_words, shown_at}
 use Rattle.readers.specs.Laws.{pair_of, ViewsRead}
@@ -68,7 +71,7 @@ module _ (c : ℕ) (f : Words) (h : is_frame c f ≡ true) (row column : ℕ) wh
       let g = fine_at vs ms (row * c + column) (omega arith) (omega arith) (frame_parts c f h).fine in
       let v : get_or vs (row * c + column) (pos 0) ≡ get_or f (2 + (row * c + column)) (pos 0) = get_or-take (row_count f * c) (drop 2 f) (row * c + column) (pos 0) q ∙ get_or-drop 2 f (row * c + column) (pos 0) in
       let m : get_or ms (row * c + column) (pos 0) ≡ get_or f (2 + row_count f * c + (row * c + column)) (pos 0) = get_or-drop (2 + row_count f * c) f (row * c + column) (pos 0) in
-      ap shown e ∙ ap (λ (x : ℤ). Pair x (mark_word (cell_at (row * c + column) vs ms))) (g.0 ∙ v) ∙ ap (λ (x : ℤ). Pair (get_or f (2 + (row * c + column)) (pos 0)) x) (g.1 ∙ m)
+      ap shown e ∙ ap (λ (x : ℤ). Ok (words_shown x (mark_word (cell_at (row * c + column) vs ms)))) (g.0 ∙ v) ∙ ap (λ (x : ℤ). Ok (words_shown (get_or f (2 + (row * c + column)) (pos 0)) x)) (g.1 ∙ m)
 
   -- Each place of a frame, inside and outside, by its counts.
   pub frame_shown : shown (cell_in (frame_rows c f) row column) ≡ pair_of (shown_at (row_count f) c f row column)
@@ -93,6 +96,6 @@ unfolding read_by
 views_read knows p f = record {
   reads = λ n c e row column.
       let t = view_told knows p f n c e in
-      ap (λ (v : Viewed). read_in v f row column) e ∙ rw t.1 (frame_shown c f t.0 row column);
-  refuses = λ r e row column. ap (λ (v : Viewed). read_in v f row column) e;
+      ap (λ (v : Result View Refusal). read_in v f row column) e ∙ rw t.1 (frame_shown c f t.0 row column);
+  refuses = λ r e row column. ap (λ (v : Result View Refusal). read_in v f row column) e;
 }

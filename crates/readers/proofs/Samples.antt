@@ -1,4 +1,6 @@
 -- Places of small frames, by computation: made by hand from the sentences of the request. Assumes nothing.
+use Rattle.frames.specs.declared.refusals.Refusal.{Refusal}
+use Rattle.std.specs.Prelude.{Result, Err, Ok}
 use mathlib.Core.Path.{◌≡◌, refl}
 use mathlib.Core.List.{List, [], ◌∷◌, map}
 use Prim.Native.Nat.{ℕ, ◌-◌, ◌^◌}
@@ -7,8 +9,7 @@ use Rattle.frames.specs.Cells.{rows_of, cells_of, Words}
 use Rattle.frames.specs.Frame.{is_table, is_frame, pairs_fine, frame_rows}
 use Rattle.frames.specs.refusals.Refusals.{number}
 use Rattle.readers.specs.declared.CellWords.{CellWords}
-use Rattle.readers.specs.declared.Shown.{Shown}
-use Rattle.readers.specs.declared.Shown.TheVariants.{Pair, Refused}
+use Rattle.readers.specs.Reader.{words_shown}
 use Rattle.readers.specs.Reader.{framed, plain_knows, distance_knows, view_by, read_by, read_plain, read_distance}
 use Rattle.readers.specs.Places.{shown_at}
 
@@ -16,9 +17,9 @@ abbrev ws : List ℕ → Words
 ws ns = map pos ns
 
 -- A place as three numbers: refusal, value and mark.
-abbrev told : Shown → Words
-told (Pair v m) = pos 0 ∷ v ∷ m ∷ []
-told (Refused n) = pos (number n) ∷ pos 0 ∷ pos 0 ∷ []
+abbrev told : Result CellWords Refusal → Words
+told (Ok w) = pos 0 ∷ w.value ∷ w.mark ∷ []
+told (Err n) = pos (number n) ∷ pos 0 ∷ pos 0 ∷ []
 
 abbrev shows : ℕ → ℕ → Words
 shows v m = ws (0 ∷ v ∷ m ∷ [])

@@ -1,5 +1,6 @@
 -- What a view tells, test by test. Assumes nothing.
-use mathlib.Core.Path.{◌≡◌, refl, sym, ◌∙◌}
+use Rattle.std.specs.Prelude.{Err, Ok, Result}
+use mathlib.Core.Path.{◌≡◌, refl, sym, ◌∙◌, ap}
 use mathlib.Core.Bool.{Bool, true, false, cond, not, ◌||◌}
 use Prim.Native.Nat.{ℕ, suc, ◌+◌, ◌≤◌, ◌<◌}
 use native.Mathlib.Omega.{arith}
@@ -13,7 +14,9 @@ use Rattle.frames.specs.Frame.{same_z, row_count, is_frame}
 use Rattle.frames.specs.Front.{HasCount}
 use Rattle.frames.proofs.FrontLaws.{same_negative, table_short, table_other_columns, frame_parts, frame_count}
 use Rattle.frames.specs.declared.refusals.Refusal.TheVariants.{BadFrame, TooManyCarried, BadColumns}
-use Rattle.readers.specs.declared.Viewed.TheVariants.{Frame, Refused}
+use Rattle.frames.specs.declared.refusals.Refusal.{Refusal}
+use Rattle.readers.specs.declared.View.{View}
+use Rattle.readers.specs.Reader.{view_of}
 use Rattle.readers.specs.Reader.{column_count, framed, plain_knows, distance_knows, known_by, view_by}
 use Rattle.readers.specs.Places.{HasColumns}
 
@@ -95,37 +98,46 @@ module _ (p c : ℕ) where
   knows_no false t n = ne_eqb c (suc p) (λ (e : c ≡ suc p). n (omega arith))
 
 -- ---- a view, by its tests
-view_by_lem : (a b d : Bool) (m k n c : ℕ) → cond a (Refused TooManyCarried) (cond (not b) (Refused BadFrame) (cond (not d) (Refused BadColumns) (Frame m k))) ≡ Frame n c → (b ≡ true) × (m ≡ n) × (k ≡ c)
+-- The rows and the columns that it tells.
+abbrev rows_told : Result View Refusal → ℕ
+rows_told (Ok v) = v.rows
+rows_told (Err r) = 0
+
+abbrev columns_told : Result View Refusal → ℕ
+columns_told (Ok v) = v.columns
+columns_told (Err r) = 0
+
+view_by_lem : (a b d : Bool) (m k n c : ℕ) → cond a (Err TooManyCarried) (cond (not b) (Err BadFrame) (cond (not d) (Err BadColumns) (Ok (view_of m k)))) ≡ Ok (view_of n c) → (b ≡ true) × (m ≡ n) × (k ≡ c)
 view_by_lem true b d m k n c e = let z : ◌≡◌ {A = ℕ} 0 1 = cc in absurd (omega arith)
 view_by_lem false false d m k n c e = let z : ◌≡◌ {A = ℕ} 0 1 = cc in absurd (omega arith)
 view_by_lem false true false m k n c e = let z : ◌≡◌ {A = ℕ} 0 1 = cc in absurd (omega arith)
-view_by_lem false true true m k n c e = (refl, (cc), (cc))
+view_by_lem false true true m k n c e = (refl, ap rows_told e, ap columns_told e)
 
 module _ (knows : ℕ → ℕ → Bool) (p : ℕ) (f : Words) where
-  pub view_carried : 8 < p → view_by knows p f ≡ Refused TooManyCarried
+  pub view_carried : 8 < p → view_by knows p f ≡ Err TooManyCarried
   unfolding view_by
   view_carried h = rw (lt-ltb 8 p h)
 
-  pub view_unframed : p ≤ 8 → framed f ≡ false → view_by knows p f ≡ Refused BadFrame
+  pub view_unframed : p ≤ 8 → framed f ≡ false → view_by knows p f ≡ Err BadFrame
   unfolding view_by
   view_unframed h e = rw (le-ltb 8 p h, e)
 
-  pub view_unknown : p ≤ 8 → framed f ≡ true → knows p (column_count f) ≡ false → view_by knows p f ≡ Refused BadColumns
+  pub view_unknown : p ≤ 8 → framed f ≡ true → knows p (column_count f) ≡ false → view_by knows p f ≡ Err BadColumns
   unfolding view_by
   view_unknown h e k = rw (le-ltb 8 p h, e, k)
 
-  pub view_known : p ≤ 8 → framed f ≡ true → knows p (column_count f) ≡ true → view_by knows p f ≡ Frame (row_count f) (column_count f)
+  pub view_known : p ≤ 8 → framed f ≡ true → knows p (column_count f) ≡ true → view_by knows p f ≡ Ok (view_of (row_count f) (column_count f))
   unfolding view_by
   view_known h e k = rw (le-ltb 8 p h, e, k)
 
   -- What a view that is not refused says of the words: a frame of these columns, with these rows.
-  pub view_told : (n c : ℕ) → view_by knows p f ≡ Frame n c → (is_frame c f ≡ true) × (n ≡ row_count f)
+  pub view_told : (n c : ℕ) → view_by knows p f ≡ Ok (view_of n c) → (is_frame c f ≡ true) × (n ≡ row_count f)
   unfolding view_by
   view_told n c e =
       let t = view_by_lem (ltb 8 p) (framed f) (knows p (column_count f)) (row_count f) (column_count f) n c e in
       (rw t.2 at (framed_by f ∙ t.0), sym t.1)
 
   -- A view of a frame of c columns, in one line.
-  pub view_frame : (c : ℕ) → is_frame c f ≡ true → view_by knows p f ≡ cond (ltb 8 p) (Refused TooManyCarried) (cond (not (knows p c)) (Refused BadColumns) (Frame (row_count f) c))
+  pub view_frame : (c : ℕ) → is_frame c f ≡ true → view_by knows p f ≡ cond (ltb 8 p) (Err TooManyCarried) (cond (not (knows p c)) (Err BadColumns) (Ok (view_of (row_count f) c)))
   unfolding view_by
   view_frame c h = rw (frame_framed c f h, count_is c f h)

@@ -1,14 +1,13 @@
 -- The two answer readers, for any words. Assumes nothing.
-use Rattle.std.specs.Prelude.{Bool, true, false, not, ◌||◌, [], ◌∷◌, map, ℕ, suc, ltb, eqb, pos, nat_abs, get_or, take}
+use Rattle.frames.specs.declared.refusals.Refusal.{Refusal}
+use Rattle.std.specs.Prelude.{Bool, true, false, not, ◌||◌, [], ◌∷◌, map, ℕ, suc, ltb, eqb, ℤ, pos, nat_abs, get_or, take, Result, Err, Ok}
 use Rattle.frames.specs.Cells.{Cell, cell, value_word, mark_word, Rows, Words}
 use Rattle.frames.specs.Frame.{row_count, is_frame, frame_rows}
 use Rattle.tables.specs.Table.{table_of}
 use Rattle.frames.specs.refusals.Tests.{test, first_of}
 use Rattle.frames.specs.declared.refusals.Refusal.TheVariants.{BadFrame, TooManyCarried, BadColumns}
-use Rattle.readers.specs.declared.Viewed.{Viewed}
-use Rattle.readers.specs.declared.Viewed.TheVariants.{Frame, Refused}
-use Rattle.readers.specs.declared.Shown.{Shown}
-use Rattle.readers.specs.declared.Shown.TheVariants.{Pair, Refused as Unshown}
+use Rattle.readers.specs.declared.View.{View}
+use Rattle.readers.specs.declared.CellWords.{CellWords}
 
 -- SCOPE 2.1: the column count that words tell.
 abbrev pub column_count : Words → ℕ
@@ -33,16 +32,20 @@ known_by true = distance_knows
 known_by false = plain_knows
 
 -- ---- a view: the rules, asked once
--- SCOPE 19.18, 19.21: a reader is given the p of the join that wrote the frame. Above 8 it is refused by 10, before a word is looked at; then by 5 the words that are no frame, and by 13 a column count that the reader does not know.
-unfoldable pub view_by : (ℕ → ℕ → Bool) → ℕ → Words → Viewed
-view_by knows p f =
-    first_of (test (ltb 8 p) (Refused TooManyCarried) ∷ test (not (framed f)) (Refused BadFrame) ∷ test (not (knows p (column_count f))) (Refused BadColumns) ∷ [])
-    (Frame (row_count f) (column_count f))
+-- What a view tells of a frame: its rows and its columns.
+abbrev pub view_of : ℕ → ℕ → View
+view_of n c = record { rows = n; columns = c }
 
-abbrev pub view_plain : ℕ → Words → Viewed
+-- SCOPE 19.18, 19.21: a reader is given the p of the join that wrote the frame. Above 8 it is refused by 10, before a word is looked at; then by 5 the words that are no frame, and by 13 a column count that the reader does not know.
+unfoldable pub view_by : (ℕ → ℕ → Bool) → ℕ → Words → Result View Refusal
+view_by knows p f =
+    first_of (test (ltb 8 p) (Err TooManyCarried) ∷ test (not (framed f)) (Err BadFrame) ∷ test (not (knows p (column_count f))) (Err BadColumns) ∷ [])
+    (Ok (view_of (row_count f) (column_count f)))
+
+abbrev pub view_plain : ℕ → Words → Result View Refusal
 view_plain p f = view_by plain_knows p f
 
-abbrev pub view_distance : ℕ → Words → Viewed
+abbrev pub view_distance : ℕ → Words → Result View Refusal
 view_distance p f = view_by distance_knows p f
 
 -- ---- what a reader shows of a place
@@ -51,23 +54,26 @@ abbrev pub cell_in : Rows → ℕ → ℕ → Cell
 cell_in rs row column = cell column (get_or rs row [])
 
 -- The value and the mark of a cell.
-abbrev pub shown : Cell → Shown
-shown x = Pair (value_word x) (mark_word x)
+abbrev pub words_shown : ℤ → ℤ → CellWords
+words_shown v m = record { value = v; mark = m }
+
+abbrev pub shown : Cell → Result CellWords Refusal
+shown x = Ok (words_shown (value_word x) (mark_word x))
 
 -- By what the view tells: of a frame the cell, else the view's refusal.
-abbrev pub read_in : Viewed → Words → ℕ → ℕ → Shown
-read_in (Frame n c) f row column = shown (cell_in (frame_rows c f) row column)
-read_in (Refused r) f row column = Unshown r
+abbrev pub read_in : Result View Refusal → Words → ℕ → ℕ → Result CellWords Refusal
+read_in (Ok v) f row column = shown (cell_in (frame_rows v.columns f) row column)
+read_in (Err r) f row column = Err r
 
-unfoldable pub read_by : (ℕ → ℕ → Bool) → ℕ → Words → ℕ → ℕ → Shown
+unfoldable pub read_by : (ℕ → ℕ → Bool) → ℕ → Words → ℕ → ℕ → Result CellWords Refusal
 read_by knows p f row column = read_in (view_by knows p f) f row column
 
 -- The plain reader.
-abbrev pub read_plain : ℕ → Words → ℕ → ℕ → Shown
+abbrev pub read_plain : ℕ → Words → ℕ → ℕ → Result CellWords Refusal
 read_plain p f row column = read_by plain_knows p f row column
 
 -- The distance reader.
-abbrev pub read_distance : ℕ → Words → ℕ → ℕ → Shown
+abbrev pub read_distance : ℕ → Words → ℕ → ℕ → Result CellWords Refusal
 read_distance p f row column = read_by distance_knows p f row column
 
 -- ---- a frame of c + 1 columns without the last

@@ -3,7 +3,7 @@ ghost use Rattle.std.specs.Prelude.{◌≡◌, ◌≤◌};
 ghost use Rattle.readers.specs.Reader.{column_count, framed, known_by, view_by, view_plain, view_distance, read_by, read_plain, read_distance};
 ghost use Rattle.readers.specs.Places.{HasColumns, Place, place_words, shown_at};
 
-use crate::{CellWords, Shown, Viewed};
+use crate::{CellWords, View};
 use frames::refusals::Refusal;
 use rows::framerule::{has_room, is_frame, row_count};
 
@@ -43,31 +43,34 @@ fn knows(distance: bool, p: usize, c: usize) -> bool
 }
 
 // A view of a frame by either reader: 10, then 5, then 13.
-fn view_by(distance: bool, p: usize, frame: &[i64]) -> Viewed
+fn view_by(distance: bool, p: usize, frame: &[i64]) -> Result<View, Refusal>
     ensures { result ≡ view_by (known_by distance) p frame.now }
 {
     if 8 < p {
-        return Viewed::Refused(Refusal::TooManyCarried);
+        return Err(Refusal::TooManyCarried);
     }
     if !is_framed(frame) {
-        return Viewed::Refused(Refusal::BadFrame);
+        return Err(Refusal::BadFrame);
     }
     let c = column_count(frame);
     if !knows(distance, p, c) {
-        return Viewed::Refused(Refusal::BadColumns);
+        return Err(Refusal::BadColumns);
     }
-    Viewed::Frame(row_count(frame), c)
+    Ok(View {
+        rows: row_count(frame),
+        columns: c,
+    })
 }
 
 // The plain reader's view, given the p of the join that wrote the frame: frames of 1 + p columns alone.
-pub fn view_plain(p: usize, frame: &[i64]) -> Viewed
+pub fn view_plain(p: usize, frame: &[i64]) -> Result<View, Refusal>
     ensures { result ≡ view_plain p frame.now }
 {
     view_by(false, p, frame)
 }
 
 // The distance reader's view: frames of 1 + p columns, and of 2 + p.
-pub fn view_distance(p: usize, frame: &[i64]) -> Viewed
+pub fn view_distance(p: usize, frame: &[i64]) -> Result<View, Refusal>
     ensures { result ≡ view_distance p frame.now }
 {
     view_by(true, p, frame)
@@ -101,27 +104,33 @@ pub fn shown_at(rows: usize, columns: usize, frame: &[i64], row: usize, column: 
 }
 
 // What either reader shows of one place: a view, and the place read of it.
-fn read_by(distance: bool, p: usize, frame: &[i64], row: usize, column: usize) -> Shown
+fn read_by(
+    distance: bool,
+    p: usize,
+    frame: &[i64],
+    row: usize,
+    column: usize,
+) -> Result<CellWords, Refusal>
     ensures { result ≡ read_by (known_by distance) p frame.now row column }
 {
-    match view_by(distance, p, frame) {
-        Viewed::Frame(n, c) => {
-            let w = shown_at(n, c, frame, row, column);
-            Shown::Pair(w.value, w.mark)
-        }
-        Viewed::Refused(r) => Shown::Refused(r),
-    }
+    let view = view_by(distance, p, frame)?;
+    Ok(shown_at(view.rows, view.columns, frame, row, column))
 }
 
 // What the plain reader shows of one place. It asks the frame rule for each; to read many places, take a view.
-pub fn read_plain(p: usize, frame: &[i64], row: usize, column: usize) -> Shown
+pub fn read_plain(p: usize, frame: &[i64], row: usize, column: usize) -> Result<CellWords, Refusal>
     ensures { result ≡ read_plain p frame.now row column }
 {
     read_by(false, p, frame, row, column)
 }
 
 // What the distance reader shows of one place.
-pub fn read_distance(p: usize, frame: &[i64], row: usize, column: usize) -> Shown
+pub fn read_distance(
+    p: usize,
+    frame: &[i64],
+    row: usize,
+    column: usize,
+) -> Result<CellWords, Refusal>
     ensures { result ≡ read_distance p frame.now row column }
 {
     read_by(true, p, frame, row, column)

@@ -28,7 +28,7 @@ fn no_ranks() -> HostRanks {
         given: 0,
         column: 0,
         count: 0,
-        codes: codes,
+        codes,
     }
 }
 
@@ -50,9 +50,8 @@ pub(crate) fn options_of(given: &[i64]) -> HostOptions {
 
 // The answer of opening, of a frame and of the end of right: the refusal's number, or 0.
 fn took(t: HostTook) -> Said {
-    let join = t.join;
     Said {
-        join: join,
+        join: t.join,
         numbers: [t.refusal, 0, 0, 0, 0, 0, 0, 0, 0, 0, 0],
     }
 }
@@ -65,7 +64,7 @@ fn ports(j: HostJoin, left: &[i64], right: &[i64], given: &[i64]) -> Said {
     let p = host::rowkeeper_ports(j, left, right, l, r, s);
     let join = p.join;
     Said {
-        join: join,
+        join,
         numbers: [
             p.refusal, p.left, p.right, p.send, join.state, 0, 0, 0, 0, 0, 0,
         ],
@@ -75,9 +74,8 @@ fn ports(j: HostJoin, left: &[i64], right: &[i64], given: &[i64]) -> Said {
 // A turn: which answer, the refusal's number, the sequence.
 fn turn(j: HostJoin, left: &[i64], right: &[i64], out: &mut [i64]) -> Said {
     let t = host::rowkeeper_turn(j, left, right, out);
-    let join = t.join;
     Said {
-        join: join,
+        join: t.join,
         numbers: [t.answer, t.refusal, t.sequence, 0, 0, 0, 0, 0, 0, 0, 0],
     }
 }
@@ -85,11 +83,10 @@ fn turn(j: HostJoin, left: &[i64], right: &[i64], out: &mut [i64]) -> Said {
 // A run of at most k turns: how many wrote, how many words, what stopped it, the refusal's number.
 fn run(j: HostJoin, k: u64, left: &[i64], right: &[i64], out: &mut [i64]) -> Said {
     let t = host::rowkeeper_run(j, k as usize, left, right, out);
-    let join = t.join;
     let turns = t.turns as u64;
     let words = t.words as u64;
     Said {
-        join: join,
+        join: t.join,
         numbers: [turns, words, t.stop, t.refusal, 0, 0, 0, 0, 0, 0, 0],
     }
 }

@@ -37,26 +37,21 @@ struct Replay {
 // Nothing read, and a join that no opening gave: every call is refused.
 fn start() -> Replay {
     let refused = host::rowkeeper_open(options_of(&[5i64]));
-    let join = refused.join;
     Replay {
         reader: unread(),
-        join: join,
+        join: refused.join,
         tally: nothing(),
     }
 }
 
 // Whether an answer is the recorded one of a line.
 fn same(numbers: &[u64], out: &[i64], line: &[i64], r: Reader) -> bool {
-    if same_numbers(numbers, line, r.call, r.numbers) {
-        return same_words(out, line, r.numbers, r.words);
-    }
-    false
+    same_numbers(numbers, line, r.call, r.numbers) && same_words(out, line, r.numbers, r.words)
 }
 
 // Ends a part: tells it, and counts anew.
 fn end_part(mut s: Replay, part: u64) -> Replay {
-    let counts = s.tally;
-    tell_part(counts, part);
+    tell_part(s.tally, part);
     s.tally = nothing();
     s
 }
@@ -69,13 +64,10 @@ fn replay_line(mut s: Replay, line: &[i64], left: &mut [i64], right: &mut [i64])
         return end_part(s, number_at(line, 1));
     }
     let mut out = [-9i64; 128];
-    let join = s.join;
-    let counts = s.tally;
-    let said = make_call(join, left, right, &mut out, line, r.call);
-    let next = said.join;
+    let said = make_call(s.join, left, right, &mut out, line, r.call);
     let numbers = said.numbers;
-    s.join = next;
-    s.tally = tallied(counts, number_at(line, 0), same(&numbers, &out, line, r));
+    s.join = said.join;
+    s.tally = tallied(s.tally, number_at(line, 0), same(&numbers, &out, line, r));
     s
 }
 
@@ -99,10 +91,8 @@ fn replay_byte(
 // Replays the input, byte by byte.
 fn replay_all(text: &[u8], line: &mut [i64], left: &mut [i64], right: &mut [i64]) {
     let mut s = start();
-    let mut i = 0;
-    while i < text.len() {
-        s = replay_byte(s, text[i], line, left, right);
-        i += 1;
+    for byte in text {
+        s = replay_byte(s, *byte, line, left, right);
     }
 }
 

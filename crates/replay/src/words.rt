@@ -64,24 +64,20 @@ fn recorded(line: &[i64], i: usize, k: usize, n: usize, other: i64) -> i64 {
 
 // Whether the numbers of an answer are those from place k up to n of a line.
 pub(crate) fn same_numbers(said: &[u64], line: &[i64], k: usize, n: usize) -> bool {
-    let mut i = 0;
-    while i < said.len() {
+    for i in 0..said.len() {
         if said[i] != rows::cells::distance(recorded(line, i, k, n, 0), 0) {
             return false;
         }
-        i += 1;
     }
     true
 }
 
 // Whether an output has the words from place k up to n of a line, and behind them what it had before.
 pub(crate) fn same_words(out: &[i64], line: &[i64], k: usize, n: usize) -> bool {
-    let mut i = 0;
-    while i < out.len() {
+    for i in 0..out.len() {
         if out[i] != recorded(line, i, k, n, -9) {
             return false;
         }
-        i += 1;
     }
     true
 }

@@ -7,39 +7,39 @@ ghost use Rattle.order.specs.ranks.Ranks.{Indexed};
 ghost use Rattle.order.specs.Order.{cmp_z, cmp_value, cmp_cell};
 
 use crate::ranking::place_of;
-use order::Order;
+use std::cmp::Ordering;
 
 // Two values, as numbers.
-fn cmp_value(a: i64, b: i64) -> Order
+fn cmp_value(a: i64, b: i64) -> Ordering
     ensures { result ≡ cmp_z a b }
 {
     if a < b {
-        return Order::Less;
+        return Ordering::Less;
     }
     if b < a {
-        return Order::Greater;
+        return Ordering::Greater;
     }
-    Order::Equal
+    Ordering::Equal
 }
 
 // Two cells of a column without a list, each by its value and its mark.
-pub fn cmp_cell(va: i64, ma: i64, vb: i64, mb: i64, descending: bool, nulls_last: bool) -> Order
+pub fn cmp_cell(va: i64, ma: i64, vb: i64, mb: i64, descending: bool, nulls_last: bool) -> Ordering
     ensures { result ≡ cmp_cell (record { descending = descending; nulls_last = nulls_last; codes = [] }) (cell_of va ma) (cell_of vb mb) }
 {
     if ma == 0 {
         if mb == 0 {
-            return Order::Equal;
+            return Ordering::Equal;
         }
         if nulls_last {
-            return Order::Greater;
+            return Ordering::Greater;
         }
-        return Order::Less;
+        return Ordering::Less;
     }
     if mb == 0 {
         if nulls_last {
-            return Order::Less;
+            return Ordering::Less;
         }
-        return Order::Greater;
+        return Ordering::Greater;
     }
     if descending {
         return cmp_value(vb, va);
@@ -48,20 +48,20 @@ pub fn cmp_cell(va: i64, ma: i64, vb: i64, mb: i64, descending: bool, nulls_last
 }
 
 // Two values by their places in a list; values that it lacks stand behind, by number.
-fn cmp_place(a: i64, b: i64, codes: &[i64], rising: &[u8]) -> Order
+fn cmp_place(a: i64, b: i64, codes: &[i64], rising: &[u8]) -> Ordering
     requires { Indexed codes.now rising.now }
     ensures { result ≡ cmp_value codes.now a b }
 {
     if a == b {
-        return Order::Equal;
+        return Ordering::Equal;
     }
     let p = place_of(codes, rising, a);
     let q = place_of(codes, rising, b);
     if p < q {
-        return Order::Less;
+        return Ordering::Less;
     }
     if q < p {
-        return Order::Greater;
+        return Ordering::Greater;
     }
     cmp_value(a, b)
 }
@@ -76,7 +76,7 @@ pub fn cmp_listed(
     nulls_last: bool,
     codes: &[i64],
     rising: &[u8],
-) -> Order
+) -> Ordering
     requires { Indexed codes.now rising.now }
     ensures { result ≡ cmp_cell (record { descending = descending; nulls_last = nulls_last; codes = codes.now }) (cell_of va ma) (cell_of vb mb) }
 {

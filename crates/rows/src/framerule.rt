@@ -5,8 +5,6 @@ ghost use Rattle.frames.specs.Frame.{is_table, is_frame, row_count, frame_words,
 ghost use Rattle.frames.specs.Front.{HasCount, few_rows, front_of, front_length, fitting};
 ghost use Rattle.rows.specs.framerule.Pairs.{FineBetween};
 
-use frames::Front;
-
 // Whether a word is a number of rows, 0 to 4,096.
 fn few_rows(word: i64) -> bool
     ensures { result ≡ few_rows word }
@@ -36,31 +34,31 @@ pub fn row_count(words: &[i64]) -> usize
 }
 
 // The length of a frame of n rows and c columns where it is at most `room`. No product is made that might wrap.
-fn frame_words(n: usize, c: usize, room: usize) -> Front
+fn frame_words(n: usize, c: usize, room: usize) -> Option<usize>
     ensures { result ≡ fitting n c room }
 {
     if room < 2 {
-        return Front::Nothing;
+        return None;
     }
     if n == 0 {
-        return Front::Words(2);
+        return Some(2);
     }
     if (room - 2) / 2 / n < c {
-        return Front::Nothing;
+        return None;
     }
-    Front::Words(2 + 2 * (n * c))
+    Some(2 + 2 * (n * c))
 }
 
 // The length of the front of words by its n and by c, where n is a number of rows and so many words are there.
-fn front_length(words: &[i64], c: usize) -> Front
+fn front_length(words: &[i64], c: usize) -> Option<usize>
     ensures { result ≡ front_length c words.now }
 {
     let len = words.len();
     if len < 2 {
-        return Front::Nothing;
+        return None;
     }
     if !few_rows(words[0]) {
-        return Front::Nothing;
+        return None;
     }
     frame_words(row_count(words), c, len)
 }
@@ -117,6 +115,7 @@ fn skip_ones(marks: &[i64], end: usize) -> usize
     ensures { (result % 4 ≡ 0) × (result ≤ end) × ((vs : Words) → FineBetween 0 result vs marks.now) }
 {
     let mut i = 0;
+    // A while: four marks a turn, and the place where it stops is returned.
     while i < end {
         if !four_ones(marks, i) {
             return i;
@@ -148,12 +147,10 @@ fn rest_fine(values: &[i64], marks: &[i64], from: usize) -> bool
     requires { (from ≤ length values.now) × (length values.now ≤ length marks.now) }
     ensures { result ≡ pairs_fine (drop from values.now) (drop from marks.now) }
 {
-    let mut i = from;
-    while i < values.len() {
+    for i in from..values.len() {
         if !fine_at(values, marks, i) {
             return false;
         }
-        i += 1;
     }
     true
 }
@@ -166,6 +163,7 @@ fn pairs_fine(values: &[i64], marks: &[i64]) -> bool
     let len = values.len();
     let end = len - len % 4;
     let mut i = skip_ones(marks, end);
+    // A while: four pairs a turn, and the last fewer than four begin where it stops.
     while i < end {
         if !four_fine(values, marks, i) {
             return false;
@@ -186,7 +184,7 @@ pub fn is_table(words: &[i64], c: usize) -> bool
     if words[0] < 0 {
         return false;
     }
-    let Front::Words(k) = frame_words(row_count(words), c, len) else {
+    let Some(k) = frame_words(row_count(words), c, len) else {
         return false;
     };
     if k != len {
@@ -217,20 +215,20 @@ pub fn has_room(n: usize, c: usize, room: usize) -> bool
     ensures { result ≡ nat_le (frame_words n c) room }
 {
     match frame_words(n, c, room) {
-        Front::Words(_) => true,
-        Front::Nothing => false,
+        Some(_) => true,
+        None => false,
     }
 }
 
 // The length of the frame of c columns at the front of words that wait, or nothing where these words are none.
-pub fn front_words(waiting: &[i64], c: usize) -> Front
+pub fn front_words(waiting: &[i64], c: usize) -> Option<usize>
     ensures { result ≡ front_of c waiting.now }
 {
-    let Front::Words(k) = front_length(waiting, c) else {
-        return Front::Nothing;
+    let Some(k) = front_length(waiting, c) else {
+        return None;
     };
     if is_frame(&waiting[..k], c) {
-        return Front::Words(k);
+        return Some(k);
     }
-    Front::Nothing
+    None
 }

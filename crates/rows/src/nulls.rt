@@ -6,12 +6,5 @@ ghost use Rattle.rows.specs.nulls.Nulls.{any_zero};
 pub fn any_null(marks: &[i64]) -> bool
     ensures { result ≡ any_zero marks.now }
 {
-    let mut i = 0;
-    while i < marks.len() {
-        if marks[i] == 0 {
-            return true;
-        }
-        i += 1;
-    }
-    false
+    marks.contains(&0)
 }

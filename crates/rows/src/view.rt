@@ -12,7 +12,7 @@ pub struct FrameView<'a> {
     pub columns: usize,
 }
 
-// What a reader is told of a cell: its value, that it is null, or that there is no such cell.
+// What a reader is told of a cell: its value, that it is null, or that there is no such cell. Three cases: an Option in an Option would leave two of them without a name.
 #[derive(Clone, Copy)]
 pub enum Found {
     Value(i64),

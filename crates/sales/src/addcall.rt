@@ -1,12 +1,13 @@
 // A frame's sales, added to a table of subtotals and the number beside it in one call.
 ghost use Rattle.std.specs.Prelude.{◌≡◌, true, ◌≤◌, length};
-ghost use Rattle.order.specs.options.Options.{with_list};
+ghost use Rattle.order.specs.options.Options.{options_of};
 ghost use Rattle.takings.specs.Calls.{any_frame, columns_in};
 ghost use Rattle.sales.specs.addcall.AddRows.{AddContract};
 
 use crate::addrows::add_rows;
-use frames::outcomes::Took;
-use order::options::{Options, Terms, terms_of};
+use frames::RowSlice;
+use frames::refusals::Refusal;
+use order::options::{Options, Rules};
 use rows::framerule::row_count;
 use subtotals::takewords::judge_sales;
 use takings::Taken;
@@ -25,18 +26,14 @@ fn add_listed(
     number: i64,
     left: &[i64],
     answers: &[i64],
-    o: Terms,
-    codes: &[i64],
-    rising: &[u8],
+    rules: Rules<'_>,
     out: &mut [i64],
-) -> Taken
-    requires { (64 ≤ length codes.now) × (64 ≤ length rising.now) }
-    ensures { AddContract (with_list o codes.now rising.now) table.now number left.now answers.now out.old result out.new }
+) -> Result<Taken, Refusal>
+    requires { (64 ≤ length rules.codes.now) × (64 ≤ length rules.rising.now) }
+    ensures { AddContract (options_of rules.entry) table.now number left.now answers.now out.old result out.new }
 {
-    if let Took::Refused(r) = judge_sales(table, left, answers, o, codes, rising) {
-        return Taken::Refused(r);
-    }
-    let by = o.by;
+    judge_sales(table, left, answers, rules)?;
+    let by = rules.terms.by;
     let w = by + 2;
     let c = by + 1;
     let d = column_count(answers);
@@ -46,20 +43,26 @@ fn add_listed(
     let f = 2 + rows * c;
     let g = 2 + rows * d;
     add_rows(
-        &table[2..e],
-        &table[e..],
-        n,
+        RowSlice {
+            values: &table[2..e],
+            marks: &table[e..],
+            count: n,
+            width: w,
+        },
         number,
-        &left[2..f],
-        &left[f..],
-        &answers[2..g],
-        &answers[g..],
-        rows,
-        d,
-        w,
-        o,
-        codes,
-        rising,
+        RowSlice {
+            values: &left[2..f],
+            marks: &left[f..],
+            count: rows,
+            width: c,
+        },
+        RowSlice {
+            values: &answers[2..g],
+            marks: &answers[g..],
+            count: rows,
+            width: d,
+        },
+        rules,
         out,
     )
 }
@@ -72,19 +75,8 @@ pub fn add_sales(
     answers: &[i64],
     o: Options,
     out: &mut [i64],
-) -> Taken
+) -> Result<Taken, Refusal>
     ensures { AddContract o table.now number left.now answers.now out.old result out.new }
 {
-    let codes = o.ranks.codes;
-    let rising = o.ranks.rising;
-    add_listed(
-        table,
-        number,
-        left,
-        answers,
-        terms_of(o),
-        &codes,
-        &rising,
-        out,
-    )
+    add_listed(table, number, left, answers, o.rules(), out)
 }

@@ -5,12 +5,13 @@ ghost use Rattle.order.specs.options.Options.{with_list, without_list};
 ghost use Rattle.takings.specs.Sales.{sales_of};
 ghost use Rattle.sales.specs.salekind.Kinds.{kind_of, KindIn, FrameIn, Tallied};
 
+use frames::RowSlice;
 use order::options::Terms;
 use rows::cells::distance;
 use rows::keyed::{null_at, null_group};
 
 // What a left row is with its answer row: unmatched, matched without an amount, or matched with one.
-#[derive(Clone, Copy)]
+#[derive(Clone, Copy, PartialEq, Eq, Debug)]
 pub enum Kind {
     Unmatched,
     Nothing,
@@ -42,55 +43,36 @@ pub fn kind_of(left: &[i64], q: usize, answer: &[i64], z: usize, o: Terms) -> Ki
     Kind::Amount
 }
 
-// All n rows, the left ones c wide and the answers d wide.
-pub fn count_kinds(
-    left: &[i64],
-    values: &[i64],
-    answer: &[i64],
-    n: usize,
-    d: usize,
-    o: Terms,
-) -> Tally
-    requires { FrameIn o.by n d left.now values.now answer.now }
-    ensures { (lv codes : Words) (rising : List ℕ) → length left.now ≤ length lv → Tallied (sales_of (with_list o codes rising) (rows_of (suc o.by) n lv left.now) (rows_of d n values.now answer.now)) result.sales result.nulls result.beyond }
+// All rows.
+pub fn count_kinds(left: RowSlice<'_>, answers: RowSlice<'_>, o: Terms) -> Tally
+    requires { FrameIn o.by left.count answers.width left.marks.now answers.values.now answers.marks.now }
+    ensures { (lv codes : Words) (rising : List ℕ) → length left.entry.marks.now ≤ length lv → Tallied (sales_of (with_list o codes rising) (rows_of (suc o.by) left.entry.count lv left.entry.marks.now) (rows_of answers.entry.width left.entry.count answers.entry.values.now answers.entry.marks.now)) result.sales result.nulls result.beyond }
 {
     let c = o.by + 1;
-    let mut s = 0;
-    let mut k = 0;
-    let mut i = 0;
-    let mut q = 0;
-    let mut z = 0;
-    while i < n {
-        match kind_of(left, q, answer, z, o) {
-            Kind::Unmatched => {
-                i += 1;
-                q += c;
-                z += d;
-            }
+    let mut sales = 0;
+    let mut nulls = 0;
+    for i in 0..left.count {
+        let z = i * answers.width;
+        match kind_of(left.marks, i * c, answers.marks, z, o) {
+            Kind::Unmatched => {}
             Kind::Nothing => {
-                k += 1;
-                i += 1;
-                q += c;
-                z += d;
+                nulls += 1;
             }
             Kind::Amount => {
-                if 1000000000 < distance(values[z + 1], 0) {
+                if 1000000000 < distance(answers.values[z + 1], 0) {
                     return Tally {
                         sales: 0,
                         nulls: 0,
                         beyond: true,
                     };
                 }
-                s += 1;
-                i += 1;
-                q += c;
-                z += d;
+                sales += 1;
             }
         }
     }
     Tally {
-        sales: s,
-        nulls: k,
+        sales,
+        nulls,
         beyond: false,
     }
 }

@@ -1,7 +1,7 @@
 // How many rows a table has once a frame's sales are added, counted in one walk over both, if the sales come in group order.
 ghost use Rattle.std.specs.Prelude.{◌≡◌, true, cond, List, ℕ, suc, ◌+◌, ◌^◌, ◌≤◌, ◌<◌, length};
 ghost use Rattle.frames.specs.Cells.{row_from, rows_of, Words};
-ghost use Rattle.order.specs.options.Options.{with_list};
+ghost use Rattle.order.specs.options.Options.{options_of};
 ghost use Rattle.takings.specs.Subtotals.{Subtotal, add_all};
 ghost use Rattle.takings.specs.Sales.{sales_of, amounts_of};
 ghost use Rattle.sales.specs.salecount.Counts.{TableIs, CountIn};
@@ -9,9 +9,10 @@ ghost use Rattle.sales.specs.saleorder.Ordered.{side_of, SideIn};
 
 use crate::salekind::{Kind, kind_of};
 use crate::saleplace::reach;
-use order::Order;
-use order::options::Terms;
+use frames::RowSlice;
+use order::options::Rules;
 use rows::compare::cmp_group;
+use std::cmp::Ordering;
 
 // How many rows there are, if the sales come in group order; else nothing is said of them.
 #[derive(Clone, Copy)]
@@ -24,26 +25,22 @@ pub struct Ordered {
 fn side_of(
     any: bool,
     p: usize,
-    lv: &[i64],
-    lm: &[i64],
+    left: RowSlice<'_>,
     q: usize,
-    am: &[i64],
+    answers: RowSlice<'_>,
     z: usize,
-    o: Terms,
-    codes: &[i64],
-    rising: &[u8],
-) -> Order
-    requires { SideIn (with_list o codes.now rising.now) any p q lv.now lm.now z am.now }
-    ensures { (av : Words) (d : ℕ) → z + 1 < length av → 2 ≤ d → result ≡ side_of (with_list o codes.now rising.now) any (row_from (suc o.by) p lv.now lm.now) (row_from (suc o.by) q lv.now lm.now) (row_from d z av am.now) }
+    rules: Rules<'_>,
+) -> Ordering
+    requires { SideIn (options_of rules) any p q left.values.now left.marks.now z answers.marks.now }
+    ensures { (av : Words) (d : ℕ) → z + 1 < length av → 2 ≤ d → result ≡ side_of (options_of rules.entry) any (row_from (suc rules.entry.terms.by) p left.entry.values.now left.entry.marks.now) (row_from (suc rules.entry.terms.by) q left.entry.values.now left.entry.marks.now) (row_from d z av answers.entry.marks.now) }
 {
-    match kind_of(lm, q, am, z, o) {
-        Kind::Amount => {}
-        _ => return Order::Equal,
+    if kind_of(left.marks, q, answers.marks, z, rules.terms) != Kind::Amount {
+        return Ordering::Equal;
     }
     if any {
-        return cmp_group(lv, lm, p, lv, lm, q, o, codes, rising);
+        return cmp_group(left, p, left, q, rules);
     }
-    Order::Less
+    Ordering::Less
 }
 
 // One more, unless it stays.
@@ -57,49 +54,34 @@ fn more(m: usize, stays: bool) -> usize
     m + 1
 }
 
-// How many rows n rows of subtotals and the sales of a frame make: each group that the table has not is one more. A group is looked for behind the table's rows up to the last one.
+// How many rows a table of subtotals and the sales of a frame make: each group that the table has not is one more. A group is looked for behind the table's rows up to the last one.
 pub fn count_ordered(
-    table: &[i64],
-    n: usize,
-    lv: &[i64],
-    lm: &[i64],
-    am: &[i64],
-    rows: usize,
-    d: usize,
-    o: Terms,
-    codes: &[i64],
-    rising: &[u8],
+    table: RowSlice<'_>,
+    left: RowSlice<'_>,
+    answers: RowSlice<'_>,
+    rules: Rules<'_>,
 ) -> Ordered
-    requires { CountIn (with_list o codes.now rising.now) n rows d table.now lv.now lm.now am.now }
-    ensures { (ts : List Subtotal) (av : Words) → result.told ≡ true → length am.now ≤ length av → TableIs (with_list o codes.now rising.now) n ts table.now → result.rows ≡ length (add_all (with_list o codes.now rising.now) ts (amounts_of (sales_of (with_list o codes.now rising.now) (rows_of (suc o.by) rows lv.now lm.now) (rows_of d rows av am.now)))) }
+    requires { CountIn (options_of rules) table.count left.count answers.width table.values.now left.values.now left.marks.now answers.marks.now }
+    ensures { (ts : List Subtotal) (av : Words) → result.told ≡ true → length answers.entry.marks.now ≤ length av → TableIs (options_of rules.entry) table.entry.count ts table.entry.values.now → result.rows ≡ length (add_all (options_of rules.entry) ts (amounts_of (sales_of (options_of rules.entry) (rows_of (suc rules.entry.terms.by) left.entry.count left.entry.values.now left.entry.marks.now) (rows_of answers.entry.width left.entry.count av answers.entry.marks.now)))) }
 {
-    let c = o.by + 1;
-    let w = o.by + 2;
-    let mut m = n;
+    let c = rules.terms.by + 1;
+    let w = rules.terms.by + 2;
+    let mut m = table.count;
     let mut near = 0;
     let mut any = false;
     let mut last = 0;
-    let mut i = 0;
-    let mut q = 0;
-    let mut z = 0;
-    while i < rows {
-        match side_of(any, last, lv, lm, q, am, z, o, codes, rising) {
-            Order::Less => {
-                let p = reach(table, near, n, w, lv, lm, q, o, codes, rising);
+    for i in 0..left.count {
+        let q = i * c;
+        match side_of(any, last, left, q, answers, i * answers.width, rules) {
+            Ordering::Less => {
+                let p = reach(table.values, near, table.count, w, left, q, rules);
                 m = more(m, p.here);
                 near = more(p.row, !p.here);
                 any = true;
                 last = q;
-                i += 1;
-                q += c;
-                z += d;
             }
-            Order::Equal => {
-                i += 1;
-                q += c;
-                z += d;
-            }
-            Order::Greater => {
+            Ordering::Equal => {}
+            Ordering::Greater => {
                 return Ordered {
                     rows: 0,
                     told: false,

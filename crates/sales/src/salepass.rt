@@ -2,13 +2,13 @@
 ghost use Rattle.std.specs.Prelude.{◌≡◌, cond, suc, ◌+◌, ◌-◌, ◌*◌, ◌^◌, ◌<◌, drop};
 ghost use Rattle.std.proofs.Math.Seq.{paste};
 ghost use Rattle.frames.specs.Cells.{row_from};
-ghost use Rattle.order.specs.options.Options.{with_list};
+ghost use Rattle.order.specs.options.Options.{options_of};
 ghost use Rattle.sales.specs.salepass.Pass.{RowsRoom, SaleIn, Added, Behind};
 
 use crate::saleinsert::put_at;
 use crate::saleplace::{place_near, reach};
-use crate::salewrite::copy_words;
-use order::options::Terms;
+use frames::RowSlice;
+use order::options::Rules;
 
 // How many rows are written, the place of the sale's row among them, and how many rows of the table they have taken in.
 #[derive(Clone, Copy)]
@@ -23,9 +23,9 @@ pub fn pass_rows(body: &mut [i64], m: usize, table: &[i64], from: usize, to: usi
     requires { RowsRoom m from to w table.now body.old }
     ensures { body.new ≡ paste body.old (m * w) (drop (from * w) table.now) ((to - from) * w) }
 {
-    let a = from * w;
-    let e = to * w;
-    copy_words(body, m * w, &table[a..e]);
+    let at = m * w;
+    let end = at + (to - from) * w;
+    body[at..end].copy_from_slice(&table[from * w..to * w]);
 }
 
 // The row behind the place of a group: the next one, if the place is its row.
@@ -43,29 +43,34 @@ fn end_of(row: usize, here: bool) -> usize
 fn put_behind(
     body: &mut [i64],
     m: usize,
-    table: &[i64],
+    table: RowSlice<'_>,
     taken: usize,
-    n: usize,
-    values: &[i64],
-    marks: &[i64],
+    left: RowSlice<'_>,
     q: usize,
     amount: i64,
-    o: Terms,
-    codes: &[i64],
-    rising: &[u8],
+    rules: Rules<'_>,
 ) -> Pass
-    requires { SaleIn (with_list o codes.now rising.now) n m taken table.now q values.now marks.now amount body.old }
-    ensures { Behind (with_list o codes.now rising.now) m body.old (row_from (suc o.by) q values.now marks.now) → Added (with_list o codes.now rising.now) n m taken table.now q values.now marks.now amount body.old result.rows result.taken body.new }
+    requires { SaleIn (options_of rules) table.count m taken table.values.now q left.values.now left.marks.now amount body.old }
+    ensures { Behind (options_of rules.entry) m body.old (row_from (suc rules.entry.terms.by) q left.entry.values.now left.entry.marks.now) → Added (options_of rules.entry) table.entry.count m taken table.entry.values.now q left.entry.values.now left.entry.marks.now amount body.old result.rows result.taken body.new }
 {
-    let w = o.by + 2;
-    let p = reach(table, taken, n, w, values, marks, q, o, codes, rising);
+    let w = rules.terms.by + 2;
+    let p = reach(table.values, taken, table.count, w, left, q, rules);
     let end = end_of(p.row, p.here);
-    pass_rows(body, m, table, taken, end, w);
+    pass_rows(body, m, table.values, taken, end, w);
     let place = m + (p.row - taken);
-    let rows = put_at(body, m + (end - taken), place, p.here, values, q, amount, o);
+    let rows = put_at(
+        body,
+        m + (end - taken),
+        place,
+        p.here,
+        left.values,
+        q,
+        amount,
+        rules.terms,
+    );
     Pass {
-        rows: rows,
-        place: place,
+        rows,
+        place,
         taken: end,
     }
 }
@@ -75,32 +80,22 @@ pub fn add_sale(
     body: &mut [i64],
     m: usize,
     near: usize,
-    table: &[i64],
+    table: RowSlice<'_>,
     taken: usize,
-    n: usize,
-    values: &[i64],
-    marks: &[i64],
+    left: RowSlice<'_>,
     q: usize,
     amount: i64,
-    o: Terms,
-    codes: &[i64],
-    rising: &[u8],
+    rules: Rules<'_>,
 ) -> Pass
-    requires { SaleIn (with_list o codes.now rising.now) n m taken table.now q values.now marks.now amount body.old }
-    ensures { Added (with_list o codes.now rising.now) n m taken table.now q values.now marks.now amount body.old result.rows result.taken body.new }
+    requires { SaleIn (options_of rules) table.count m taken table.values.now q left.values.now left.marks.now amount body.old }
+    ensures { Added (options_of rules.entry) table.entry.count m taken table.entry.values.now q left.entry.values.now left.entry.marks.now amount body.old result.rows result.taken body.new }
 {
-    let w = o.by + 2;
-    let p = place_near(body, m, w, near, values, marks, q, o, codes, rising);
+    let w = rules.terms.by + 2;
+    let p = place_near(body, m, w, near, left, q, rules);
     let place = p.row;
     if m <= place {
-        return put_behind(
-            body, m, table, taken, n, values, marks, q, amount, o, codes, rising,
-        );
+        return put_behind(body, m, table, taken, left, q, amount, rules);
     }
-    let rows = put_at(body, m, place, p.here, values, q, amount, o);
-    Pass {
-        rows: rows,
-        place: place,
-        taken: taken,
-    }
+    let rows = put_at(body, m, place, p.here, left.values, q, amount, rules.terms);
+    Pass { rows, place, taken }
 }

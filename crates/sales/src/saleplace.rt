@@ -1,12 +1,13 @@
 // Where a sale's group stands among rows of subtotals, each w wide, that words hold without marks.
 ghost use Rattle.std.specs.Prelude.{suc};
 ghost use Rattle.frames.specs.Cells.{row_from};
-ghost use Rattle.order.specs.options.Options.{with_list};
+ghost use Rattle.order.specs.options.Options.{options_of};
 ghost use Rattle.sales.specs.saleplace.Place.{cmp_one, SingleIn, PlaceIn, PlacedBy, Placed};
 
 use crate::salegroup::{cmp_all, cmp_first, cmp_sale, is_single};
-use order::Order;
-use order::options::Terms;
+use frames::RowSlice;
+use order::options::{Rules, Terms};
+use std::cmp::Ordering;
 
 // The row of a group; or, if none is here, the row before which it belongs.
 #[derive(Clone, Copy)]
@@ -21,31 +22,29 @@ fn find_all(
     low: usize,
     high: usize,
     w: usize,
-    values: &[i64],
-    marks: &[i64],
+    left: RowSlice<'_>,
     q: usize,
-    o: Terms,
-    codes: &[i64],
-    rising: &[u8],
+    rules: Rules<'_>,
 ) -> Place
-    requires { PlaceIn (with_list o codes.now rising.now) w low high body.now q values.now marks.now }
-    ensures { Placed (with_list o codes.now rising.now) w low high body.now (row_from (suc o.by) q values.now marks.now) result.row result.here }
+    requires { PlaceIn (options_of rules) w low high body.now q left.values.now left.marks.now }
+    ensures { Placed (options_of rules.entry) w low high body.now (row_from (suc rules.entry.terms.by) q left.entry.values.now left.entry.marks.now) result.row result.here }
 {
     let mut from = low;
     let mut to = high;
+    // A while: each turn halves what is left.
     while from < to {
         let mid = (from + to) / 2;
-        match cmp_all(body, mid * w, values, marks, q, o, codes, rising) {
-            Order::Less => {
+        match cmp_all(body, mid * w, left, q, rules) {
+            Ordering::Less => {
                 from = mid + 1;
             }
-            Order::Equal => {
+            Ordering::Equal => {
                 return Place {
                     row: mid,
                     here: true,
                 };
             }
-            Order::Greater => {
+            Ordering::Greater => {
                 to = mid;
             }
         }
@@ -62,29 +61,29 @@ fn find_single(
     low: usize,
     high: usize,
     w: usize,
-    values: &[i64],
-    marks: &[i64],
+    left: RowSlice<'_>,
     q: usize,
     o: Terms,
 ) -> Place
-    requires { SingleIn w low high body.now q values.now marks.now }
-    ensures { PlacedBy (cmp_one o w body.now q values.now marks.now) low high result.row result.here }
+    requires { SingleIn w low high body.now q left.values.now left.marks.now }
+    ensures { PlacedBy (cmp_one o w body.now q left.entry.values.now left.entry.marks.now) low high result.row result.here }
 {
     let mut from = low;
     let mut to = high;
+    // A while: each turn halves what is left.
     while from < to {
         let half = (from + to) / 2;
-        match cmp_first(body, half * w, values, marks, q, o) {
-            Order::Less => {
+        match cmp_first(body, half * w, left, q, o) {
+            Ordering::Less => {
                 from = half + 1;
             }
-            Order::Equal => {
+            Ordering::Equal => {
                 return Place {
                     row: half,
                     here: true,
                 };
             }
-            Order::Greater => {
+            Ordering::Greater => {
                 to = half;
             }
         }
@@ -101,20 +100,17 @@ pub fn find_place(
     low: usize,
     high: usize,
     w: usize,
-    values: &[i64],
-    marks: &[i64],
+    left: RowSlice<'_>,
     q: usize,
-    o: Terms,
-    codes: &[i64],
-    rising: &[u8],
+    rules: Rules<'_>,
 ) -> Place
-    requires { PlaceIn (with_list o codes.now rising.now) w low high body.now q values.now marks.now }
-    ensures { Placed (with_list o codes.now rising.now) w low high body.now (row_from (suc o.by) q values.now marks.now) result.row result.here }
+    requires { PlaceIn (options_of rules) w low high body.now q left.values.now left.marks.now }
+    ensures { Placed (options_of rules.entry) w low high body.now (row_from (suc rules.entry.terms.by) q left.entry.values.now left.entry.marks.now) result.row result.here }
 {
-    if is_single(o) {
-        return find_single(body, low, high, w, values, marks, q, o);
+    if is_single(rules.terms) {
+        return find_single(body, low, high, w, left, q, rules.terms);
     }
-    find_all(body, low, high, w, values, marks, q, o, codes, rising)
+    find_all(body, low, high, w, left, q, rules)
 }
 
 // The place among n rows, with a row that is looked at first: a sale is often of the group of the sale before it, or of the next one.
@@ -123,26 +119,23 @@ pub fn place_near(
     n: usize,
     w: usize,
     near: usize,
-    values: &[i64],
-    marks: &[i64],
+    left: RowSlice<'_>,
     q: usize,
-    o: Terms,
-    codes: &[i64],
-    rising: &[u8],
+    rules: Rules<'_>,
 ) -> Place
-    requires { PlaceIn (with_list o codes.now rising.now) w 0 n body.now q values.now marks.now }
-    ensures { Placed (with_list o codes.now rising.now) w 0 n body.now (row_from (suc o.by) q values.now marks.now) result.row result.here }
+    requires { PlaceIn (options_of rules) w 0 n body.now q left.values.now left.marks.now }
+    ensures { Placed (options_of rules.entry) w 0 n body.now (row_from (suc rules.entry.terms.by) q left.entry.values.now left.entry.marks.now) result.row result.here }
 {
     if n <= near {
-        return find_place(body, 0, n, w, values, marks, q, o, codes, rising);
+        return find_place(body, 0, n, w, left, q, rules);
     }
-    match cmp_sale(body, near * w, values, marks, q, o, codes, rising) {
-        Order::Less => find_place(body, near + 1, n, w, values, marks, q, o, codes, rising),
-        Order::Equal => Place {
+    match cmp_sale(body, near * w, left, q, rules) {
+        Ordering::Less => find_place(body, near + 1, n, w, left, q, rules),
+        Ordering::Equal => Place {
             row: near,
             here: true,
         },
-        Order::Greater => find_place(body, 0, near, w, values, marks, q, o, codes, rising),
+        Ordering::Greater => find_place(body, 0, near, w, left, q, rules),
     }
 }
 
@@ -152,33 +145,31 @@ pub fn reach(
     start: usize,
     n: usize,
     w: usize,
-    values: &[i64],
-    marks: &[i64],
+    left: RowSlice<'_>,
     q: usize,
-    o: Terms,
-    codes: &[i64],
-    rising: &[u8],
+    rules: Rules<'_>,
 ) -> Place
-    requires { PlaceIn (with_list o codes.now rising.now) w start n body.now q values.now marks.now }
-    ensures { Placed (with_list o codes.now rising.now) w start n body.now (row_from (suc o.by) q values.now marks.now) result.row result.here }
+    requires { PlaceIn (options_of rules) w start n body.now q left.values.now left.marks.now }
+    ensures { Placed (options_of rules.entry) w start n body.now (row_from (suc rules.entry.terms.by) q left.entry.values.now left.entry.marks.now) result.row result.here }
 {
     let mut low = start;
+    // A while: each turn doubles its step.
     while low - start < n - low {
         let at = low + (low - start);
-        match cmp_sale(body, at * w, values, marks, q, o, codes, rising) {
-            Order::Less => {
+        match cmp_sale(body, at * w, left, q, rules) {
+            Ordering::Less => {
                 low = at + 1;
             }
-            Order::Equal => {
+            Ordering::Equal => {
                 return Place {
                     row: at,
                     here: true,
                 };
             }
-            Order::Greater => {
-                return find_place(body, low, at, w, values, marks, q, o, codes, rising);
+            Ordering::Greater => {
+                return find_place(body, low, at, w, left, q, rules);
             }
         }
     }
-    find_place(body, low, n, w, values, marks, q, o, codes, rising)
+    find_place(body, low, n, w, left, q, rules)
 }

@@ -10,6 +10,7 @@ ghost use Rattle.matching.specs.Stretches.{between};
 ghost use Rattle.matching.specs.Moves.{keys_sorted};
 ghost use Rattle.scanwalk.specs.Drive.{key_options, judged, unsorted, refusal_of, Drives, PartsIn};
 
+use frames::RowSlice;
 use matchrun::cursor::keys_sorted;
 use matchrun::{scan_run, walk_run};
 use order::options::{Check, Terms};
@@ -29,7 +30,7 @@ fn key_options(strategy: u8) -> Terms
 {
     Terms {
         by: 0,
-        strategy: strategy,
+        strategy,
         allow_eq: true,
         tolerance: -1,
         check: Check::Off,
@@ -79,10 +80,27 @@ fn both_sorted(
     requires { RowsIn (without_list o) wl to lv.now lm.now × (from ≤ to) × RowsIn (without_list o) wr end rv.now rm.now × (at ≤ end) }
     ensures { result ≡ (keys_sorted (without_list o) (between wl from to lv.now lm.now) && keys_sorted (without_list o) (between wr at end rv.now rm.now)) }
 {
-    if !keys_sorted(lv, lm, from, to, wl, o) {
-        return false;
-    }
-    keys_sorted(rv, rm, at, end, wr, o)
+    keys_sorted(
+        RowSlice {
+            values: lv,
+            marks: lm,
+            count: to,
+            width: wl,
+        },
+        from,
+        to,
+        o,
+    ) && keys_sorted(
+        RowSlice {
+            values: rv,
+            marks: rm,
+            count: end,
+            width: wr,
+        },
+        at,
+        end,
+        o,
+    )
 }
 
 // n left rows over m right rows: each by a scan, or all by a walk, which wants both sorted and else refuses by 14.
@@ -104,8 +122,20 @@ fn drive(
         answers out.old result out.new }
 {
     let o = key_options(strategy);
+    let left = RowSlice {
+        values: lv,
+        marks: lm,
+        count: n,
+        width: 1,
+    };
+    let right = RowSlice {
+        values: rv,
+        marks: rm,
+        count: m,
+        width: 1,
+    };
     if !walked {
-        scan_run(lv, lm, n, 1, 0, n, rv, rm, 1, 0, m, 0, o, out);
+        scan_run(left, n, 0, n, right, 0, m, 0, o, out);
         return Driven {
             refusal: 0,
             moves: 0,
@@ -117,7 +147,7 @@ fn drive(
             moves: 0,
         };
     }
-    let moves = walk_run(lv, lm, n, 1, 0, n, rv, rm, 1, 0, m, 0, o, out);
+    let moves = walk_run(left, n, 0, n, right, 0, m, 0, o, out);
     Driven {
         refusal: 0,
         moves: moves as u64,
@@ -134,10 +164,7 @@ fn call(walked: bool, strategy: u8, left: &[i64], right: &[i64], out: &mut [i64]
 {
     let refusal = judge(strategy, left, right, out.len());
     if refusal != 0 {
-        return Driven {
-            refusal: refusal,
-            moves: 0,
-        };
+        return Driven { refusal, moves: 0 };
     }
     let n = row_count(left);
     let m = row_count(right);

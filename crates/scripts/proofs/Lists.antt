@@ -1,9 +1,9 @@
 -- Random lists of calls, told as text in lists.txt: every answer, and then the join and the words of both areas, are those that the rules read from SCOPE give.
 -- Written by make. Assumes nothing.
+use Rattle.std.specs.Prelude.{None, Some}
 use mathlib.Core.Path.{◌≡◌, refl}
 use mathlib.Core.Bool.{true, false}
 use mathlib.Core.List.{[], ◌∷◌}
-use mathlib.Core.Option.{none, some}
 use lib.IntN.{pos, negsuc}
 use Rattle.frames.specs.Cells.{null, value}
 use Rattle.order.proofs.Samples.{options, carrying, distancing}
@@ -53,7 +53,7 @@ list_1 : script
     ∷ refused 9
     ∷ refused 3
     ∷ refused 3
-    ∷ looks (0 ∷ 8 ∷ 1 ∷ 22 ∷ 10 ∷ 0 ∷ 1 ∷ 1 ∷ 2 ∷ []) (some (value (pos 1) ∷ value (pos 4) ∷ [])) (some (value (pos 1) ∷ value (pos 3) ∷ []))
+    ∷ looks (0 ∷ 8 ∷ 1 ∷ 22 ∷ 10 ∷ 0 ∷ 1 ∷ 1 ∷ 2 ∷ []) (Some (value (pos 1) ∷ value (pos 4) ∷ [])) (Some (value (pos 1) ∷ value (pos 3) ∷ []))
     ∷ areas (pos 5 ∷ pos 2 ∷ pos 1 ∷ pos 3 ∷ pos 1 ∷ pos 3 ∷ pos 1 ∷ pos 3 ∷ pos 1 ∷ pos 4 ∷ pos 1 ∷ pos 4 ∷ pos 1 ∷ pos 1 ∷ pos 1 ∷ pos 1 ∷ pos 1 ∷ pos 1 ∷ pos 1 ∷ pos 1 ∷ pos 1 ∷ pos 1 ∷ pos 2 ∷ pos 2 ∷ pos 0 ∷ pos 0 ∷ pos 0 ∷ pos 0 ∷ pos 1 ∷ pos 1 ∷ pos 1 ∷ pos 1 ∷ []) (pos 1 ∷ pos 3 ∷ pos 9223372036854775805 ∷ pos 3616131973424738742 ∷ pos 1 ∷ pos 4 ∷ pos 7831105665363506262 ∷ pos 7632155455715828975 ∷ pos 1 ∷ pos 4 ∷ negsuc 7384669082635186173 ∷ negsuc 6791146519296701173 ∷ pos 1 ∷ pos 5 ∷ pos 9194516676508510057 ∷ pos 6190610754481908753 ∷ pos 1 ∷ pos 1 ∷ negsuc 495618148025563081 ∷ negsuc 0 ∷ pos 0 ∷ pos 4 ∷ pos 1 ∷ pos 7666360619691390132 ∷ pos 0 ∷ pos 4 ∷ pos 1234075601576443824 ∷ pos 1670216375401573742 ∷ pos 0 ∷ pos 5 ∷ negsuc 8901351243060452146 ∷ negsuc 7852414178718830492 ∷ pos 1 ∷ pos 1 ∷ pos 1 ∷ pos 1 ∷ pos 1 ∷ pos 1 ∷ pos 1 ∷ pos 1 ∷ pos 1 ∷ pos 1 ∷ pos 1 ∷ pos 1 ∷ pos 1 ∷ pos 1 ∷ pos 1 ∷ pos 1 ∷ pos 1 ∷ pos 1 ∷ pos 1 ∷ pos 1 ∷ pos 1 ∷ pos 1 ∷ pos 1 ∷ pos 1 ∷ pos 1 ∷ pos 1 ∷ pos 1 ∷ pos 1 ∷ pos 1 ∷ pos 1 ∷ pos 1 ∷ pos 1 ∷ pos 2 ∷ negsuc 5 ∷ negsuc 0 ∷ pos 4 ∷ negsuc 3 ∷ [])
     ∷ []
 unfolding script
@@ -93,7 +93,7 @@ list_2 : script
     ∷ refused 4
     ∷ idle
     ∷ said-ports 2 2 2 2
-    ∷ looks (0 ∷ 0 ∷ 0 ∷ 34 ∷ 0 ∷ 2 ∷ 1 ∷ 0 ∷ 4 ∷ []) none none
+    ∷ looks (0 ∷ 0 ∷ 0 ∷ 34 ∷ 0 ∷ 2 ∷ 1 ∷ 0 ∷ 4 ∷ []) None None
     ∷ areas (pos 1 ∷ pos 5 ∷ pos 1 ∷ pos 1 ∷ pos 1 ∷ pos 1 ∷ pos 3 ∷ pos 1 ∷ pos 1 ∷ pos 1 ∷ pos 1 ∷ pos 1 ∷ pos 2 ∷ pos 5 ∷ pos 1 ∷ pos 1 ∷ pos 1 ∷ pos 1 ∷ pos 6 ∷ pos 1 ∷ pos 1 ∷ pos 0 ∷ pos 1 ∷ pos 4 ∷ pos 1 ∷ pos 1 ∷ pos 1 ∷ pos 1 ∷ pos 1 ∷ pos 1 ∷ pos 1 ∷ pos 1 ∷ pos 1 ∷ pos 1 ∷ []) (negsuc 5 ∷ negsuc 0 ∷ pos 4 ∷ negsuc 3 ∷ pos 1 ∷ pos 6 ∷ negsuc 1 ∷ pos 3 ∷ negsuc 4 ∷ pos 0 ∷ pos 5 ∷ negsuc 2 ∷ pos 2 ∷ negsuc 5 ∷ negsuc 0 ∷ pos 4 ∷ negsuc 3 ∷ pos 1 ∷ pos 6 ∷ negsuc 1 ∷ [])
     ∷ []
 unfolding script
@@ -135,7 +135,7 @@ list_3 : script
     ∷ ok
     ∷ wrote 4 (pos 2 ∷ pos 2 ∷ pos 2 ∷ pos 228 ∷ pos 3 ∷ pos 435 ∷ pos 1 ∷ pos 1 ∷ pos 1 ∷ pos 1 ∷ [])
     ∷ said-ports 2 2 2 2
-    ∷ looks (2 ∷ 6 ∷ 2 ∷ 14 ∷ 0 ∷ 2 ∷ 1 ∷ 0 ∷ 6 ∷ []) none none
+    ∷ looks (2 ∷ 6 ∷ 2 ∷ 14 ∷ 0 ∷ 2 ∷ 1 ∷ 0 ∷ 6 ∷ []) None None
     ∷ areas (pos 2 ∷ pos 1 ∷ negsuc 9223372036854775806 ∷ pos 1 ∷ pos 1 ∷ pos 1 ∷ pos 0 ∷ pos 1 ∷ pos 2 ∷ pos 1 ∷ negsuc 0 ∷ pos 0 ∷ pos 1 ∷ pos 1 ∷ []) (pos 0 ∷ pos 108 ∷ negsuc 9223372036854775807 ∷ pos 967 ∷ negsuc 9223372036854775805 ∷ pos 228 ∷ pos 9223372036854775805 ∷ pos 435 ∷ pos 9223372036854775806 ∷ pos 859 ∷ pos 9223372036854775806 ∷ pos 750 ∷ pos 9223372036854775807 ∷ pos 852 ∷ pos 9223372036854775807 ∷ pos 264 ∷ pos 0 ∷ pos 1 ∷ pos 1 ∷ pos 1 ∷ pos 1 ∷ pos 1 ∷ pos 1 ∷ pos 1 ∷ pos 1 ∷ pos 1 ∷ pos 1 ∷ pos 1 ∷ pos 1 ∷ pos 1 ∷ pos 1 ∷ pos 1 ∷ [])
     ∷ []
 unfolding script
@@ -187,7 +187,7 @@ list_4 : script
     ∷ refused 3
     ∷ refused 3
     ∷ refused 3
-    ∷ looks (9 ∷ 3 ∷ 9 ∷ 14 ∷ 8 ∷ 0 ∷ 0 ∷ 1 ∷ 2 ∷ []) (some (value (pos 1) ∷ value (pos 0) ∷ value (pos 4) ∷ [])) (some (value (pos 1) ∷ value (pos 0) ∷ value (pos 0) ∷ []))
+    ∷ looks (9 ∷ 3 ∷ 9 ∷ 14 ∷ 8 ∷ 0 ∷ 0 ∷ 1 ∷ 2 ∷ []) (Some (value (pos 1) ∷ value (pos 0) ∷ value (pos 4) ∷ [])) (Some (value (pos 1) ∷ value (pos 0) ∷ value (pos 0) ∷ []))
     ∷ areas (pos 2 ∷ pos 3 ∷ pos 0 ∷ pos 0 ∷ pos 3 ∷ pos 1 ∷ pos 0 ∷ pos 4 ∷ pos 1 ∷ pos 1 ∷ pos 1 ∷ pos 1 ∷ pos 1 ∷ pos 1 ∷ pos 1 ∷ pos 3 ∷ pos 1 ∷ pos 0 ∷ pos 2 ∷ pos 1 ∷ pos 1 ∷ pos 1 ∷ []) (pos 0 ∷ pos 0 ∷ pos 0 ∷ pos 0 ∷ pos 0 ∷ pos 1 ∷ pos 0 ∷ pos 0 ∷ pos 4 ∷ pos 0 ∷ pos 0 ∷ pos 4 ∷ pos 0 ∷ pos 1 ∷ pos 2 ∷ pos 0 ∷ pos 1 ∷ pos 3 ∷ pos 0 ∷ pos 1 ∷ pos 4 ∷ pos 1 ∷ pos 0 ∷ pos 0 ∷ pos 1 ∷ pos 0 ∷ pos 0 ∷ pos 1 ∷ pos 1 ∷ pos 0 ∷ pos 1 ∷ pos 1 ∷ pos 0 ∷ pos 1 ∷ pos 1 ∷ pos 0 ∷ pos 5 ∷ negsuc 2 ∷ pos 2 ∷ negsuc 5 ∷ negsuc 0 ∷ pos 4 ∷ pos 1 ∷ pos 1 ∷ pos 1 ∷ pos 1 ∷ pos 1 ∷ pos 1 ∷ pos 1 ∷ pos 1 ∷ pos 1 ∷ pos 1 ∷ pos 1 ∷ pos 1 ∷ pos 1 ∷ pos 1 ∷ pos 1 ∷ pos 1 ∷ pos 1 ∷ pos 1 ∷ pos 1 ∷ pos 1 ∷ pos 1 ∷ pos 1 ∷ pos 1 ∷ pos 1 ∷ pos 1 ∷ pos 1 ∷ pos 1 ∷ pos 1 ∷ pos 1 ∷ pos 1 ∷ pos 1 ∷ pos 1 ∷ pos 1 ∷ pos 1 ∷ pos 1 ∷ pos 1 ∷ negsuc 5 ∷ negsuc 0 ∷ pos 4 ∷ negsuc 3 ∷ pos 1 ∷ pos 6 ∷ [])
     ∷ []
 unfolding script
@@ -229,7 +229,7 @@ list_5 : script
     ∷ ok
     ∷ wrote 2 (pos 4 ∷ pos 1 ∷ pos 0 ∷ pos 0 ∷ pos 0 ∷ pos 0 ∷ pos 0 ∷ pos 0 ∷ pos 0 ∷ pos 0 ∷ [])
     ∷ said-ports 2 2 2 2
-    ∷ looks (3 ∷ 1 ∷ 3 ∷ 44 ∷ 0 ∷ 2 ∷ 1 ∷ 0 ∷ 4 ∷ []) (some (null ∷ value (pos 0) ∷ value (pos 0) ∷ value (negsuc 9223372036854775806) ∷ [])) (some (value (pos 0) ∷ value (pos 0) ∷ value (pos 0) ∷ value (negsuc 9223372036854775807) ∷ []))
+    ∷ looks (3 ∷ 1 ∷ 3 ∷ 44 ∷ 0 ∷ 2 ∷ 1 ∷ 0 ∷ 4 ∷ []) (Some (null ∷ value (pos 0) ∷ value (pos 0) ∷ value (negsuc 9223372036854775806) ∷ [])) (Some (value (pos 0) ∷ value (pos 0) ∷ value (pos 0) ∷ value (negsuc 9223372036854775807) ∷ []))
     ∷ areas (pos 1 ∷ pos 4 ∷ pos 1 ∷ pos 0 ∷ pos 0 ∷ negsuc 9223372036854775806 ∷ pos 1 ∷ pos 0 ∷ pos 1 ∷ pos 1 ∷ pos 4 ∷ pos 4 ∷ pos 1 ∷ pos 1 ∷ pos 0 ∷ pos 1 ∷ pos 0 ∷ pos 0 ∷ pos 1 ∷ pos 0 ∷ pos 0 ∷ pos 1 ∷ pos 1 ∷ pos 0 ∷ pos 0 ∷ pos 0 ∷ pos 0 ∷ negsuc 9223372036854775806 ∷ pos 1 ∷ pos 1 ∷ pos 1 ∷ pos 1 ∷ pos 1 ∷ pos 0 ∷ pos 1 ∷ pos 1 ∷ pos 1 ∷ pos 1 ∷ pos 1 ∷ pos 1 ∷ pos 0 ∷ pos 1 ∷ pos 1 ∷ pos 1 ∷ []) (pos 1 ∷ pos 0 ∷ pos 0 ∷ pos 9223372036854775807 ∷ pos 1 ∷ pos 0 ∷ pos 1 ∷ pos 0 ∷ pos 0 ∷ pos 0 ∷ pos 0 ∷ negsuc 9223372036854775807 ∷ pos 0 ∷ pos 0 ∷ pos 0 ∷ pos 0 ∷ pos 1 ∷ pos 1 ∷ pos 1 ∷ pos 1 ∷ pos 1 ∷ pos 1 ∷ pos 1 ∷ pos 1 ∷ pos 1 ∷ pos 1 ∷ pos 1 ∷ pos 1 ∷ pos 0 ∷ pos 1 ∷ pos 1 ∷ pos 0 ∷ [])
     ∷ []
 unfolding script
@@ -275,7 +275,7 @@ list_6 : script
     ∷ ok
     ∷ ok
     ∷ refused 9
-    ∷ looks (0 ∷ 9 ∷ 0 ∷ 16 ∷ 30 ∷ 0 ∷ 1 ∷ 1 ∷ 4 ∷ []) (some (value (pos 1) ∷ value (pos 3) ∷ [])) none
+    ∷ looks (0 ∷ 9 ∷ 0 ∷ 16 ∷ 30 ∷ 0 ∷ 1 ∷ 1 ∷ 4 ∷ []) (Some (value (pos 1) ∷ value (pos 3) ∷ [])) None
     ∷ areas (pos 0 ∷ pos 2 ∷ pos 3 ∷ pos 2 ∷ pos 1 ∷ pos 2 ∷ pos 1 ∷ pos 2 ∷ pos 1 ∷ pos 3 ∷ pos 1 ∷ pos 1 ∷ pos 1 ∷ pos 1 ∷ pos 1 ∷ pos 1 ∷ pos 7 ∷ pos 2 ∷ pos 1 ∷ pos 11 ∷ pos 0 ∷ pos 2 ∷ pos 0 ∷ pos 2 ∷ pos 0 ∷ pos 5 ∷ pos 0 ∷ pos 7 ∷ pos 0 ∷ pos 0 ∷ pos 0 ∷ pos 7 ∷ pos 1 ∷ pos 1 ∷ pos 1 ∷ pos 1 ∷ pos 1 ∷ pos 1 ∷ pos 1 ∷ pos 1 ∷ pos 1 ∷ pos 1 ∷ pos 0 ∷ pos 1 ∷ pos 0 ∷ pos 1 ∷ []) (pos 1 ∷ pos 4 ∷ pos 1 ∷ pos 9 ∷ pos 0 ∷ pos 2 ∷ pos 0 ∷ pos 2 ∷ pos 0 ∷ pos 7 ∷ pos 0 ∷ pos 2 ∷ pos 0 ∷ pos 4 ∷ pos 0 ∷ pos 5 ∷ pos 0 ∷ pos 7 ∷ pos 1 ∷ pos 1 ∷ pos 1 ∷ pos 1 ∷ pos 0 ∷ pos 1 ∷ pos 1 ∷ pos 1 ∷ pos 1 ∷ pos 1 ∷ pos 1 ∷ pos 1 ∷ pos 0 ∷ pos 1 ∷ pos 0 ∷ pos 1 ∷ pos 0 ∷ pos 1 ∷ [])
     ∷ []
 unfolding script
@@ -367,15 +367,15 @@ list_8 : script
     ∷ ok
     ∷ refused 6
     ∷ ok
-    ∷ looks (0 ∷ 2 ∷ 0 ∷ 0 ∷ 16 ∷ 0 ∷ 0 ∷ 0 ∷ 0 ∷ []) none none
+    ∷ looks (0 ∷ 2 ∷ 0 ∷ 0 ∷ 16 ∷ 0 ∷ 0 ∷ 0 ∷ 0 ∷ []) None None
     ∷ ok
-    ∷ looks (0 ∷ 2 ∷ 0 ∷ 0 ∷ 30 ∷ 0 ∷ 0 ∷ 0 ∷ 0 ∷ []) none none
+    ∷ looks (0 ∷ 2 ∷ 0 ∷ 0 ∷ 30 ∷ 0 ∷ 0 ∷ 0 ∷ 0 ∷ []) None None
     ∷ refused 6
     ∷ refused 6
     ∷ refused 6
     ∷ wrote 0 (pos 3 ∷ pos 4 ∷ pos 0 ∷ pos 0 ∷ pos 0 ∷ pos 0 ∷ pos 0 ∷ pos 0 ∷ pos 0 ∷ pos 0 ∷ pos 0 ∷ pos 0 ∷ pos 0 ∷ pos 0 ∷ pos 0 ∷ pos 0 ∷ pos 0 ∷ pos 0 ∷ pos 0 ∷ pos 0 ∷ pos 0 ∷ pos 0 ∷ pos 0 ∷ pos 0 ∷ pos 0 ∷ pos 0 ∷ [])
     ∷ refused 6
-    ∷ looks (1 ∷ 1 ∷ 1 ∷ 14 ∷ 16 ∷ 0 ∷ 0 ∷ 0 ∷ 2 ∷ []) (some (value (negsuc 0) ∷ value (pos 1) ∷ [])) (some (value (pos 9223372036854775806) ∷ value (pos 1) ∷ []))
+    ∷ looks (1 ∷ 1 ∷ 1 ∷ 14 ∷ 16 ∷ 0 ∷ 0 ∷ 0 ∷ 2 ∷ []) (Some (value (negsuc 0) ∷ value (pos 1) ∷ [])) (Some (value (pos 9223372036854775806) ∷ value (pos 1) ∷ []))
     ∷ areas (pos 3 ∷ pos 2 ∷ pos 9223372036854775807 ∷ pos 3 ∷ pos 1 ∷ pos 5 ∷ negsuc 0 ∷ pos 1 ∷ pos 1 ∷ pos 1 ∷ pos 1 ∷ pos 1 ∷ pos 1 ∷ pos 1 ∷ pos 0 ∷ pos 2 ∷ pos 3 ∷ pos 2 ∷ negsuc 0 ∷ pos 1 ∷ negsuc 0 ∷ pos 3 ∷ negsuc 9223372036854775805 ∷ pos 5 ∷ pos 1 ∷ pos 1 ∷ pos 1 ∷ pos 1 ∷ pos 1 ∷ pos 1 ∷ negsuc 3 ∷ pos 3 ∷ negsuc 0 ∷ []) (pos 9223372036854775806 ∷ pos 1 ∷ pos 726 ∷ pos 0 ∷ pos 543 ∷ negsuc 9223372036854775805 ∷ pos 0 ∷ pos 0 ∷ pos 458 ∷ pos 499 ∷ pos 1 ∷ pos 1 ∷ pos 1 ∷ pos 0 ∷ pos 1 ∷ pos 1 ∷ pos 1 ∷ pos 0 ∷ pos 1 ∷ pos 1 ∷ pos 3 ∷ negsuc 4 ∷ pos 0 ∷ pos 5 ∷ negsuc 2 ∷ pos 2 ∷ negsuc 5 ∷ [])
     ∷ []
 unfolding script
@@ -409,7 +409,7 @@ list_9 : script
     ∷ ok
     ∷ ok
     ∷ wrote 0 (pos 2 ∷ pos 6 ∷ pos 0 ∷ pos 0 ∷ pos 0 ∷ pos 0 ∷ pos 0 ∷ pos 0 ∷ pos 0 ∷ pos 0 ∷ pos 0 ∷ pos 0 ∷ pos 0 ∷ pos 0 ∷ pos 0 ∷ pos 0 ∷ pos 0 ∷ pos 0 ∷ pos 0 ∷ pos 0 ∷ pos 0 ∷ pos 0 ∷ pos 0 ∷ pos 0 ∷ pos 0 ∷ pos 0 ∷ [])
-    ∷ looks (0 ∷ 0 ∷ 0 ∷ 14 ∷ 0 ∷ 0 ∷ 1 ∷ 0 ∷ 2 ∷ []) none none
+    ∷ looks (0 ∷ 0 ∷ 0 ∷ 14 ∷ 0 ∷ 0 ∷ 1 ∷ 0 ∷ 2 ∷ []) None None
     ∷ said-ports 2 2 2 2
     ∷ refused 4
     ∷ refused 4
@@ -420,12 +420,12 @@ list_9 : script
     ∷ refused 4
     ∷ refused 4
     ∷ refused 4
-    ∷ looks (0 ∷ 0 ∷ 0 ∷ 14 ∷ 0 ∷ 2 ∷ 1 ∷ 0 ∷ 2 ∷ []) none none
+    ∷ looks (0 ∷ 0 ∷ 0 ∷ 14 ∷ 0 ∷ 2 ∷ 1 ∷ 0 ∷ 2 ∷ []) None None
     ∷ refused 4
     ∷ refused 4
     ∷ refused 4
     ∷ refused 4
-    ∷ looks (0 ∷ 0 ∷ 0 ∷ 14 ∷ 0 ∷ 2 ∷ 1 ∷ 0 ∷ 2 ∷ []) none none
+    ∷ looks (0 ∷ 0 ∷ 0 ∷ 14 ∷ 0 ∷ 2 ∷ 1 ∷ 0 ∷ 2 ∷ []) None None
     ∷ areas (pos 2 ∷ pos 3 ∷ pos 1 ∷ pos 0 ∷ pos 0 ∷ pos 1 ∷ pos 1 ∷ pos 5 ∷ pos 1 ∷ pos 1 ∷ pos 0 ∷ pos 1 ∷ pos 1 ∷ pos 1 ∷ pos 5 ∷ []) (negsuc 5 ∷ negsuc 0 ∷ pos 4 ∷ negsuc 3 ∷ pos 1 ∷ pos 6 ∷ negsuc 1 ∷ pos 3 ∷ negsuc 4 ∷ pos 0 ∷ pos 5 ∷ negsuc 2 ∷ pos 2 ∷ negsuc 5 ∷ negsuc 0 ∷ pos 4 ∷ negsuc 3 ∷ pos 1 ∷ pos 6 ∷ negsuc 1 ∷ pos 3 ∷ negsuc 4 ∷ pos 0 ∷ pos 5 ∷ negsuc 2 ∷ pos 2 ∷ negsuc 5 ∷ negsuc 0 ∷ pos 4 ∷ negsuc 3 ∷ pos 1 ∷ pos 6 ∷ negsuc 1 ∷ pos 3 ∷ negsuc 4 ∷ pos 0 ∷ pos 5 ∷ negsuc 2 ∷ pos 2 ∷ negsuc 5 ∷ negsuc 0 ∷ pos 4 ∷ negsuc 3 ∷ pos 1 ∷ pos 6 ∷ negsuc 1 ∷ pos 3 ∷ negsuc 4 ∷ pos 0 ∷ pos 5 ∷ negsuc 2 ∷ pos 2 ∷ negsuc 5 ∷ negsuc 0 ∷ pos 4 ∷ negsuc 3 ∷ pos 1 ∷ pos 6 ∷ negsuc 1 ∷ pos 3 ∷ negsuc 4 ∷ pos 0 ∷ pos 5 ∷ negsuc 2 ∷ pos 2 ∷ negsuc 5 ∷ negsuc 0 ∷ pos 4 ∷ negsuc 3 ∷ pos 1 ∷ pos 6 ∷ [])
     ∷ []
 unfolding script
@@ -495,9 +495,9 @@ list_11 : script
     ∷ refused 4
     ∷ wrote 0 (pos 3 ∷ pos 5 ∷ pos 0 ∷ pos 0 ∷ pos 0 ∷ pos 0 ∷ pos 0 ∷ pos 0 ∷ pos 0 ∷ pos 0 ∷ pos 0 ∷ pos 0 ∷ pos 0 ∷ pos 0 ∷ pos 0 ∷ pos 0 ∷ pos 0 ∷ pos 0 ∷ pos 0 ∷ pos 0 ∷ pos 0 ∷ pos 0 ∷ pos 0 ∷ pos 0 ∷ pos 0 ∷ pos 0 ∷ pos 0 ∷ pos 0 ∷ pos 0 ∷ pos 0 ∷ pos 0 ∷ pos 0 ∷ [])
     ∷ refused 4
-    ∷ looks (0 ∷ 0 ∷ 0 ∷ 8 ∷ 0 ∷ 0 ∷ 1 ∷ 0 ∷ 2 ∷ []) none none
+    ∷ looks (0 ∷ 0 ∷ 0 ∷ 8 ∷ 0 ∷ 0 ∷ 1 ∷ 0 ∷ 2 ∷ []) None None
     ∷ refused 4
-    ∷ looks (0 ∷ 0 ∷ 0 ∷ 8 ∷ 0 ∷ 0 ∷ 1 ∷ 0 ∷ 2 ∷ []) none none
+    ∷ looks (0 ∷ 0 ∷ 0 ∷ 8 ∷ 0 ∷ 0 ∷ 1 ∷ 0 ∷ 2 ∷ []) None None
     ∷ areas (pos 3 ∷ pos 1 ∷ negsuc 9223372036854775807 ∷ negsuc 9223372036854775807 ∷ negsuc 9223372036854775806 ∷ pos 1 ∷ pos 1 ∷ pos 1 ∷ negsuc 3 ∷ pos 3 ∷ negsuc 0 ∷ negsuc 4 ∷ pos 2 ∷ negsuc 1 ∷ pos 5 ∷ pos 1 ∷ negsuc 2 ∷ pos 4 ∷ pos 0 ∷ negsuc 3 ∷ pos 3 ∷ negsuc 0 ∷ negsuc 4 ∷ []) (negsuc 5 ∷ negsuc 0 ∷ pos 4 ∷ negsuc 3 ∷ pos 1 ∷ [])
     ∷ []
 unfolding script
@@ -521,7 +521,7 @@ list_12 : script
     ∷ ok
     ∷ said-ports 1 1 1 0
     ∷ said-ports 0 1 0 0
-    ∷ looks (0 ∷ 2 ∷ 0 ∷ 0 ∷ 0 ∷ 0 ∷ 0 ∷ 0 ∷ 0 ∷ []) none none
+    ∷ looks (0 ∷ 2 ∷ 0 ∷ 0 ∷ 0 ∷ 0 ∷ 0 ∷ 0 ∷ 0 ∷ []) None None
     ∷ areas (negsuc 4 ∷ pos 2 ∷ []) (pos 3 ∷ pos 0 ∷ pos 0 ∷ pos 0 ∷ pos 0 ∷ pos 0 ∷ pos 0 ∷ pos 0 ∷ pos 0 ∷ pos 3 ∷ pos 0 ∷ pos 0 ∷ pos 0 ∷ pos 0 ∷ pos 0 ∷ pos 0 ∷ pos 0 ∷ pos 0 ∷ pos 1 ∷ pos 0 ∷ pos 0 ∷ pos 0 ∷ pos 0 ∷ pos 0 ∷ pos 0 ∷ pos 0 ∷ pos 0 ∷ pos 1 ∷ pos 0 ∷ pos 0 ∷ pos 0 ∷ pos 0 ∷ pos 0 ∷ pos 0 ∷ pos 0 ∷ pos 0 ∷ pos 5 ∷ negsuc 2 ∷ pos 2 ∷ negsuc 5 ∷ negsuc 0 ∷ pos 4 ∷ negsuc 3 ∷ [])
     ∷ []
 unfolding script
@@ -543,7 +543,7 @@ list_13 : script
     ∷ said-ports 2 2 2 2
     ∷ said-ports 2 2 2 2
     ∷ said-ports 2 2 2 2
-    ∷ looks (0 ∷ 0 ∷ 0 ∷ 0 ∷ 4 ∷ 2 ∷ 0 ∷ 0 ∷ 0 ∷ []) none none
+    ∷ looks (0 ∷ 0 ∷ 0 ∷ 0 ∷ 4 ∷ 2 ∷ 0 ∷ 0 ∷ 0 ∷ []) None None
     ∷ areas (pos 1 ∷ pos 1 ∷ pos 0 ∷ pos 1 ∷ []) (negsuc 5 ∷ negsuc 0 ∷ pos 4 ∷ negsuc 3 ∷ pos 1 ∷ pos 6 ∷ negsuc 1 ∷ pos 3 ∷ negsuc 4 ∷ pos 0 ∷ [])
     ∷ []
 unfolding script
@@ -563,7 +563,7 @@ list_14 : script
     ∷ said-ports 2 2 2 2
     ∷ said-ports 2 2 2 2
     ∷ said-ports 2 2 2 2
-    ∷ looks (0 ∷ 0 ∷ 0 ∷ 0 ∷ 0 ∷ 2 ∷ 0 ∷ 0 ∷ 0 ∷ []) none none
+    ∷ looks (0 ∷ 0 ∷ 0 ∷ 0 ∷ 0 ∷ 2 ∷ 0 ∷ 0 ∷ 0 ∷ []) None None
     ∷ areas [] (negsuc 5 ∷ negsuc 0 ∷ pos 4 ∷ negsuc 3 ∷ pos 1 ∷ pos 6 ∷ negsuc 1 ∷ pos 3 ∷ negsuc 4 ∷ pos 0 ∷ pos 5 ∷ negsuc 2 ∷ pos 2 ∷ negsuc 5 ∷ negsuc 0 ∷ [])
     ∷ []
 unfolding script
@@ -587,7 +587,7 @@ list_15 : script
     ∷ said-ports 2 0 1 1
     ∷ ok
     ∷ refused 9
-    ∷ looks (0 ∷ 2 ∷ 0 ∷ 0 ∷ 20 ∷ 1 ∷ 0 ∷ 1 ∷ 0 ∷ []) none none
+    ∷ looks (0 ∷ 2 ∷ 0 ∷ 0 ∷ 20 ∷ 1 ∷ 0 ∷ 1 ∷ 0 ∷ []) None None
     ∷ areas (pos 3 ∷ pos 2 ∷ pos 0 ∷ pos 19 ∷ pos 0 ∷ pos 22 ∷ pos 1 ∷ pos 22 ∷ pos 1 ∷ pos 1 ∷ pos 1 ∷ pos 1 ∷ pos 1 ∷ pos 1 ∷ pos 1 ∷ pos 2 ∷ pos 2 ∷ pos 7 ∷ pos 1 ∷ pos 1 ∷ []) (pos 2 ∷ pos 32 ∷ pos 0 ∷ pos 1 ∷ pos 2 ∷ pos 28 ∷ pos 9223372036854775805 ∷ pos 0 ∷ pos 1 ∷ pos 1 ∷ pos 0 ∷ pos 1 ∷ pos 1 ∷ pos 1 ∷ pos 1 ∷ pos 0 ∷ [])
     ∷ []
 unfolding script
@@ -615,7 +615,7 @@ list_16 : script
     ∷ ok
     ∷ wrote 0 (pos 1 ∷ pos 1 ∷ pos 0 ∷ pos 0 ∷ [])
     ∷ said-ports 2 2 2 2
-    ∷ looks (0 ∷ 0 ∷ 0 ∷ 4 ∷ 0 ∷ 2 ∷ 1 ∷ 0 ∷ 2 ∷ []) (some (value (pos 2) ∷ [])) none
+    ∷ looks (0 ∷ 0 ∷ 0 ∷ 4 ∷ 0 ∷ 2 ∷ 1 ∷ 0 ∷ 2 ∷ []) (Some (value (pos 2) ∷ [])) None
     ∷ areas (pos 1 ∷ pos 1 ∷ pos 2 ∷ pos 1 ∷ []) (negsuc 5 ∷ negsuc 0 ∷ pos 4 ∷ negsuc 3 ∷ pos 1 ∷ pos 6 ∷ negsuc 1 ∷ pos 3 ∷ negsuc 4 ∷ pos 0 ∷ pos 5 ∷ negsuc 2 ∷ pos 2 ∷ negsuc 5 ∷ negsuc 0 ∷ pos 4 ∷ negsuc 3 ∷ pos 1 ∷ pos 6 ∷ negsuc 1 ∷ pos 3 ∷ negsuc 4 ∷ pos 0 ∷ pos 5 ∷ [])
     ∷ []
 unfolding script
@@ -651,7 +651,7 @@ list_17 : script
     ∷ said-ports 2 1 1 1
     ∷ ok
     ∷ refused 9
-    ∷ looks (0 ∷ 4 ∷ 0 ∷ 0 ∷ 22 ∷ 1 ∷ 1 ∷ 1 ∷ 0 ∷ []) none none
+    ∷ looks (0 ∷ 4 ∷ 0 ∷ 0 ∷ 22 ∷ 1 ∷ 1 ∷ 1 ∷ 0 ∷ []) None None
     ∷ areas (pos 5 ∷ pos 2 ∷ pos 1 ∷ pos 0 ∷ pos 1 ∷ negsuc 9223372036854775807 ∷ pos 1 ∷ pos 0 ∷ pos 1 ∷ pos 0 ∷ pos 1 ∷ pos 9223372036854775805 ∷ pos 1 ∷ pos 0 ∷ pos 1 ∷ pos 1 ∷ pos 1 ∷ pos 1 ∷ pos 1 ∷ pos 1 ∷ pos 1 ∷ pos 1 ∷ []) (pos 1 ∷ pos 0 ∷ pos 956 ∷ pos 0 ∷ pos 9223372036854775805 ∷ pos 485 ∷ pos 0 ∷ pos 0 ∷ pos 113 ∷ pos 1 ∷ pos 0 ∷ pos 167 ∷ pos 1 ∷ pos 1 ∷ pos 1 ∷ pos 1 ∷ pos 1 ∷ pos 1 ∷ pos 1 ∷ pos 1 ∷ pos 1 ∷ pos 1 ∷ pos 0 ∷ pos 1 ∷ negsuc 2 ∷ pos 2 ∷ negsuc 5 ∷ negsuc 0 ∷ [])
     ∷ []
 unfolding script
@@ -689,7 +689,7 @@ list_18 : script
     ∷ ok
     ∷ wrote 0 (pos 2 ∷ pos 1 ∷ pos 0 ∷ pos 0 ∷ pos 0 ∷ pos 0 ∷ [])
     ∷ refused 8
-    ∷ looks (0 ∷ 1 ∷ 0 ∷ 10 ∷ 6 ∷ 1 ∷ 0 ∷ 1 ∷ 2 ∷ []) (some (value (pos 1) ∷ value (pos 1) ∷ [])) none
+    ∷ looks (0 ∷ 1 ∷ 0 ∷ 10 ∷ 6 ∷ 1 ∷ 0 ∷ 1 ∷ 2 ∷ []) (Some (value (pos 1) ∷ value (pos 1) ∷ [])) None
     ∷ areas (pos 2 ∷ pos 2 ∷ pos 1 ∷ pos 0 ∷ pos 1 ∷ pos 1 ∷ pos 1 ∷ pos 1 ∷ pos 1 ∷ pos 1 ∷ pos 1 ∷ pos 2 ∷ pos 0 ∷ pos 0 ∷ pos 1 ∷ pos 1 ∷ []) (pos 1 ∷ pos 2 ∷ pos 1 ∷ pos 1 ∷ pos 1 ∷ pos 6 ∷ [])
     ∷ []
 unfolding script
@@ -717,7 +717,7 @@ list_19 : script
     ∷ ok
     ∷ ok
     ∷ refused 9
-    ∷ looks (0 ∷ 4 ∷ 0 ∷ 6 ∷ 6 ∷ 0 ∷ 0 ∷ 1 ∷ 2 ∷ []) (some (value (pos 1) ∷ value (pos 4) ∷ [])) none
+    ∷ looks (0 ∷ 4 ∷ 0 ∷ 6 ∷ 6 ∷ 0 ∷ 0 ∷ 1 ∷ 2 ∷ []) (Some (value (pos 1) ∷ value (pos 4) ∷ [])) None
     ∷ areas (pos 1 ∷ pos 2 ∷ pos 1 ∷ pos 4 ∷ pos 1 ∷ pos 1 ∷ pos 1 ∷ pos 2 ∷ pos 1 ∷ pos 4 ∷ pos 1 ∷ pos 1 ∷ pos 2 ∷ negsuc 1 ∷ pos 5 ∷ pos 1 ∷ negsuc 2 ∷ pos 4 ∷ pos 0 ∷ negsuc 3 ∷ pos 3 ∷ negsuc 0 ∷ negsuc 4 ∷ pos 2 ∷ negsuc 1 ∷ pos 5 ∷ pos 1 ∷ negsuc 2 ∷ pos 4 ∷ pos 0 ∷ negsuc 3 ∷ pos 3 ∷ negsuc 0 ∷ negsuc 4 ∷ pos 2 ∷ negsuc 1 ∷ []) (pos 2 ∷ pos 1 ∷ pos 2 ∷ pos 0 ∷ pos 1 ∷ pos 1 ∷ pos 0 ∷ pos 0 ∷ pos 0 ∷ pos 3 ∷ pos 1 ∷ pos 0 ∷ pos 0 ∷ pos 0 ∷ pos 0 ∷ pos 1 ∷ pos 0 ∷ pos 0 ∷ pos 0 ∷ pos 0 ∷ pos 2 ∷ pos 0 ∷ pos 0 ∷ pos 0 ∷ pos 1 ∷ pos 3 ∷ pos 1 ∷ pos 0 ∷ pos 1 ∷ pos 1 ∷ pos 0 ∷ pos 0 ∷ pos 1 ∷ pos 1 ∷ pos 1 ∷ pos 1 ∷ pos 1 ∷ pos 1 ∷ pos 0 ∷ pos 0 ∷ pos 0 ∷ pos 1 ∷ pos 1 ∷ pos 0 ∷ pos 0 ∷ pos 1 ∷ pos 0 ∷ pos 1 ∷ pos 0 ∷ pos 1 ∷ pos 1 ∷ pos 0 ∷ pos 1 ∷ pos 0 ∷ pos 0 ∷ pos 0 ∷ pos 1 ∷ pos 1 ∷ pos 1 ∷ pos 1 ∷ pos 1 ∷ pos 1 ∷ pos 0 ∷ pos 0 ∷ [])
     ∷ []
 unfolding script
@@ -735,7 +735,7 @@ list_20 : script
     ∷ ok
     ∷ ok
     ∷ ok
-    ∷ looks (0 ∷ 2 ∷ 0 ∷ 0 ∷ 0 ∷ 0 ∷ 1 ∷ 0 ∷ 0 ∷ []) none none
+    ∷ looks (0 ∷ 2 ∷ 0 ∷ 0 ∷ 0 ∷ 0 ∷ 1 ∷ 0 ∷ 0 ∷ []) None None
     ∷ areas [] (pos 0 ∷ pos 2 ∷ pos 0 ∷ pos 0 ∷ pos 1 ∷ negsuc 0 ∷ pos 1 ∷ pos 1 ∷ pos 0 ∷ pos 1 ∷ pos 1 ∷ pos 1 ∷ pos 2 ∷ negsuc 5 ∷ negsuc 0 ∷ [])
     ∷ []
 unfolding script
@@ -787,7 +787,7 @@ list_21 : script
     ∷ wrote 8 (pos 0 ∷ pos 3 ∷ [])
     ∷ wrote 10 (pos 2 ∷ pos 3 ∷ pos 0 ∷ pos 0 ∷ pos 0 ∷ pos 0 ∷ pos 0 ∷ pos 0 ∷ pos 0 ∷ pos 0 ∷ pos 0 ∷ pos 0 ∷ pos 0 ∷ pos 0 ∷ [])
     ∷ wrote 12 (pos 0 ∷ pos 3 ∷ [])
-    ∷ looks (0 ∷ 0 ∷ 0 ∷ 58 ∷ 0 ∷ 0 ∷ 1 ∷ 0 ∷ 14 ∷ []) none none
+    ∷ looks (0 ∷ 0 ∷ 0 ∷ 58 ∷ 0 ∷ 0 ∷ 1 ∷ 0 ∷ 14 ∷ []) None None
     ∷ areas (pos 3 ∷ pos 2 ∷ pos 2 ∷ pos 2 ∷ pos 0 ∷ pos 0 ∷ pos 1 ∷ pos 0 ∷ pos 1 ∷ pos 1 ∷ pos 1 ∷ pos 1 ∷ pos 1 ∷ pos 1 ∷ pos 1 ∷ pos 2 ∷ pos 2 ∷ pos 1 ∷ pos 1 ∷ pos 1 ∷ pos 2 ∷ pos 2 ∷ pos 1 ∷ pos 1 ∷ pos 0 ∷ pos 1 ∷ pos 1 ∷ pos 1 ∷ pos 0 ∷ pos 1 ∷ pos 3 ∷ pos 2 ∷ pos 1 ∷ pos 2 ∷ pos 0 ∷ pos 1 ∷ pos 1 ∷ pos 1 ∷ pos 1 ∷ pos 1 ∷ pos 1 ∷ pos 1 ∷ pos 1 ∷ pos 1 ∷ pos 0 ∷ pos 2 ∷ pos 2 ∷ pos 2 ∷ pos 0 ∷ pos 1 ∷ pos 0 ∷ pos 0 ∷ pos 1 ∷ pos 1 ∷ pos 1 ∷ pos 1 ∷ pos 0 ∷ pos 2 ∷ []) []
     ∷ []
 unfolding script
@@ -825,7 +825,7 @@ list_22 : script
     ∷ wrote 2 (pos 1 ∷ pos 5 ∷ pos 0 ∷ pos 0 ∷ pos 0 ∷ pos 0 ∷ pos 0 ∷ pos 0 ∷ pos 0 ∷ pos 0 ∷ pos 0 ∷ pos 0 ∷ [])
     ∷ wrote 4 (pos 1 ∷ pos 5 ∷ pos 0 ∷ pos 0 ∷ pos 0 ∷ pos 0 ∷ pos 0 ∷ pos 0 ∷ pos 0 ∷ pos 0 ∷ pos 0 ∷ pos 0 ∷ [])
     ∷ wrote 6 (pos 1 ∷ pos 5 ∷ pos 0 ∷ pos 0 ∷ pos 0 ∷ pos 0 ∷ pos 0 ∷ pos 0 ∷ pos 0 ∷ pos 0 ∷ pos 0 ∷ pos 0 ∷ [])
-    ∷ looks (3 ∷ 0 ∷ 3 ∷ 24 ∷ 0 ∷ 0 ∷ 1 ∷ 0 ∷ 8 ∷ []) none none
+    ∷ looks (3 ∷ 0 ∷ 3 ∷ 24 ∷ 0 ∷ 0 ∷ 1 ∷ 0 ∷ 8 ∷ []) None None
     ∷ areas (pos 1 ∷ pos 2 ∷ pos 0 ∷ pos 0 ∷ pos 1 ∷ pos 0 ∷ pos 1 ∷ pos 2 ∷ pos 0 ∷ pos 2 ∷ pos 0 ∷ pos 1 ∷ pos 1 ∷ pos 2 ∷ pos 1 ∷ pos 0 ∷ pos 1 ∷ pos 1 ∷ pos 1 ∷ pos 2 ∷ pos 1 ∷ pos 0 ∷ pos 1 ∷ pos 0 ∷ []) (pos 0 ∷ pos 1 ∷ pos 735 ∷ pos 462 ∷ pos 753 ∷ pos 216 ∷ pos 0 ∷ pos 0 ∷ pos 921 ∷ pos 614 ∷ pos 389 ∷ pos 467 ∷ pos 0 ∷ pos 0 ∷ pos 552 ∷ pos 445 ∷ pos 126 ∷ pos 942 ∷ pos 0 ∷ pos 1 ∷ pos 1 ∷ pos 1 ∷ pos 1 ∷ pos 1 ∷ pos 0 ∷ pos 1 ∷ pos 1 ∷ pos 1 ∷ pos 1 ∷ pos 1 ∷ pos 1 ∷ pos 1 ∷ pos 1 ∷ pos 1 ∷ pos 1 ∷ pos 1 ∷ [])
     ∷ []
 unfolding script
@@ -851,7 +851,7 @@ list_23 : script
     ∷ ok
     ∷ ok
     ∷ refused 9
-    ∷ looks (0 ∷ 3 ∷ 0 ∷ 0 ∷ 6 ∷ 0 ∷ 1 ∷ 1 ∷ 0 ∷ []) none none
+    ∷ looks (0 ∷ 3 ∷ 0 ∷ 0 ∷ 6 ∷ 0 ∷ 1 ∷ 1 ∷ 0 ∷ []) None None
     ∷ areas (pos 1 ∷ pos 2 ∷ pos 0 ∷ pos 35 ∷ pos 1 ∷ pos 1 ∷ []) (pos 1 ∷ pos 4 ∷ pos 0 ∷ pos 27 ∷ pos 0 ∷ pos 27 ∷ pos 1 ∷ pos 1 ∷ pos 1 ∷ pos 1 ∷ pos 1 ∷ pos 1 ∷ pos 2 ∷ negsuc 5 ∷ negsuc 0 ∷ [])
     ∷ []
 unfolding script
@@ -871,7 +871,7 @@ list_24 : script
     ∷ ok
     ∷ ok
     ∷ refused 8
-    ∷ looks (0 ∷ 2 ∷ 0 ∷ 0 ∷ 18 ∷ 0 ∷ 0 ∷ 1 ∷ 0 ∷ []) none none
+    ∷ looks (0 ∷ 2 ∷ 0 ∷ 0 ∷ 18 ∷ 0 ∷ 0 ∷ 1 ∷ 0 ∷ []) None None
     ∷ areas (pos 4 ∷ pos 2 ∷ pos 1 ∷ pos 0 ∷ pos 1 ∷ pos 0 ∷ pos 0 ∷ pos 2 ∷ pos 0 ∷ pos 0 ∷ pos 1 ∷ pos 0 ∷ pos 1 ∷ pos 1 ∷ pos 1 ∷ pos 1 ∷ pos 1 ∷ pos 0 ∷ pos 0 ∷ negsuc 3 ∷ pos 3 ∷ negsuc 0 ∷ negsuc 4 ∷ pos 2 ∷ negsuc 1 ∷ pos 5 ∷ pos 1 ∷ negsuc 2 ∷ pos 4 ∷ pos 0 ∷ negsuc 3 ∷ pos 3 ∷ negsuc 0 ∷ negsuc 4 ∷ pos 2 ∷ negsuc 1 ∷ pos 5 ∷ pos 1 ∷ negsuc 2 ∷ pos 4 ∷ pos 0 ∷ negsuc 3 ∷ pos 3 ∷ negsuc 0 ∷ negsuc 4 ∷ pos 2 ∷ negsuc 1 ∷ pos 5 ∷ pos 1 ∷ negsuc 2 ∷ pos 4 ∷ pos 0 ∷ negsuc 3 ∷ pos 3 ∷ negsuc 0 ∷ negsuc 4 ∷ pos 2 ∷ negsuc 1 ∷ pos 5 ∷ pos 1 ∷ negsuc 2 ∷ pos 4 ∷ pos 0 ∷ negsuc 3 ∷ pos 3 ∷ negsuc 0 ∷ []) (pos 1 ∷ pos 1 ∷ pos 4966473049568616781 ∷ pos 0 ∷ pos 0 ∷ pos 0 ∷ pos 1 ∷ pos 0 ∷ pos 1030162346810899366 ∷ pos 0 ∷ pos 5 ∷ negsuc 2 ∷ pos 2 ∷ negsuc 5 ∷ negsuc 0 ∷ pos 4 ∷ negsuc 3 ∷ pos 1 ∷ pos 6 ∷ negsuc 1 ∷ pos 3 ∷ negsuc 4 ∷ pos 0 ∷ pos 5 ∷ negsuc 2 ∷ pos 2 ∷ negsuc 5 ∷ negsuc 0 ∷ pos 4 ∷ negsuc 3 ∷ pos 1 ∷ pos 6 ∷ negsuc 1 ∷ pos 3 ∷ negsuc 4 ∷ pos 0 ∷ pos 5 ∷ negsuc 2 ∷ pos 2 ∷ negsuc 5 ∷ negsuc 0 ∷ pos 4 ∷ negsuc 3 ∷ pos 1 ∷ pos 6 ∷ negsuc 1 ∷ pos 3 ∷ negsuc 4 ∷ pos 0 ∷ pos 5 ∷ negsuc 2 ∷ pos 2 ∷ negsuc 5 ∷ negsuc 0 ∷ pos 4 ∷ negsuc 3 ∷ pos 1 ∷ pos 6 ∷ negsuc 1 ∷ pos 3 ∷ negsuc 4 ∷ pos 0 ∷ pos 5 ∷ negsuc 2 ∷ pos 2 ∷ pos 1 ∷ pos 1 ∷ pos 1 ∷ pos 0 ∷ pos 0 ∷ pos 0 ∷ pos 1 ∷ pos 0 ∷ pos 1 ∷ pos 1 ∷ pos 5 ∷ negsuc 2 ∷ pos 2 ∷ negsuc 5 ∷ negsuc 0 ∷ pos 4 ∷ negsuc 3 ∷ pos 1 ∷ pos 6 ∷ negsuc 1 ∷ pos 3 ∷ negsuc 4 ∷ pos 0 ∷ pos 5 ∷ negsuc 2 ∷ pos 2 ∷ negsuc 5 ∷ negsuc 0 ∷ pos 4 ∷ negsuc 3 ∷ pos 1 ∷ pos 6 ∷ negsuc 1 ∷ pos 3 ∷ negsuc 4 ∷ pos 0 ∷ pos 5 ∷ negsuc 2 ∷ pos 2 ∷ negsuc 5 ∷ negsuc 0 ∷ pos 4 ∷ negsuc 3 ∷ pos 1 ∷ pos 6 ∷ negsuc 1 ∷ pos 3 ∷ negsuc 4 ∷ pos 0 ∷ pos 5 ∷ negsuc 2 ∷ pos 2 ∷ negsuc 5 ∷ negsuc 0 ∷ pos 4 ∷ negsuc 3 ∷ pos 1 ∷ pos 6 ∷ negsuc 1 ∷ pos 3 ∷ negsuc 4 ∷ pos 0 ∷ pos 5 ∷ negsuc 2 ∷ pos 2 ∷ [])
     ∷ []
 unfolding script
@@ -903,7 +903,7 @@ list_25 : script
     ∷ ok
     ∷ ok
     ∷ refused 8
-    ∷ looks (0 ∷ 2 ∷ 0 ∷ 0 ∷ 6 ∷ 0 ∷ 1 ∷ 1 ∷ 4 ∷ []) (some (value (pos 4) ∷ [])) none
+    ∷ looks (0 ∷ 2 ∷ 0 ∷ 0 ∷ 6 ∷ 0 ∷ 1 ∷ 1 ∷ 4 ∷ []) (Some (value (pos 4) ∷ [])) None
     ∷ areas (pos 2 ∷ pos 1 ∷ pos 11 ∷ pos 0 ∷ pos 1 ∷ pos 0 ∷ []) (pos 2 ∷ pos 0 ∷ pos 5 ∷ pos 102 ∷ pos 1 ∷ pos 0 ∷ pos 1 ∷ pos 1 ∷ negsuc 4 ∷ pos 0 ∷ [])
     ∷ []
 unfolding script
@@ -943,7 +943,7 @@ list_26 : script
     ∷ ok
     ∷ wrote 2 (pos 1 ∷ pos 2 ∷ pos 0 ∷ pos 0 ∷ pos 0 ∷ pos 0 ∷ [])
     ∷ wrote 4 (pos 1 ∷ pos 2 ∷ pos 0 ∷ pos 0 ∷ pos 0 ∷ pos 0 ∷ [])
-    ∷ looks (2 ∷ 3 ∷ 4 ∷ 24 ∷ 0 ∷ 0 ∷ 1 ∷ 0 ∷ 6 ∷ []) (some (value (pos 0) ∷ null ∷ value (pos 1) ∷ null ∷ value (pos 11) ∷ [])) (some (value (pos 0) ∷ null ∷ value (pos 0) ∷ value (pos 1) ∷ value (pos 6) ∷ []))
+    ∷ looks (2 ∷ 3 ∷ 4 ∷ 24 ∷ 0 ∷ 0 ∷ 1 ∷ 0 ∷ 6 ∷ []) (Some (value (pos 0) ∷ null ∷ value (pos 1) ∷ null ∷ value (pos 11) ∷ [])) (Some (value (pos 0) ∷ null ∷ value (pos 0) ∷ value (pos 1) ∷ value (pos 6) ∷ []))
     ∷ areas (pos 1 ∷ pos 5 ∷ pos 0 ∷ pos 0 ∷ pos 0 ∷ pos 0 ∷ pos 1 ∷ pos 1 ∷ pos 1 ∷ pos 0 ∷ pos 1 ∷ pos 1 ∷ pos 1 ∷ pos 5 ∷ pos 0 ∷ pos 0 ∷ pos 1 ∷ pos 0 ∷ pos 11 ∷ pos 1 ∷ pos 0 ∷ pos 1 ∷ pos 0 ∷ pos 1 ∷ []) (pos 0 ∷ pos 0 ∷ pos 1 ∷ pos 0 ∷ pos 0 ∷ pos 5984060149816403402 ∷ pos 0 ∷ pos 0 ∷ pos 0 ∷ pos 1 ∷ pos 6 ∷ pos 3585497138301207599 ∷ pos 1 ∷ pos 0 ∷ pos 0 ∷ pos 0 ∷ pos 10 ∷ pos 0 ∷ pos 1 ∷ pos 0 ∷ pos 1 ∷ pos 1 ∷ pos 11 ∷ pos 3740355488461433166 ∷ pos 1 ∷ pos 0 ∷ pos 0 ∷ pos 0 ∷ pos 4 ∷ pos 1 ∷ pos 1 ∷ pos 0 ∷ pos 1 ∷ pos 1 ∷ pos 11 ∷ pos 3740355488461433166 ∷ pos 1 ∷ pos 1 ∷ pos 1 ∷ pos 0 ∷ pos 1 ∷ pos 1 ∷ pos 1 ∷ pos 0 ∷ pos 1 ∷ pos 1 ∷ pos 1 ∷ pos 1 ∷ pos 1 ∷ pos 1 ∷ pos 1 ∷ pos 1 ∷ pos 1 ∷ pos 0 ∷ pos 1 ∷ pos 1 ∷ pos 1 ∷ pos 1 ∷ pos 1 ∷ pos 1 ∷ pos 1 ∷ pos 0 ∷ pos 1 ∷ pos 0 ∷ pos 1 ∷ pos 1 ∷ pos 1 ∷ pos 1 ∷ pos 1 ∷ pos 1 ∷ pos 1 ∷ pos 1 ∷ pos 3 ∷ negsuc 4 ∷ [])
     ∷ []
 unfolding script
@@ -967,7 +967,7 @@ list_27 : script
     ∷ ok
     ∷ ok
     ∷ ok
-    ∷ looks (0 ∷ 5 ∷ 0 ∷ 0 ∷ 0 ∷ 0 ∷ 1 ∷ 0 ∷ 0 ∷ []) none none
+    ∷ looks (0 ∷ 5 ∷ 0 ∷ 0 ∷ 0 ∷ 0 ∷ 1 ∷ 0 ∷ 0 ∷ []) None None
     ∷ areas [] (pos 2 ∷ pos 0 ∷ negsuc 9223372036854775805 ∷ pos 304 ∷ pos 0 ∷ pos 0 ∷ pos 0 ∷ pos 427 ∷ pos 0 ∷ pos 0 ∷ pos 0 ∷ pos 362 ∷ pos 0 ∷ pos 0 ∷ pos 9223372036854775807 ∷ pos 591 ∷ pos 0 ∷ pos 1 ∷ pos 9223372036854775806 ∷ pos 517 ∷ pos 1 ∷ pos 0 ∷ pos 1 ∷ pos 1 ∷ pos 1 ∷ pos 0 ∷ pos 0 ∷ pos 1 ∷ pos 1 ∷ pos 0 ∷ pos 0 ∷ pos 1 ∷ pos 0 ∷ pos 1 ∷ pos 1 ∷ pos 1 ∷ pos 0 ∷ pos 1 ∷ pos 1 ∷ pos 1 ∷ [])
     ∷ []
 unfolding script
@@ -995,7 +995,7 @@ list_28 : script
     ∷ ok
     ∷ wrote 0 (pos 1 ∷ pos 1 ∷ pos 0 ∷ pos 0 ∷ [])
     ∷ wrote 2 (pos 2 ∷ pos 1 ∷ pos 0 ∷ pos 0 ∷ pos 0 ∷ pos 0 ∷ [])
-    ∷ looks (1 ∷ 0 ∷ 1 ∷ 34 ∷ 0 ∷ 0 ∷ 1 ∷ 0 ∷ 4 ∷ []) (some (value (pos 0) ∷ value (pos 0) ∷ value (pos 0) ∷ value (pos 0) ∷ value (pos 0) ∷ [])) none
+    ∷ looks (1 ∷ 0 ∷ 1 ∷ 34 ∷ 0 ∷ 0 ∷ 1 ∷ 0 ∷ 4 ∷ []) (Some (value (pos 0) ∷ value (pos 0) ∷ value (pos 0) ∷ value (pos 0) ∷ value (pos 0) ∷ [])) None
     ∷ areas (pos 1 ∷ pos 5 ∷ pos 0 ∷ pos 0 ∷ pos 1 ∷ pos 0 ∷ pos 8 ∷ pos 1 ∷ pos 1 ∷ pos 1 ∷ pos 1 ∷ pos 1 ∷ pos 2 ∷ pos 5 ∷ pos 0 ∷ pos 0 ∷ pos 0 ∷ pos 0 ∷ pos 0 ∷ pos 0 ∷ pos 1 ∷ pos 0 ∷ pos 0 ∷ pos 0 ∷ pos 1 ∷ pos 1 ∷ pos 1 ∷ pos 1 ∷ pos 1 ∷ pos 1 ∷ pos 1 ∷ pos 1 ∷ pos 1 ∷ pos 0 ∷ []) (pos 0 ∷ pos 0 ∷ pos 0 ∷ pos 1 ∷ pos 0 ∷ pos 1 ∷ pos 1 ∷ pos 1 ∷ pos 1 ∷ pos 0 ∷ [])
     ∷ []
 unfolding script
@@ -1049,7 +1049,7 @@ list_29 : script
     ∷ ok
     ∷ wrote 2 (pos 2 ∷ pos 4 ∷ pos 0 ∷ pos 0 ∷ pos 0 ∷ pos 0 ∷ pos 8 ∷ pos 0 ∷ pos 0 ∷ negsuc 9223372036854775806 ∷ pos 0 ∷ pos 0 ∷ pos 0 ∷ pos 0 ∷ pos 1 ∷ pos 0 ∷ pos 1 ∷ pos 1 ∷ [])
     ∷ refused 8
-    ∷ looks (8 ∷ 3 ∷ 8 ∷ 24 ∷ 6 ∷ 0 ∷ 1 ∷ 1 ∷ 4 ∷ []) (some (value (pos 2) ∷ value (pos 2) ∷ [])) (some (value (pos 2) ∷ value (pos 1) ∷ []))
+    ∷ looks (8 ∷ 3 ∷ 8 ∷ 24 ∷ 6 ∷ 0 ∷ 1 ∷ 1 ∷ 4 ∷ []) (Some (value (pos 2) ∷ value (pos 2) ∷ [])) (Some (value (pos 2) ∷ value (pos 1) ∷ []))
     ∷ areas (pos 3 ∷ pos 2 ∷ pos 0 ∷ pos 2 ∷ pos 1 ∷ pos 0 ∷ pos 1 ∷ pos 0 ∷ pos 1 ∷ pos 1 ∷ pos 1 ∷ pos 1 ∷ pos 1 ∷ pos 1 ∷ pos 2 ∷ pos 2 ∷ pos 2 ∷ pos 0 ∷ pos 2 ∷ pos 2 ∷ pos 1 ∷ pos 1 ∷ pos 1 ∷ pos 1 ∷ pos 1 ∷ pos 2 ∷ pos 0 ∷ pos 2 ∷ pos 1 ∷ pos 1 ∷ []) (pos 0 ∷ pos 0 ∷ pos 1691597106815302703 ∷ pos 0 ∷ pos 0 ∷ pos 0 ∷ pos 0 ∷ pos 0 ∷ pos 0 ∷ pos 0 ∷ pos 0 ∷ pos 2 ∷ negsuc 857830579277705921 ∷ pos 9223372036854775807 ∷ pos 0 ∷ pos 1 ∷ pos 1 ∷ pos 6378067083540380976 ∷ pos 3975776162596502682 ∷ pos 0 ∷ pos 1 ∷ pos 1 ∷ negsuc 4500367448231713741 ∷ pos 0 ∷ pos 0 ∷ pos 1 ∷ pos 2 ∷ negsuc 4919184672123737753 ∷ pos 4936689241393997815 ∷ negsuc 791779868525679218 ∷ pos 2 ∷ pos 0 ∷ pos 769191832332290298 ∷ negsuc 9223372036854775805 ∷ pos 0 ∷ pos 2 ∷ pos 1 ∷ pos 687272058125469096 ∷ negsuc 5461304508610890636 ∷ negsuc 9223372036854775807 ∷ pos 2 ∷ pos 1 ∷ pos 0 ∷ pos 0 ∷ negsuc 9223372036854775806 ∷ pos 2 ∷ pos 2 ∷ pos 0 ∷ pos 0 ∷ pos 6838164600586879791 ∷ pos 2 ∷ pos 2 ∷ negsuc 1797727613031180116 ∷ negsuc 3655483071087535261 ∷ pos 9223372036854775805 ∷ pos 1 ∷ pos 1 ∷ pos 1 ∷ pos 0 ∷ pos 0 ∷ pos 1 ∷ pos 1 ∷ pos 0 ∷ pos 1 ∷ pos 0 ∷ pos 1 ∷ pos 1 ∷ pos 1 ∷ pos 1 ∷ pos 0 ∷ pos 1 ∷ pos 1 ∷ pos 1 ∷ pos 1 ∷ pos 0 ∷ pos 1 ∷ pos 1 ∷ pos 1 ∷ pos 0 ∷ pos 0 ∷ pos 1 ∷ pos 1 ∷ pos 1 ∷ pos 1 ∷ pos 1 ∷ pos 1 ∷ pos 1 ∷ pos 1 ∷ pos 1 ∷ pos 0 ∷ pos 1 ∷ pos 1 ∷ pos 1 ∷ pos 1 ∷ pos 1 ∷ pos 1 ∷ pos 1 ∷ pos 0 ∷ pos 1 ∷ pos 1 ∷ pos 1 ∷ pos 1 ∷ pos 0 ∷ pos 0 ∷ pos 1 ∷ pos 1 ∷ pos 1 ∷ pos 1 ∷ pos 1 ∷ pos 1 ∷ [])
     ∷ []
 unfolding script
@@ -1069,7 +1069,7 @@ list_30 : script
     ∷ ok
     ∷ wrote 0 (pos 1 ∷ pos 7 ∷ pos 0 ∷ pos 143 ∷ pos 418 ∷ pos 916 ∷ pos 42 ∷ pos 566 ∷ pos 99 ∷ pos 1 ∷ pos 1 ∷ pos 1 ∷ pos 1 ∷ pos 1 ∷ pos 1 ∷ pos 1 ∷ [])
     ∷ ok
-    ∷ looks (0 ∷ 2 ∷ 0 ∷ 4 ∷ 0 ∷ 0 ∷ 0 ∷ 0 ∷ 2 ∷ []) (some (value (pos 0) ∷ [])) none
+    ∷ looks (0 ∷ 2 ∷ 0 ∷ 4 ∷ 0 ∷ 0 ∷ 0 ∷ 0 ∷ 2 ∷ []) (Some (value (pos 0) ∷ [])) None
     ∷ areas (pos 1 ∷ pos 1 ∷ pos 0 ∷ pos 1 ∷ []) (pos 0 ∷ pos 143 ∷ pos 418 ∷ pos 916 ∷ pos 42 ∷ pos 566 ∷ pos 99 ∷ pos 5 ∷ pos 374 ∷ pos 928 ∷ pos 805 ∷ pos 617 ∷ pos 505 ∷ pos 970 ∷ pos 1 ∷ pos 1 ∷ pos 1 ∷ pos 1 ∷ pos 1 ∷ pos 1 ∷ pos 1 ∷ pos 1 ∷ pos 1 ∷ pos 1 ∷ pos 1 ∷ pos 1 ∷ pos 1 ∷ pos 1 ∷ [])
     ∷ []
 unfolding script
@@ -1113,7 +1113,7 @@ list_31 : script
     ∷ wrote 6 (pos 1 ∷ pos 3 ∷ pos 0 ∷ pos 0 ∷ pos 0 ∷ pos 0 ∷ pos 0 ∷ pos 0 ∷ [])
     ∷ wrote 8 (pos 0 ∷ pos 3 ∷ [])
     ∷ said-ports 2 2 2 2
-    ∷ looks (0 ∷ 0 ∷ 0 ∷ 34 ∷ 0 ∷ 2 ∷ 1 ∷ 0 ∷ 10 ∷ []) none none
+    ∷ looks (0 ∷ 0 ∷ 0 ∷ 34 ∷ 0 ∷ 2 ∷ 1 ∷ 0 ∷ 10 ∷ []) None None
     ∷ areas (pos 1 ∷ pos 3 ∷ pos 9223372036854775805 ∷ pos 9223372036854775807 ∷ pos 9223372036854775805 ∷ pos 1 ∷ pos 1 ∷ pos 1 ∷ pos 1 ∷ pos 3 ∷ negsuc 9223372036854775806 ∷ negsuc 9223372036854775805 ∷ pos 1 ∷ pos 1 ∷ pos 1 ∷ pos 1 ∷ pos 1 ∷ pos 3 ∷ negsuc 9223372036854775807 ∷ negsuc 9223372036854775807 ∷ pos 0 ∷ pos 1 ∷ pos 1 ∷ pos 1 ∷ pos 1 ∷ pos 3 ∷ negsuc 9223372036854775807 ∷ negsuc 9223372036854775806 ∷ pos 0 ∷ pos 1 ∷ pos 1 ∷ pos 1 ∷ pos 0 ∷ pos 3 ∷ []) (negsuc 5 ∷ negsuc 0 ∷ [])
     ∷ []
 unfolding script
@@ -1137,7 +1137,7 @@ list_32 : script
     ∷ ok
     ∷ wrote 0 (pos 1 ∷ pos 2 ∷ pos 0 ∷ pos 0 ∷ pos 0 ∷ pos 0 ∷ [])
     ∷ said-ports 2 2 2 2
-    ∷ looks (1 ∷ 0 ∷ 1 ∷ 8 ∷ 0 ∷ 2 ∷ 1 ∷ 0 ∷ 2 ∷ []) none none
+    ∷ looks (1 ∷ 0 ∷ 1 ∷ 8 ∷ 0 ∷ 2 ∷ 1 ∷ 0 ∷ 2 ∷ []) None None
     ∷ areas (pos 1 ∷ pos 3 ∷ pos 0 ∷ pos 9223372036854775805 ∷ pos 9223372036854775807 ∷ pos 1 ∷ pos 1 ∷ pos 1 ∷ []) (pos 1 ∷ pos 9223372036854775807 ∷ pos 0 ∷ pos 0 ∷ pos 1 ∷ pos 1 ∷ pos 0 ∷ pos 0 ∷ [])
     ∷ []
 unfolding script
@@ -1167,7 +1167,7 @@ list_33 : script
     ∷ ok
     ∷ wrote 0 (pos 1 ∷ pos 3 ∷ pos 0 ∷ pos 0 ∷ pos 0 ∷ pos 0 ∷ pos 0 ∷ pos 0 ∷ [])
     ∷ said-ports 1 0 0 0
-    ∷ looks (1 ∷ 0 ∷ 1 ∷ 10 ∷ 0 ∷ 0 ∷ 1 ∷ 0 ∷ 2 ∷ []) (some (value (negsuc 9223372036854775807) ∷ value (pos 9223372036854775805) ∷ value (negsuc 9223372036854775805) ∷ value (pos 9223372036854775806) ∷ [])) (some (value (negsuc 0) ∷ value (pos 0) ∷ value (negsuc 0) ∷ value (pos 9223372036854775806) ∷ []))
+    ∷ looks (1 ∷ 0 ∷ 1 ∷ 10 ∷ 0 ∷ 0 ∷ 1 ∷ 0 ∷ 2 ∷ []) (Some (value (negsuc 9223372036854775807) ∷ value (pos 9223372036854775805) ∷ value (negsuc 9223372036854775805) ∷ value (pos 9223372036854775806) ∷ [])) (Some (value (negsuc 0) ∷ value (pos 0) ∷ value (negsuc 0) ∷ value (pos 9223372036854775806) ∷ []))
     ∷ areas (pos 1 ∷ pos 4 ∷ negsuc 9223372036854775807 ∷ pos 9223372036854775805 ∷ negsuc 9223372036854775805 ∷ pos 9223372036854775806 ∷ pos 1 ∷ pos 1 ∷ pos 1 ∷ pos 1 ∷ []) (negsuc 0 ∷ pos 0 ∷ negsuc 0 ∷ pos 9223372036854775806 ∷ negsuc 9223372036854775805 ∷ negsuc 9223372036854775805 ∷ pos 1 ∷ pos 1 ∷ pos 1 ∷ pos 1 ∷ pos 1 ∷ pos 1 ∷ [])
     ∷ []
 unfolding script
@@ -1215,7 +1215,7 @@ list_34 : script
     ∷ ok
     ∷ idle
     ∷ said-ports 0 1 0 0
-    ∷ looks (0 ∷ 3 ∷ 0 ∷ 10 ∷ 0 ∷ 0 ∷ 1 ∷ 0 ∷ 2 ∷ []) none none
+    ∷ looks (0 ∷ 3 ∷ 0 ∷ 10 ∷ 0 ∷ 0 ∷ 1 ∷ 0 ∷ 2 ∷ []) None None
     ∷ areas (pos 1 ∷ pos 4 ∷ negsuc 9223372036854775806 ∷ negsuc 0 ∷ pos 9223372036854775806 ∷ pos 0 ∷ pos 1 ∷ pos 1 ∷ pos 1 ∷ pos 0 ∷ []) (negsuc 0 ∷ pos 9223372036854775805 ∷ negsuc 9223372036854775805 ∷ pos 0 ∷ pos 2 ∷ pos 1 ∷ pos 9223372036854775807 ∷ negsuc 9223372036854775807 ∷ negsuc 9223372036854775805 ∷ pos 9223372036854775806 ∷ pos 0 ∷ pos 0 ∷ negsuc 9223372036854775807 ∷ pos 0 ∷ negsuc 9223372036854775806 ∷ pos 0 ∷ pos 0 ∷ pos 1 ∷ pos 1 ∷ pos 1 ∷ pos 1 ∷ pos 0 ∷ pos 1 ∷ pos 1 ∷ pos 1 ∷ pos 1 ∷ pos 1 ∷ pos 1 ∷ pos 1 ∷ pos 0 ∷ pos 1 ∷ pos 1 ∷ pos 1 ∷ pos 0 ∷ pos 0 ∷ pos 1 ∷ pos 5 ∷ negsuc 2 ∷ pos 2 ∷ negsuc 5 ∷ negsuc 0 ∷ pos 4 ∷ negsuc 3 ∷ [])
     ∷ []
 unfolding script
@@ -1259,7 +1259,7 @@ list_35 : script
     ∷ ok
     ∷ said-ports 0 1 0 0
     ∷ said-ports 2 1 0 1
-    ∷ looks (0 ∷ 3 ∷ 0 ∷ 0 ∷ 50 ∷ 1 ∷ 1 ∷ 0 ∷ 2 ∷ []) none none
+    ∷ looks (0 ∷ 3 ∷ 0 ∷ 0 ∷ 50 ∷ 1 ∷ 1 ∷ 0 ∷ 2 ∷ []) None None
     ∷ areas (pos 0 ∷ pos 4 ∷ pos 3 ∷ pos 4 ∷ negsuc 9223372036854775807 ∷ pos 1 ∷ pos 9223372036854775805 ∷ negsuc 9223372036854775805 ∷ negsuc 0 ∷ pos 9223372036854775806 ∷ pos 9223372036854775805 ∷ negsuc 0 ∷ negsuc 9223372036854775807 ∷ pos 9223372036854775806 ∷ pos 0 ∷ pos 9223372036854775805 ∷ pos 1 ∷ pos 1 ∷ pos 1 ∷ pos 1 ∷ pos 1 ∷ pos 1 ∷ pos 1 ∷ pos 1 ∷ pos 1 ∷ pos 1 ∷ pos 1 ∷ pos 1 ∷ pos 2 ∷ pos 4 ∷ pos 9223372036854775806 ∷ negsuc 0 ∷ negsuc 0 ∷ pos 9223372036854775806 ∷ pos 1 ∷ negsuc 9223372036854775806 ∷ negsuc 9223372036854775806 ∷ negsuc 9223372036854775807 ∷ pos 1 ∷ pos 1 ∷ pos 1 ∷ pos 1 ∷ pos 1 ∷ pos 1 ∷ pos 1 ∷ pos 1 ∷ pos 0 ∷ pos 4 ∷ pos 0 ∷ pos 4 ∷ []) (pos 9223372036854775807 ∷ pos 9223372036854775807 ∷ pos 9223372036854775805 ∷ negsuc 9223372036854775806 ∷ pos 8224347993125355203 ∷ negsuc 6660503686877895236 ∷ pos 9223372036854775807 ∷ pos 1 ∷ pos 9223372036854775805 ∷ pos 0 ∷ pos 4337033495069143285 ∷ negsuc 9223372036854775806 ∷ pos 1 ∷ pos 0 ∷ pos 1 ∷ pos 9223372036854775806 ∷ negsuc 7613442344826763428 ∷ pos 9223372036854775807 ∷ pos 1 ∷ pos 1 ∷ pos 1 ∷ pos 1 ∷ pos 1 ∷ pos 1 ∷ pos 1 ∷ pos 1 ∷ pos 1 ∷ pos 0 ∷ pos 1 ∷ pos 1 ∷ pos 1 ∷ pos 1 ∷ pos 1 ∷ pos 1 ∷ pos 1 ∷ pos 1 ∷ pos 5 ∷ negsuc 2 ∷ pos 2 ∷ negsuc 5 ∷ negsuc 0 ∷ pos 4 ∷ negsuc 3 ∷ pos 1 ∷ pos 6 ∷ negsuc 1 ∷ pos 3 ∷ [])
     ∷ []
 unfolding script
@@ -1301,7 +1301,7 @@ list_36 : script
     ∷ idle
     ∷ idle
     ∷ said-ports 1 0 0 0
-    ∷ looks (0 ∷ 0 ∷ 0 ∷ 22 ∷ 0 ∷ 0 ∷ 1 ∷ 0 ∷ 6 ∷ []) none none
+    ∷ looks (0 ∷ 0 ∷ 0 ∷ 22 ∷ 0 ∷ 0 ∷ 1 ∷ 0 ∷ 6 ∷ []) None None
     ∷ areas (pos 1 ∷ pos 2 ∷ negsuc 9223372036854775805 ∷ negsuc 9223372036854775806 ∷ pos 1 ∷ pos 1 ∷ pos 1 ∷ pos 2 ∷ pos 0 ∷ negsuc 0 ∷ pos 1 ∷ pos 1 ∷ pos 2 ∷ pos 2 ∷ pos 0 ∷ pos 1 ∷ pos 9223372036854775807 ∷ negsuc 0 ∷ pos 1 ∷ pos 1 ∷ pos 1 ∷ pos 1 ∷ []) (negsuc 5 ∷ negsuc 0 ∷ pos 4 ∷ [])
     ∷ []
 unfolding script
@@ -1369,7 +1369,7 @@ list_37 : script
     ∷ wrote 20 (pos 0 ∷ pos 5 ∷ [])
     ∷ wrote 22 (pos 1 ∷ pos 5 ∷ pos 1 ∷ pos 988 ∷ pos 807 ∷ pos 43 ∷ pos 58 ∷ pos 1 ∷ pos 1 ∷ pos 1 ∷ pos 1 ∷ pos 1 ∷ [])
     ∷ idle
-    ∷ looks (1 ∷ 1 ∷ 1 ∷ 76 ∷ 0 ∷ 0 ∷ 1 ∷ 0 ∷ 24 ∷ []) (some (value (pos 2) ∷ value (pos 0) ∷ value (pos 1) ∷ [])) (some (value (pos 1) ∷ value (pos 2) ∷ value (negsuc 0) ∷ []))
+    ∷ looks (1 ∷ 1 ∷ 1 ∷ 76 ∷ 0 ∷ 0 ∷ 1 ∷ 0 ∷ 24 ∷ []) (Some (value (pos 2) ∷ value (pos 0) ∷ value (pos 1) ∷ [])) (Some (value (pos 1) ∷ value (pos 2) ∷ value (negsuc 0) ∷ []))
     ∷ areas (pos 1 ∷ pos 3 ∷ pos 0 ∷ pos 2 ∷ pos 9223372036854775805 ∷ pos 1 ∷ pos 1 ∷ pos 1 ∷ pos 0 ∷ pos 3 ∷ pos 1 ∷ pos 3 ∷ pos 0 ∷ pos 0 ∷ pos 0 ∷ pos 1 ∷ pos 1 ∷ pos 0 ∷ pos 1 ∷ pos 3 ∷ pos 0 ∷ pos 0 ∷ negsuc 9223372036854775805 ∷ pos 1 ∷ pos 1 ∷ pos 1 ∷ pos 1 ∷ pos 3 ∷ pos 1 ∷ pos 2 ∷ negsuc 9223372036854775805 ∷ pos 1 ∷ pos 1 ∷ pos 1 ∷ pos 1 ∷ pos 3 ∷ pos 1 ∷ pos 0 ∷ pos 0 ∷ pos 1 ∷ pos 1 ∷ pos 1 ∷ pos 1 ∷ pos 3 ∷ pos 2 ∷ pos 2 ∷ pos 9223372036854775805 ∷ pos 1 ∷ pos 1 ∷ pos 1 ∷ pos 1 ∷ pos 3 ∷ pos 2 ∷ pos 1 ∷ pos 0 ∷ pos 1 ∷ pos 1 ∷ pos 1 ∷ pos 1 ∷ pos 3 ∷ pos 2 ∷ pos 1 ∷ pos 9223372036854775805 ∷ pos 1 ∷ pos 1 ∷ pos 1 ∷ pos 0 ∷ pos 3 ∷ pos 1 ∷ pos 3 ∷ pos 2 ∷ pos 0 ∷ pos 1 ∷ pos 1 ∷ pos 1 ∷ pos 1 ∷ []) (pos 1 ∷ pos 2 ∷ negsuc 0 ∷ pos 941 ∷ pos 0 ∷ pos 377 ∷ pos 541 ∷ pos 2 ∷ pos 0 ∷ pos 0 ∷ pos 988 ∷ pos 807 ∷ pos 43 ∷ pos 58 ∷ pos 1 ∷ pos 1 ∷ pos 1 ∷ pos 1 ∷ pos 0 ∷ pos 1 ∷ pos 1 ∷ pos 1 ∷ pos 1 ∷ pos 1 ∷ pos 1 ∷ pos 1 ∷ pos 1 ∷ pos 1 ∷ [])
     ∷ []
 unfolding script
@@ -1399,7 +1399,7 @@ list_38 : script
     ∷ ok
     ∷ wrote 0 (pos 1 ∷ pos 5 ∷ pos 0 ∷ pos 0 ∷ pos 0 ∷ pos 0 ∷ pos 0 ∷ pos 0 ∷ pos 0 ∷ pos 0 ∷ pos 0 ∷ pos 0 ∷ [])
     ∷ wrote 2 (pos 0 ∷ pos 5 ∷ [])
-    ∷ looks (0 ∷ 1 ∷ 0 ∷ 14 ∷ 0 ∷ 0 ∷ 1 ∷ 0 ∷ 4 ∷ []) (some (value (pos 0) ∷ null ∷ value (pos 1) ∷ value (pos 0) ∷ value (pos 9223372036854775807) ∷ [])) none
+    ∷ looks (0 ∷ 1 ∷ 0 ∷ 14 ∷ 0 ∷ 0 ∷ 1 ∷ 0 ∷ 4 ∷ []) (Some (value (pos 0) ∷ null ∷ value (pos 1) ∷ value (pos 0) ∷ value (pos 9223372036854775807) ∷ [])) None
     ∷ areas (pos 1 ∷ pos 5 ∷ pos 0 ∷ pos 0 ∷ pos 1 ∷ pos 0 ∷ pos 9223372036854775807 ∷ pos 1 ∷ pos 0 ∷ pos 1 ∷ pos 1 ∷ pos 1 ∷ pos 0 ∷ pos 5 ∷ []) (pos 1 ∷ pos 1 ∷ pos 1 ∷ pos 0 ∷ pos 9223372036854775806 ∷ pos 568 ∷ pos 899 ∷ pos 568 ∷ pos 169 ∷ pos 1 ∷ pos 1 ∷ pos 1 ∷ pos 1 ∷ pos 1 ∷ pos 1 ∷ pos 1 ∷ pos 1 ∷ pos 1 ∷ pos 6 ∷ negsuc 1 ∷ pos 3 ∷ negsuc 4 ∷ pos 0 ∷ pos 5 ∷ negsuc 2 ∷ pos 2 ∷ negsuc 5 ∷ negsuc 0 ∷ pos 4 ∷ negsuc 3 ∷ pos 1 ∷ pos 6 ∷ negsuc 1 ∷ [])
     ∷ []
 unfolding script
@@ -1435,7 +1435,7 @@ list_39 : script
     ∷ wrote 4 (pos 1 ∷ pos 1 ∷ pos 0 ∷ pos 0 ∷ [])
     ∷ idle
     ∷ idle
-    ∷ looks (3 ∷ 2 ∷ 3 ∷ 22 ∷ 0 ∷ 0 ∷ 1 ∷ 0 ∷ 6 ∷ []) (some (value (pos 0) ∷ value (pos 1) ∷ [])) (some (value (pos 1) ∷ value (pos 9223372036854775806) ∷ []))
+    ∷ looks (3 ∷ 2 ∷ 3 ∷ 22 ∷ 0 ∷ 0 ∷ 1 ∷ 0 ∷ 6 ∷ []) (Some (value (pos 0) ∷ value (pos 1) ∷ [])) (Some (value (pos 1) ∷ value (pos 9223372036854775806) ∷ []))
     ∷ areas (pos 2 ∷ pos 2 ∷ pos 2 ∷ pos 0 ∷ pos 2 ∷ pos 0 ∷ pos 1 ∷ pos 0 ∷ pos 1 ∷ pos 1 ∷ pos 1 ∷ pos 2 ∷ pos 2 ∷ pos 0 ∷ pos 1 ∷ pos 1 ∷ pos 1 ∷ pos 2 ∷ pos 0 ∷ pos 1 ∷ pos 1 ∷ pos 1 ∷ []) (pos 0 ∷ negsuc 9223372036854775806 ∷ pos 1 ∷ pos 9223372036854775806 ∷ pos 1 ∷ pos 9223372036854775806 ∷ pos 0 ∷ pos 1 ∷ pos 0 ∷ pos 9223372036854775805 ∷ pos 0 ∷ pos 1 ∷ pos 1 ∷ pos 1 ∷ pos 1 ∷ pos 1 ∷ pos 1 ∷ pos 1 ∷ pos 1 ∷ pos 1 ∷ [])
     ∷ []
 unfolding script
@@ -1483,7 +1483,7 @@ list_40 : script
     ∷ wrote 8 (pos 1 ∷ pos 1 ∷ pos 0 ∷ pos 0 ∷ [])
     ∷ idle
     ∷ idle
-    ∷ looks (2 ∷ 0 ∷ 2 ∷ 70 ∷ 0 ∷ 0 ∷ 1 ∷ 0 ∷ 10 ∷ []) (some (value (pos 2) ∷ value (pos 2) ∷ value (pos 3) ∷ [])) (some (value (pos 0) ∷ value (pos 1) ∷ value (pos 5) ∷ []))
+    ∷ looks (2 ∷ 0 ∷ 2 ∷ 70 ∷ 0 ∷ 0 ∷ 1 ∷ 0 ∷ 10 ∷ []) (Some (value (pos 2) ∷ value (pos 2) ∷ value (pos 3) ∷ [])) (Some (value (pos 0) ∷ value (pos 1) ∷ value (pos 5) ∷ []))
     ∷ areas (pos 2 ∷ pos 3 ∷ pos 0 ∷ pos 1 ∷ pos 2 ∷ pos 0 ∷ pos 2 ∷ pos 6 ∷ pos 1 ∷ pos 1 ∷ pos 1 ∷ pos 1 ∷ pos 1 ∷ pos 1 ∷ pos 3 ∷ pos 3 ∷ pos 0 ∷ pos 2 ∷ pos 7 ∷ pos 0 ∷ pos 2 ∷ pos 8 ∷ pos 0 ∷ pos 2 ∷ pos 10 ∷ pos 1 ∷ pos 1 ∷ pos 1 ∷ pos 1 ∷ pos 1 ∷ pos 1 ∷ pos 1 ∷ pos 1 ∷ pos 1 ∷ pos 2 ∷ pos 3 ∷ pos 1 ∷ pos 0 ∷ pos 2 ∷ pos 1 ∷ pos 0 ∷ pos 3 ∷ pos 1 ∷ pos 1 ∷ pos 1 ∷ pos 1 ∷ pos 1 ∷ pos 1 ∷ pos 2 ∷ pos 3 ∷ pos 1 ∷ pos 0 ∷ pos 5 ∷ pos 1 ∷ pos 1 ∷ pos 8 ∷ pos 1 ∷ pos 1 ∷ pos 1 ∷ pos 1 ∷ pos 1 ∷ pos 1 ∷ pos 1 ∷ pos 3 ∷ pos 2 ∷ pos 2 ∷ pos 3 ∷ pos 1 ∷ pos 1 ∷ pos 1 ∷ []) (pos 0 ∷ pos 0 ∷ pos 0 ∷ pos 0 ∷ pos 1 ∷ pos 5 ∷ pos 1 ∷ pos 1 ∷ pos 1 ∷ pos 1 ∷ pos 1 ∷ pos 1 ∷ [])
     ∷ []
 unfolding script
@@ -1501,7 +1501,7 @@ list_41 : script
     ∷ ok
     ∷ ok
     ∷ ok
-    ∷ looks (0 ∷ 4 ∷ 0 ∷ 0 ∷ 0 ∷ 0 ∷ 1 ∷ 0 ∷ 0 ∷ []) none none
+    ∷ looks (0 ∷ 4 ∷ 0 ∷ 0 ∷ 0 ∷ 0 ∷ 1 ∷ 0 ∷ 0 ∷ []) None None
     ∷ areas [] (pos 1 ∷ pos 1 ∷ pos 0 ∷ pos 1 ∷ pos 5 ∷ pos 2 ∷ pos 1 ∷ pos 1 ∷ pos 0 ∷ pos 0 ∷ pos 3 ∷ pos 2 ∷ pos 1 ∷ pos 0 ∷ pos 0 ∷ pos 0 ∷ pos 0 ∷ pos 2 ∷ pos 1 ∷ pos 0 ∷ pos 0 ∷ pos 0 ∷ pos 4 ∷ pos 0 ∷ pos 1 ∷ pos 1 ∷ pos 1 ∷ pos 1 ∷ pos 1 ∷ pos 1 ∷ pos 1 ∷ pos 1 ∷ pos 1 ∷ pos 1 ∷ pos 1 ∷ pos 1 ∷ pos 1 ∷ pos 1 ∷ pos 0 ∷ pos 0 ∷ pos 0 ∷ pos 1 ∷ pos 1 ∷ pos 1 ∷ pos 0 ∷ pos 1 ∷ pos 1 ∷ pos 1 ∷ [])
     ∷ []
 unfolding script
@@ -1531,7 +1531,7 @@ list_42 : script
     ∷ ok
     ∷ ok
     ∷ wrote 0 (pos 2 ∷ pos 2 ∷ pos 0 ∷ pos 0 ∷ pos 1 ∷ pos 0 ∷ pos 1 ∷ pos 0 ∷ pos 1 ∷ pos 0 ∷ [])
-    ∷ looks (0 ∷ 3 ∷ 0 ∷ 6 ∷ 0 ∷ 0 ∷ 1 ∷ 0 ∷ 2 ∷ []) none none
+    ∷ looks (0 ∷ 3 ∷ 0 ∷ 6 ∷ 0 ∷ 0 ∷ 1 ∷ 0 ∷ 2 ∷ []) None None
     ∷ areas (pos 2 ∷ pos 1 ∷ pos 0 ∷ pos 1 ∷ pos 1 ∷ pos 1 ∷ []) (pos 0 ∷ pos 0 ∷ pos 1 ∷ pos 0 ∷ pos 2 ∷ pos 0 ∷ pos 1 ∷ pos 0 ∷ pos 1 ∷ pos 0 ∷ pos 1 ∷ pos 0 ∷ [])
     ∷ []
 unfolding script
@@ -1583,7 +1583,7 @@ list_43 : script
     ∷ refused 3
     ∷ refused 3
     ∷ refused 3
-    ∷ looks (9 ∷ 3 ∷ 9 ∷ 14 ∷ 8 ∷ 0 ∷ 0 ∷ 1 ∷ 2 ∷ []) (some (value (pos 1) ∷ value (pos 0) ∷ value (pos 4) ∷ [])) (some (value (pos 1) ∷ value (pos 0) ∷ value (pos 0) ∷ []))
+    ∷ looks (9 ∷ 3 ∷ 9 ∷ 14 ∷ 8 ∷ 0 ∷ 0 ∷ 1 ∷ 2 ∷ []) (Some (value (pos 1) ∷ value (pos 0) ∷ value (pos 4) ∷ [])) (Some (value (pos 1) ∷ value (pos 0) ∷ value (pos 0) ∷ []))
     ∷ areas (pos 2 ∷ pos 3 ∷ pos 0 ∷ pos 0 ∷ pos 3 ∷ pos 1 ∷ pos 0 ∷ pos 4 ∷ pos 1 ∷ pos 1 ∷ pos 1 ∷ pos 1 ∷ pos 1 ∷ pos 1 ∷ pos 1 ∷ pos 3 ∷ pos 1 ∷ pos 0 ∷ pos 2 ∷ pos 1 ∷ pos 1 ∷ pos 1 ∷ []) (pos 0 ∷ pos 0 ∷ pos 0 ∷ pos 0 ∷ pos 0 ∷ pos 1 ∷ pos 0 ∷ pos 0 ∷ pos 4 ∷ pos 0 ∷ pos 0 ∷ pos 4 ∷ pos 0 ∷ pos 1 ∷ pos 2 ∷ pos 0 ∷ pos 1 ∷ pos 3 ∷ pos 0 ∷ pos 1 ∷ pos 4 ∷ pos 1 ∷ pos 0 ∷ pos 0 ∷ pos 1 ∷ pos 0 ∷ pos 0 ∷ pos 1 ∷ pos 1 ∷ pos 0 ∷ pos 1 ∷ pos 1 ∷ pos 0 ∷ pos 1 ∷ pos 1 ∷ pos 0 ∷ pos 5 ∷ negsuc 2 ∷ pos 2 ∷ negsuc 5 ∷ negsuc 0 ∷ pos 4 ∷ pos 1 ∷ pos 1 ∷ pos 1 ∷ pos 1 ∷ pos 1 ∷ pos 1 ∷ pos 1 ∷ pos 1 ∷ pos 1 ∷ pos 1 ∷ pos 1 ∷ pos 1 ∷ pos 1 ∷ pos 1 ∷ pos 1 ∷ pos 1 ∷ pos 1 ∷ pos 1 ∷ pos 1 ∷ pos 1 ∷ pos 1 ∷ pos 1 ∷ pos 1 ∷ pos 1 ∷ pos 1 ∷ pos 1 ∷ pos 1 ∷ pos 1 ∷ pos 1 ∷ pos 1 ∷ pos 1 ∷ pos 1 ∷ pos 1 ∷ pos 1 ∷ pos 1 ∷ pos 1 ∷ negsuc 5 ∷ negsuc 0 ∷ pos 4 ∷ negsuc 3 ∷ pos 1 ∷ pos 6 ∷ [])
     ∷ []
 unfolding script
@@ -1633,7 +1633,7 @@ list_44 : script
     ∷ wrote 2 (pos 2 ∷ pos 5 ∷ pos 1 ∷ pos 0 ∷ pos 0 ∷ pos 0 ∷ pos 14 ∷ pos 1 ∷ pos 0 ∷ pos 0 ∷ pos 0 ∷ pos 25 ∷ pos 1 ∷ pos 0 ∷ pos 0 ∷ pos 0 ∷ pos 1 ∷ pos 1 ∷ pos 0 ∷ pos 0 ∷ pos 0 ∷ pos 1 ∷ [])
     ∷ wrote 4 (pos 0 ∷ pos 5 ∷ [])
     ∷ said-ports 2 2 2 2
-    ∷ looks (1 ∷ 1 ∷ 1 ∷ 12 ∷ 0 ∷ 2 ∷ 1 ∷ 0 ∷ 6 ∷ []) none none
+    ∷ looks (1 ∷ 1 ∷ 1 ∷ 12 ∷ 0 ∷ 2 ∷ 1 ∷ 0 ∷ 6 ∷ []) None None
     ∷ areas (pos 1 ∷ pos 1 ∷ pos 9 ∷ pos 1 ∷ pos 2 ∷ pos 1 ∷ pos 22 ∷ pos 33 ∷ pos 1 ∷ pos 1 ∷ pos 0 ∷ pos 1 ∷ []) (pos 7 ∷ pos 0 ∷ pos 0 ∷ pos 0 ∷ pos 8 ∷ pos 0 ∷ pos 0 ∷ pos 0 ∷ pos 1 ∷ pos 0 ∷ pos 0 ∷ pos 0 ∷ pos 1 ∷ pos 0 ∷ pos 0 ∷ pos 0 ∷ negsuc 3 ∷ pos 1 ∷ pos 6 ∷ negsuc 1 ∷ pos 3 ∷ negsuc 4 ∷ [])
     ∷ []
 unfolding script
@@ -1667,7 +1667,7 @@ list_45 : script
     ∷ refused 4
     ∷ refused 4
     ∷ said-ports 2 2 2 2
-    ∷ looks (0 ∷ 0 ∷ 0 ∷ 0 ∷ 0 ∷ 2 ∷ 0 ∷ 0 ∷ 0 ∷ []) none none
+    ∷ looks (0 ∷ 0 ∷ 0 ∷ 0 ∷ 0 ∷ 2 ∷ 0 ∷ 0 ∷ 0 ∷ []) None None
     ∷ areas [] []
     ∷ []
 unfolding script
@@ -1705,7 +1705,7 @@ list_46 : script
     ∷ ok
     ∷ ok
     ∷ refused 9
-    ∷ looks (0 ∷ 4 ∷ 0 ∷ 0 ∷ 20 ∷ 0 ∷ 0 ∷ 1 ∷ 0 ∷ []) none none
+    ∷ looks (0 ∷ 4 ∷ 0 ∷ 0 ∷ 20 ∷ 0 ∷ 0 ∷ 1 ∷ 0 ∷ []) None None
     ∷ areas (pos 1 ∷ pos 4 ∷ pos 0 ∷ pos 1 ∷ pos 0 ∷ pos 1 ∷ pos 1 ∷ pos 1 ∷ pos 1 ∷ pos 1 ∷ pos 1 ∷ pos 4 ∷ pos 0 ∷ pos 1 ∷ pos 0 ∷ pos 8 ∷ pos 1 ∷ pos 1 ∷ pos 1 ∷ pos 1 ∷ []) (pos 0 ∷ pos 0 ∷ pos 0 ∷ pos 3 ∷ pos 0 ∷ pos 0 ∷ pos 0 ∷ pos 1 ∷ pos 1 ∷ pos 4 ∷ pos 0 ∷ pos 0 ∷ pos 1 ∷ pos 1 ∷ pos 0 ∷ pos 3 ∷ pos 0 ∷ pos 0 ∷ pos 0 ∷ pos 0 ∷ pos 0 ∷ pos 6 ∷ pos 0 ∷ pos 0 ∷ pos 1 ∷ pos 1 ∷ pos 1 ∷ pos 1 ∷ pos 0 ∷ pos 0 ∷ pos 1 ∷ pos 1 ∷ pos 1 ∷ pos 1 ∷ pos 0 ∷ pos 0 ∷ pos 1 ∷ pos 1 ∷ pos 1 ∷ pos 1 ∷ pos 0 ∷ pos 0 ∷ pos 1 ∷ pos 1 ∷ pos 1 ∷ pos 1 ∷ pos 0 ∷ pos 0 ∷ pos 0 ∷ pos 5 ∷ negsuc 2 ∷ pos 2 ∷ [])
     ∷ []
 unfolding script
@@ -1807,7 +1807,7 @@ list_48 : script
     ∷ refused 5
     ∷ idle
     ∷ ok
-    ∷ looks (0 ∷ 0 ∷ 0 ∷ 0 ∷ 34 ∷ 0 ∷ 0 ∷ 0 ∷ 0 ∷ []) none none
+    ∷ looks (0 ∷ 0 ∷ 0 ∷ 0 ∷ 34 ∷ 0 ∷ 0 ∷ 0 ∷ 0 ∷ []) None None
     ∷ refused 5
     ∷ ok
     ∷ refused 6
@@ -1815,7 +1815,7 @@ list_48 : script
     ∷ refused 6
     ∷ wants
     ∷ wants
-    ∷ looks (0 ∷ 0 ∷ 0 ∷ 0 ∷ 44 ∷ 0 ∷ 0 ∷ 0 ∷ 0 ∷ []) none none
+    ∷ looks (0 ∷ 0 ∷ 0 ∷ 0 ∷ 44 ∷ 0 ∷ 0 ∷ 0 ∷ 0 ∷ []) None None
     ∷ ok
     ∷ said-ports 0 0 0 0
     ∷ wants
@@ -1835,7 +1835,7 @@ list_48 : script
     ∷ wrote 0 (pos 4 ∷ pos 3 ∷ pos 0 ∷ pos 0 ∷ pos 0 ∷ pos 0 ∷ pos 0 ∷ pos 0 ∷ pos 0 ∷ pos 0 ∷ pos 0 ∷ pos 0 ∷ pos 0 ∷ pos 0 ∷ pos 0 ∷ pos 0 ∷ pos 0 ∷ pos 0 ∷ pos 0 ∷ pos 0 ∷ pos 0 ∷ pos 0 ∷ pos 0 ∷ pos 0 ∷ pos 0 ∷ pos 0 ∷ [])
     ∷ refused 4
     ∷ wrote 2 (pos 1 ∷ pos 3 ∷ pos 0 ∷ pos 0 ∷ pos 0 ∷ pos 0 ∷ pos 0 ∷ pos 0 ∷ [])
-    ∷ looks (1 ∷ 0 ∷ 1 ∷ 44 ∷ 18 ∷ 1 ∷ 1 ∷ 0 ∷ 4 ∷ []) (some (value (pos 0) ∷ value (pos 0) ∷ value (pos 1) ∷ value (pos 2) ∷ [])) (some (null ∷ value (pos 1) ∷ value (pos 1) ∷ value (pos 0) ∷ []))
+    ∷ looks (1 ∷ 0 ∷ 1 ∷ 44 ∷ 18 ∷ 1 ∷ 1 ∷ 0 ∷ 4 ∷ []) (Some (value (pos 0) ∷ value (pos 0) ∷ value (pos 1) ∷ value (pos 2) ∷ [])) (Some (null ∷ value (pos 1) ∷ value (pos 1) ∷ value (pos 0) ∷ []))
     ∷ areas (pos 4 ∷ pos 4 ∷ pos 0 ∷ pos 1 ∷ pos 1 ∷ pos 0 ∷ pos 0 ∷ pos 0 ∷ pos 0 ∷ pos 1 ∷ pos 0 ∷ pos 0 ∷ pos 0 ∷ pos 5 ∷ pos 0 ∷ pos 0 ∷ pos 1 ∷ pos 1 ∷ pos 0 ∷ pos 1 ∷ pos 1 ∷ pos 0 ∷ pos 1 ∷ pos 0 ∷ pos 1 ∷ pos 1 ∷ pos 1 ∷ pos 0 ∷ pos 1 ∷ pos 1 ∷ pos 1 ∷ pos 1 ∷ pos 1 ∷ pos 1 ∷ pos 1 ∷ pos 4 ∷ pos 0 ∷ pos 0 ∷ pos 1 ∷ pos 2 ∷ pos 1 ∷ pos 1 ∷ pos 1 ∷ pos 1 ∷ pos 2 ∷ pos 4 ∷ pos 1 ∷ pos 0 ∷ pos 1 ∷ pos 5 ∷ pos 1 ∷ pos 0 ∷ pos 1 ∷ pos 5 ∷ pos 1 ∷ pos 1 ∷ pos 1 ∷ pos 1 ∷ pos 1 ∷ pos 1 ∷ pos 1 ∷ pos 1 ∷ pos 0 ∷ negsuc 3 ∷ pos 3 ∷ negsuc 0 ∷ []) (pos 0 ∷ pos 1 ∷ pos 1 ∷ pos 0 ∷ pos 778 ∷ pos 6 ∷ negsuc 1 ∷ pos 3 ∷ negsuc 4 ∷ pos 0 ∷ pos 5 ∷ negsuc 2 ∷ pos 2 ∷ negsuc 5 ∷ negsuc 0 ∷ pos 0 ∷ pos 1 ∷ pos 1 ∷ pos 1 ∷ pos 1 ∷ pos 3 ∷ negsuc 4 ∷ pos 0 ∷ pos 5 ∷ negsuc 2 ∷ pos 2 ∷ negsuc 5 ∷ negsuc 0 ∷ pos 4 ∷ negsuc 3 ∷ pos 1 ∷ pos 6 ∷ negsuc 1 ∷ pos 3 ∷ negsuc 4 ∷ pos 0 ∷ [])
     ∷ []
 unfolding script
@@ -1875,7 +1875,7 @@ list_49 : script
     ∷ refused 4
     ∷ said-ports 1 1 1 0
     ∷ wrote 0 (pos 5 ∷ pos 7 ∷ pos 0 ∷ pos 1 ∷ pos 1 ∷ pos 0 ∷ pos 0 ∷ pos 2 ∷ pos 4 ∷ pos 0 ∷ pos 1 ∷ pos 1 ∷ pos 0 ∷ pos 0 ∷ pos 2 ∷ pos 5 ∷ pos 0 ∷ pos 1 ∷ pos 1 ∷ pos 0 ∷ pos 0 ∷ pos 2 ∷ pos 7 ∷ pos 0 ∷ pos 1 ∷ pos 1 ∷ pos 0 ∷ pos 0 ∷ pos 2 ∷ pos 8 ∷ pos 0 ∷ pos 1 ∷ pos 1 ∷ pos 0 ∷ pos 0 ∷ pos 2 ∷ pos 9 ∷ pos 1 ∷ pos 1 ∷ pos 1 ∷ pos 1 ∷ pos 0 ∷ pos 1 ∷ pos 1 ∷ pos 1 ∷ pos 1 ∷ pos 1 ∷ pos 1 ∷ pos 0 ∷ pos 1 ∷ pos 1 ∷ pos 1 ∷ pos 1 ∷ pos 1 ∷ pos 1 ∷ pos 0 ∷ pos 1 ∷ pos 1 ∷ pos 1 ∷ pos 1 ∷ pos 1 ∷ pos 1 ∷ pos 0 ∷ pos 1 ∷ pos 1 ∷ pos 1 ∷ pos 1 ∷ pos 1 ∷ pos 1 ∷ pos 0 ∷ pos 1 ∷ pos 1 ∷ [])
-    ∷ looks (0 ∷ 1 ∷ 0 ∷ 12 ∷ 6 ∷ 0 ∷ 1 ∷ 0 ∷ 2 ∷ []) (some (value (pos 9) ∷ [])) none
+    ∷ looks (0 ∷ 1 ∷ 0 ∷ 12 ∷ 6 ∷ 0 ∷ 1 ∷ 0 ∷ 2 ∷ []) (Some (value (pos 9) ∷ [])) None
     ∷ areas (pos 5 ∷ pos 1 ∷ pos 4 ∷ pos 5 ∷ pos 7 ∷ pos 8 ∷ pos 9 ∷ pos 1 ∷ pos 1 ∷ pos 1 ∷ pos 1 ∷ pos 1 ∷ pos 1 ∷ pos 1 ∷ pos 11 ∷ pos 1 ∷ pos 0 ∷ pos 1 ∷ pos 0 ∷ negsuc 3 ∷ pos 3 ∷ negsuc 0 ∷ negsuc 4 ∷ pos 2 ∷ negsuc 1 ∷ []) (pos 0 ∷ pos 1 ∷ pos 1 ∷ pos 0 ∷ pos 0 ∷ pos 2 ∷ negsuc 1 ∷ pos 3 ∷ negsuc 4 ∷ pos 0 ∷ pos 5 ∷ negsuc 2 ∷ pos 2 ∷ negsuc 5 ∷ negsuc 0 ∷ pos 4 ∷ negsuc 3 ∷ pos 1 ∷ pos 1 ∷ pos 1 ∷ pos 1 ∷ pos 1 ∷ pos 0 ∷ pos 1 ∷ negsuc 2 ∷ pos 2 ∷ negsuc 5 ∷ negsuc 0 ∷ pos 4 ∷ negsuc 3 ∷ pos 1 ∷ pos 6 ∷ negsuc 1 ∷ pos 3 ∷ negsuc 4 ∷ pos 0 ∷ pos 5 ∷ negsuc 2 ∷ pos 2 ∷ negsuc 5 ∷ negsuc 0 ∷ pos 4 ∷ negsuc 3 ∷ pos 1 ∷ pos 6 ∷ negsuc 1 ∷ pos 3 ∷ [])
     ∷ []
 unfolding script
@@ -1905,12 +1905,12 @@ list_50 : script
     ≡ ok
     ∷ idle
     ∷ idle
-    ∷ looks (0 ∷ 0 ∷ 0 ∷ 0 ∷ 0 ∷ 0 ∷ 0 ∷ 0 ∷ 0 ∷ []) none none
+    ∷ looks (0 ∷ 0 ∷ 0 ∷ 0 ∷ 0 ∷ 0 ∷ 0 ∷ 0 ∷ 0 ∷ []) None None
     ∷ idle
     ∷ ok
     ∷ said-ports 1 1 1 0
     ∷ wants
-    ∷ looks (0 ∷ 0 ∷ 0 ∷ 0 ∷ 12 ∷ 0 ∷ 0 ∷ 0 ∷ 0 ∷ []) none none
+    ∷ looks (0 ∷ 0 ∷ 0 ∷ 0 ∷ 12 ∷ 0 ∷ 0 ∷ 0 ∷ 0 ∷ []) None None
     ∷ wants
     ∷ wants
     ∷ wants
@@ -1919,7 +1919,7 @@ list_50 : script
     ∷ refused 5
     ∷ refused 5
     ∷ refused 5
-    ∷ looks (0 ∷ 0 ∷ 0 ∷ 0 ∷ 12 ∷ 0 ∷ 0 ∷ 0 ∷ 0 ∷ []) none none
+    ∷ looks (0 ∷ 0 ∷ 0 ∷ 0 ∷ 12 ∷ 0 ∷ 0 ∷ 0 ∷ 0 ∷ []) None None
     ∷ areas (pos 1 ∷ pos 5 ∷ pos 1 ∷ pos 1 ∷ pos 1 ∷ pos 1 ∷ pos 0 ∷ pos 1 ∷ pos 1 ∷ pos 1 ∷ pos 1 ∷ pos 1 ∷ pos 2 ∷ negsuc 1 ∷ pos 5 ∷ pos 1 ∷ []) (negsuc 5 ∷ negsuc 0 ∷ [])
     ∷ []
 unfolding script
@@ -1951,7 +1951,7 @@ list_51 : script
     ∷ idle
     ∷ said-ports 2 2 2 2
     ∷ said-ports 2 2 2 2
-    ∷ looks (0 ∷ 0 ∷ 0 ∷ 14 ∷ 0 ∷ 2 ∷ 1 ∷ 0 ∷ 2 ∷ []) (some (value (pos 0) ∷ value (negsuc 9223372036854775807) ∷ [])) none
+    ∷ looks (0 ∷ 0 ∷ 0 ∷ 14 ∷ 0 ∷ 2 ∷ 1 ∷ 0 ∷ 2 ∷ []) (Some (value (pos 0) ∷ value (negsuc 9223372036854775807) ∷ [])) None
     ∷ areas (pos 3 ∷ pos 2 ∷ pos 1 ∷ pos 0 ∷ pos 1 ∷ negsuc 9223372036854775806 ∷ pos 0 ∷ negsuc 9223372036854775807 ∷ pos 1 ∷ pos 0 ∷ pos 1 ∷ pos 1 ∷ pos 1 ∷ pos 1 ∷ []) []
     ∷ []
 unfolding script
@@ -2001,7 +2001,7 @@ list_52 : script
     ∷ ok
     ∷ wrote 0 (pos 4 ∷ pos 6 ∷ pos 0 ∷ pos 0 ∷ pos 0 ∷ pos 0 ∷ pos 0 ∷ pos 0 ∷ pos 0 ∷ pos 0 ∷ pos 0 ∷ pos 0 ∷ pos 0 ∷ pos 0 ∷ pos 0 ∷ pos 0 ∷ pos 0 ∷ pos 0 ∷ pos 0 ∷ pos 0 ∷ pos 0 ∷ pos 0 ∷ pos 0 ∷ pos 0 ∷ pos 0 ∷ pos 0 ∷ pos 0 ∷ pos 0 ∷ pos 0 ∷ pos 0 ∷ pos 0 ∷ pos 0 ∷ pos 0 ∷ pos 0 ∷ pos 0 ∷ pos 0 ∷ pos 0 ∷ pos 0 ∷ pos 0 ∷ pos 0 ∷ pos 0 ∷ pos 0 ∷ pos 0 ∷ pos 0 ∷ pos 0 ∷ pos 0 ∷ pos 0 ∷ pos 0 ∷ pos 0 ∷ pos 0 ∷ [])
     ∷ said-ports 2 2 2 2
-    ∷ looks (7 ∷ 1 ∷ 7 ∷ 10 ∷ 0 ∷ 2 ∷ 1 ∷ 0 ∷ 2 ∷ []) none none
+    ∷ looks (7 ∷ 1 ∷ 7 ∷ 10 ∷ 0 ∷ 2 ∷ 1 ∷ 0 ∷ 2 ∷ []) None None
     ∷ areas (pos 4 ∷ pos 1 ∷ pos 2 ∷ pos 0 ∷ pos 2 ∷ pos 1 ∷ pos 1 ∷ pos 1 ∷ pos 1 ∷ pos 1 ∷ []) (pos 1 ∷ pos 2 ∷ pos 1 ∷ pos 0 ∷ pos 0 ∷ pos 0 ∷ pos 2 ∷ pos 1 ∷ pos 2 ∷ pos 2 ∷ pos 0 ∷ pos 2 ∷ pos 0 ∷ pos 1 ∷ pos 0 ∷ pos 1 ∷ pos 1 ∷ pos 2 ∷ pos 1 ∷ pos 0 ∷ pos 1 ∷ pos 2 ∷ pos 0 ∷ pos 2 ∷ pos 1 ∷ pos 0 ∷ pos 2 ∷ pos 2 ∷ pos 2 ∷ pos 0 ∷ pos 1 ∷ pos 1 ∷ pos 1 ∷ pos 0 ∷ pos 1 ∷ pos 0 ∷ pos 0 ∷ pos 1 ∷ pos 0 ∷ pos 2 ∷ pos 1 ∷ pos 1 ∷ pos 1 ∷ pos 1 ∷ pos 1 ∷ pos 1 ∷ pos 1 ∷ pos 1 ∷ pos 1 ∷ pos 1 ∷ pos 0 ∷ pos 1 ∷ pos 1 ∷ pos 1 ∷ pos 1 ∷ pos 1 ∷ pos 1 ∷ pos 1 ∷ pos 1 ∷ pos 0 ∷ pos 1 ∷ pos 1 ∷ pos 0 ∷ pos 1 ∷ pos 1 ∷ pos 0 ∷ pos 1 ∷ pos 1 ∷ pos 1 ∷ pos 1 ∷ pos 1 ∷ pos 1 ∷ pos 1 ∷ pos 1 ∷ pos 1 ∷ pos 0 ∷ pos 0 ∷ pos 1 ∷ pos 1 ∷ pos 1 ∷ [])
     ∷ []
 unfolding script
@@ -2041,7 +2041,7 @@ list_53 : script
     ∷ idle
     ∷ idle
     ∷ said-ports 2 2 2 2
-    ∷ looks (5 ∷ 0 ∷ 5 ∷ 20 ∷ 0 ∷ 2 ∷ 1 ∷ 0 ∷ 6 ∷ []) none none
+    ∷ looks (5 ∷ 0 ∷ 5 ∷ 20 ∷ 0 ∷ 2 ∷ 1 ∷ 0 ∷ 6 ∷ []) None None
     ∷ areas (pos 1 ∷ pos 4 ∷ pos 0 ∷ pos 1 ∷ pos 1 ∷ pos 9223372036854775807 ∷ pos 1 ∷ pos 1 ∷ pos 1 ∷ pos 1 ∷ pos 1 ∷ pos 4 ∷ pos 0 ∷ pos 0 ∷ pos 0 ∷ pos 9223372036854775807 ∷ pos 1 ∷ pos 1 ∷ pos 1 ∷ pos 1 ∷ []) (pos 1 ∷ pos 0 ∷ pos 0 ∷ pos 9223372036854775805 ∷ pos 1 ∷ pos 0 ∷ pos 0 ∷ pos 9223372036854775806 ∷ pos 1 ∷ pos 0 ∷ pos 0 ∷ pos 9223372036854775807 ∷ pos 0 ∷ pos 1 ∷ pos 0 ∷ negsuc 9223372036854775807 ∷ pos 0 ∷ pos 1 ∷ pos 1 ∷ negsuc 9223372036854775806 ∷ pos 1 ∷ pos 1 ∷ pos 1 ∷ pos 1 ∷ pos 1 ∷ pos 1 ∷ pos 1 ∷ pos 1 ∷ pos 1 ∷ pos 1 ∷ pos 1 ∷ pos 1 ∷ pos 1 ∷ pos 1 ∷ pos 1 ∷ pos 1 ∷ pos 1 ∷ pos 1 ∷ pos 1 ∷ pos 1 ∷ negsuc 0 ∷ pos 4 ∷ negsuc 3 ∷ pos 1 ∷ pos 6 ∷ negsuc 1 ∷ pos 3 ∷ [])
     ∷ []
 unfolding script
@@ -2061,7 +2061,7 @@ list_54 : script
     ∷ said-ports 2 2 2 2
     ∷ said-ports 2 2 2 2
     ∷ said-ports 2 2 2 2
-    ∷ looks (0 ∷ 0 ∷ 0 ∷ 0 ∷ 0 ∷ 2 ∷ 0 ∷ 0 ∷ 0 ∷ []) none none
+    ∷ looks (0 ∷ 0 ∷ 0 ∷ 0 ∷ 0 ∷ 2 ∷ 0 ∷ 0 ∷ 0 ∷ []) None None
     ∷ areas [] (negsuc 5 ∷ negsuc 0 ∷ pos 4 ∷ negsuc 3 ∷ pos 1 ∷ pos 6 ∷ negsuc 1 ∷ pos 3 ∷ negsuc 4 ∷ pos 0 ∷ pos 5 ∷ negsuc 2 ∷ pos 2 ∷ negsuc 5 ∷ negsuc 0 ∷ [])
     ∷ []
 unfolding script
@@ -2089,7 +2089,7 @@ list_55 : script
     ∷ ok
     ∷ ok
     ∷ refused 9
-    ∷ looks (0 ∷ 4 ∷ 0 ∷ 6 ∷ 6 ∷ 0 ∷ 0 ∷ 1 ∷ 2 ∷ []) (some (value (pos 1) ∷ value (pos 4) ∷ [])) none
+    ∷ looks (0 ∷ 4 ∷ 0 ∷ 6 ∷ 6 ∷ 0 ∷ 0 ∷ 1 ∷ 2 ∷ []) (Some (value (pos 1) ∷ value (pos 4) ∷ [])) None
     ∷ areas (pos 1 ∷ pos 2 ∷ pos 1 ∷ pos 4 ∷ pos 1 ∷ pos 1 ∷ pos 1 ∷ pos 2 ∷ pos 1 ∷ pos 4 ∷ pos 1 ∷ pos 1 ∷ pos 2 ∷ negsuc 1 ∷ pos 5 ∷ pos 1 ∷ negsuc 2 ∷ pos 4 ∷ pos 0 ∷ negsuc 3 ∷ pos 3 ∷ negsuc 0 ∷ negsuc 4 ∷ pos 2 ∷ negsuc 1 ∷ pos 5 ∷ pos 1 ∷ negsuc 2 ∷ pos 4 ∷ pos 0 ∷ negsuc 3 ∷ pos 3 ∷ negsuc 0 ∷ negsuc 4 ∷ pos 2 ∷ negsuc 1 ∷ []) (pos 2 ∷ pos 1 ∷ pos 2 ∷ pos 0 ∷ pos 1 ∷ pos 1 ∷ pos 0 ∷ pos 0 ∷ pos 0 ∷ pos 3 ∷ pos 1 ∷ pos 0 ∷ pos 0 ∷ pos 0 ∷ pos 0 ∷ pos 1 ∷ pos 0 ∷ pos 0 ∷ pos 0 ∷ pos 0 ∷ pos 2 ∷ pos 0 ∷ pos 0 ∷ pos 0 ∷ pos 1 ∷ pos 3 ∷ pos 1 ∷ pos 0 ∷ pos 1 ∷ pos 1 ∷ pos 0 ∷ pos 0 ∷ pos 1 ∷ pos 1 ∷ pos 1 ∷ pos 1 ∷ pos 1 ∷ pos 1 ∷ pos 0 ∷ pos 0 ∷ pos 0 ∷ pos 1 ∷ pos 1 ∷ pos 0 ∷ pos 0 ∷ pos 1 ∷ pos 0 ∷ pos 1 ∷ pos 0 ∷ pos 1 ∷ pos 1 ∷ pos 0 ∷ pos 1 ∷ pos 0 ∷ pos 0 ∷ pos 0 ∷ pos 1 ∷ pos 1 ∷ pos 1 ∷ pos 1 ∷ pos 1 ∷ pos 1 ∷ pos 0 ∷ pos 0 ∷ [])
     ∷ []
 unfolding script
@@ -2107,7 +2107,7 @@ list_56 : script
     ∷ ok
     ∷ ok
     ∷ ok
-    ∷ looks (0 ∷ 2 ∷ 0 ∷ 0 ∷ 0 ∷ 0 ∷ 1 ∷ 0 ∷ 0 ∷ []) none none
+    ∷ looks (0 ∷ 2 ∷ 0 ∷ 0 ∷ 0 ∷ 0 ∷ 1 ∷ 0 ∷ 0 ∷ []) None None
     ∷ areas [] (pos 0 ∷ pos 2 ∷ pos 0 ∷ pos 0 ∷ pos 1 ∷ negsuc 0 ∷ pos 1 ∷ pos 1 ∷ pos 0 ∷ pos 1 ∷ pos 1 ∷ pos 1 ∷ pos 2 ∷ negsuc 5 ∷ negsuc 0 ∷ [])
     ∷ []
 unfolding script
@@ -2159,7 +2159,7 @@ list_57 : script
     ∷ wrote 8 (pos 0 ∷ pos 4 ∷ [])
     ∷ wrote 10 (pos 2 ∷ pos 4 ∷ pos 0 ∷ pos 0 ∷ pos 0 ∷ pos 0 ∷ pos 0 ∷ pos 0 ∷ pos 0 ∷ pos 0 ∷ pos 0 ∷ pos 0 ∷ pos 0 ∷ pos 0 ∷ pos 0 ∷ pos 0 ∷ pos 0 ∷ pos 0 ∷ [])
     ∷ wrote 12 (pos 0 ∷ pos 4 ∷ [])
-    ∷ looks (0 ∷ 0 ∷ 0 ∷ 58 ∷ 0 ∷ 0 ∷ 1 ∷ 0 ∷ 14 ∷ []) none none
+    ∷ looks (0 ∷ 0 ∷ 0 ∷ 58 ∷ 0 ∷ 0 ∷ 1 ∷ 0 ∷ 14 ∷ []) None None
     ∷ areas (pos 3 ∷ pos 2 ∷ pos 2 ∷ pos 2 ∷ pos 0 ∷ pos 0 ∷ pos 1 ∷ pos 0 ∷ pos 1 ∷ pos 1 ∷ pos 1 ∷ pos 1 ∷ pos 1 ∷ pos 1 ∷ pos 1 ∷ pos 2 ∷ pos 2 ∷ pos 1 ∷ pos 1 ∷ pos 1 ∷ pos 2 ∷ pos 2 ∷ pos 1 ∷ pos 1 ∷ pos 0 ∷ pos 1 ∷ pos 1 ∷ pos 1 ∷ pos 0 ∷ pos 1 ∷ pos 3 ∷ pos 2 ∷ pos 1 ∷ pos 2 ∷ pos 0 ∷ pos 1 ∷ pos 1 ∷ pos 1 ∷ pos 1 ∷ pos 1 ∷ pos 1 ∷ pos 1 ∷ pos 1 ∷ pos 1 ∷ pos 0 ∷ pos 2 ∷ pos 2 ∷ pos 2 ∷ pos 0 ∷ pos 1 ∷ pos 0 ∷ pos 0 ∷ pos 1 ∷ pos 1 ∷ pos 1 ∷ pos 1 ∷ pos 0 ∷ pos 2 ∷ []) []
     ∷ []
 unfolding script
@@ -2197,7 +2197,7 @@ list_58 : script
     ∷ wrote 2 (pos 1 ∷ pos 6 ∷ pos 0 ∷ pos 0 ∷ pos 0 ∷ pos 0 ∷ pos 0 ∷ pos 0 ∷ pos 0 ∷ pos 0 ∷ pos 0 ∷ pos 0 ∷ pos 0 ∷ pos 0 ∷ [])
     ∷ wrote 4 (pos 1 ∷ pos 6 ∷ pos 0 ∷ pos 0 ∷ pos 0 ∷ pos 0 ∷ pos 0 ∷ pos 0 ∷ pos 0 ∷ pos 0 ∷ pos 0 ∷ pos 0 ∷ pos 0 ∷ pos 0 ∷ [])
     ∷ wrote 6 (pos 1 ∷ pos 6 ∷ pos 0 ∷ pos 0 ∷ pos 0 ∷ pos 0 ∷ pos 0 ∷ pos 0 ∷ pos 0 ∷ pos 0 ∷ pos 0 ∷ pos 0 ∷ pos 0 ∷ pos 0 ∷ [])
-    ∷ looks (3 ∷ 0 ∷ 3 ∷ 24 ∷ 0 ∷ 0 ∷ 1 ∷ 0 ∷ 8 ∷ []) none none
+    ∷ looks (3 ∷ 0 ∷ 3 ∷ 24 ∷ 0 ∷ 0 ∷ 1 ∷ 0 ∷ 8 ∷ []) None None
     ∷ areas (pos 1 ∷ pos 2 ∷ pos 0 ∷ pos 0 ∷ pos 1 ∷ pos 0 ∷ pos 1 ∷ pos 2 ∷ pos 0 ∷ pos 2 ∷ pos 0 ∷ pos 1 ∷ pos 1 ∷ pos 2 ∷ pos 1 ∷ pos 0 ∷ pos 1 ∷ pos 1 ∷ pos 1 ∷ pos 2 ∷ pos 1 ∷ pos 0 ∷ pos 1 ∷ pos 0 ∷ []) (pos 0 ∷ pos 1 ∷ pos 735 ∷ pos 462 ∷ pos 753 ∷ pos 216 ∷ pos 0 ∷ pos 0 ∷ pos 921 ∷ pos 614 ∷ pos 389 ∷ pos 467 ∷ pos 0 ∷ pos 0 ∷ pos 552 ∷ pos 445 ∷ pos 126 ∷ pos 942 ∷ pos 0 ∷ pos 1 ∷ pos 1 ∷ pos 1 ∷ pos 1 ∷ pos 1 ∷ pos 0 ∷ pos 1 ∷ pos 1 ∷ pos 1 ∷ pos 1 ∷ pos 1 ∷ pos 1 ∷ pos 1 ∷ pos 1 ∷ pos 1 ∷ pos 1 ∷ pos 1 ∷ [])
     ∷ []
 unfolding script
@@ -2241,7 +2241,7 @@ list_59 : script
     ∷ wrote 6 (pos 3 ∷ pos 2 ∷ pos 1 ∷ pos 0 ∷ pos 1 ∷ pos 0 ∷ pos 1 ∷ pos 2 ∷ pos 1 ∷ pos 0 ∷ pos 1 ∷ pos 0 ∷ pos 1 ∷ pos 1 ∷ [])
     ∷ wrote 8 (pos 4 ∷ pos 2 ∷ pos 0 ∷ pos 0 ∷ pos 0 ∷ pos 0 ∷ pos 2 ∷ pos 0 ∷ pos 2 ∷ pos 1 ∷ pos 0 ∷ pos 0 ∷ pos 0 ∷ pos 0 ∷ pos 1 ∷ pos 0 ∷ pos 1 ∷ pos 1 ∷ [])
     ∷ idle
-    ∷ looks (2 ∷ 1 ∷ 2 ∷ 94 ∷ 0 ∷ 0 ∷ 1 ∷ 0 ∷ 10 ∷ []) (some (value (pos 1) ∷ value (pos 1) ∷ value (pos 0) ∷ [])) (some (value (pos 1) ∷ value (pos 0) ∷ value (pos 1) ∷ []))
+    ∷ looks (2 ∷ 1 ∷ 2 ∷ 94 ∷ 0 ∷ 0 ∷ 1 ∷ 0 ∷ 10 ∷ []) (Some (value (pos 1) ∷ value (pos 1) ∷ value (pos 0) ∷ [])) (Some (value (pos 1) ∷ value (pos 0) ∷ value (pos 1) ∷ []))
     ∷ areas (pos 2 ∷ pos 3 ∷ pos 0 ∷ pos 0 ∷ negsuc 9223372036854775805 ∷ pos 0 ∷ pos 0 ∷ negsuc 0 ∷ pos 1 ∷ pos 0 ∷ pos 1 ∷ pos 1 ∷ pos 0 ∷ pos 1 ∷ pos 0 ∷ pos 3 ∷ pos 5 ∷ pos 3 ∷ pos 0 ∷ pos 0 ∷ pos 9223372036854775807 ∷ pos 0 ∷ pos 1 ∷ negsuc 9223372036854775806 ∷ pos 0 ∷ pos 1 ∷ pos 0 ∷ pos 0 ∷ pos 1 ∷ pos 1 ∷ pos 1 ∷ pos 0 ∷ negsuc 9223372036854775805 ∷ pos 1 ∷ pos 1 ∷ pos 1 ∷ pos 1 ∷ pos 1 ∷ pos 1 ∷ pos 1 ∷ pos 1 ∷ pos 1 ∷ pos 1 ∷ pos 1 ∷ pos 1 ∷ pos 1 ∷ pos 0 ∷ pos 1 ∷ pos 3 ∷ pos 3 ∷ pos 1 ∷ pos 0 ∷ negsuc 9223372036854775807 ∷ pos 1 ∷ pos 0 ∷ negsuc 9223372036854775807 ∷ pos 1 ∷ pos 0 ∷ negsuc 0 ∷ pos 1 ∷ pos 1 ∷ pos 1 ∷ pos 1 ∷ pos 1 ∷ pos 1 ∷ pos 1 ∷ pos 1 ∷ pos 1 ∷ pos 4 ∷ pos 3 ∷ pos 1 ∷ pos 0 ∷ pos 9223372036854775805 ∷ pos 1 ∷ pos 0 ∷ pos 9223372036854775807 ∷ pos 1 ∷ pos 1 ∷ negsuc 9223372036854775807 ∷ pos 1 ∷ pos 1 ∷ pos 0 ∷ pos 1 ∷ pos 1 ∷ pos 1 ∷ pos 1 ∷ pos 1 ∷ pos 1 ∷ pos 1 ∷ pos 1 ∷ pos 1 ∷ pos 1 ∷ pos 1 ∷ pos 1 ∷ []) (pos 1 ∷ pos 0 ∷ negsuc 9223372036854775807 ∷ pos 1 ∷ pos 0 ∷ pos 1 ∷ pos 1 ∷ pos 1 ∷ pos 1 ∷ pos 1 ∷ pos 1 ∷ pos 1 ∷ pos 1 ∷ pos 1 ∷ pos 1 ∷ pos 1 ∷ pos 1 ∷ pos 1 ∷ [])
     ∷ []
 unfolding script
@@ -2273,7 +2273,7 @@ list_60 : script
     ∷ ok
     ∷ ok
     ∷ refused 8
-    ∷ looks (0 ∷ 2 ∷ 0 ∷ 0 ∷ 6 ∷ 0 ∷ 1 ∷ 1 ∷ 4 ∷ []) (some (value (pos 4) ∷ [])) none
+    ∷ looks (0 ∷ 2 ∷ 0 ∷ 0 ∷ 6 ∷ 0 ∷ 1 ∷ 1 ∷ 4 ∷ []) (Some (value (pos 4) ∷ [])) None
     ∷ areas (pos 2 ∷ pos 1 ∷ pos 11 ∷ pos 0 ∷ pos 1 ∷ pos 0 ∷ []) (pos 2 ∷ pos 0 ∷ pos 5 ∷ pos 102 ∷ pos 1 ∷ pos 0 ∷ pos 1 ∷ pos 1 ∷ negsuc 4 ∷ pos 0 ∷ [])
     ∷ []
 unfolding script
@@ -2313,7 +2313,7 @@ list_61 : script
     ∷ ok
     ∷ wrote 2 (pos 1 ∷ pos 3 ∷ pos 0 ∷ pos 0 ∷ pos 0 ∷ pos 0 ∷ pos 0 ∷ pos 0 ∷ [])
     ∷ wrote 4 (pos 1 ∷ pos 3 ∷ pos 0 ∷ pos 0 ∷ pos 0 ∷ pos 0 ∷ pos 0 ∷ pos 0 ∷ [])
-    ∷ looks (2 ∷ 3 ∷ 4 ∷ 24 ∷ 0 ∷ 0 ∷ 1 ∷ 0 ∷ 6 ∷ []) (some (value (pos 0) ∷ null ∷ value (pos 1) ∷ null ∷ value (pos 11) ∷ [])) (some (value (pos 0) ∷ null ∷ value (pos 0) ∷ value (pos 1) ∷ value (pos 6) ∷ []))
+    ∷ looks (2 ∷ 3 ∷ 4 ∷ 24 ∷ 0 ∷ 0 ∷ 1 ∷ 0 ∷ 6 ∷ []) (Some (value (pos 0) ∷ null ∷ value (pos 1) ∷ null ∷ value (pos 11) ∷ [])) (Some (value (pos 0) ∷ null ∷ value (pos 0) ∷ value (pos 1) ∷ value (pos 6) ∷ []))
     ∷ areas (pos 1 ∷ pos 5 ∷ pos 0 ∷ pos 0 ∷ pos 0 ∷ pos 0 ∷ pos 1 ∷ pos 1 ∷ pos 1 ∷ pos 0 ∷ pos 1 ∷ pos 1 ∷ pos 1 ∷ pos 5 ∷ pos 0 ∷ pos 0 ∷ pos 1 ∷ pos 0 ∷ pos 11 ∷ pos 1 ∷ pos 0 ∷ pos 1 ∷ pos 0 ∷ pos 1 ∷ []) (pos 0 ∷ pos 0 ∷ pos 1 ∷ pos 0 ∷ pos 0 ∷ pos 5984060149816403402 ∷ pos 0 ∷ pos 0 ∷ pos 0 ∷ pos 1 ∷ pos 6 ∷ pos 3585497138301207599 ∷ pos 1 ∷ pos 0 ∷ pos 0 ∷ pos 0 ∷ pos 10 ∷ pos 0 ∷ pos 1 ∷ pos 0 ∷ pos 1 ∷ pos 1 ∷ pos 11 ∷ pos 3740355488461433166 ∷ pos 1 ∷ pos 0 ∷ pos 0 ∷ pos 0 ∷ pos 4 ∷ pos 1 ∷ pos 1 ∷ pos 0 ∷ pos 1 ∷ pos 1 ∷ pos 11 ∷ pos 3740355488461433166 ∷ pos 1 ∷ pos 1 ∷ pos 1 ∷ pos 0 ∷ pos 1 ∷ pos 1 ∷ pos 1 ∷ pos 0 ∷ pos 1 ∷ pos 1 ∷ pos 1 ∷ pos 1 ∷ pos 1 ∷ pos 1 ∷ pos 1 ∷ pos 1 ∷ pos 1 ∷ pos 0 ∷ pos 1 ∷ pos 1 ∷ pos 1 ∷ pos 1 ∷ pos 1 ∷ pos 1 ∷ pos 1 ∷ pos 0 ∷ pos 1 ∷ pos 0 ∷ pos 1 ∷ pos 1 ∷ pos 1 ∷ pos 1 ∷ pos 1 ∷ pos 1 ∷ pos 1 ∷ pos 1 ∷ pos 3 ∷ negsuc 4 ∷ [])
     ∷ []
 unfolding script
@@ -2337,7 +2337,7 @@ list_62 : script
     ∷ ok
     ∷ ok
     ∷ ok
-    ∷ looks (0 ∷ 5 ∷ 0 ∷ 0 ∷ 0 ∷ 0 ∷ 1 ∷ 0 ∷ 0 ∷ []) none none
+    ∷ looks (0 ∷ 5 ∷ 0 ∷ 0 ∷ 0 ∷ 0 ∷ 1 ∷ 0 ∷ 0 ∷ []) None None
     ∷ areas [] (pos 2 ∷ pos 0 ∷ negsuc 9223372036854775805 ∷ pos 304 ∷ pos 0 ∷ pos 0 ∷ pos 0 ∷ pos 427 ∷ pos 0 ∷ pos 0 ∷ pos 0 ∷ pos 362 ∷ pos 0 ∷ pos 0 ∷ pos 9223372036854775807 ∷ pos 591 ∷ pos 0 ∷ pos 1 ∷ pos 9223372036854775806 ∷ pos 517 ∷ pos 1 ∷ pos 0 ∷ pos 1 ∷ pos 1 ∷ pos 1 ∷ pos 0 ∷ pos 0 ∷ pos 1 ∷ pos 1 ∷ pos 0 ∷ pos 0 ∷ pos 1 ∷ pos 0 ∷ pos 1 ∷ pos 1 ∷ pos 1 ∷ pos 0 ∷ pos 1 ∷ pos 1 ∷ pos 1 ∷ [])
     ∷ []
 unfolding script
@@ -2381,7 +2381,7 @@ list_63 : script
     ∷ wrote 6 (pos 1 ∷ pos 4 ∷ pos 0 ∷ pos 0 ∷ pos 0 ∷ pos 0 ∷ pos 0 ∷ pos 0 ∷ pos 0 ∷ pos 0 ∷ [])
     ∷ wrote 8 (pos 0 ∷ pos 4 ∷ [])
     ∷ said-ports 2 2 2 2
-    ∷ looks (0 ∷ 0 ∷ 0 ∷ 34 ∷ 0 ∷ 2 ∷ 1 ∷ 0 ∷ 10 ∷ []) none none
+    ∷ looks (0 ∷ 0 ∷ 0 ∷ 34 ∷ 0 ∷ 2 ∷ 1 ∷ 0 ∷ 10 ∷ []) None None
     ∷ areas (pos 1 ∷ pos 3 ∷ pos 9223372036854775805 ∷ pos 9223372036854775807 ∷ pos 9223372036854775805 ∷ pos 1 ∷ pos 1 ∷ pos 1 ∷ pos 1 ∷ pos 3 ∷ negsuc 9223372036854775806 ∷ negsuc 9223372036854775805 ∷ pos 1 ∷ pos 1 ∷ pos 1 ∷ pos 1 ∷ pos 1 ∷ pos 3 ∷ negsuc 9223372036854775807 ∷ negsuc 9223372036854775807 ∷ pos 0 ∷ pos 1 ∷ pos 1 ∷ pos 1 ∷ pos 1 ∷ pos 3 ∷ negsuc 9223372036854775807 ∷ negsuc 9223372036854775806 ∷ pos 0 ∷ pos 1 ∷ pos 1 ∷ pos 1 ∷ pos 0 ∷ pos 3 ∷ []) (negsuc 5 ∷ negsuc 0 ∷ [])
     ∷ []
 unfolding script
@@ -2405,7 +2405,7 @@ list_64 : script
     ∷ ok
     ∷ wrote 0 (pos 1 ∷ pos 3 ∷ pos 0 ∷ pos 0 ∷ pos 0 ∷ pos 0 ∷ pos 0 ∷ pos 0 ∷ [])
     ∷ said-ports 2 2 2 2
-    ∷ looks (1 ∷ 0 ∷ 1 ∷ 8 ∷ 0 ∷ 2 ∷ 1 ∷ 0 ∷ 2 ∷ []) none none
+    ∷ looks (1 ∷ 0 ∷ 1 ∷ 8 ∷ 0 ∷ 2 ∷ 1 ∷ 0 ∷ 2 ∷ []) None None
     ∷ areas (pos 1 ∷ pos 3 ∷ pos 0 ∷ pos 9223372036854775805 ∷ pos 9223372036854775807 ∷ pos 1 ∷ pos 1 ∷ pos 1 ∷ []) (pos 1 ∷ pos 9223372036854775807 ∷ pos 0 ∷ pos 0 ∷ pos 1 ∷ pos 1 ∷ pos 0 ∷ pos 0 ∷ [])
     ∷ []
 unfolding script
@@ -2435,7 +2435,7 @@ list_65 : script
     ∷ ok
     ∷ wrote 0 (pos 1 ∷ pos 4 ∷ pos 0 ∷ pos 0 ∷ pos 0 ∷ pos 0 ∷ pos 0 ∷ pos 0 ∷ pos 0 ∷ pos 0 ∷ [])
     ∷ said-ports 1 0 0 0
-    ∷ looks (1 ∷ 0 ∷ 1 ∷ 10 ∷ 0 ∷ 0 ∷ 1 ∷ 0 ∷ 2 ∷ []) (some (value (negsuc 9223372036854775807) ∷ value (pos 9223372036854775805) ∷ value (negsuc 9223372036854775805) ∷ value (pos 9223372036854775806) ∷ [])) (some (value (negsuc 0) ∷ value (pos 0) ∷ value (negsuc 0) ∷ value (pos 9223372036854775806) ∷ []))
+    ∷ looks (1 ∷ 0 ∷ 1 ∷ 10 ∷ 0 ∷ 0 ∷ 1 ∷ 0 ∷ 2 ∷ []) (Some (value (negsuc 9223372036854775807) ∷ value (pos 9223372036854775805) ∷ value (negsuc 9223372036854775805) ∷ value (pos 9223372036854775806) ∷ [])) (Some (value (negsuc 0) ∷ value (pos 0) ∷ value (negsuc 0) ∷ value (pos 9223372036854775806) ∷ []))
     ∷ areas (pos 1 ∷ pos 4 ∷ negsuc 9223372036854775807 ∷ pos 9223372036854775805 ∷ negsuc 9223372036854775805 ∷ pos 9223372036854775806 ∷ pos 1 ∷ pos 1 ∷ pos 1 ∷ pos 1 ∷ []) (negsuc 0 ∷ pos 0 ∷ negsuc 0 ∷ pos 9223372036854775806 ∷ negsuc 9223372036854775805 ∷ negsuc 9223372036854775805 ∷ pos 1 ∷ pos 1 ∷ pos 1 ∷ pos 1 ∷ pos 1 ∷ pos 1 ∷ [])
     ∷ []
 unfolding script
@@ -2483,7 +2483,7 @@ list_66 : script
     ∷ ok
     ∷ idle
     ∷ said-ports 0 1 0 0
-    ∷ looks (0 ∷ 3 ∷ 0 ∷ 10 ∷ 0 ∷ 0 ∷ 1 ∷ 0 ∷ 2 ∷ []) none none
+    ∷ looks (0 ∷ 3 ∷ 0 ∷ 10 ∷ 0 ∷ 0 ∷ 1 ∷ 0 ∷ 2 ∷ []) None None
     ∷ areas (pos 1 ∷ pos 4 ∷ negsuc 9223372036854775806 ∷ negsuc 0 ∷ pos 9223372036854775806 ∷ pos 0 ∷ pos 1 ∷ pos 1 ∷ pos 1 ∷ pos 0 ∷ []) (negsuc 0 ∷ pos 9223372036854775805 ∷ negsuc 9223372036854775805 ∷ pos 0 ∷ pos 2 ∷ pos 1 ∷ pos 9223372036854775807 ∷ negsuc 9223372036854775807 ∷ negsuc 9223372036854775805 ∷ pos 9223372036854775806 ∷ pos 0 ∷ pos 0 ∷ negsuc 9223372036854775807 ∷ pos 0 ∷ negsuc 9223372036854775806 ∷ pos 0 ∷ pos 0 ∷ pos 1 ∷ pos 1 ∷ pos 1 ∷ pos 1 ∷ pos 0 ∷ pos 1 ∷ pos 1 ∷ pos 1 ∷ pos 1 ∷ pos 1 ∷ pos 1 ∷ pos 1 ∷ pos 0 ∷ pos 1 ∷ pos 1 ∷ pos 1 ∷ pos 0 ∷ pos 0 ∷ pos 1 ∷ pos 5 ∷ negsuc 2 ∷ pos 2 ∷ negsuc 5 ∷ negsuc 0 ∷ pos 4 ∷ negsuc 3 ∷ [])
     ∷ []
 unfolding script
@@ -2551,7 +2551,7 @@ list_67 : script
     ∷ wrote 20 (pos 0 ∷ pos 6 ∷ [])
     ∷ wrote 22 (pos 1 ∷ pos 6 ∷ pos 1 ∷ pos 988 ∷ pos 807 ∷ pos 43 ∷ pos 58 ∷ pos 1 ∷ pos 1 ∷ pos 1 ∷ pos 1 ∷ pos 1 ∷ pos 1 ∷ pos 1 ∷ [])
     ∷ idle
-    ∷ looks (1 ∷ 1 ∷ 1 ∷ 76 ∷ 0 ∷ 0 ∷ 1 ∷ 0 ∷ 24 ∷ []) (some (value (pos 2) ∷ value (pos 0) ∷ value (pos 1) ∷ [])) (some (value (pos 1) ∷ value (pos 2) ∷ value (negsuc 0) ∷ []))
+    ∷ looks (1 ∷ 1 ∷ 1 ∷ 76 ∷ 0 ∷ 0 ∷ 1 ∷ 0 ∷ 24 ∷ []) (Some (value (pos 2) ∷ value (pos 0) ∷ value (pos 1) ∷ [])) (Some (value (pos 1) ∷ value (pos 2) ∷ value (negsuc 0) ∷ []))
     ∷ areas (pos 1 ∷ pos 3 ∷ pos 0 ∷ pos 2 ∷ pos 9223372036854775805 ∷ pos 1 ∷ pos 1 ∷ pos 1 ∷ pos 0 ∷ pos 3 ∷ pos 1 ∷ pos 3 ∷ pos 0 ∷ pos 0 ∷ pos 0 ∷ pos 1 ∷ pos 1 ∷ pos 0 ∷ pos 1 ∷ pos 3 ∷ pos 0 ∷ pos 0 ∷ negsuc 9223372036854775805 ∷ pos 1 ∷ pos 1 ∷ pos 1 ∷ pos 1 ∷ pos 3 ∷ pos 1 ∷ pos 2 ∷ negsuc 9223372036854775805 ∷ pos 1 ∷ pos 1 ∷ pos 1 ∷ pos 1 ∷ pos 3 ∷ pos 1 ∷ pos 0 ∷ pos 0 ∷ pos 1 ∷ pos 1 ∷ pos 1 ∷ pos 1 ∷ pos 3 ∷ pos 2 ∷ pos 2 ∷ pos 9223372036854775805 ∷ pos 1 ∷ pos 1 ∷ pos 1 ∷ pos 1 ∷ pos 3 ∷ pos 2 ∷ pos 1 ∷ pos 0 ∷ pos 1 ∷ pos 1 ∷ pos 1 ∷ pos 1 ∷ pos 3 ∷ pos 2 ∷ pos 1 ∷ pos 9223372036854775805 ∷ pos 1 ∷ pos 1 ∷ pos 1 ∷ pos 0 ∷ pos 3 ∷ pos 1 ∷ pos 3 ∷ pos 2 ∷ pos 0 ∷ pos 1 ∷ pos 1 ∷ pos 1 ∷ pos 1 ∷ []) (pos 1 ∷ pos 2 ∷ negsuc 0 ∷ pos 941 ∷ pos 0 ∷ pos 377 ∷ pos 541 ∷ pos 2 ∷ pos 0 ∷ pos 0 ∷ pos 988 ∷ pos 807 ∷ pos 43 ∷ pos 58 ∷ pos 1 ∷ pos 1 ∷ pos 1 ∷ pos 1 ∷ pos 0 ∷ pos 1 ∷ pos 1 ∷ pos 1 ∷ pos 1 ∷ pos 1 ∷ pos 1 ∷ pos 1 ∷ pos 1 ∷ pos 1 ∷ [])
     ∷ []
 unfolding script
@@ -2581,7 +2581,7 @@ list_68 : script
     ∷ ok
     ∷ wrote 0 (pos 1 ∷ pos 6 ∷ pos 0 ∷ pos 0 ∷ pos 0 ∷ pos 0 ∷ pos 0 ∷ pos 0 ∷ pos 0 ∷ pos 0 ∷ pos 0 ∷ pos 0 ∷ pos 0 ∷ pos 0 ∷ [])
     ∷ wrote 2 (pos 0 ∷ pos 6 ∷ [])
-    ∷ looks (0 ∷ 1 ∷ 0 ∷ 14 ∷ 0 ∷ 0 ∷ 1 ∷ 0 ∷ 4 ∷ []) (some (value (pos 0) ∷ null ∷ value (pos 1) ∷ value (pos 0) ∷ value (pos 9223372036854775807) ∷ [])) none
+    ∷ looks (0 ∷ 1 ∷ 0 ∷ 14 ∷ 0 ∷ 0 ∷ 1 ∷ 0 ∷ 4 ∷ []) (Some (value (pos 0) ∷ null ∷ value (pos 1) ∷ value (pos 0) ∷ value (pos 9223372036854775807) ∷ [])) None
     ∷ areas (pos 1 ∷ pos 5 ∷ pos 0 ∷ pos 0 ∷ pos 1 ∷ pos 0 ∷ pos 9223372036854775807 ∷ pos 1 ∷ pos 0 ∷ pos 1 ∷ pos 1 ∷ pos 1 ∷ pos 0 ∷ pos 5 ∷ []) (pos 1 ∷ pos 1 ∷ pos 1 ∷ pos 0 ∷ pos 9223372036854775806 ∷ pos 568 ∷ pos 899 ∷ pos 568 ∷ pos 169 ∷ pos 1 ∷ pos 1 ∷ pos 1 ∷ pos 1 ∷ pos 1 ∷ pos 1 ∷ pos 1 ∷ pos 1 ∷ pos 1 ∷ pos 6 ∷ negsuc 1 ∷ pos 3 ∷ negsuc 4 ∷ pos 0 ∷ pos 5 ∷ negsuc 2 ∷ pos 2 ∷ negsuc 5 ∷ negsuc 0 ∷ pos 4 ∷ negsuc 3 ∷ pos 1 ∷ pos 6 ∷ negsuc 1 ∷ [])
     ∷ []
 unfolding script
@@ -2617,7 +2617,7 @@ list_69 : script
     ∷ wrote 4 (pos 1 ∷ pos 2 ∷ pos 0 ∷ pos 0 ∷ pos 0 ∷ pos 0 ∷ [])
     ∷ idle
     ∷ idle
-    ∷ looks (3 ∷ 2 ∷ 3 ∷ 22 ∷ 0 ∷ 0 ∷ 1 ∷ 0 ∷ 6 ∷ []) (some (value (pos 0) ∷ value (pos 1) ∷ [])) (some (value (pos 1) ∷ value (pos 9223372036854775806) ∷ []))
+    ∷ looks (3 ∷ 2 ∷ 3 ∷ 22 ∷ 0 ∷ 0 ∷ 1 ∷ 0 ∷ 6 ∷ []) (Some (value (pos 0) ∷ value (pos 1) ∷ [])) (Some (value (pos 1) ∷ value (pos 9223372036854775806) ∷ []))
     ∷ areas (pos 2 ∷ pos 2 ∷ pos 2 ∷ pos 0 ∷ pos 2 ∷ pos 0 ∷ pos 1 ∷ pos 0 ∷ pos 1 ∷ pos 1 ∷ pos 1 ∷ pos 2 ∷ pos 2 ∷ pos 0 ∷ pos 1 ∷ pos 1 ∷ pos 1 ∷ pos 2 ∷ pos 0 ∷ pos 1 ∷ pos 1 ∷ pos 1 ∷ []) (pos 0 ∷ negsuc 9223372036854775806 ∷ pos 1 ∷ pos 9223372036854775806 ∷ pos 1 ∷ pos 9223372036854775806 ∷ pos 0 ∷ pos 1 ∷ pos 0 ∷ pos 9223372036854775805 ∷ pos 0 ∷ pos 1 ∷ pos 1 ∷ pos 1 ∷ pos 1 ∷ pos 1 ∷ pos 1 ∷ pos 1 ∷ pos 1 ∷ pos 1 ∷ [])
     ∷ []
 unfolding script
@@ -2665,7 +2665,7 @@ list_70 : script
     ∷ wrote 8 (pos 1 ∷ pos 2 ∷ pos 0 ∷ pos 0 ∷ pos 0 ∷ pos 0 ∷ [])
     ∷ idle
     ∷ idle
-    ∷ looks (2 ∷ 0 ∷ 2 ∷ 70 ∷ 0 ∷ 0 ∷ 1 ∷ 0 ∷ 10 ∷ []) (some (value (pos 2) ∷ value (pos 2) ∷ value (pos 3) ∷ [])) (some (value (pos 0) ∷ value (pos 1) ∷ value (pos 5) ∷ []))
+    ∷ looks (2 ∷ 0 ∷ 2 ∷ 70 ∷ 0 ∷ 0 ∷ 1 ∷ 0 ∷ 10 ∷ []) (Some (value (pos 2) ∷ value (pos 2) ∷ value (pos 3) ∷ [])) (Some (value (pos 0) ∷ value (pos 1) ∷ value (pos 5) ∷ []))
     ∷ areas (pos 2 ∷ pos 3 ∷ pos 0 ∷ pos 1 ∷ pos 2 ∷ pos 0 ∷ pos 2 ∷ pos 6 ∷ pos 1 ∷ pos 1 ∷ pos 1 ∷ pos 1 ∷ pos 1 ∷ pos 1 ∷ pos 3 ∷ pos 3 ∷ pos 0 ∷ pos 2 ∷ pos 7 ∷ pos 0 ∷ pos 2 ∷ pos 8 ∷ pos 0 ∷ pos 2 ∷ pos 10 ∷ pos 1 ∷ pos 1 ∷ pos 1 ∷ pos 1 ∷ pos 1 ∷ pos 1 ∷ pos 1 ∷ pos 1 ∷ pos 1 ∷ pos 2 ∷ pos 3 ∷ pos 1 ∷ pos 0 ∷ pos 2 ∷ pos 1 ∷ pos 0 ∷ pos 3 ∷ pos 1 ∷ pos 1 ∷ pos 1 ∷ pos 1 ∷ pos 1 ∷ pos 1 ∷ pos 2 ∷ pos 3 ∷ pos 1 ∷ pos 0 ∷ pos 5 ∷ pos 1 ∷ pos 1 ∷ pos 8 ∷ pos 1 ∷ pos 1 ∷ pos 1 ∷ pos 1 ∷ pos 1 ∷ pos 1 ∷ pos 1 ∷ pos 3 ∷ pos 2 ∷ pos 2 ∷ pos 3 ∷ pos 1 ∷ pos 1 ∷ pos 1 ∷ []) (pos 0 ∷ pos 0 ∷ pos 0 ∷ pos 0 ∷ pos 1 ∷ pos 5 ∷ pos 1 ∷ pos 1 ∷ pos 1 ∷ pos 1 ∷ pos 1 ∷ pos 1 ∷ [])
     ∷ []
 unfolding script

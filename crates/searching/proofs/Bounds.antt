@@ -12,8 +12,8 @@ use Rattle.order.specs.Order.{next, is_greater, cmp_cell, cmp_first, cmp_group, 
 use Rattle.order.proofs.OrderLaws.{IsOrder, AtMost, same_right, less_greater, greater_less, then_less, less_then, on, then, cmp_cell_is, cmp_first_is, cmp_group_is, group_at_most}
 use Rattle.order.proofs.SortedLaws.{greater_not}
 use Rattle.order.specs.declared.options.Options.{Options}
-use Rattle.order.specs.declared.Order.{Order}
-use Rattle.order.specs.declared.Order.TheVariants.{Less, Equal, Greater}
+use Rattle.std.specs.declared.cmp.Ordering.{Ordering}
+use Rattle.std.specs.declared.cmp.Ordering.TheVariants.{Less, Equal, Greater}
 use Rattle.searching.specs.Search.{meets, find}
 use Rattle.searching.specs.Reach.{Range, narrow_by, narrow, narrowed, find_key}
 use Rattle.searching.specs.declared.Seek.{Seek}
@@ -50,55 +50,55 @@ narrow_inside o t held zero = record { ordered = omega arith; within = omega ari
 narrow_inside o t held (suc j) = column_inside (by_rule o j) j t held (narrow o held t j) (narrow_inside o t held j)
 
 -- ---- what a find says of the order
-pub below_is_less : (x : Order) → meets AtLeast x ≡ false → x ≡ Less
+pub below_is_less : (x : Ordering) → meets AtLeast x ≡ false → x ≡ Less
 below_is_less Less e = refl
 below_is_less Equal e = cc
 below_is_less Greater e = cc
 
-pub above_is_greater : (x : Order) → meets Above x ≡ true → x ≡ Greater
+pub above_is_greater : (x : Ordering) → meets Above x ≡ true → x ≡ Greater
 above_is_greater Less e = cc
 above_is_greater Equal e = cc
 above_is_greater Greater e = refl
 
-pub at_least_not_less : (x : Order) → meets AtLeast x ≡ true → x ≡ Less → ⊥
+pub at_least_not_less : (x : Ordering) → meets AtLeast x ≡ true → x ≡ Less → ⊥
 at_least_not_less x e l = let z : ◌≡◌ {A = ℕ} 0 1 = cc in omega arith
 
-not_less_at_least : (x : Order) → (x ≡ Less → ⊥) → meets AtLeast x ≡ true
+not_less_at_least : (x : Ordering) → (x ≡ Less → ⊥) → meets AtLeast x ≡ true
 not_less_at_least Less h = absurd (h refl)
 not_less_at_least Equal h = refl
 not_less_at_least Greater h = refl
 
-between_is_equal : (x : Order) → meets AtLeast x ≡ true → meets Above x ≡ false → x ≡ Equal
+between_is_equal : (x : Ordering) → meets AtLeast x ≡ true → meets Above x ≡ false → x ≡ Equal
 between_is_equal Less e h = cc
 between_is_equal Equal e h = refl
 between_is_equal Greater e h = cc
 
 -- What is less is never met, what is greater always.
-less_meets : (k : Seek) {x : Order} → x ≡ Less → meets k x ≡ false
+less_meets : (k : Seek) {x : Ordering} → x ≡ Less → meets k x ≡ false
 less_meets AtLeast e = rw e
 less_meets Above e = rw e
 
-greater_meets : (k : Seek) {x : Order} → x ≡ Greater → meets k x ≡ true
+greater_meets : (k : Seek) {x : Ordering} → x ≡ Greater → meets k x ≡ true
 greater_meets AtLeast e = rw e
 greater_meets Above e = rw e
 
 -- ---- rows in order
 -- By an order f: no row is greater than a later one.
-abbrev pub Climbs : (List Cell → List Cell → Order) → Rows → Type 0
+abbrev pub Climbs : (List Cell → List Cell → Ordering) → Rows → Type 0
 Climbs f rows = (i k : ℕ) → i ≤ k → k < length rows → AtMost f (get_or rows i []) (get_or rows k [])
 
 -- The range of the rows that are equal to t.
-pub record Bounds (f : List Cell → List Cell → Order) (held : Rows) (t : List Cell) (r : Range) : Type 0 where
+pub record Bounds (f : List Cell → List Cell → Ordering) (held : Rows) (t : List Cell) (r : Range) : Type 0 where
   pub inside : Inside (length held) r
   pub before : (i : ℕ) → i < r.start → f (get_or held i []) t ≡ Less
   pub level : (i : ℕ) → r.start ≤ i → i < r.end → f (get_or held i []) t ≡ Equal
   pub after : (i : ℕ) → r.end ≤ i → i < length held → f (get_or held i []) t ≡ Greater
 
 -- By f, then by column j.
-abbrev pub with_column : (List Cell → List Cell → Order) → Rule → ℕ → List Cell → List Cell → Order
+abbrev pub with_column : (List Cell → List Cell → Ordering) → Rule → ℕ → List Cell → List Cell → Ordering
 with_column f rule j r s = next (f r s) (cmp_cell rule (cell j r) (cell j s))
 
-module _ {f : List Cell → List Cell → Order} (F : IsOrder f) where
+module _ {f : List Cell → List Cell → Ordering} (F : IsOrder f) where
   -- A later row meets what an earlier one meets.
   pub meets_later : (k : Seek) (r s t : List Cell) → AtMost f r s → meets k (f r t) ≡ true → meets k (f s t) ≡ true
   meets_later AtLeast r s t h e = not_less_at_least (f s t) (λ l. at_least_not_less (f r t) e (then_less F r s t h l))
@@ -113,7 +113,7 @@ module _ {f : List Cell → List Cell → Order} (F : IsOrder f) where
     after = λ i h k. sym (same_right F (get_or held i []) u t e) ∙ b.after i h k;
   }
 
-module _ {f : List Cell → List Cell → Order} (F : IsOrder f) (rule : Rule) (j : ℕ) (t : List Cell) (held : Rows) (up : Climbs (with_column f rule j) held)
+module _ {f : List Cell → List Cell → Ordering} (F : IsOrder f) (rule : Rule) (j : ℕ) (t : List Cell) (held : Rows) (up : Climbs (with_column f rule j) held)
     (r : Range) (b : Bounds f held t r) where
   -- A find in column j, over the range of the rows equal by f, cuts all rows by f, then column j. It may start at any place with no row met before it.
   pub column_cut : (k : Seek) (from : ℕ) → r.start ≤ from → from ≤ r.end

@@ -1,4 +1,5 @@
 -- No false alarm at the split: over sorted rows, of which none is before the remembered row, the check at a split passes. Assumes nothing.
+use Rattle.std.specs.Prelude.{Option, Some, None}
 use mathlib.Core.Path.{◌≡◌, refl}
 use mathlib.Core.Bool.{Bool, true, false, cond}
 use mathlib.Core.List.{[], ◌++◌}
@@ -11,8 +12,6 @@ use Rattle.order.specs.Order.{cmp_row, sorted}
 use Rattle.order.specs.Keyed.{first_keyed, last_keyed, row_at, recall, out_of_order}
 use Rattle.order.specs.declared.options.Options.{Options}
 use Rattle.order.specs.declared.Row.{Row}
-use Rattle.order.specs.declared.Keyed.{Keyed}
-use Rattle.order.specs.declared.Keyed.TheVariants.{At, Nothing}
 use Rattle.order.proofs.OrderLaws.{AtMost}
 use Rattle.order.proofs.SortedLaws.{All, all_at, all_cut, sorted_cut}
 use Rattle.order.proofs.KeyedLaws.{Found, last_found, keyed_found, Below, below_fine}
@@ -27,11 +26,11 @@ module _ (o : Options) (m : Row) (held : Rows) (s : sorted o held ≡ true) (bel
       e : take n held ++ drop n held ≡ held
       e = take-append-drop n held
 
-      go : (k : Keyed) → Found 0 (length (take n held)) k → Below o (row_or (take n held) (recall (columns o) m) k) (get_or (drop n held) i [])
-      go (At k) f =
+      go : (k : Option ℕ) → Found 0 (length (take n held)) k → Below o (row_or (take n held) (recall (columns o) m) k) (get_or (drop n held) i [])
+      go (Some k) f =
           all_at (λ y. AtMost (cmp_row o) (get_or (take n held) k []) y) (drop n held)
           (all_at (λ a. All (λ y. AtMost (cmp_row o) a y) (drop n held)) (take n held) (sorted_cut o (take n held) (drop n held) (rw e s)).2 k (omega arith)) i h
-      go Nothing f = all_at (Below o (recall (columns o) m)) (drop n held) (all_cut (Below o (recall (columns o) m)) (take n held) (drop n held) (rw e below)).1 i h
+      go None f = all_at (Below o (recall (columns o) m)) (drop n held) (all_cut (Below o (recall (columns o) m)) (take n held) (drop n held) (rw e below)).1 i h
 
   pub split_fine : (i : ℕ) (left : Rows) → bad_split o m i left held ≡ false
   unfolding bad_split

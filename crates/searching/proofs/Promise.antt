@@ -10,7 +10,7 @@ use Rattle.order.specs.options.Options.{strategy_of}
 use Rattle.order.specs.Order.{cmp_group, cmp_row}
 use Rattle.order.proofs.OrderLaws.{AtMost, cmp_key}
 use Rattle.order.specs.declared.options.Options.{Options}
-use Rattle.order.specs.declared.Order.TheVariants.{Less, Equal}
+use Rattle.std.specs.declared.cmp.Ordering.TheVariants.{Less, Equal}
 use Rattle.order.specs.declared.options.Strategy.{Strategy}
 use Rattle.order.specs.declared.options.Strategy.TheVariants.{Backward, Forward, Nearest}
 

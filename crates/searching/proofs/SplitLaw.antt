@@ -12,7 +12,7 @@ use Rattle.order.specs.Order.{cmp_group, cmp_row, key_of, sorted}
 use Rattle.order.proofs.OrderLaws.{row_by_key}
 use Rattle.order.proofs.SortedLaws.{sorted_at}
 use Rattle.order.specs.declared.options.Options.{Options}
-use Rattle.order.specs.declared.Order.TheVariants.{Less}
+use Rattle.std.specs.declared.cmp.Ordering.TheVariants.{Less}
 use Rattle.order.specs.declared.options.Strategy.{Strategy}
 use Rattle.order.specs.declared.options.Strategy.TheVariants.{Backward, Forward, Nearest}
 use Rattle.searching.specs.Reach.{narrowed, find_key, step_back, split_at}

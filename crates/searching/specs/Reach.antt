@@ -1,14 +1,11 @@
 -- How far the held rows serve a left row: narrowing, need more, the split of a prune. Assumes nothing.
-use Rattle.std.specs.Prelude.{Bool, true, false, cond, ◌||◌, List, [], ℕ, zero, suc, ◌-◌, max, ltb, leb, eqb, length, get_or, take, drop}
-use Rattle.std.proofs.Math.Option.{Option, some}
+use Rattle.std.specs.Prelude.{Bool, true, false, cond, ◌||◌, List, [], ℕ, zero, suc, ◌-◌, max, ltb, leb, eqb, length, get_or, take, drop, Some, None, Option}
 use Rattle.frames.specs.Cells.{Cell, cell, Rows}
 use Rattle.order.specs.options.Options.{by_rule, key_rule, strategy_of, columns}
 use Rattle.order.specs.Order.{key_of}
 use Rattle.order.specs.Keyed.{first_keyed, last_keyed, row_at, recall, out_of_order}
 use Rattle.order.specs.declared.options.Options.{Options}
 use Rattle.order.specs.declared.Row.{Row}
-use Rattle.order.specs.declared.Keyed.{Keyed}
-use Rattle.order.specs.declared.Keyed.TheVariants.{At, Nothing}
 use Rattle.order.specs.declared.options.Strategy.{Strategy}
 use Rattle.order.specs.declared.options.Strategy.TheVariants.{Backward, Forward, Nearest}
 use Rattle.searching.specs.Search.{find}
@@ -87,9 +84,9 @@ unfoldable pub prune_by : Options → ℕ → Rows → Rows → ℕ
 prune_by o i left held = cond (no_prune left held) 0 (split_at o (get_or left i []) held)
 
 -- The row at a place among the dropped ones, or the other row if there is no such place.
-abbrev pub row_or : Rows → Option (List Cell) → Keyed → Option (List Cell)
-row_or before other (At i) = some (get_or before i [])
-row_or before other Nothing = other
+abbrev pub row_or : Rows → Option (List Cell) → Option ℕ → Option (List Cell)
+row_or before other (Some i) = Some (get_or before i [])
+row_or before other None = other
 
 -- SCOPE 11.4: the row that is compared at the split, of the dropped rows and the remembered row m.
 unfoldable pub row_before : Options → Row → Rows → Option (List Cell)

@@ -3,7 +3,7 @@ use Rattle.std.specs.Prelude.{Bool, true, false, not, [], ℕ, zero, suc, ◌+�
 use Rattle.frames.specs.Cells.{Cell, cell, Rows}
 use Rattle.order.specs.options.Options.{Rule}
 use Rattle.order.specs.Order.{is_less, is_greater, cmp_cell}
-use Rattle.order.specs.declared.Order.{Order}
+use Rattle.std.specs.declared.cmp.Ordering.{Ordering}
 use Rattle.searching.specs.declared.Seek.{Seek}
 use Rattle.searching.specs.declared.Seek.TheVariants.{AtLeast, Above}
 
@@ -25,7 +25,7 @@ unfoldable pub search : (ℕ → Bool) → ℕ → ℕ → ℕ
 search p lower upper = search_for (upper - lower) p lower upper
 
 -- SCOPE 6.4: the two tests, by how a cell compares with the one that is sought.
-abbrev pub meets : Seek → Order → Bool
+abbrev pub meets : Seek → Ordering → Bool
 meets AtLeast x = not (is_less x)
 meets Above x = is_greater x
 

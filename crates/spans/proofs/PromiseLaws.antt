@@ -1,4 +1,6 @@
 -- The promises of the call. Assumes nothing.
+use Rattle.frames.specs.declared.refusals.Refusal.{Refusal}
+use Rattle.std.specs.Prelude.{Result, Ok, Err}
 use mathlib.Core.Path.{◌≡◌, refl, sym, ap, ◌∙◌}
 use mathlib.Core.Bool.{Bool, true, false, cond, not, ◌&&◌}
 use mathlib.Core.List.{List, [], ◌∷◌, map}
@@ -13,8 +15,6 @@ use Rattle.order.proofs.SortedLaws.{all_join}
 use Rattle.frames.proofs.WordLaws.{rows_length, part_behind}
 use Rattle.tables.specs.Table.{table_of, laid, leave}
 use Rattle.frames.specs.declared.refusals.Refusal.TheVariants.{BadFrame, BadPoints, NoRoom}
-use Rattle.tables.specs.declared.Written.{Written}
-use Rattle.tables.specs.declared.Written.TheVariants.{Rows as Wrote, Refused}
 use Rattle.tables.proofs.TableLaws.{Wide, table_is, table_rows_lem, table_length, laid_take}
 use Rattle.spans.specs.Span.{covers_row, covered, pair_row, pairs_from, ascending_points}
 use Rattle.spans.specs.Calls.{pairs_in, span_answer, span_call}
@@ -49,13 +49,13 @@ pairs_few b points i (r ∷ rs) =
     omega (arith, a, m, covered_few b r 0 points, pairs_few b points (suc i) rs)
 
 -- ---- what the answer says
-wrote_means : (f a t : Bool) (m k : ℕ) → cond f (Refused BadFrame) (cond a (Refused BadPoints) (cond t (Refused NoRoom) (Wrote m))) ≡ Wrote k → (t ≡ false) × (m ≡ k)
+wrote_means : (f a t : Bool) (m k : ℕ) → cond f (Err BadFrame) (cond a (Err BadPoints) (cond t (Err NoRoom) (Ok m))) ≡ Ok k → (t ≡ false) × (m ≡ k)
 wrote_means true a t m k e = (cc, cc)
 wrote_means false true t m k e = (cc, cc)
 wrote_means false false true m k e = (cc, cc)
 wrote_means false false false m k e = (refl, cc)
 
-short_means : (f a t : Bool) (m : ℕ) → cond f (Refused BadFrame) (cond a (Refused BadPoints) (cond t (Refused NoRoom) (Wrote m))) ≡ Refused NoRoom → t ≡ true
+short_means : (f a t : Bool) (m : ℕ) → cond f (Err BadFrame) (cond a (Err BadPoints) (cond t (Err NoRoom) (Ok m))) ≡ Err NoRoom → t ≡ true
 short_means true a t m e = cc
 short_means false true t m e = cc
 short_means false false true m e = refl
@@ -65,30 +65,30 @@ module _ (b : Bounds) (points intervals out : Words) where
   abbrev all : Rows
   all = pairs_in b points intervals
 
-  told : (w : Written) → (leave 2 all w out).answer ≡ w
-  told (Wrote n) = refl
-  told (Refused n) = refl
+  told : (w : Result ℕ Refusal) → (leave 2 all w out).answer ≡ w
+  told (Ok n) = refl
+  told (Err n) = refl
 
   answers : (span_call b points intervals out).answer ≡ span_answer b points intervals out
   unfolding span_call
   answers = told (span_answer b points intervals out)
 
-  leaves : (w : Written) → span_answer b points intervals out ≡ w → (span_call b points intervals out).out ≡ (leave 2 all w out).out
+  leaves : (w : Result ℕ Refusal) → span_answer b points intervals out ≡ w → (span_call b points intervals out).out ≡ (leave 2 all w out).out
   unfolding span_call
-  leaves w e = ap (λ (z : Written). (leave 2 all z out).out) e
+  leaves w e = ap (λ (z : Result ℕ Refusal). (leave 2 all z out).out) e
 
   wide : Wide 2 all
   unfolding pairs_in
   wide = pairs_wide b (frame_rows 1 points) 0 (frame_rows 2 intervals)
 
   -- The answer tells how many pairs there are, and that they had room.
-  wrote : (k : ℕ) → span_answer b points intervals out ≡ Wrote k → (frame_words (length all) 2 ≤ length out) × (length all ≡ k)
+  wrote : (k : ℕ) → span_answer b points intervals out ≡ Ok k → (frame_words (length all) 2 ≤ length out) × (length all ≡ k)
   unfolding span_answer
   wrote k e =
       let m = wrote_means (not (is_frame 1 points && is_frame 2 intervals)) (not (ascending_points (frame_rows 1 points))) (ltb (length out) (frame_words (length all) 2)) (length all) k e in
       (ltb-false (length out) (frame_words (length all) 2) m.0, m.1)
 
-  short : span_answer b points intervals out ≡ Refused NoRoom → length out < frame_words (length all) 2
+  short : span_answer b points intervals out ≡ Err NoRoom → length out < frame_words (length all) 2
   unfolding span_answer
   short e =
       ltb-true (length out) (frame_words (length all) 2)
@@ -111,7 +111,7 @@ module _ (b : Bounds) (points intervals out : Words) where
 
   pub promises : Promises b points intervals out
   promises = record {
-    kept = λ n e. leaves (Refused n) (sym answers ∙ e);
-    listed = λ k e. let w = wrote k (sym answers ∙ e) in rw (leaves (Wrote k) (sym answers ∙ e), ← w.1) (lists w.0);
+    kept = λ n e. leaves (Err n) (sym answers ∙ e);
+    listed = λ k e. let w = wrote k (sym answers ∙ e) in rw (leaves (Ok k) (sym answers ∙ e), ← w.1) (lists w.0);
     enough = λ p q h e. let s = short (sym answers ∙ e) in absurd (omega (arith, few));
   }

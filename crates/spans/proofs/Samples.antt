@@ -1,4 +1,5 @@
 -- Passes over small spans, by computation. Assumes nothing.
+use Rattle.std.specs.Prelude.{Ok, Err}
 use mathlib.Core.Path.{◌≡◌, refl}
 use mathlib.Core.Bool.{Bool, true, false}
 use mathlib.Core.List.{[], ◌∷◌}
@@ -9,7 +10,6 @@ use Rattle.order.proofs.Samples.{row, keys, frame_of}
 use Rattle.searching.specs.Search.{find, search, search_for}
 use Rattle.tables.specs.Table.{words_of, table_of, laid}
 use Rattle.frames.specs.declared.refusals.Refusal.TheVariants.{BadFrame, BadPoints, NoRoom}
-use Rattle.tables.specs.declared.Written.TheVariants.{Rows as Wrote, Refused}
 use Rattle.spans.specs.Span.{covered, pair_row, pairs_from, pairs, ascending_points}
 use Rattle.spans.specs.declared.Bounds.{Bounds}
 use Rattle.spans.specs.Port.{ported_from, up_from}
@@ -50,7 +50,7 @@ ported = refl
 -- The words: a table of two columns, and what is behind it stays.
 pub words :
     span_call (bounds true false) (frame_of 1 (keys (10 ∷ 20 ∷ []))) (frame_of 2 ((null ∷ value (pos 20) ∷ []) ∷ row (10 ∷ 20 ∷ []) ∷ [])) (pos 9 ∷ pos 9 ∷ pos 9 ∷ pos 9 ∷ pos 9 ∷ pos 9 ∷ pos 9 ∷ [])
-    ≡ record { answer = Wrote 1; out = pos 1 ∷ pos 2 ∷ pos 1 ∷ pos 0 ∷ pos 1 ∷ pos 1 ∷ pos 9 ∷ [] }
+    ≡ record { answer = Ok 1; out = pos 1 ∷ pos 2 ∷ pos 1 ∷ pos 0 ∷ pos 1 ∷ pos 1 ∷ pos 9 ∷ [] }
 unfolding span_call span_answer pairs_in is_frame is_table pairs_fine frame_rows rows_of cells_of ascending_points pairs_from covered words_of table_of laid
 words = refl
 
@@ -59,6 +59,6 @@ pub refusals :
     span_answer (bounds true true) (frame_of 1 (keys (20 ∷ 10 ∷ []))) (frame_of 1 []) [] ∷ span_answer (bounds true true) (frame_of 1 ((value (pos 10) ∷ []) ∷ (null ∷ []) ∷ [])) (frame_of 2 []) []
     ∷ span_answer (bounds true true) (frame_of 1 (keys (20 ∷ 10 ∷ []))) (frame_of 2 []) [] ∷ span_answer (bounds true true) (frame_of 1 (keys (10 ∷ []))) (frame_of 2 (row (10 ∷ 10 ∷ []) ∷ [])) (pos 0 ∷ pos 0 ∷ [])
     ∷ span_answer (bounds true false) (frame_of 1 (keys (10 ∷ []))) (frame_of 2 (row (10 ∷ 10 ∷ []) ∷ [])) (pos 0 ∷ pos 0 ∷ []) ∷ []
-    ≡ Refused BadFrame ∷ Refused BadPoints ∷ Refused BadPoints ∷ Refused NoRoom ∷ Wrote 0 ∷ []
+    ≡ Err BadFrame ∷ Err BadPoints ∷ Err BadPoints ∷ Err NoRoom ∷ Ok 0 ∷ []
 unfolding span_answer pairs_in is_frame is_table pairs_fine frame_rows rows_of cells_of ascending_points pairs_from covered
 refusals = refl

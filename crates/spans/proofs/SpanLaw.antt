@@ -13,8 +13,8 @@ use lib.ListN.{length, get_or}
 use Rattle.frames.specs.Cells.{Cell, null, value, cell, is_null, Rows}
 use Rattle.order.specs.options.Options.{key_rule}
 use Rattle.order.specs.Order.{cmp_z, cmp_cell, is_less, is_greater}
-use Rattle.order.specs.declared.Order.{Order}
-use Rattle.order.specs.declared.Order.TheVariants.{Less, Equal, Greater}
+use Rattle.std.specs.declared.cmp.Ordering.{Ordering}
+use Rattle.std.specs.declared.cmp.Ordering.TheVariants.{Less, Equal, Greater}
 use Rattle.order.proofs.OrderLaws.{AtMost, flip, cmp_cell_is, cmp_z_is, at_most, at_most_refl, on}
 use Rattle.order.proofs.SortedLaws.{not_greater}
 use Rattle.frames.proofs.BoolLaws.{and-true}
@@ -50,7 +50,7 @@ less_is a b = by (lt_z a b) (lt_z b a)
     by false true = refl
     by false false = refl
 
-flip_greater : (z : Order) → is_greater (flip z) ≡ is_less z
+flip_greater : (z : Ordering) → is_greater (flip z) ≡ is_less z
 flip_greater Less = refl
 flip_greater Equal = refl
 flip_greater Greater = refl

@@ -19,7 +19,7 @@ use Rattle.tables.specs.Lay.{flat, lay_cells}
 use Rattle.tables.proofs.LayLaws.{flat_append, lay_none, lay_append}
 use Rattle.spans.specs.Span.{pair_row, ascending_points}
 use Rattle.spans.specs.Port.{seek_lower, seek_upper, search_sorted, up_from, matches_of, ported_from}
-use Rattle.spans.specs.Requires.{Matched, ported}
+use Rattle.spans.specs.Requires.{Matched}
 use Rattle.spans.specs.declared.Bounds.{Bounds}
 
 -- ---- the rows from place p on, n of them
@@ -121,9 +121,6 @@ module _ (b : Bounds) (n : ℕ) (pv pm : Words) (m : ℕ) (iv im : Words) (hv : 
   -- The pairs of the intervals from i on.
   abbrev pub from : ℕ → Rows
   from i = ported_from b points i (rest 2 (i * 2) (m - i) iv im)
-
-  pub from_all : ported b n pv pm m iv im ≡ from 0
-  from_all = let z : m - 0 ≡ m = omega arith in let y : 0 * 2 ≡ 0 = omega arith in rw (z, y)
 
   cons : (i : ℕ) (r : List Cell) (rs : Rows) → ported_from b points i (r ∷ rs) ≡ map (pair_row i) (matches_of b points (cell 0 r) (cell 1 r)) ++ ported_from b points (suc i) rs
   unfolding ported_from

@@ -7,27 +7,18 @@ ghost use Rattle.spans.specs.Requires.{PointsIn, IntervalsIn, ported, StretchRoo
 
 use crate::Bounds;
 use crate::pointsearch::points_of;
+use frames::RowSlice;
 use tables::put_cell;
 
 // How many pairs there are.
-pub fn count_pairs(
-    pv: &[i64],
-    pm: &[i64],
-    n: usize,
-    iv: &[i64],
-    im: &[i64],
-    m: usize,
-    b: Bounds,
-) -> usize
-    requires { PointsIn n pv.now pm.now × IntervalsIn m iv.now im.now }
-    ensures { (result ≡ length (ported b n pv.now pm.now m iv.now im.now)) × (result < 2 ^ 32) }
+pub fn count_pairs(points: RowSlice<'_>, intervals: RowSlice<'_>, b: Bounds) -> usize
+    requires { PointsIn points.count points.values.now points.marks.now × IntervalsIn intervals.count intervals.values.now intervals.marks.now }
+    ensures { (result ≡ length (ported b points.entry.count points.entry.values.now points.entry.marks.now intervals.entry.count intervals.entry.values.now intervals.entry.marks.now)) × (result < 2 ^ 32) }
 {
     let mut count = 0;
-    let mut i = 0;
-    while i < m {
-        let found = points_of(pv, pm, n, iv, im, i * 2, b);
+    for i in 0..intervals.count {
+        let found = points_of(points, intervals, i * 2, b);
         count += found.end - found.start;
-        i += 1;
     }
     count
 }
@@ -47,37 +38,27 @@ fn put_stretch(out: &mut [i64], cells: usize, from: usize, i: usize, start: usiz
     ensures { out.new ≡ lay_cells cells from (flat (map (pair_row i) (up_from start (end - start)))) out.old }
 {
     let mut k = from;
-    let mut j = start;
-    while j < end {
+    for j in start..end {
         put_pair(out, cells, k, i, j);
         k += 2;
-        j += 1;
     }
 }
 
 // All pairs, which have so many cells.
 pub fn put_pairs(
-    pv: &[i64],
-    pm: &[i64],
-    n: usize,
-    iv: &[i64],
-    im: &[i64],
-    m: usize,
+    points: RowSlice<'_>,
+    intervals: RowSlice<'_>,
     b: Bounds,
     cells: usize,
     out: &mut [i64],
 )
-    requires { PairsRoom b n pv.now pm.now m iv.now im.now cells out.old }
-    ensures { out.new ≡ lay_cells cells 0 (flat (ported b n pv.now pm.now m iv.now im.now)) out.old }
+    requires { PairsRoom b points.count points.values.now points.marks.now intervals.count intervals.values.now intervals.marks.now cells out.old }
+    ensures { out.new ≡ lay_cells cells 0 (flat (ported b points.entry.count points.entry.values.now points.entry.marks.now intervals.entry.count intervals.entry.values.now intervals.entry.marks.now)) out.old }
 {
     let mut k = 0;
-    let mut i = 0;
-    while i < m {
-        let r = points_of(pv, pm, n, iv, im, i * 2, b);
-        let start = r.start;
-        let end = r.end;
-        put_stretch(out, cells, k, i, start, end);
-        k += 2 * (end - start);
-        i += 1;
+    for i in 0..intervals.count {
+        let r = points_of(points, intervals, i * 2, b);
+        put_stretch(out, cells, k, i, r.start, r.end);
+        k += 2 * (r.end - r.start);
     }
 }

@@ -10,48 +10,52 @@ ghost use Rattle.spans.specs.Requires.{PointsIn, BoundsIn, Matched};
 
 use crate::Bounds;
 use buffer::bisect::find;
-use order::Order;
+use frames::RowSlice;
 use rows::cells::cmp_cell;
 use rows::keyed::null_at;
 use searching::{Seek, Stretch};
 
 // Whether point i is not null and not greater than the next.
-fn before_next(values: &[i64], marks: &[i64], i: usize) -> bool
-    requires { BoundsIn i values.now marks.now }
-    ensures { result ≡ (not (is_null (cell_at i values.now marks.now)) && not (is_greater (cmp_cell key_rule (cell_at i values.now marks.now) (cell_at (i + 1) values.now marks.now)))) }
+fn before_next(points: RowSlice<'_>, i: usize) -> bool
+    requires { BoundsIn i points.values.now points.marks.now }
+    ensures { result ≡ (not (is_null (cell_at i points.entry.values.now points.entry.marks.now)) && not (is_greater (cmp_cell key_rule (cell_at i points.entry.values.now points.entry.marks.now) (cell_at (i + 1) points.entry.values.now points.entry.marks.now)))) }
 {
-    if null_at(marks, i) {
+    if null_at(points.marks, i) {
         return false;
     }
     let k = i + 1;
-    match cmp_cell(values[i], marks[i], values[k], marks[k], false, false) {
-        Order::Greater => false,
-        _ => true,
-    }
+    !cmp_cell(
+        points.values[i],
+        points.marks[i],
+        points.values[k],
+        points.marks[k],
+        false,
+        false,
+    )
+    .is_gt()
 }
 
 // Whether no point is null and none is greater than the next.
-pub fn ascending_points(values: &[i64], marks: &[i64], n: usize) -> bool
-    requires { PointsIn n values.now marks.now }
-    ensures { result ≡ ascending_points (rows_of 1 n values.now marks.now) }
+pub fn ascending_points(points: RowSlice<'_>) -> bool
+    requires { PointsIn points.count points.values.now points.marks.now }
+    ensures { result ≡ ascending_points (rows_of 1 points.entry.count points.entry.values.now points.entry.marks.now) }
 {
-    if n == 0 {
+    if points.count == 0 {
         return true;
     }
-    let mut i = 0;
-    while i + 1 < n {
-        if !before_next(values, marks, i) {
+    let last = points.count - 1;
+    for i in 0..last {
+        if !before_next(points, i) {
             return false;
         }
-        i += 1;
     }
-    !null_at(marks, i)
+    !null_at(points.marks, last)
 }
 
-// The first point that is at least v, or above it; n where there is none.
-fn search_sorted(seek: Seek, v: i64, values: &[i64], marks: &[i64], n: usize) -> usize
-    requires { PointsIn n values.now marks.now }
-    ensures { (result ≡ search_sorted seek v (rows_of 1 n values.now marks.now)) × (result ≤ n) }
+// The first point that is at least v, or above it; the points' number where there is none.
+fn search_sorted(seek: Seek, v: i64, points: RowSlice<'_>) -> usize
+    requires { PointsIn points.count points.values.now points.marks.now }
+    ensures { (result ≡ search_sorted seek v (rows_of 1 points.entry.count points.entry.values.now points.entry.marks.now)) × (result ≤ points.entry.count) }
 {
     find(
         seek,
@@ -62,11 +66,9 @@ fn search_sorted(seek: Seek, v: i64, values: &[i64], marks: &[i64], n: usize) ->
         0,
         v,
         1,
-        values,
-        marks,
-        1,
+        RowSlice { width: 1, ..points },
         0,
-        n,
+        points.count,
     )
 }
 
@@ -91,35 +93,21 @@ fn seek_upper(b: Bounds) -> Seek
 }
 
 // The points of the interval at place p; none where a bound is null.
-pub fn points_of(
-    pv: &[i64],
-    pm: &[i64],
-    n: usize,
-    iv: &[i64],
-    im: &[i64],
-    p: usize,
-    b: Bounds,
-) -> Stretch
-    requires { PointsIn n pv.now pm.now × BoundsIn p iv.now im.now }
-    ensures { Matched b n pv.now pm.now (cell_at p iv.now im.now) (cell_at (p + 1) iv.now im.now) result }
+pub fn points_of(points: RowSlice<'_>, intervals: RowSlice<'_>, p: usize, b: Bounds) -> Stretch
+    requires { PointsIn points.count points.values.now points.marks.now × BoundsIn p intervals.values.now intervals.marks.now }
+    ensures { Matched b points.entry.count points.entry.values.now points.entry.marks.now (cell_at p intervals.entry.values.now intervals.entry.marks.now) (cell_at (p + 1) intervals.entry.values.now intervals.entry.marks.now) result }
 {
     let q = p + 1;
-    if null_at(im, p) {
+    if null_at(intervals.marks, p) {
         return Stretch { start: 0, end: 0 };
     }
-    if null_at(im, q) {
+    if null_at(intervals.marks, q) {
         return Stretch { start: 0, end: 0 };
     }
-    let start = search_sorted(seek_lower(b), iv[p], pv, pm, n);
-    let end = search_sorted(seek_upper(b), iv[q], pv, pm, n);
+    let start = search_sorted(seek_lower(b), intervals.values[p], points);
+    let end = search_sorted(seek_upper(b), intervals.values[q], points);
     if end < start {
-        return Stretch {
-            start: start,
-            end: start,
-        };
+        return Stretch { start, end: start };
     }
-    Stretch {
-        start: start,
-        end: end,
-    }
+    Stretch { start, end }
 }

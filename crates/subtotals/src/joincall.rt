@@ -1,56 +1,57 @@
 // Two tables of subtotals with the numbers beside them, joined in one call.
 ghost use Rattle.std.specs.Prelude.{◌≤◌, length};
-ghost use Rattle.frames.specs.Cells.{rows_of};
-ghost use Rattle.order.specs.options.Options.{with_list};
+ghost use Rattle.frames.specs.Cells.{rows_of, rows_in};
+ghost use Rattle.order.specs.options.Options.{options_of};
 ghost use Rattle.subtotals.specs.joincall.JoinRows.{SheetsIn, RowsContract, JoinContract};
 
 use crate::takejoin::count_joined;
 use crate::takejudge::{is_beyond, is_fine};
 use crate::takewords::judge_tables;
 use crate::takewrite::put_joined;
-use frames::outcomes::Took;
+use frames::RowSlice;
 use frames::refusals::Refusal;
-use order::options::{Options, Terms, terms_of};
+use order::options::{Options, Rules};
 use rows::framerule::{has_room, row_count};
 use tables::put_head;
 use takings::Taken;
 
-// Two tables of na and nb rows, each w wide, written as one; refused by 14 where one has a null or groups out of order, by 15 beyond the bounds, by 6 where the output
-// is too short.
+// Two tables of one width, written as one; refused by 14 where one has a null or groups out of order, by 15 beyond the bounds, by 6 where the output is too short.
 fn join_rows(
-    av: &[i64],
-    am: &[i64],
-    na: usize,
+    table: RowSlice<'_>,
     number: i64,
-    bv: &[i64],
-    bm: &[i64],
-    nb: usize,
+    added: RowSlice<'_>,
     other: i64,
-    w: usize,
-    o: Terms,
-    codes: &[i64],
-    rising: &[u8],
+    rules: Rules<'_>,
     out: &mut [i64],
-) -> Taken
-    requires { SheetsIn (with_list o codes.now rising.now) w na av.now am.now nb bv.now bm.now }
-    ensures { RowsContract (with_list o codes.now rising.now) w (rows_of w na av.now am.now) number (rows_of w nb bv.now bm.now) other out.old result out.new }
+) -> Result<Taken, Refusal>
+    requires { SheetsIn (options_of rules) table.width table.count table.values.now table.marks.now added.count added.values.now added.marks.now }
+    ensures { RowsContract (options_of rules.entry) table.entry.width (rows_in table.entry) number (rows_of table.entry.width added.entry.count added.entry.values.now added.entry.marks.now) other out.old result out.new }
 {
-    if !is_fine(av, am, na, w, o, codes, rising) {
-        return Taken::Refused(Refusal::Unsorted);
+    if !is_fine(table, rules) {
+        return Err(Refusal::Unsorted);
     }
-    if !is_fine(bv, bm, nb, w, o, codes, rising) {
-        return Taken::Refused(Refusal::Unsorted);
+    if !is_fine(
+        RowSlice {
+            width: table.width,
+            ..added
+        },
+        rules,
+    ) {
+        return Err(Refusal::Unsorted);
     }
-    if is_beyond(av, am, na, number, bv, bm, nb, other, w, o) {
-        return Taken::Refused(Refusal::Beyond);
+    if is_beyond(table, number, added, other, rules.terms) {
+        return Err(Refusal::Beyond);
     }
-    let n = count_joined(av, am, na, bv, bm, nb, w, o, codes, rising);
-    if !has_room(n, w, out.len()) {
-        return Taken::Refused(Refusal::NoRoom);
+    let n = count_joined(table, added, rules);
+    if !has_room(n, table.width, out.len()) {
+        return Err(Refusal::NoRoom);
     }
-    put_joined(av, am, na, bv, bm, nb, w, o, codes, rising, n * w, out);
-    put_head(out, n, w);
-    Taken::Table(n, number + other)
+    put_joined(table, added, rules, n * table.width, out);
+    put_head(out, n, table.width);
+    Ok(Taken {
+        rows: n,
+        number: number + other,
+    })
 }
 
 // The same of two tables that are handed in whole, under these options.
@@ -59,35 +60,34 @@ fn join_listed(
     number: i64,
     other: &[i64],
     other_number: i64,
-    o: Terms,
-    codes: &[i64],
-    rising: &[u8],
+    rules: Rules<'_>,
     out: &mut [i64],
-) -> Taken
-    requires { (64 ≤ length codes.now) × (64 ≤ length rising.now) }
-    ensures { JoinContract (with_list o codes.now rising.now) table.now number other.now other_number out.old result out.new }
+) -> Result<Taken, Refusal>
+    requires { (64 ≤ length rules.codes.now) × (64 ≤ length rules.rising.now) }
+    ensures { JoinContract (options_of rules.entry) table.now number other.now other_number out.old result out.new }
 {
-    if let Took::Refused(r) = judge_tables(table, other, o, codes, rising) {
-        return Taken::Refused(r);
-    }
-    let w = o.by + 2;
+    judge_tables(table, other, rules)?;
+    let w = rules.terms.by + 2;
     let na = row_count(table);
     let nb = row_count(other);
     let e = 2 + na * w;
     let f = 2 + nb * w;
     join_rows(
-        &table[2..e],
-        &table[e..],
-        na,
+        RowSlice {
+            values: &table[2..e],
+            marks: &table[e..],
+            count: na,
+            width: w,
+        },
         number,
-        &other[2..f],
-        &other[f..],
-        nb,
+        RowSlice {
+            values: &other[2..f],
+            marks: &other[f..],
+            count: nb,
+            width: w,
+        },
         other_number,
-        w,
-        o,
-        codes,
-        rising,
+        rules,
         out,
     )
 }
@@ -100,19 +100,8 @@ pub fn join_takings(
     other_number: i64,
     o: Options,
     out: &mut [i64],
-) -> Taken
+) -> Result<Taken, Refusal>
     ensures { JoinContract o table.now number other.now other_number out.old result out.new }
 {
-    let codes = o.ranks.codes;
-    let rising = o.ranks.rising;
-    join_listed(
-        table,
-        number,
-        other,
-        other_number,
-        terms_of(o),
-        &codes,
-        &rising,
-        out,
-    )
+    join_listed(table, number, other, other_number, o.rules(), out)
 }

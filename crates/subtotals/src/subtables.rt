@@ -1,42 +1,29 @@
 // Tables of subtotals, judged: no null, groups strictly ascending, totals and sale counts within their bounds.
 ghost use Rattle.std.specs.Prelude.{◌≡◌, ◌≤◌};
-ghost use Rattle.frames.specs.Cells.{rows_of};
-ghost use Rattle.order.specs.options.Options.{with_list};
+ghost use Rattle.frames.specs.Cells.{rows_in};
+ghost use Rattle.order.specs.options.Options.{options_of};
 ghost use Rattle.order.specs.Requires.{RowsIn};
 ghost use Rattle.takings.specs.Subtotals.{ascending, subtotals_of, most_sales};
 ghost use Rattle.subtotals.specs.subtables.Sheet.{Sheet, Summed, Counted};
 
-use order::Order;
-use order::options::Terms;
+use frames::RowSlice;
+use order::options::Rules;
 use rows::cells::distance;
 use rows::compare::cmp_group;
 
 // The most sales that a table may tell.
 pub const MOST_SALES: usize = 2147483648;
 
-// Whether the group of each row of n, each w wide, is less than the next one's.
-pub fn is_ascending(
-    values: &[i64],
-    marks: &[i64],
-    n: usize,
-    w: usize,
-    o: Terms,
-    codes: &[i64],
-    rising: &[u8],
-) -> bool
-    requires { RowsIn (with_list o codes.now rising.now) w n values.now marks.now }
-    ensures { result ≡ ascending (with_list o codes.now rising.now) (subtotals_of (with_list o codes.now rising.now) (rows_of w n values.now marks.now)) }
+// Whether the group of each row is less than the next one's.
+pub fn is_ascending(rows: RowSlice<'_>, rules: Rules<'_>) -> bool
+    requires { RowsIn (options_of rules) rows.width rows.count rows.values.now rows.marks.now }
+    ensures { result ≡ ascending (options_of rules.entry) (subtotals_of (options_of rules.entry) (rows_in rows.entry)) }
 {
-    let mut left = n;
-    let mut p = 0;
-    while 1 < left {
-        let q = p + w;
-        match cmp_group(values, marks, p, values, marks, q, o, codes, rising) {
-            Order::Less => {}
-            _ => return false,
+    let w = rows.width;
+    for i in 1..rows.count {
+        if !cmp_group(rows, (i - 1) * w, rows, i * w, rules).is_lt() {
+            return false;
         }
-        p = q;
-        left -= 1;
     }
     true
 }
@@ -64,16 +51,12 @@ pub fn count_sales(sum: usize, values: &[i64], n: usize, w: usize, by: usize) ->
     ensures { Counted by w n values.now sum result }
 {
     let mut s = sum;
-    let mut p = 0;
-    let mut i = 0;
-    while i < n {
-        let k = p + by;
+    for i in 0..n {
+        let k = i * w + by;
         s = with_row(s, values[k], values[k + 1]);
         if MOST_SALES < s {
             return s;
         }
-        p += w;
-        i += 1;
     }
     s
 }

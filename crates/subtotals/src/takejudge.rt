@@ -1,31 +1,24 @@
 // Accounts of takings, judged by the definitions: 14 of one table, 15 of two tables and their numbers.
 ghost use Rattle.std.specs.Prelude.{◌≡◌, List, ℕ};
-ghost use Rattle.frames.specs.Cells.{rows_of, Words};
-ghost use Rattle.order.specs.options.Options.{with_list, Few};
+ghost use Rattle.frames.specs.Cells.{rows_of, Words, rows_in};
+ghost use Rattle.order.specs.options.Options.{with_list, Few, options_of};
 ghost use Rattle.takings.specs.Subtotals.{beyond_number};
 ghost use Rattle.subtotals.specs.takejudge.Judge.{Sheet, fine_rows, beyond_accounts};
 
 use crate::subtables::{MOST_SALES, count_sales, is_ascending};
-use order::options::Terms;
+use frames::RowSlice;
+use order::options::{Rules, Terms};
 use rows::nulls::any_null;
 
-// Whether a table of n rows, each w wide, has no null and strictly ascending groups.
-pub fn is_fine(
-    values: &[i64],
-    marks: &[i64],
-    n: usize,
-    w: usize,
-    o: Terms,
-    codes: &[i64],
-    rising: &[u8],
-) -> bool
-    requires { Few (with_list o codes.now rising.now) × Sheet o.by w n values.now marks.now }
-    ensures { result ≡ fine_rows (with_list o codes.now rising.now) w (rows_of w n values.now marks.now) }
+// Whether a table has no null and strictly ascending groups.
+pub fn is_fine(rows: RowSlice<'_>, rules: Rules<'_>) -> bool
+    requires { Few (options_of rules) × Sheet rules.terms.by rows.width rows.count rows.values.now rows.marks.now }
+    ensures { result ≡ fine_rows (options_of rules.entry) rows.entry.width (rows_in rows.entry) }
 {
-    if any_null(marks) {
+    if any_null(rows.marks) {
         return false;
     }
-    is_ascending(values, marks, n, w, o, codes, rising)
+    is_ascending(rows, rules)
 }
 
 // Whether a number of sales without an amount is outside 0 to 2^31.
@@ -40,19 +33,14 @@ pub fn bad_number(number: i64) -> bool
 
 // Whether two tables with their numbers, or what they give together, are beyond the bounds.
 pub fn is_beyond(
-    av: &[i64],
-    am: &[i64],
-    na: usize,
+    table: RowSlice<'_>,
     number: i64,
-    bv: &[i64],
-    bm: &[i64],
-    nb: usize,
+    added: RowSlice<'_>,
     other: i64,
-    w: usize,
     o: Terms,
 ) -> bool
-    requires { Sheet o.by w na av.now am.now × Sheet o.by w nb bv.now bm.now }
-    ensures { (codes : Words) (rising : List ℕ) → result ≡ beyond_accounts (with_list o codes rising) (rows_of w na av.now am.now) number (rows_of w nb bv.now bm.now) other }
+    requires { Sheet o.by table.width table.count table.values.now table.marks.now × Sheet o.by table.width added.count added.values.now added.marks.now }
+    ensures { (codes : Words) (rising : List ℕ) → result ≡ beyond_accounts (with_list o codes rising) (rows_in table.entry) number (rows_of table.entry.width added.entry.count added.entry.values.now added.entry.marks.now) other }
 {
     let by = o.by;
     if bad_number(number) {
@@ -61,11 +49,11 @@ pub fn is_beyond(
     if bad_number(other) {
         return true;
     }
-    let s = count_sales(0, av, na, w, by);
+    let s = count_sales(0, table.values, table.count, table.width, by);
     if MOST_SALES < s {
         return true;
     }
-    let t = count_sales(s, bv, nb, w, by);
+    let t = count_sales(s, added.values, added.count, table.width, by);
     if MOST_SALES < t {
         return true;
     }

@@ -1,43 +1,39 @@
 // The refusals of takings that come before rows are judged: 1, 10 and 11 by the options, 5, 12, 13. Nothing is altered here.
 ghost use Rattle.std.specs.Prelude.{◌≡◌, true, ◌&&◌, ◌≤◌, eqb, length};
 ghost use Rattle.frames.specs.Frame.{is_frame, row_count};
-ghost use Rattle.order.specs.options.Options.{with_list, without_list};
+ghost use Rattle.order.specs.options.Options.{without_list, options_of};
 ghost use Rattle.takings.specs.Calls.{any_frame, columns_in, known_columns};
 ghost use Rattle.subtotals.specs.takewords.Judged.{tables_judged, sales_judged};
 
 use callrules::judges::judge_open;
 use callrules::listed::lacks_code;
-use frames::outcomes::Took;
 use frames::refusals::Refusal;
-use order::options::Terms;
+use order::options::{Rules, Terms};
 use rows::framerule::{is_frame, is_table, row_count};
 
 // Two tables of subtotals: both must be tables before the list of ranks is asked.
-pub fn judge_tables(table: &[i64], other: &[i64], o: Terms, codes: &[i64], rising: &[u8]) -> Took
-    requires { (64 ≤ length codes.now) × (64 ≤ length rising.now) }
-    ensures { result ≡ tables_judged (with_list o codes.now rising.now) table.now other.now }
+pub fn judge_tables(table: &[i64], other: &[i64], rules: Rules<'_>) -> Result<(), Refusal>
+    requires { (64 ≤ length rules.codes.now) × (64 ≤ length rules.rising.now) }
+    ensures { result ≡ tables_judged (options_of rules.entry) table.now other.now }
 {
-    let open = judge_open(o, codes, rising);
-    if let Took::Refused(_) = open {
-        return open;
-    }
-    let w = o.by + 2;
+    judge_open(rules)?;
+    let w = rules.terms.by + 2;
     if !is_table(table, w) {
-        return Took::Refused(Refusal::BadFrame);
+        return Err(Refusal::BadFrame);
     }
     if !is_table(other, w) {
-        return Took::Refused(Refusal::BadFrame);
+        return Err(Refusal::BadFrame);
     }
-    if lacks_code(table, w, o, codes, rising) {
-        return Took::Refused(Refusal::UnknownCode);
+    if lacks_code(table, w, rules) {
+        return Err(Refusal::UnknownCode);
     }
-    if lacks_code(other, w, o, codes, rising) {
-        return Took::Refused(Refusal::UnknownCode);
+    if lacks_code(other, w, rules) {
+        return Err(Refusal::UnknownCode);
     }
-    if o.carried == 0 {
-        return Took::Refused(Refusal::BadColumns);
+    if rules.terms.carried == 0 {
+        return Err(Refusal::BadColumns);
     }
-    Took::Accepted
+    Ok(())
 }
 
 // Whether words are a frame of the columns that they say.
@@ -87,34 +83,29 @@ pub fn judge_sales(
     table: &[i64],
     left: &[i64],
     answer: &[i64],
-    o: Terms,
-    codes: &[i64],
-    rising: &[u8],
-) -> Took
-    requires { (64 ≤ length codes.now) × (64 ≤ length rising.now) }
-    ensures { result ≡ sales_judged (with_list o codes.now rising.now) table.now left.now answer.now }
+    rules: Rules<'_>,
+) -> Result<(), Refusal>
+    requires { (64 ≤ length rules.codes.now) × (64 ≤ length rules.rising.now) }
+    ensures { result ≡ sales_judged (options_of rules.entry) table.now left.now answer.now }
 {
-    let open = judge_open(o, codes, rising);
-    if let Took::Refused(_) = open {
-        return open;
-    }
-    let by = o.by;
+    judge_open(rules)?;
+    let by = rules.terms.by;
     let w = by + 2;
     let c = by + 1;
     if !is_table(table, w) {
-        return Took::Refused(Refusal::BadFrame);
+        return Err(Refusal::BadFrame);
     }
     if !are_frames(left, answer, c) {
-        return Took::Refused(Refusal::BadFrame);
+        return Err(Refusal::BadFrame);
     }
-    if lacks_code(table, w, o, codes, rising) {
-        return Took::Refused(Refusal::UnknownCode);
+    if lacks_code(table, w, rules) {
+        return Err(Refusal::UnknownCode);
     }
-    if lacks_code(left, c, o, codes, rising) {
-        return Took::Refused(Refusal::UnknownCode);
+    if lacks_code(left, c, rules) {
+        return Err(Refusal::UnknownCode);
     }
-    if !is_known(answer, o) {
-        return Took::Refused(Refusal::BadColumns);
+    if !is_known(answer, rules.terms) {
+        return Err(Refusal::BadColumns);
     }
-    Took::Accepted
+    Ok(())
 }

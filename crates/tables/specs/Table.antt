@@ -1,10 +1,9 @@
 -- A table's words from its rows, and what a call over tables leaves. Assumes nothing.
-use Rattle.std.specs.Prelude.{[], ◌∷◌, ◌++◌, map, ℕ, ℤ, pos, length}
+use Rattle.frames.specs.declared.refusals.Refusal.{Refusal}
+use Rattle.std.specs.Prelude.{[], ◌∷◌, ◌++◌, map, ℕ, ℤ, pos, length, Result, Ok, Err}
 use Rattle.std.proofs.Math.Seq.{paste}
 use Rattle.frames.specs.Cells.{Cell, value_word, mark_word, Rows, Words}
 use Rattle.frames.specs.Frame.{frame_rows}
-use Rattle.tables.specs.declared.Written.{Written}
-use Rattle.tables.specs.declared.Written.TheVariants.{Rows as Wrote, Refused}
 
 -- The rows of a table of c columns: those of a frame, however many.
 abbrev pub table_rows : ℕ → Words → Rows
@@ -25,10 +24,10 @@ laid ws out = paste out 0 ws (length ws)
 
 -- What a call leaves: its answer, and the words of the output.
 pub record After : Type 0 where
-  pub answer : Written
+  pub answer : Result ℕ Refusal
   pub out : Words
 
 -- A refused call alters no word of the output; else a table of c columns is written at its front.
-abbrev pub leave : ℕ → Rows → Written → Words → After
-leave c rows (Wrote n) out = record { answer = Wrote n; out = laid (table_of c rows) out }
-leave c rows (Refused r) out = record { answer = Refused r; out = out }
+abbrev pub leave : ℕ → Rows → Result ℕ Refusal → Words → After
+leave c rows (Ok n) out = record { answer = Ok n; out = laid (table_of c rows) out }
+leave c rows (Err r) out = record { answer = Err r; out = out }

@@ -8,14 +8,7 @@ ghost use Rattle.frames.specs.Cells.{row_from};
 ghost use Rattle.tables.specs.Lay.{lay_cells, CellRoom, HeadRoom};
 ghost use Rattle.tables.specs.Requires.{CopyRoom};
 
-use frames::refusals::Refusal;
-
-// A table of so many rows was written; or the call was refused, and nothing was.
-#[derive(Clone, Copy)]
-pub enum Written {
-    Rows(usize),
-    Refused(Refusal),
-}
+use frames::RowSlice;
 
 // Cell k of a table of m cells goes to its two places: its value behind the two head words, its mark behind all values.
 pub fn put_cell(out: &mut [i64], m: usize, k: usize, value: i64, mark: i64)
@@ -36,22 +29,12 @@ pub fn put_head(out: &mut [i64], n: usize, c: usize)
 }
 
 // The row of w cells at p is copied to the cells from k on, of m.
-pub fn put_row(
-    out: &mut [i64],
-    m: usize,
-    k: usize,
-    values: &[i64],
-    marks: &[i64],
-    p: usize,
-    w: usize,
-)
-    requires { CopyRoom m k p w values.now marks.now out.old }
-    ensures { out.new ≡ lay_cells m k (row_from w p values.now marks.now) out.old }
+pub fn put_row(out: &mut [i64], m: usize, k: usize, rows: RowSlice<'_>, p: usize)
+    requires { CopyRoom m k p rows.width rows.values.now rows.marks.now out.old }
+    ensures { out.new ≡ lay_cells m k (row_from rows.entry.width p rows.entry.values.now rows.entry.marks.now) out.old }
 {
-    let mut j = 0;
-    while j < w {
+    for j in 0..rows.width {
         let q = p + j;
-        put_cell(out, m, k + j, values[q], marks[q]);
-        j += 1;
+        put_cell(out, m, k + j, rows.values[q], rows.marks[q]);
     }
 }

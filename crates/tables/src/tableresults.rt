@@ -2,8 +2,7 @@
 ghost use Rattle.std.specs.Prelude.{◌≡◌};
 ghost use Rattle.tables.specs.tableresults.Numbers.{written_host};
 
-use crate::Written;
-use frames::refusals::number_of;
+use frames::refusals::Refusal;
 
 // The answer of a call that writes a table: refusal is 0 and rows are so many, or the refusal's number and no row.
 #[repr(C)]
@@ -14,17 +13,16 @@ pub struct HostWritten {
 }
 
 // The answer in numbers.
-pub fn written_host(w: Written) -> HostWritten
-    ensures { result ≡ written_host w }
-{
-    match w {
-        Written::Rows(n) => HostWritten {
-            refusal: 0,
-            rows: n,
-        },
-        Written::Refused(n) => HostWritten {
-            refusal: number_of(n),
-            rows: 0,
-        },
+impl From<Result<usize, Refusal>> for HostWritten {
+    ghost from_gives = { λ answer numbers. numbers ≡ written_host answer };
+
+    fn from(answer: Result<usize, Refusal>) -> HostWritten {
+        match answer {
+            Ok(rows) => HostWritten { refusal: 0, rows },
+            Err(refusal) => HostWritten {
+                refusal: refusal.into(),
+                rows: 0,
+            },
+        }
     }
 }

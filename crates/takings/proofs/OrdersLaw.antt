@@ -1,8 +1,8 @@
 -- However frames are added and subtotals joined, if no call is refused the account is what the sales add up to. Assumes nothing.
+use Rattle.std.specs.Prelude.{Result, Err, Option, None, Some, Ok}
 use mathlib.Core.Path.{◌≡◌, refl, sym, ap, ◌∙◌, subst}
 use mathlib.Core.Bool.{Bool, true, false, cond, not, ◌&&◌, ◌||◌}
 use mathlib.Core.List.{List, [], ◌∷◌, ◌++◌, map}
-use mathlib.Core.Option.{Option, none, some}
 use Prim.Native.Nat.{ℕ, zero, suc, ◌+◌, ◌*◌, ◌≤◌}
 use Rattle.order.specs.Order.{null_in}
 use native.Mathlib.Omega.{arith}
@@ -30,7 +30,7 @@ use Rattle.takings.specs.Sales.{Sale, sales_of, with_amount, amounts_of, nulls_o
 use Rattle.takings.specs.Calls.{table_width, table_words, columns_in, any_frame, known_columns, rows_in, subtotals_in, fine_subtotals, sales_by, result, leave, add_answer, add_call, join_answer, join_call}
 use Rattle.takings.specs.Orders.{Account, Calls, fresh, adding, joining, empty_account, took, after, given, all_sales, Permuted, empty, next, swap, then, HandedOn, AllOrders}
 use Rattle.takings.specs.declared.Taken.{Taken}
-use Rattle.takings.specs.declared.Taken.TheVariants.{Table, Refused}
+use Rattle.takings.specs.Calls.{taken_of}
 use Rattle.takings.proofs.SubtotalLaws.{Every, Fine, Unit-fine, Bounded, bounded_all, every_all, rising_ascending, count_more, total_more, count_all, total_all, fine_all, fine_units, only_table, fine_tells}
 
 or-false : (a b : Bool) → (a || b) ≡ false → (a ≡ false) × (b ≡ false)
@@ -240,7 +240,7 @@ module _ (o : Options) where
   rows_within_lem (t ∷ ts) w s h = rw (row_within t w.0 s.0 h.0) (rows_within_lem ts w.1 s.1 h.1)
 
 -- ---- what a call that was not refused passed
-pub passed : (b : Bool) (r : Refusal) (x : Taken) {n : ℕ} {k : ℤ} → cond b (Refused r) x ≡ Table n k → (b ≡ false) × (x ≡ Table n k)
+pub passed : (b : Bool) (r : Refusal) (x : Result Taken Refusal) {n : ℕ} {k : ℤ} → cond b (Err r) x ≡ Ok (taken_of n k) → (b ≡ false) × (x ≡ Ok (taken_of n k))
 passed true r x e = ((cc), (cc))
 passed false r x e = (refl, e)
 
@@ -249,20 +249,29 @@ not-false true e = refl
 not-false false e = cc
 
 module _ (o : Options) where
-  pub past : (x : Taken) {n : ℕ} {k : ℤ} → unless Refused o x ≡ Table n k → x ≡ Table n k
+  pub past : (x : Result Taken Refusal) {n : ℕ} {k : ℤ} → unless Err o x ≡ Ok (taken_of n k) → x ≡ Ok (taken_of n k)
   past x e = (passed (bad_ranked o) BadRanks x (passed (many_carried o) TooManyCarried _ (passed (bad_options o) BadOptions _ e).1).1).1
 
   -- The result's rows have room, and its answer tells them.
-  pub record Result (ts : List Subtotal) (k : ℕ) (out : Words) (n : ℕ) (m : ℤ) : Type 0 where
+  pub record ResultOf (ts : List Subtotal) (k : ℕ) (out : Words) (n : ℕ) (m : ℤ) : Type 0 where
     pub rows : n ≡ length ts
     pub number : m ≡ pos k
     pub few : k ≤ most_sales
     pub room : frame_words (length ts) (table_width o) ≤ length out
 
-  told : {n n' : ℕ} {k k' : ℤ} → Table n k ≡ Table n' k' → (n' ≡ n) × (k' ≡ k)
-  told e = ((cc), (cc))
+  -- The rows and the number that an answer tells.
+  abbrev rows_told : Result Taken Refusal → ℕ
+  rows_told (Ok t) = t.rows
+  rows_told (Err r) = 0
 
-  result_told : (ts : List Subtotal) (k : ℕ) (out : Words) {n : ℕ} {m : ℤ} → result o ts k out ≡ Table n m → Result ts k out n m
+  abbrev number_told : Result Taken Refusal → ℤ
+  number_told (Ok t) = t.number
+  number_told (Err r) = pos 0
+
+  told : {n n' : ℕ} {k k' : ℤ} → ◌≡◌ {A = Result Taken Refusal} (Ok (taken_of n k)) (Ok (taken_of n' k')) → (n' ≡ n) × (k' ≡ k)
+  told e = (sym (ap rows_told e), sym (ap number_told e))
+
+  result_told : (ts : List Subtotal) (k : ℕ) (out : Words) {n : ℕ} {m : ℤ} → result o ts k out ≡ Ok (taken_of n m) → ResultOf ts k out n m
   unfolding result
   result_told ts k out e =
       let a = passed (ltb most_sales (sales_in ts) || ltb most_sales k) Beyond _ e in
@@ -270,8 +279,8 @@ module _ (o : Options) where
       let t = told b.1 in
       record { rows = t.0; number = t.1; few = ltb-false most_sales k (or-false (ltb most_sales (sales_in ts)) (ltb most_sales k) a.0).1; room = ltb-false (length out) (frame_words (length ts) (table_width o)) b.0 }
 
-  pub add_told : (table : Words) (k : ℤ) (left answer out : Words) {n : ℕ} {m : ℤ} → add_answer o table k left answer out ≡ Table n m
-      → (is_frame (columns o) left ≡ true) × (beyond_amounts (amounts_of (sales_by o left answer)) ≡ false) × Result (add_all o (subtotals_in o table) (amounts_of (sales_by o left answer))) (nat_abs k + nulls_of (sales_by o left answer)) out n m
+  pub add_told : (table : Words) (k : ℤ) (left answer out : Words) {n : ℕ} {m : ℤ} → add_answer o table k left answer out ≡ Ok (taken_of n m)
+      → (is_frame (columns o) left ≡ true) × (beyond_amounts (amounts_of (sales_by o left answer)) ≡ false) × ResultOf (add_all o (subtotals_in o table) (amounts_of (sales_by o left answer))) (nat_abs k + nulls_of (sales_by o left answer)) out n m
   unfolding add_answer
   add_told table k left answer out e =
       let five = is_table (table_width o) table && is_frame (columns o) left && any_frame answer && eqb (row_count left) (row_count answer) in
@@ -285,8 +294,8 @@ module _ (o : Options) where
       let w = or-false (beyond_rows o (rows_in o table) || beyond_number k) (beyond_amounts (amounts_of (sales_by o left answer))) v.0 in
       ((and-true (is_table (table_width o) table) (is_frame (columns o) left) b.0).1, w.1, result_told _ _ out v.1)
 
-  pub join_told : (table : Words) (k : ℤ) (other : Words) (l : ℤ) (out : Words) {n : ℕ} {m : ℤ} → join_answer o table k other l out ≡ Table n m
-      → Result (add_all o (subtotals_in o table) (subtotals_in o other)) (nat_abs k + nat_abs l) out n m
+  pub join_told : (table : Words) (k : ℤ) (other : Words) (l : ℤ) (out : Words) {n : ℕ} {m : ℤ} → join_answer o table k other l out ≡ Ok (taken_of n m)
+      → ResultOf (add_all o (subtotals_in o table) (subtotals_in o other)) (nat_abs k + nat_abs l) out n m
   unfolding join_answer
   join_told table k other l out e =
       let p = passed (not (is_table (table_width o) table && is_table (table_width o) other)) BadFrame _ (past _ e) in
@@ -313,20 +322,20 @@ module _ (o : Options) where
       rw (g.words, table_rows_lem (table_width o) (map row_of g.rows) (rows_wide o g.rows g.fine.wide)) (subtotals_back o g.rows g.fine.wide)
 
   -- What was written is the words of the table.
-  account : (ts : List Subtotal) (k : ℕ) (out : Words) (n : ℕ) (m : ℤ) → Every (λ t. length t.group ≡ o.by) ts → Result ts k out n m
+  account : (ts : List Subtotal) (k : ℕ) (out : Words) (n : ℕ) (m : ℤ) → Every (λ t. length t.group ≡ o.by) ts → ResultOf ts k out n m
       → take (frame_words n (table_width o)) (laid (table_words o ts) out) ≡ table_words o ts
   account ts k out n m w r =
       let l : length (map row_of ts) ≡ length ts = length-map ts row_of in
       rw (r.rows, ← l) (laid_take (table_width o) (map row_of ts) (rows_wide o ts w) out (rw l r.room))
 
-  some_only : {x y : Account} → ◌≡◌ {A = Option Account} (some x) (some y) → x ≡ y
+  some_only : {x y : Account} → ◌≡◌ {A = Option Account} (Some x) (Some y) → x ≡ y
   some_only e = cc
 
-  leaves : (P : Account → Type 0) (ts : List Subtotal) (t : Taken) (out : Words)
-      → ((n : ℕ) (m : ℤ) → t ≡ Table n m → P (record { table = take (frame_words n (table_width o)) (laid (table_words o ts) out); number = m }))
-      → (a : Account) → took o (leave o ts t out) ≡ some a → P a
-  leaves P ts (Table n m) out f a e = subst P (some_only e) (f n m refl)
-  leaves P ts (Refused r) out f a e = let z : ◌≡◌ {A = ℕ} 0 1 = cc in absurd (omega arith)
+  leaves : (P : Account → Type 0) (ts : List Subtotal) (t : Result Taken Refusal) (out : Words)
+      → ((n : ℕ) (m : ℤ) → t ≡ Ok (taken_of n m) → P (record { table = take (frame_words n (table_width o)) (laid (table_words o ts) out); number = m }))
+      → (a : Account) → took o (leave o ts t out) ≡ Some a → P a
+  leaves P ts (Ok t) out f a e = subst P (some_only e) (f t.rows t.number refl)
+  leaves P ts (Err r) out f a e = let z : ◌≡◌ {A = ℕ} 0 1 = cc in absurd (omega arith)
 
   -- Subtotals of more sales, added.
   more : (a : Account) (sales : List Sale) (g : Good sales a) (us : List Subtotal) (new : List Sale) (k : ℕ) (out : Words) (n : ℕ) (m : ℤ)
@@ -336,7 +345,7 @@ module _ (o : Options) where
       → ((h : List Cell) → count_for o h us ≡ count_for o h (amounts_of new))
       → ((h : List Cell) → total_for o h us ≡ total_for o h (amounts_of new))
       → k ≡ nat_abs a.number + nulls_of new
-      → Result (add_all o g.rows us) k out n m
+      → ResultOf (add_all o g.rows us) k out n m
       → Good (sales ++ new) (record { table = take (frame_words n (table_width o)) (laid (table_words o (add_all o g.rows us)) out); number = m })
   more a sales g us new k out n m f bd wh c d e r =
       let ts : List Subtotal = add_all o g.rows us in
@@ -354,7 +363,7 @@ module _ (o : Options) where
         few = omega (arith, r.few, total);
       }
 
-  add_good : (a : Account) (sales : List Sale) → Good sales a → (left answer out : Words) (b : Account) → took o (add_call o a.table a.number left answer out) ≡ some b
+  add_good : (a : Account) (sales : List Sale) → Good sales a → (left answer out : Words) (b : Account) → took o (add_call o a.table a.number left answer out) ≡ Some b
       → Good (sales ++ sales_by o left answer) b
   unfolding add_call
   add_good a sales g left answer out b e =
@@ -366,7 +375,7 @@ module _ (o : Options) where
       (by_fine o left answer r.0) (within o (amounts_of (sales_by o left answer)) (by_fine o left answer r.0) r.1) (by_whole o left answer) (λ h. refl) (λ h. refl) refl (rw (read_back a sales g) at r.2)))
       b e
 
-  join_good : (a c : Account) (xs ys : List Sale) → Good xs a → Good ys c → (out : Words) (b : Account) → took o (join_call o a.table a.number c.table c.number out) ≡ some b
+  join_good : (a c : Account) (xs ys : List Sale) → Good xs a → Good ys c → (out : Words) (b : Account) → took o (join_call o a.table a.number c.table c.number out) ≡ Some b
       → Good (xs ++ ys) b
   unfolding join_call
   join_good a c xs ys g h out b e =
@@ -393,11 +402,11 @@ module _ (o : Options) where
     few = omega (arith, nulls_none);
   }
 
-  after_some : {P : Type 0} (x : Option Account) (f : Account → Option Account) (b : Account) → after x f ≡ some b → ((a : Account) → x ≡ some a → f a ≡ some b → P) → P
-  after_some none f b e k = let z : ◌≡◌ {A = ℕ} 0 1 = cc in absurd (omega arith)
-  after_some (some a) f b e k = k a refl e
+  after_some : {P : Type 0} (x : Option Account) (f : Account → Option Account) (b : Account) → after x f ≡ Some b → ((a : Account) → x ≡ Some a → f a ≡ Some b → P) → P
+  after_some None f b e k = let z : ◌≡◌ {A = ℕ} 0 1 = cc in absurd (omega arith)
+  after_some (Some a) f b e k = k a refl e
 
-  good : (c : Calls) (a : Account) → given o c ≡ some a → Good (all_sales o c) a
+  good : (c : Calls) (a : Account) → given o c ≡ Some a → Good (all_sales o c) a
   unfolding given all_sales
   good fresh a e = subst (Good []) (some_only e) nothing
   good (adding c left answer out) a e =

@@ -1,4 +1,6 @@
 -- The promises of the calls over takings. Assumes nothing.
+use Rattle.frames.specs.declared.refusals.Refusal.{Refusal}
+use Rattle.std.specs.Prelude.{Result, Err, Ok}
 use mathlib.Core.Path.{◌≡◌, refl, ◌∙◌}
 use mathlib.Core.Bool.{true, not, ◌&&◌}
 use mathlib.Core.List.{List, [], ◌∷◌, map}
@@ -24,7 +26,7 @@ use Rattle.takings.specs.Sales.{amounts_of}
 use Rattle.takings.specs.Calls.{table_width, table_words, any_frame, rows_in, subtotals_in, sales_by, leave, add_answer, add_call, join_answer, join_call}
 use Rattle.takings.specs.Promises.{Kept, Promises}
 use Rattle.takings.specs.declared.Taken.{Taken}
-use Rattle.takings.specs.declared.Taken.TheVariants.{Table, Refused}
+use Rattle.takings.specs.Calls.{taken_of}
 use Rattle.takings.proofs.SubtotalLaws.{Every, every_map, every_all, Unit-fine}
 use Rattle.takings.proofs.OrdersLaw.{passed, not-false, past, add_told, join_told, rows_wide, by_fine}
 
@@ -36,17 +38,17 @@ groups_wide o (r ∷ rs) h = (length-take-le o.by r (omega (arith, h.0)), groups
 
 module _ (o : Options) (out : Words) where
   -- A call that leaves its answer and, where that is a table, the table's words.
-  left_kept : (ts : List Subtotal) (a : Taken)
-      → ((n : ℕ) (k : ℤ) → a ≡ Table n k → (n ≡ length ts) × (frame_words n (table_width o) ≤ length out) × Every (λ t. length t.group ≡ o.by) ts)
+  left_kept : (ts : List Subtotal) (a : Result Taken Refusal)
+      → ((n : ℕ) (k : ℤ) → a ≡ Ok (taken_of n k) → (n ≡ length ts) × (frame_words n (table_width o) ≤ length out) × Every (λ t. length t.group ≡ o.by) ts)
       → Kept o out (leave o ts a out)
   unfolding laid
-  left_kept ts (Refused r) f = record { refused = λ r e. refl; rest = λ n k e. refl }
-  left_kept ts (Table n k) f = record {
+  left_kept ts (Err r) f = record { refused = λ r e. refl; rest = λ n k e. refl }
+  left_kept ts (Ok t) f = record {
     refused = λ r e. let z : ◌≡◌ {A = ℕ} 0 1 = cc in absurd (omega arith);
     rest = λ m l e. behind m l e;
   }
     where
-      behind : (m : ℕ) (l : ℤ) → Table n k ≡ Table m l → drop (frame_words m (table_width o)) (laid (table_words o ts) out) ≡ drop (frame_words m (table_width o)) out
+      behind : (m : ℕ) (l : ℤ) → ◌≡◌ {A = Result Taken Refusal} (Ok t) (Ok (taken_of m l)) → drop (frame_words m (table_width o)) (laid (table_words o ts) out) ≡ drop (frame_words m (table_width o)) out
       behind m l e =
           let g = f m l e in
           let s : length (map row_of ts) ≡ length ts = length-map ts row_of in
@@ -67,7 +69,7 @@ table_wide c f h =
 table_groups : (o : Options) (t : Words) → is_table (table_width o) t ≡ true → Every (λ t. length t.group ≡ o.by) (subtotals_in o t)
 table_groups o t h = groups_wide o (rows_in o t) (table_wide (table_width o) t h)
 
-add_table : (o : Options) (table : Words) (k : ℤ) (left answer out : Words) {n : ℕ} {m : ℤ} → add_answer o table k left answer out ≡ Table n m → is_table (table_width o) table ≡ true
+add_table : (o : Options) (table : Words) (k : ℤ) (left answer out : Words) {n : ℕ} {m : ℤ} → add_answer o table k left answer out ≡ Ok (taken_of n m) → is_table (table_width o) table ≡ true
 unfolding add_answer
 add_table o table k left answer out e =
     let five = is_table (table_width o) table && is_frame (columns o) left && any_frame answer && eqb (row_count left) (row_count answer) in
@@ -76,7 +78,7 @@ add_table o table k left answer out e =
     let b = and-true (is_table (table_width o) table && is_frame (columns o) left) (any_frame answer) a.0 in
     (and-true (is_table (table_width o) table) (is_frame (columns o) left) b.0).0
 
-join_tables : (o : Options) (table : Words) (k : ℤ) (other : Words) (l : ℤ) (out : Words) {n : ℕ} {m : ℤ} → join_answer o table k other l out ≡ Table n m
+join_tables : (o : Options) (table : Words) (k : ℤ) (other : Words) (l : ℤ) (out : Words) {n : ℕ} {m : ℤ} → join_answer o table k other l out ≡ Ok (taken_of n m)
     → (is_table (table_width o) table ≡ true) × (is_table (table_width o) other ≡ true)
 unfolding join_answer
 join_tables o table k other l out e =

@@ -1,8 +1,9 @@
 -- Takings of small frames, by computation. Assumes nothing.
+use Rattle.frames.specs.declared.refusals.Refusal.{Refusal}
+use Rattle.std.specs.Prelude.{Result, Err, Some, Ok}
 use mathlib.Core.Path.{◌≡◌, refl}
 use mathlib.Core.Bool.{true, false}
 use mathlib.Core.List.{[], ◌∷◌, map}
-use mathlib.Core.Option.{some}
 use Prim.Native.Nat.{ℕ}
 use lib.IntN.{pos, negsuc}
 use lib.ListN.{replicate}
@@ -22,7 +23,7 @@ use Rattle.takings.specs.Sales.{sales_of, amounts_of, nulls_of, beyond_amounts}
 use Rattle.takings.specs.Calls.{fine_subtotals, sales_by, result, add_answer, add_call, join_answer, join_call}
 use Rattle.takings.specs.Orders.{Account, fresh, adding, joining, given}
 use Rattle.takings.specs.declared.Taken.{Taken}
-use Rattle.takings.specs.declared.Taken.TheVariants.{Table, Refused}
+use Rattle.takings.specs.Calls.{taken_of}
 
 -- One by-column with a list that has the groups 1, 2 and 7, in this order; p carried columns.
 abbrev with : ℕ → Options
@@ -50,15 +51,15 @@ out = replicate 15 (pos 9)
 abbrev all : Account
 all = record { table = pos 2 ∷ pos 3 ∷ pos 1 ∷ pos 1200 ∷ pos 1 ∷ pos 2 ∷ pos 1700 ∷ pos 2 ∷ pos 1 ∷ pos 1 ∷ pos 1 ∷ pos 1 ∷ pos 1 ∷ pos 1 ∷ []; number = pos 1 }
 
-pub frame_by_frame : given (with 2) (adding (adding fresh left1 answer1 out) left2 answer2 out) ≡ some all
+pub frame_by_frame : given (with 2) (adding (adding fresh left1 answer1 out) left2 answer2 out) ≡ Some all
 unfolding given add_call add_answer sales_by fine_subtotals result bad_options is_table is_frame pairs_fine frame_rows rows_of cells_of bad_ranks rises rises_behind placed below listed unlisted_in any_null null_in ascending subtotals_of beyond_rows beyond_row beyond_amounts sales_in sales_of amounts_of nulls_of add_all insert cmp_first words_of table_of laid
 frame_by_frame = refl
 
-pub other_way : given (with 2) (adding (adding fresh left2 answer2 out) left1 answer1 out) ≡ some all
+pub other_way : given (with 2) (adding (adding fresh left2 answer2 out) left1 answer1 out) ≡ Some all
 unfolding given add_call add_answer sales_by fine_subtotals result bad_options is_table is_frame pairs_fine frame_rows rows_of cells_of bad_ranks rises rises_behind placed below listed unlisted_in any_null null_in ascending subtotals_of beyond_rows beyond_row beyond_amounts sales_in sales_of amounts_of nulls_of add_all insert cmp_first words_of table_of laid
 other_way = refl
 
-pub joined : given (with 2) (joining (adding fresh left2 answer2 out) (adding fresh left1 answer1 out) out) ≡ some all
+pub joined : given (with 2) (joining (adding fresh left2 answer2 out) (adding fresh left1 answer1 out) out) ≡ Some all
 unfolding given add_call add_answer join_call join_answer sales_by fine_subtotals result bad_options is_table is_frame pairs_fine frame_rows rows_of cells_of bad_ranks rises rises_behind placed below listed unlisted_in any_null null_in ascending subtotals_of beyond_rows beyond_row beyond_amounts sales_in sales_of amounts_of nulls_of add_all insert cmp_first words_of table_of laid
 joined = refl
 
@@ -70,7 +71,7 @@ empty = frame_of 3 []
 abbrev sold : ℕ → Words
 sold n = frame_of 3 (row (1 ∷ n ∷ []) ∷ [])
 
-abbrev add : ℕ → Words → Words → Words → Taken
+abbrev add : ℕ → Words → Words → Words → Result Taken Refusal
 add p table left answer = add_answer (with p) table (pos 0) left answer []
 
 abbrev sale : Words
@@ -85,8 +86,8 @@ pub refusals :
     ∷ add 1 (frame_of 3 (row (1 ∷ 5 ∷ 1 ∷ []) ∷ row (1 ∷ 5 ∷ 1 ∷ []) ∷ [])) sale (price 5)
     ∷ add 1 empty sale (price 1000000001) ∷ add 1 (frame_of 3 (row (1 ∷ 0 ∷ 0 ∷ []) ∷ [])) sale (price 5) ∷ add 1 (frame_of 3 (row (1 ∷ 1000000001 ∷ 1 ∷ []) ∷ [])) sale (price 5)
     ∷ add_answer (with 1) empty (negsuc 0) sale (price 5) [] ∷ add 1 (frame_of 3 (row (1 ∷ 1000000000 ∷ 1 ∷ []) ∷ [])) sale (price 1000000000) ∷ []
-    ≡ Refused BadFrame ∷ Refused UnknownCode ∷ Refused BadColumns ∷ Refused BadColumns ∷ Refused Unsorted ∷ Refused Unsorted ∷ Refused Beyond ∷ Refused Beyond ∷ Refused Beyond
-    ∷ Refused Beyond ∷ Refused NoRoom ∷ []
+    ≡ Err BadFrame ∷ Err UnknownCode ∷ Err BadColumns ∷ Err BadColumns ∷ Err Unsorted ∷ Err Unsorted ∷ Err Beyond ∷ Err Beyond ∷ Err Beyond
+    ∷ Err Beyond ∷ Err NoRoom ∷ []
 unfolding add_answer sales_by fine_subtotals result bad_options is_table is_frame pairs_fine frame_rows rows_of cells_of bad_ranks rises rises_behind placed below listed unlisted_in any_null null_in ascending subtotals_of beyond_rows beyond_row beyond_amounts sales_in sales_of amounts_of nulls_of add_all insert cmp_first
 refusals = refl
 
@@ -97,6 +98,6 @@ many n = frame_of 3 (row (1 ∷ 0 ∷ n ∷ []) ∷ [])
 pub most :
     join_answer (with 1) (many 2147483647) (pos 2147483647) (many 1) (pos 1) (replicate 8 (pos 0)) ∷ join_answer (with 1) (many 2147483647) (pos 0) (many 2) (pos 0) (replicate 8 (pos 0))
     ∷ join_answer (with 1) (many 1) (pos 2147483647) (many 1) (pos 2) (replicate 8 (pos 0)) ∷ join_answer (with 0) (many 1) (pos 0) (many 1) (pos 0) (replicate 8 (pos 0)) ∷ []
-    ≡ Table 1 (pos 2147483648) ∷ Refused Beyond ∷ Refused Beyond ∷ Refused BadColumns ∷ []
+    ≡ Ok (taken_of 1 (pos 2147483648)) ∷ Err Beyond ∷ Err Beyond ∷ Err BadColumns ∷ []
 unfolding join_answer fine_subtotals result bad_options is_table pairs_fine frame_rows rows_of cells_of bad_ranks rises rises_behind placed below listed unlisted_in any_null null_in ascending subtotals_of beyond_rows beyond_row sales_in add_all insert cmp_first
 most = refl

@@ -14,8 +14,8 @@ use lib.Seq.{ext_get_or}
 use Rattle.frames.specs.Cells.{Cell, null}
 use Rattle.order.specs.Order.{cmp_group, is_less, is_equal}
 use Rattle.order.specs.declared.options.Options.{Options}
-use Rattle.order.specs.declared.Order.{Order}
-use Rattle.order.specs.declared.Order.TheVariants.{Less, Equal, Greater}
+use Rattle.std.specs.declared.cmp.Ordering.{Ordering}
+use Rattle.std.specs.declared.cmp.Ordering.TheVariants.{Less, Equal, Greater}
 use Rattle.order.proofs.OrderLaws.{cmp_group_is, greater_less, less_greater, three, group_equal}
 use Rattle.frames.proofs.BoolLaws.{and-true}
 use Rattle.takings.specs.Subtotals.{Subtotal, cmp_sub, plus, insert, add_all, total_for, count_for, ascending, each_sold, sales_in, most_amount, Tells}
@@ -29,7 +29,7 @@ pub every_map : (P Q : Subtotal → Type 0) → ((t : Subtotal) → P t → Q t)
 every_map P Q f [] h = tt
 every_map P Q f (t ∷ ts) h = (f t h.0, every_map P Q f ts h.1)
 
-is_less_lem : (z : Order) → is_less z ≡ true → z ≡ Less
+is_less_lem : (z : Ordering) → is_less z ≡ true → z ≡ Less
 is_less_lem Less e = refl
 is_less_lem Equal e = cc
 is_less_lem Greater e = cc
@@ -87,7 +87,7 @@ module _ (o : Options) where
   unfolding insert
   insert_ind P u t ts a b c = by (cmp_sub o u t) a b c
     where
-      by : (z : Order) → (z ≡ Less → P (u ∷ t ∷ ts)) → (z ≡ Equal → P (plus t u ∷ ts)) → (z ≡ Greater → P (t ∷ insert o u ts))
+      by : (z : Ordering) → (z ≡ Less → P (u ∷ t ∷ ts)) → (z ≡ Equal → P (plus t u ∷ ts)) → (z ≡ Greater → P (t ∷ insert o u ts))
           → P (elim z [ Less ↦ u ∷ t ∷ ts | Equal ↦ plus t u ∷ ts | Greater ↦ t ∷ insert o u ts ])
       by Less a b c = a refl
       by Equal a b c = b refl

@@ -1,5 +1,6 @@
 -- The two calls: a frame's sales added to a table, and two tables of subtotals joined. Assumes nothing.
-use Rattle.std.specs.Prelude.{Bool, cond, not, ◌&&◌, ◌||◌, List, map, ℕ, suc, ◌+◌, ltb, eqb, ℤ, pos, nat_abs, length, get_or}
+use Rattle.frames.specs.declared.refusals.Refusal.{Refusal}
+use Rattle.std.specs.Prelude.{Bool, cond, not, ◌&&◌, ◌||◌, List, map, ℕ, suc, ◌+◌, ltb, eqb, ℤ, pos, nat_abs, length, get_or, Result, Err, Ok}
 use Rattle.frames.specs.Cells.{Rows, Words}
 use Rattle.frames.specs.Frame.{row_count, frame_words, is_frame, frame_rows, is_table}
 use Rattle.order.specs.options.Options.{columns}
@@ -12,12 +13,15 @@ use Rattle.rows.specs.nulls.Nulls.{any_null}
 use Rattle.takings.specs.Subtotals.{Subtotal, add_all, ascending, row_of, subtotals_of, most_sales, beyond_rows, sales_in, beyond_number}
 use Rattle.takings.specs.Sales.{Sale, sales_of, amounts_of, nulls_of, beyond_amounts}
 use Rattle.takings.specs.declared.Taken.{Taken}
-use Rattle.takings.specs.declared.Taken.TheVariants.{Table, Refused}
 
 -- What a call leaves: its answer, and the words of the output.
 pub record After : Type 0 where
-  pub answer : Taken
+  pub answer : Result Taken Refusal
   pub out : Words
+
+-- What is told of a table that was written: its rows, and the number of matched sales without an amount.
+abbrev pub taken_of : ℕ → ℤ → Taken
+taken_of n k = record { rows = n; number = k }
 
 -- A table of subtotals has b by-values, total and sale count.
 abbrev pub table_width : Options → ℕ
@@ -54,27 +58,27 @@ unfoldable pub sales_by : Options → Words → Words → List Sale
 sales_by o left answer = sales_of o (frame_rows (columns o) left) (frame_rows (columns_in answer) answer)
 
 -- A result of these subtotals and this number: sale counts beyond 2^31 15, too short an output 6.
-unfoldable pub result : Options → List Subtotal → ℕ → Words → Taken
+unfoldable pub result : Options → List Subtotal → ℕ → Words → Result Taken Refusal
 result o ts k out =
-    cond (ltb most_sales (sales_in ts) || ltb most_sales k) (Refused Beyond)
-    (cond (ltb (length out) (frame_words (length ts) (table_width o))) (Refused NoRoom)
-    (Table (length ts) (pos k)))
+    cond (ltb most_sales (sales_in ts) || ltb most_sales k) (Err Beyond)
+    (cond (ltb (length out) (frame_words (length ts) (table_width o))) (Err NoRoom)
+    (Ok (taken_of (length ts) (pos k))))
 
-abbrev pub leave : Options → List Subtotal → Taken → Words → After
-leave o ts (Table n k) out = record { answer = Table n k; out = laid (table_words o ts) out }
-leave o ts (Refused r) out = record { answer = Refused r; out = out }
+abbrev pub leave : Options → List Subtotal → Result Taken Refusal → Words → After
+leave o ts (Ok t) out = record { answer = Ok t; out = laid (table_words o ts) out }
+leave o ts (Err r) out = record { answer = Err r; out = out }
 
 -- ---- a frame's sales, added to a table and its number
 -- Refusals: 1, 10, 11; 5 (a table or frame that is none, unequal heights), 12, 13, 14, 15, 6.
-unfoldable pub add_answer : Options → Words → ℤ → Words → Words → Words → Taken
+unfoldable pub add_answer : Options → Words → ℤ → Words → Words → Words → Result Taken Refusal
 add_answer o table k left answer out =
     let sales = sales_by o left answer in
-    unless Refused o
-    (cond (not (is_table (table_width o) table && is_frame (columns o) left && any_frame answer && eqb (row_count left) (row_count answer))) (Refused BadFrame)
-    (cond (lacks_code o (rows_in o table) || lacks_code o (frame_rows (columns o) left)) (Refused UnknownCode)
-    (cond (not (known_columns o (columns_in answer))) (Refused BadColumns)
-    (cond (not (fine_subtotals o table)) (Refused Unsorted)
-    (cond (beyond_rows o (rows_in o table) || beyond_number k || beyond_amounts (amounts_of sales)) (Refused Beyond)
+    unless Err o
+    (cond (not (is_table (table_width o) table && is_frame (columns o) left && any_frame answer && eqb (row_count left) (row_count answer))) (Err BadFrame)
+    (cond (lacks_code o (rows_in o table) || lacks_code o (frame_rows (columns o) left)) (Err UnknownCode)
+    (cond (not (known_columns o (columns_in answer))) (Err BadColumns)
+    (cond (not (fine_subtotals o table)) (Err Unsorted)
+    (cond (beyond_rows o (rows_in o table) || beyond_number k || beyond_amounts (amounts_of sales)) (Err Beyond)
     (result o (add_all o (subtotals_in o table) (amounts_of sales)) (nat_abs k + nulls_of sales) out))))))
 
 unfoldable pub add_call : Options → Words → ℤ → Words → Words → Words → After
@@ -82,14 +86,14 @@ add_call o table k left answer out =
     leave o (add_all o (subtotals_in o table) (amounts_of (sales_by o left answer))) (add_answer o table k left answer out) out
 
 -- ---- two tables of subtotals with their numbers, joined
-unfoldable pub join_answer : Options → Words → ℤ → Words → ℤ → Words → Taken
+unfoldable pub join_answer : Options → Words → ℤ → Words → ℤ → Words → Result Taken Refusal
 join_answer o table k other l out =
-    unless Refused o
-    (cond (not (is_table (table_width o) table && is_table (table_width o) other)) (Refused BadFrame)
-    (cond (lacks_code o (rows_in o table) || lacks_code o (rows_in o other)) (Refused UnknownCode)
-    (cond (eqb o.carried 0) (Refused BadColumns)
-    (cond (not (fine_subtotals o table && fine_subtotals o other)) (Refused Unsorted)
-    (cond (beyond_rows o (rows_in o table) || beyond_rows o (rows_in o other) || beyond_number k || beyond_number l) (Refused Beyond)
+    unless Err o
+    (cond (not (is_table (table_width o) table && is_table (table_width o) other)) (Err BadFrame)
+    (cond (lacks_code o (rows_in o table) || lacks_code o (rows_in o other)) (Err UnknownCode)
+    (cond (eqb o.carried 0) (Err BadColumns)
+    (cond (not (fine_subtotals o table && fine_subtotals o other)) (Err Unsorted)
+    (cond (beyond_rows o (rows_in o table) || beyond_rows o (rows_in o other) || beyond_number k || beyond_number l) (Err Beyond)
     (result o (add_all o (subtotals_in o table) (subtotals_in o other)) (nat_abs k + nat_abs l) out))))))
 
 unfoldable pub join_call : Options → Words → ℤ → Words → ℤ → Words → After

@@ -1,6 +1,6 @@
 -- That the order of adding and joining does not matter: the account is what the sales add up to. The statement. Assumes nothing.
-use Rattle.std.specs.Prelude.{◌≡◌, true, false, List, [], ◌∷◌, ◌++◌, ℤ, pos, take}
-use Rattle.std.proofs.Math.Option.{Option, none, some}
+use Rattle.frames.specs.declared.refusals.Refusal.{Refusal}
+use Rattle.std.specs.Prelude.{◌≡◌, true, false, List, [], ◌∷◌, ◌++◌, ℤ, pos, take, Result, Err, Option, None, Some, Ok}
 use Rattle.frames.specs.Cells.{Words}
 use Rattle.frames.specs.Frame.{frame_words, is_table}
 use Rattle.order.specs.declared.options.Options.{Options}
@@ -8,7 +8,7 @@ use Rattle.takings.specs.Subtotals.{Subtotal, beyond_rows, beyond_number, Tells}
 use Rattle.takings.specs.Sales.{Sale, amounts_of, nulls_of}
 use Rattle.takings.specs.Calls.{After, table_width, table_words, rows_in, fine_subtotals, sales_by, add_call, join_call}
 use Rattle.takings.specs.declared.Taken.{Taken}
-use Rattle.takings.specs.declared.Taken.TheVariants.{Table, Refused}
+use Rattle.takings.specs.Calls.{taken_of}
 
 -- A table and the number beside it.
 pub record Account : Type 0 where
@@ -27,21 +27,21 @@ abbrev pub empty_account : Options → Account
 empty_account o = record { table = table_words o []; number = pos 0 }
 
 -- What a call that was not refused wrote.
-abbrev pub took_by : Options → Words → Taken → Option Account
-took_by o out (Table n k) = some (record { table = take (frame_words n (table_width o)) out; number = k })
-took_by o out (Refused r) = none
+abbrev pub took_by : Options → Words → Result Taken Refusal → Option Account
+took_by o out (Ok t) = Some (record { table = take (frame_words t.rows (table_width o)) out; number = t.number })
+took_by o out (Err r) = None
 
 abbrev pub took : Options → After → Option Account
 took o a = took_by o a.out a.answer
 
 -- From what came before, if no call of it was refused.
 abbrev pub after : Option Account → (Account → Option Account) → Option Account
-after none f = none
-after (some a) f = f a
+after None f = None
+after (Some a) f = f a
 
 -- What an order of calls gives; none where a call is refused.
 unfoldable pub given : Options → Calls → Option Account
-given o fresh = some (empty_account o)
+given o fresh = Some (empty_account o)
 given o (adding c left answer out) = after (given o c) (λ a. took o (add_call o a.table a.number left answer out))
 given o (joining c d out) = after (given o c) (λ a. after (given o d) (λ b. took o (join_call o a.table a.number b.table b.number out)))
 
@@ -75,6 +75,6 @@ pub record HandedOn (o : Options) (a : Account) : Type 0 where
 -- The statement: calls of which none is refused give what the sales add up to; and any two of them over the same
 -- sales, whatever the frames, their order and the tree of joins, give the same table and number.
 pub record AllOrders (o : Options) : Type 0 where
-  pub sums : (c : Calls) (a : Account) → given o c ≡ some a → Sums o (all_sales o c) a
-  pub handed_on : (c : Calls) (a : Account) → given o c ≡ some a → HandedOn o a
-  pub same : (c d : Calls) (a b : Account) → given o c ≡ some a → given o d ≡ some b → Permuted (all_sales o c) (all_sales o d) → a ≡ b
+  pub sums : (c : Calls) (a : Account) → given o c ≡ Some a → Sums o (all_sales o c) a
+  pub handed_on : (c : Calls) (a : Account) → given o c ≡ Some a → HandedOn o a
+  pub same : (c d : Calls) (a b : Account) → given o c ≡ Some a → given o d ≡ Some b → Permuted (all_sales o c) (all_sales o d) → a ≡ b

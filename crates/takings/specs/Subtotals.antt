@@ -4,8 +4,8 @@ use Rattle.std.specs.Int.Signed.{lt_z}
 use Rattle.frames.specs.Cells.{Cell, null, value, cell, Rows}
 use Rattle.order.specs.Order.{cmp_group, is_less, is_equal}
 use Rattle.order.specs.declared.options.Options.{Options}
-use Rattle.order.specs.declared.Order.{Order}
-use Rattle.order.specs.declared.Order.TheVariants.{Less, Equal, Greater}
+use Rattle.std.specs.declared.cmp.Ordering.{Ordering}
+use Rattle.std.specs.declared.cmp.Ordering.TheVariants.{Less, Equal, Greater}
 
 -- The by-values of a group, its total and its sale count. A sale with an amount is a subtotal of count 1.
 pub record Subtotal : Type 0 where
@@ -14,7 +14,7 @@ pub record Subtotal : Type 0 where
   pub count : ℕ
 
 -- How the groups of two subtotals stand to each other.
-abbrev pub cmp_sub : Options → Subtotal → Subtotal → Order
+abbrev pub cmp_sub : Options → Subtotal → Subtotal → Ordering
 cmp_sub o t u = cmp_group o t.group u.group
 
 -- Two subtotals of one group, together.

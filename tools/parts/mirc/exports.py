@@ -1,7 +1,7 @@
 """The functions of the header, over those of the exported crate, and the layout that both share."""
 import re
 
-from .mir import Unknown
+from .instances import Unknown
 from .types import declared
 
 SLICE_OF = '''
@@ -73,7 +73,7 @@ class Export:
         name = self.function.symbol.split('::')[-1]
         params = ', '.join(declared(*each) for each in self.params)
         head = f'{self.result} {name}({params or "void"})'
-        call = f'{self.types.symbols.name(self.function.symbol)}({", ".join(self.arguments)})'
+        call = f'{self.types.function_name(self.function.key)}({", ".join(self.arguments)})'
         result = [(self.result, self.function.types[0], 'given')] if self.gives_struct() else []
         lines = [f'    union {{ {outer} outer; {self.types.name(kind)} inner; }} {label};'
                  for outer, kind, label in self.unions + result]

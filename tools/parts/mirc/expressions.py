@@ -1,42 +1,33 @@
-"""The terms of the MIR as expressions of C99.
+"""The terms of the MIR as expressions of C99: places, structs and calls.
 
 All integers of C are unsigned and as wide as those of the MIR; an operation that reads a sign
 converts its operands. The proof excludes what the MIR leaves undefined: overflow, an index outside
 of an array. What C leaves undefined beyond that is not written: sums and products are of unsigned
-64-bit numbers, a pointer has the type of what it points to and stays inside its array, and nothing
-is read as another type than it was written."""
+numbers of at least 32 bits, a pointer has the type of what it points to and stays inside its array,
+and nothing is read as another type than it was written."""
 import re
 
-from .mir import Unknown, operands, term
-from .types import ELEMENTS, element_size
-
-# Operations on two 64-bit numbers. Sums and products have the same bits with and without a sign, and
-# those of C wrap around as those that may do so in the MIR.
-SUMS = {'Add': '+', 'Sub': '-', 'Mul': '*', 'WrapAdd': '+', 'WrapSub': '-'}
-QUOTIENTS = {'Div': '/', 'Rem': '%'}
-# Comparisons of two integers of one width, or of two truth values.
-COMPARISONS = {'Lt': '<', 'Le': '<=', 'Eq': '==', 'Ne': '!='}
-# How tightly an expression binds: two operands, a sign or cast before one, a name, call or index.
-LOOSE, SIGN, TIGHT = 1, 2, 3
+from .instances import UNIT, Unknown, constructor
+from .mir import operands, term
+from .operations import COMPARISONS, LOOSE, SIGN, TIGHT, Operations, number
+from .places import Places
+from .types import declared
 
 
-class Expressions:
-    """The expressions of one function."""
+class Expressions(Operations):
+    """The expressions of one function. constants are the definitions of those that it lends, by name."""
 
     def __init__(self, types, function, labels):
         self.types, self.function, self.labels = types, function, labels
+        self.places, self.constants = Places(function, types.program), {}
 
     # -- types
 
     def typed(self, one):
         """The type of a term, or None for an aggregate, whose type is that of its goal."""
         name = one[0]
-        if name == 'local':
-            return self.function.types[one[1]]
-        if name == 'deref':
-            return one[1]
-        if name == 'field':
-            return self.type_of_field(one[1], one[2])
+        if name in ('local', 'deref', 'field'):
+            return self.places.typed(one)
         if name == 'int':
             return ('Int', one[1])
         if name == 'bool':
@@ -45,17 +36,9 @@ class Expressions:
             return self.type_of_operation(one)
         if name == 'op1':
             return ('Int', one[2][2]) if one[1] == 'Cast' else self.typed(one[3])
-        if name == 'addr':
-            return ('Ref', self.typed(one[1]))
+        if name in ('addr', 'lent'):
+            return ('Ref', self.typed(one[1]) if name == 'addr' else one[1])
         return self.types.program.functions[one[1]].types[0] if name == 'call' else None
-
-    def type_of_field(self, number, of):
-        """The type of a field of a struct, a slice or a variant, whose first field is the tag."""
-        if of[0] != 'variant':
-            return self.types.fields(self.typed(of))[number][1]
-        if number == 0:
-            return ('Int', 8)
-        return self.types.variants(self.typed(of[2]))[of[1]][number - 1]
 
     def type_of_operation(self, one):
         """The type of an operation on two operands."""
@@ -88,7 +71,7 @@ class Expressions:
         if name == 'field':
             return self.field(one), TIGHT
         if name == 'int':
-            return (f'{one[2]}u' if one[2] < 1 << 31 else f'UINT64_C({one[2]})'), TIGHT
+            return number(one[2]), TIGHT
         if name == 'bool':
             return ('true' if one[1] else 'false'), TIGHT
         if name == 'call':
@@ -97,6 +80,8 @@ class Expressions:
             return self.pointer(one, self.typed(one)[1])
         if name in ('agg', 'repeat') and wanted is not None:
             return self.aggregate(one, wanted), SIGN
+        if name == 'lent':
+            return self.lent(one[1], one[2]), SIGN
         if name in ('op1', 'op2'):
             return self.op1(*one[1:]) if name == 'op1' else self.op2(*one[1:])
         raise Unknown(f'a term {one}')
@@ -133,22 +118,23 @@ class Expressions:
         element = self.element(one[2], one[1])
         if element:
             return f'{element[0]}[{element[1]}]'
+        if one[2][0] == 'addr' and self.typed(one[2][1]) == one[1]:
+            return self.tight(one[2][1], TIGHT)
         if self.typed(one[2]) != ('Ref', one[1]):
             raise Unknown(f'an address {one[2]} that is no reference to {one[1]}')
         return f'(*{self.tight(one[2], TIGHT)})'
 
     def element(self, one, kind):
         """The array and the index of an address, or None if it is no offset of whole elements."""
-        if one[:2] != ('op2', 'Offset') or kind not in ELEMENTS or self.array(one[3], kind) is None:
+        if one[:2] != ('op2', 'Offset') or self.array(one[3], kind) is None:
             return None
-        size, offset = element_size(kind), one[4]
-        if offset[0] == 'int' and offset[2] % size == 0:
+        size, offset = self.types.program.size(kind), one[4]
+        if offset[:2] == ('op2', 'Mul') and offset[4] == ('int', 64, size) and size:
+            index = offset[3]
+            return self.array(one[3], kind), str(index[2]) if index[0] == 'int' else self.text(index)[0]
+        if offset[0] == 'int' and size and offset[2] % size == 0:
             return self.array(one[3], kind), str(offset[2] // size)
-        if size == 1:
-            return self.array(one[3], kind), self.text(offset)[0]
-        if offset[:2] == ('op2', 'Mul') and offset[4] == ('int', 64, size):
-            return self.array(one[3], kind), self.text(offset[3])[0]
-        return None
+        return (self.array(one[3], kind), self.text(offset)[0]) if size == 1 else None
 
     def array(self, one, kind):
         """The text of a pointer to the first element of a type, or None."""
@@ -176,52 +162,6 @@ class Expressions:
             return self.member(of[2], 'tag')
         return self.member(of[2], f'as.{self.types.labels(kind)[of[1]]}.f{number - 1}')
 
-    # -- operations
-
-    def signed(self, one, width):
-        """An operand, read with its sign."""
-        if one[0] != 'int':
-            return f'(int{width}_t){self.tight(one)}'
-        number = one[2] - (1 << width) if one[2] >> (width - 1) else one[2]
-        return str(number) if abs(number) < 1 << 31 else f'INT64_C({number})'
-
-    def wide(self, one):
-        """An operand of 64 bits; a constant too, which else would have the 32 bits of unsigned."""
-        return f'UINT64_C({one[2]})' if one[0] == 'int' else self.tight(one)
-
-    def op2(self, name, sign, left, right):
-        """An operation on two operands."""
-        if name == 'Offset':
-            raise Unknown(f'an address {left} {right} that is no element of an array')
-        kind = self.typed(left)
-        if kind != self.typed(right):
-            raise Unknown(f'{name} of {kind} and {self.typed(right)}')
-        if name in COMPARISONS and sign == 'Signed':
-            texts = self.signed(left, kind[1]), COMPARISONS[name], self.signed(right, kind[1])
-        elif name in COMPARISONS:
-            texts = self.tight(left), COMPARISONS[name], self.tight(right)
-        elif kind == ('Int', 64) and name in SUMS:
-            first = self.wide(left) if right[0] == 'int' else self.tight(left)
-            texts = first, SUMS[name], self.tight(right)
-        elif kind == ('Int', 64) and name in QUOTIENTS and sign == 'Unsigned':
-            texts = self.tight(left), QUOTIENTS[name], self.tight(right)
-        else:
-            raise Unknown(f'an operation {name} {sign} of {kind}')
-        return ' '.join(texts), LOOSE
-
-    def op1(self, name, how, one):
-        """An operation on one operand."""
-        kind = self.typed(one)
-        if name == 'Not' and kind == ('Bool',):
-            return f'!{self.tight(one)}', SIGN
-        if name == 'Not' and kind == ('Int', 64):
-            return f'~{self.wide(one)}', SIGN
-        if name == 'Cast' and kind == ('Int', how[2]):
-            return self.text(one)
-        if name == 'Cast' and kind[0] == 'Int' and how[0] == how[1] == 'Unsigned':
-            return f'(uint{how[2]}_t){self.tight(one)}', SIGN
-        raise Unknown(f'an operation {name} {how} of {kind}')
-
     # -- structs and calls
 
     def aggregate(self, one, wanted):
@@ -234,11 +174,11 @@ class Expressions:
         members = self.types.fields(wanted)
         if len(members) != len(fields):
             raise Unknown(f'{name} of {len(fields)} fields')
-        values = [self.value(part, kind) for part, (_, kind) in zip(fields, members)]
+        values = [(label, self.value(part, kind)) for part, (label, kind) in zip(fields,
+                                                                                 members) if kind != UNIT]
         if wanted[0] == 'Slice':
-            return self.same_slice(fields, wanted) or f'({name}){{ {", ".join(values)} }}'
-        named = [f'.{label} = {value}' for (label, _), value in zip(members, values)]
-        return f'({name}){{ {", ".join(named)} }}'
+            return self.same_slice(fields, wanted) or f'({name}){{ {values[0][1]}, {values[1][1]} }}'
+        return f'({name}){{ {", ".join(f".{label} = {value}" for label, value in values) or "0"} }}'
 
     def array_of(self, name, wanted, fields):
         """An array of its elements."""
@@ -266,8 +206,8 @@ class Expressions:
             raise Unknown(f'{name} of {len(fields) - 1} fields')
         if self.types.is_tag(wanted):
             return f'{name}_{label}'
-        values = ', '.join(self.value(part, kind) for part, kind in zip(fields[1:], kinds))
-        inner = f', .as.{label} = {{ {values} }}' if kinds else ''
+        values = ', '.join(self.value(part, kind) for part, kind in zip(fields[1:], kinds) if kind != UNIT)
+        inner = f', .as.{label} = {{ {values} }}' if values else ''
         return f'({name}){{ .tag = {name}_{label}{inner} }}'
 
     def call(self, symbol, given):
@@ -276,5 +216,56 @@ class Expressions:
         if len(given) != callee.params:
             raise Unknown(f'a call of {symbol} with {len(given)} arguments')
         pairs = zip(given, callee.types[1:])
-        values = [self.value(one, kind) for one, kind in pairs if kind != ('Unit',)]
-        return f'{self.types.symbols.name(symbol)}({", ".join(values)})'
+        values = [self.value(one, kind) for one, kind in pairs if kind != UNIT]
+        return f'{self.types.function_name(symbol)}({", ".join(values)})'
+
+    # -- constants that are lent
+
+    def lent(self, kind, value):
+        """A pointer to a constant of the function. The MIR writes nothing through it."""
+        text = self.initial(kind, value)
+        label = next((name for name, each in self.constants.items() if each == (kind, text)), None)
+        label = label or f'lent_{len(self.constants) + 1}'
+        self.constants[label] = kind, text
+        return f'({declared(self.types.name(kind), "*")})&{label}'
+
+    def definitions(self):
+        """The definitions of the constants."""
+        return [f'static const {declared(self.types.name(kind), label)} = {text};'
+                for label, (kind, text) in self.constants.items()]
+
+    def initial(self, kind, value):
+        """The initial value of a constant."""
+        name = constructor(value)
+        if name == 'Int' and kind == ('Int', value['Int']['width']):
+            return number(value['Int']['value'])
+        if name == 'Bool' and kind == ('Bool',):
+            return 'true' if value['Bool'] else 'false'
+        if name in ('Ints', 'Repeat', 'Parts') and kind[0] == 'Array':
+            return f'{{ {{ {", ".join(self.elements(kind, name, value[name])) or "0"} }} }}'
+        if name != 'Parts' or kind[0] != 'Named':
+            raise Unknown(f'a constant {value} of {kind}')
+        if self.types.variants(kind) is None:
+            members = zip(self.types.fields(kind), value['Parts'])
+            parts = [f'.{label} = {self.initial(one, part)}' for (label, one), part in members if one != UNIT]
+            return f'{{ {", ".join(parts) or "0"} }}'
+        tag = value['Parts'][0]['Int']['value']
+        label = self.types.labels(kind)[tag]
+        if self.types.is_tag(kind):
+            return f'{self.types.name(kind)}_{label}'
+        members = zip(self.types.variants(kind)[tag], value['Parts'][1:])
+        parts = [self.initial(one, part) for one, part in members if one != UNIT]
+        inner = f', .as.{label} = {{ {", ".join(parts)} }}' if parts else ''
+        return f'{{ .tag = {self.types.name(kind)}_{label}{inner} }}'
+
+    def elements(self, kind, name, value):
+        """The initial values of an array's elements."""
+        if name == 'Ints' and kind[1] == ('Int', value['width']):
+            texts = [number(each) for each in value['values']]
+        elif name == 'Repeat':
+            texts = [self.initial(kind[1], value[0])] * value[1]
+        else:
+            texts = [self.initial(kind[1], part) for part in value]
+        if len(texts) != kind[2]:
+            raise Unknown(f'a constant of {len(texts)} elements for {kind}')
+        return texts

@@ -5,6 +5,7 @@ memory, none of them writes memory or calls. It does not move into the pointer t
 stores its result, since C leaves open which of the two it evaluates first. A call becomes part of a
 statement only as all that the statement directly behind it reads, so no expression has two calls,
 or a call beside a read of memory."""
+from .instances import UNIT
 from .mir import Term, every, operands, term
 
 
@@ -211,7 +212,7 @@ def assigned(statement):
 def returns_it(function, now, following, memory):
     """Whether a statement assigns the result, and the next one returns it."""
     return now.goal[1] == 0 and following.kind == 'return' and not following.terms and \
-        function.types[0] != ('Unit',) and 0 not in memory
+        function.types[0] != UNIT and 0 not in memory
 
 
 def tests_it(body, at, free):

@@ -1,18 +1,14 @@
-"""The MIR of the proved crates, read from their rlibs: functions as lists of statements over terms.
+"""The MIR of a function as a list of statements over terms.
 
 The kit defines MIR in logic/Mir/Syntax.antt, Val.antt and Prog/Machine.antt. Integers are bits
 without a sign; each operation says how it reads them. A body is a tree of statements. `exit k`
 leaves k blocks or loops and continues behind the next block, or with the next iteration of the next
 loop."""
-import json
-import os
+from .control import simple
+from .instances import Scope, Unknown, constructor, count_of
 
 # The kits whose MIR this translator is tested with, as `rt version` prints them.
 KITS = ('rattle-kit-13f logic dac8208d650f15bf',)
-
-
-class Unknown(Exception):
-    """A construct that the translator does not know, in one line."""
 
 
 def judge_kit(version):
@@ -28,7 +24,7 @@ class Term(tuple):
 
     local N · deref TYPE pointer · field N of · variant N of · int WIDTH VALUE · bool TRUTH · unit ·
     op2 NAME SIGN left right · op1 NAME HOW operand · addr place · agg field… · repeat element COUNT
-    · call SYMBOL argument…"""
+    · lent TYPE CONSTANT · call KEY argument…"""
 
 
 def term(*parts):
@@ -42,148 +38,133 @@ def operands(one):
 
 
 class Statement:
-    """One statement. kind is assign, call, if, switch, block, loop, exit or return. goal is the
-    place that it assigns, terms are what it reads, bodies the lists of statements inside it. more
-    is the callee of a call, the count of an exit, or the keys of a switch's arms and whether it has
-    a default arm."""
+    """One statement. kind is assign, call, if, switch, block, loop, exit, return or unreachable.
+    goal is the place that it assigns, terms are what it reads, bodies the lists of statements
+    inside it. more is the key of a call's callee, the block or loop that an exit leaves, or the
+    keys of a switch's arms and whether it has a default arm."""
 
     def __init__(self, kind, terms=(), goal=None, bodies=(), more=None):
         self.kind, self.terms, self.goal = kind, list(terms), goal
         self.bodies, self.more = list(bodies), more
 
 
-def constructor(raw):
-    """The constructor of a JSON value: the text itself, or the one key of an object."""
-    return raw if isinstance(raw, str) else next(iter(raw))
-
-
-def type_of(raw):
-    """A type as a tuple, without lifetimes and mutability: Bool, Unit, Ptr, (Int, WIDTH), (Ref,
-    TYPE), (Array, TYPE, COUNT), (Slice, TYPE), (Named, SYMBOL)."""
-    name = constructor(raw)
-    if name in ('Bool', 'Unit', 'Ptr'):
-        return (name,)
-    if name == 'Int':
-        return ('Int', raw['Int'])
-    if name == 'Ref':
-        return ('Ref', type_of(raw['Ref'][2]))
-    if name == 'Array' and constructor(raw['Array'][1]) == 'Lit':
-        return ('Array', type_of(raw['Array'][0]), raw['Array'][1]['Lit'])
-    if name == 'Struct' and raw['Struct'][0] == '&[]':
-        return ('Slice', type_of(raw['Struct'][1][0])[1])
-    if name == 'Named' and not raw['Named'][1]:
-        return ('Named', raw['Named'][0]['name'])
-    raise Unknown(f'a type {raw}')
-
-
-def place_of(raw):
-    """A place: a local, and the steps from it."""
-    place = term('local', raw['local'])
-    for step in raw['steps']:
-        name = constructor(step)
-        if name == 'Deref':
-            place = term('deref', type_of(step['Deref']), place)
-        elif name in ('Field', 'Variant'):
-            place = term(name.lower(), step[name], place)
-        else:
-            raise Unknown(f'a step {step}')
-    return place
-
-
-def operand_of(raw):
-    """An operand."""
-    name = constructor(raw)
-    if name == 'Copy':
-        return place_of(raw['Copy'])
-    if name == 'Int':
-        return term('int', raw['Int']['width'], raw['Int']['value'])
-    if name in ('True', 'False'):
-        return term('bool', name == 'True')
-    if name == 'Unit':
-        return term('unit')
-    raise Unknown(f'an operand {raw}')
-
-
-def operation_of(name, raw):
-    """An operation on one or two operands: what it is, and how it reads them."""
-    how, *words = raw
-    sign = None if isinstance(how, str) else how[constructor(how)]
-    return term(name.lower(), constructor(how), sign, *map(operand_of, words))
-
-
-def value_of(raw):
-    """The value of an assignment."""
-    name = constructor(raw)
-    if name == 'Opd':
-        return operand_of(raw['Opd'])
-    if name in ('Op1', 'Op2'):
-        return operation_of(name, raw[name])
-    if name == 'AddrOf':
-        return term('addr', place_of(raw['AddrOf']))
-    if name == 'Aggregate':
-        return term('agg', *map(operand_of, raw['Aggregate']))
-    if name == 'Repeat' and constructor(raw['Repeat'][1]) == 'Lit':
-        return term('repeat', operand_of(raw['Repeat'][0]), raw['Repeat'][1]['Lit'])
-    raise Unknown(f'a value {raw}')
-
-
 class Reader:
     """Reads the statements of a body, which the kit lists one after the other, each before those
-    inside it."""
+    inside it. open are the blocks and loops around the next one; callees are the instances that
+    are called, by key."""
 
-    def __init__(self, words):
-        self.words, self.lent = iter(words), {}
+    def __init__(self, words, scope):
+        self.words, self.scope, self.open, self.callees = iter(words), scope, [], {}
+
+    # -- places, operands and values
+
+    def place(self, raw):
+        """A place: a local, and the steps from it."""
+        place = term('local', raw['local'])
+        for step in raw['steps']:
+            name = constructor(step)
+            if name == 'Deref':
+                place = term('deref', self.scope.kind(step['Deref']), place)
+            elif name in ('Field', 'Variant'):
+                place = term(name.lower(), step[name], place)
+            else:
+                raise Unknown(f'a step {step}')
+        return place
+
+    def operand(self, raw):
+        """An operand."""
+        name = constructor(raw)
+        if name == 'Copy':
+            return self.place(raw['Copy'])
+        if name == 'Int':
+            return term('int', raw['Int']['width'], raw['Int']['value'])
+        if name in ('True', 'False'):
+            return term('bool', name == 'True')
+        if name == 'Unit':
+            return term('unit')
+        if name == 'SizeOf':
+            return term('int', 64, self.scope.program.size(self.scope.kind(raw['SizeOf'])))
+        if name == 'NumOf':
+            return term('int', raw['NumOf'][0], self.scope.number(raw['NumOf'][1]))
+        raise Unknown(f'an operand {raw}')
+
+    def operands(self, words):
+        """Operands."""
+        return [self.operand(raw) for raw in words]
+
+    def operation(self, name, raw):
+        """An operation on one or two operands: what it is, and how it reads them."""
+        how, *words = raw
+        sign = None if isinstance(how, str) else how[constructor(how)]
+        return term(name.lower(), constructor(how), sign, *self.operands(words))
+
+    def value(self, raw):
+        """The value of an assignment."""
+        name = constructor(raw)
+        if name == 'Opd':
+            return self.operand(raw['Opd'])
+        if name in ('Op1', 'Op2'):
+            return self.operation(name, raw[name])
+        if name == 'AddrOf':
+            return term('addr', self.place(raw['AddrOf']))
+        if name == 'Aggregate':
+            return term('agg', *self.operands(raw['Aggregate']))
+        if name == 'Repeat':
+            count = count_of(raw['Repeat'][1], self.scope.of.types)
+            return term('repeat', self.operand(raw['Repeat'][0]), count)
+        raise Unknown(f'a value {raw}')
+
+    # -- statements
 
     def statements(self):
         """The next statement, with those inside it, as a list."""
         raw = next(self.words)
         name = constructor(raw)
-        if name in ('Skip', 'Return'):
-            return [] if name == 'Skip' else [Statement('return')]
+        if name in ('Skip', 'Return', 'Unreachable'):
+            return [] if name == 'Skip' else [Statement(name.lower())]
         if name == 'Seq':
             first = self.statements()
             return first + self.statements()
         if name in ('Block', 'Loop'):
-            return [Statement(name.lower(), bodies=[self.statements()])]
+            self.open.append(Statement(name.lower()))
+            self.open[-1].bodies = [self.statements()]
+            return [self.open.pop()]
         read = getattr(self, f'read_{name.lower()}', None)
         if read is None:
             raise Unknown(f'a statement {raw}')
-        return [read(raw[name])]
+        return read(raw[name])
 
     def read_assign(self, raw):
         """An assignment."""
-        return Statement('assign', [value_of(raw[1])], place_of(raw[0]))
+        return [Statement('assign', [self.value(raw[1])], self.place(raw[0]))]
 
     def read_lendstatic(self, raw):
-        """A constant that is lent for as long as anyone wants it: here an array without elements,
-        of which there is nothing to read. It becomes a local of that array's type."""
-        place, kind, value = raw
-        if place['steps'] or type_of(kind)[::2] != ('Array', 0) or value.get('Ints', {}).get('values') != []:
-            raise Unknown(f'a constant {value} that is lent')
-        self.lent[place['local']] = type_of(kind)
-        return Statement('assign', [term('agg')], place_of(place))
+        """A pointer to a constant that is lent for as long as anyone wants it."""
+        return [Statement('assign', [term('lent', self.scope.kind(raw[1]), raw[2])], self.place(raw[0]))]
 
     def read_call(self, raw):
-        """A call of a function that the program names."""
-        callee, given, goal = raw
-        if constructor(callee) != 'Fn' or any(callee['Fn'][1].values()):
-            raise Unknown(f'a callee {callee}')
-        return Statement('call', map(operand_of, given), place_of(goal), more=callee['Fn'][0])
+        """A call; none of a function that does nothing."""
+        callee = self.scope.callee(raw[0])
+        if callee is None:
+            return []
+        self.callees[callee.key] = callee
+        return [Statement('call', self.operands(raw[1]), self.place(raw[2]), more=callee.key)]
 
     def read_if(self, raw):
         """A condition, and both arms."""
         then = self.statements()
-        return Statement('if', [operand_of(raw)], bodies=[then, self.statements()])
+        return [Statement('if', [self.operand(raw)], bodies=[then, self.statements()])]
 
     def read_switch(self, raw):
         """A switch: an arm for each list of keys, and one for the rest if there is a default."""
         on, keys, default = raw
         arms = [self.statements() for _ in range(len(keys) + default)]
-        return Statement('switch', [operand_of(on)], bodies=arms, more=(keys, default))
+        return [Statement('switch', [self.operand(on)], bodies=arms, more=(keys, default))]
 
     def read_exit(self, raw):
-        """An exit from this many blocks or loops."""
-        return Statement('exit', more=raw)
+        """An exit from this many blocks or loops: it leaves the block, or begins the loop anew, that is
+        around them."""
+        return [Statement('exit', more=self.open[-1 - raw])]
 
     def whole(self):
         """The whole body."""
@@ -201,107 +182,52 @@ def every(body):
             yield from every(inner)
 
 
-def without_pointer(one, lent):
-    """A term in which what the pointers to lent constants lead to are the locals themselves."""
-    if one[0] == 'deref' and one[2][0] == 'local' and one[2][1] in lent:
+def keeps(one, local):
+    """Whether a term reads a pointer other than to what it leads to."""
+    if one[0] == 'deref' and one[2] == ('local', local):
+        return False
+    return one == ('local', local) or any(keeps(part, local) for part in operands(one))
+
+
+def without_pointer(one, local):
+    """A term in which what a pointer leads to is the local itself."""
+    if one[0] == 'deref' and one[2] == ('local', local):
         return one[2]
-    if one[0] == 'local' and one[1] in lent:
-        raise Unknown('a pointer to a constant that is kept')
-    return Term(without_pointer(part, lent) if isinstance(part, Term) else part for part in one)
+    return Term(without_pointer(part, local) if isinstance(part, Term) else part for part in one)
 
 
 class Function:
-    """One function. Local 0 is its result, then follow its parameters, then the others. slots are
-    the locals that the kit places in memory."""
+    """One function at arguments. Local 0 is its result, then follow its parameters, then the
+    others. slots are the locals that the kit places in memory, callees the instances that it calls,
+    by key."""
 
-    def __init__(self, symbol, raw):
-        reader = Reader(raw['body'])
-        self.symbol, self.params, self.body = symbol, raw['params'], reader.whole()
-        self.types = [type_of(one['ty']) for one in raw['locals']]
+    def __init__(self, of, raw, program):
+        self.of, self.symbol, self.key, self.params = of, of.symbol, of.key, raw['params']
+        scope = Scope(of, raw, program)
+        reader = Reader(raw['body'], scope)
+        self.body = simple(reader.whole())
+        self.types = [scope.kind(one['ty']) for one in raw['locals']]
         homes = enumerate(one['home'] for one in raw['locals'])
         self.slots = {number for number, home in homes if home != 'ValueLocal'}
-        self.shapes = {one['name']: one['shape'] for one in raw['types']}
-        if reader.lent:
-            self.own_constants(reader.lent)
+        called = {one.more for one in every(self.body) if one.kind == 'call'}
+        self.callees = {key: callee for key, callee in reader.callees.items() if key in called}
+        if not program.has_reference(self.types[0]):
+            self.own_constants()
 
-    def own_constants(self, lent):
-        """Makes locals of the constants that are lent. None may leave the function, as it could in
-        a result with a reference."""
-        if self.has_reference(self.types[0]):
-            raise Unknown('a constant that is lent, in a function whose result has a reference')
-        for local, kind in lent.items():
-            if self.types[local] != ('Ref', kind):
-                raise Unknown(f'a constant {kind} that is lent as {self.types[local]}')
-            self.types[local] = kind
-        for statement in every(self.body):
-            statement.terms = [without_pointer(one, lent) for one in statement.terms]
-            if statement.goal is not None and statement.goal[:2] not in {('local', local) for local in lent}:
-                statement.goal = without_pointer(statement.goal, lent)
-
-    def has_reference(self, kind):
-        """Whether a type has a reference in it."""
-        if kind[0] != 'Named':
-            return kind[0] in ('Ref', 'Slice', 'Ptr')
-        shape = self.shapes[kind[1]]
-        parts = shape['Fields'] if 'Fields' in shape else [one for each in shape['Variants'] for one in each]
-        return any(self.has_reference(type_of(one)) for one in parts)
-
-
-class Program:
-    """The functions that those of a crate reach, callees first, and the shapes of the types that
-    they name."""
-
-    def __init__(self, folders, crate):
-        self.folders, self.crates, self.functions, self.shapes = folders, {}, {}, {}
-        self.roots = sorted(self.crate(crate))
-        for root in self.roots:
-            self.reach(root, ())
-
-    def crate(self, name):
-        """The functions of a crate, by symbol."""
-        if name not in self.crates:
-            below = os.path.join(f'{name}.rlib', 'toolchain', 'mir.json')
-            paths = [os.path.join(each, below) for each in self.folders]
-            path = next((path for path in paths if os.path.exists(path)), None)
-            if path is None:
-                raise Unknown(f'there is no {name}.rlib: prove {name} first (rt check {name})')
-            with open(path, encoding='utf-8') as file:
-                self.crates[name] = dict(json.load(file))
-        return self.crates[name]
-
-    def read(self, symbol):
-        """One function; whatever its MIR has that the modules above do not expect is unknown
-        too."""
-        try:
-            return Function(symbol, self.crate(symbol.split('::')[0])[symbol])
-        except Unknown as unknown:
-            raise Unknown(f'{unknown} in {symbol}') from None
-        except (KeyError, IndexError, TypeError, ValueError, StopIteration) as error:
-            raise Unknown(f'MIR of another form in {symbol}: {error!r}') from None
-
-    def reach(self, symbol, callers):
-        """Adds a function behind those that it calls."""
-        if symbol in callers:
-            raise Unknown(f'{symbol} calls itself')
-        if symbol in self.functions:
-            return
-        function = self.read(symbol)
-        for statement in every(function.body):
-            if statement.kind == 'call':
-                self.reach(statement.more, (*callers, symbol))
-        self.functions[symbol] = function
-        for name, shape in function.shapes.items():
-            if self.shapes.setdefault(name, shape) != shape:
-                raise Unknown(f'two shapes of the type {name}')
-
-    def fields(self, symbol):
-        """The types of a struct's fields, or None for an enumeration."""
-        shape = self.shapes[symbol]
-        return [type_of(one) for one in shape['Fields']] if constructor(shape) == 'Fields' else None
-
-    def variants(self, symbol):
-        """The types of the fields of each variant of an enumeration, or None for a struct."""
-        shape = self.shapes[symbol]
-        if constructor(shape) != 'Variants':
-            return None
-        return [[type_of(one) for one in fields] for fields in shape['Variants']]
+    def own_constants(self):
+        """Makes locals of the arrays without elements that are lent, of which there is nothing to read; but
+        not where the pointer is kept, or may leave the function."""
+        body = list(every(self.body))
+        for statement in body:
+            lent, goal = statement.terms[:1], statement.goal
+            if not lent or lent[0][0] != 'lent' or lent[0][1][::2] != ('Array', 0) or goal[0] != 'local':
+                continue
+            local, kind = goal[1], lent[0][1]
+            read = [one for each in body for one in each.terms + ([each.goal] if each.goal not in (None,
+                    goal) else [])]
+            if self.types[local] != ('Ref', kind) or any(keeps(one, local) for one in read):
+                continue
+            self.types[local], statement.terms = kind, [term('agg')]
+            for each in body:
+                each.terms = [without_pointer(one, local) for one in each.terms]
+                each.goal = each.goal if each.goal is None else without_pointer(each.goal, local)

@@ -1,8 +1,10 @@
 """The whole C file."""
 from .exports import SLICE_OF, Export, calls_of, same_layout
 from .folding import fold
-from .mir import Program, Unknown, judge_kit
+from .instances import Unknown
+from .mir import judge_kit
 from .names import Names
+from .program import Program
 from .statements import WIDTH, Body, cut
 from .types import Types
 
@@ -48,9 +50,9 @@ def function_lines(types, function, names):
         fold(function)
         return ['', *comment(names.comment(function.symbol)), *Body(types, function, names).whole()]
     except Unknown as unknown:
-        raise Unknown(f'{unknown} in {function.symbol}') from None
+        raise Unknown(f'{unknown} in {function.key}') from None
     except (KeyError, IndexError, TypeError, ValueError) as error:
-        raise Unknown(f'MIR of another form in {function.symbol}: {error!r}') from None
+        raise Unknown(f'MIR of another form in {function.key}: {error!r}') from None
 
 
 def file_text(program, names, calls):

@@ -1,4 +1,5 @@
 -- What the judges of books answer, test by test; and what their answer says of the calls over books. Assumes nothing.
+use Rattle.std.specs.Prelude.{Result, Ok, Err}
 use mathlib.Core.Path.{◌≡◌, refl, ◌∙◌}
 use mathlib.Core.Bool.{Bool, true, false, cond, not, ◌&&◌, ◌||◌}
 use Prim.Native.Nat.{ℕ, ◌+◌, ◌*◌, ◌≤◌, ◌<◌}
@@ -22,78 +23,74 @@ use Rattle.books.specs.Requires.{Book}
 use Rattle.callrules.specs.Judged.{open_answer}
 use Rattle.frames.specs.declared.refusals.Refusal.{Refusal}
 use Rattle.frames.specs.declared.refusals.Refusal.TheVariants.{BadOptions, TooManyCarried, BadRanks, BadFrame, UnknownCode}
-use Rattle.frames.specs.declared.outcomes.Took.{Took}
-use Rattle.frames.specs.declared.outcomes.Took.TheVariants.{Accepted, Refused}
-use Rattle.tables.specs.declared.Written.{Written}
-use Rattle.tables.specs.declared.Written.TheVariants.{Rows as Wrote, Refused as NotWritten}
 use Rattle.books.specs.bookjudge.Judged.{book_judged, books_judged}
 
 -- ---- the tests of the options, as opening makes them
 abbrev pub chain : {A : Type 0} → (Refusal → A) → Bool → Bool → Bool → A → A
 chain f x y z a = cond x (f BadOptions) (cond y (f TooManyCarried) (cond z (f BadRanks) a))
 
-chain_shut : {A : Type 0} (f : Refusal → A) (a : A) (x y z : Bool) (r : Refusal) → chain (λ n. Refused n) x y z Accepted ≡ Refused r → chain f x y z a ≡ f r
+chain_shut : {A : Type 0} (f : Refusal → A) (a : A) (x y z : Bool) (r : Refusal) → ◌≡◌ {A = Result Unit Refusal} (chain (λ n. Err n) x y z (Ok tt)) (Err r) → chain f x y z a ≡ f r
 chain_shut f a true y z r e = cc
 chain_shut f a false true z r e = cc
 chain_shut f a false false true r e = cc
 chain_shut f a false false false r e = let n : ◌≡◌ {A = ℕ} 0 1 = cc in absurd (omega arith)
 
-pub chain_open : (x y z : Bool) (t : Took) → chain (λ n. Refused n) x y z t ≡ Accepted → (x ≡ false) × (y ≡ false) × (z ≡ false) × (t ≡ Accepted)
+pub chain_open : (x y z : Bool) (t : Result Unit Refusal) → chain (λ n. Err n) x y z t ≡ Ok tt → (x ≡ false) × (y ≡ false) × (z ≡ false) × (t ≡ Ok tt)
 chain_open true y z t e = let n : ◌≡◌ {A = ℕ} 0 1 = cc in absurd (omega arith)
 chain_open false true z t e = let n : ◌≡◌ {A = ℕ} 0 1 = cc in absurd (omega arith)
 chain_open false false true t e = let n : ◌≡◌ {A = ℕ} 0 1 = cc in absurd (omega arith)
 chain_open false false false t e = (refl, refl, refl, e)
 
 module _ (o : Options) where
-  pub open_shut : {A : Type 0} (f : Refusal → A) (a : A) (r : Refusal) → open_answer o ≡ Refused r → unless f o a ≡ f r
+  pub open_shut : {A : Type 0} (f : Refusal → A) (a : A) (r : Refusal) → open_answer o ≡ Err r → unless f o a ≡ f r
   unfolding open_answer
   open_shut f a r e = chain_shut f a (bad_options o) (many_carried o) (bad_ranked o) r e
 
-  pub open_past : {A : Type 0} (f : Refusal → A) (a : A) → open_answer o ≡ Accepted → unless f o a ≡ a
+  pub open_past : {A : Type 0} (f : Refusal → A) (a : A) → open_answer o ≡ Ok tt → unless f o a ≡ a
   unfolding open_answer
-  open_past f a e = let p = chain_open (bad_options o) (many_carried o) (bad_ranked o) Accepted e in rw (p.0, p.1, p.2)
+  open_past f a e = let p = chain_open (bad_options o) (many_carried o) (bad_ranked o) (Ok tt) e in rw (p.0, p.1, p.2)
 
-  pub open_allowed : open_answer o ≡ Accepted → Allowed o
+  pub open_allowed : open_answer o ≡ Ok tt → Allowed o
   unfolding open_answer
   open_allowed e =
-      let p = chain_open (bad_options o) (many_carried o) (bad_ranked o) Accepted e in
+      let p = chain_open (bad_options o) (many_carried o) (bad_ranked o) (Ok tt) e in
       allowed_parts o (good_allowed o p.0 p.1 p.2)
 
 -- ---- one book, behind the options
-abbrev pub book_rest : Options → Words → Took
-book_rest o book = cond (not (is_book o book)) (Refused BadFrame) (cond (lacks_code o (rows_in o book)) (Refused UnknownCode) Accepted)
+abbrev pub book_rest : Options → Words → Result Unit Refusal
+book_rest o book = cond (not (is_book o book)) (Err BadFrame) (cond (lacks_code o (rows_in o book)) (Err UnknownCode) (Ok tt))
 
 module _ (o : Options) (book : Words) where
-  pub book_shut : (r : Refusal) → open_answer o ≡ Refused r → book_judged o book ≡ Refused r
+  pub book_shut : (r : Refusal) → open_answer o ≡ Err r → book_judged o book ≡ Err r
   unfolding book_judged
-  book_shut r e = open_shut o (λ n. Refused n) _ r e
+  book_shut r e = open_shut o (λ n. Err n) _ r e
 
-  pub book_open : open_answer o ≡ Accepted → book_judged o book ≡ book_rest o book
+  pub book_open : open_answer o ≡ Ok tt → book_judged o book ≡ book_rest o book
   unfolding book_judged
-  book_open e = open_past o (λ n. Refused n) _ e
+  book_open e = open_past o (λ n. Err n) _ e
 
 -- ---- two books, behind the options
-abbrev pub books_rest : Options → Words → Words → Took
+abbrev pub books_rest : Options → Words → Words → Result Unit Refusal
 books_rest o house festival =
-    cond (not (is_book o house && is_book o festival)) (Refused BadFrame) (cond (lacks_code o (rows_in o house) || lacks_code o (rows_in o festival)) (Refused UnknownCode) Accepted)
+    cond (not (is_book o house && is_book o festival)) (Err BadFrame) (cond (lacks_code o (rows_in o house) || lacks_code o (rows_in o festival)) (Err UnknownCode) (Ok tt))
 
 module _ (o : Options) (house festival : Words) where
-  pub books_shut : (r : Refusal) → open_answer o ≡ Refused r → books_judged o house festival ≡ Refused r
+  pub books_shut : (r : Refusal) → open_answer o ≡ Err r → books_judged o house festival ≡ Err r
   unfolding books_judged
-  books_shut r e = open_shut o (λ n. Refused n) _ r e
+  books_shut r e = open_shut o (λ n. Err n) _ r e
 
-  pub books_open : open_answer o ≡ Accepted → books_judged o house festival ≡ books_rest o house festival
+  pub books_open : open_answer o ≡ Ok tt → books_judged o house festival ≡ books_rest o house festival
   unfolding books_judged
-  books_open e = open_past o (λ n. Refused n) _ e
+  books_open e = open_past o (λ n. Err n) _ e
 
 -- ---- what an answer says
-pub two_open : (a b : Bool) → cond a (Refused BadFrame) (cond b (Refused UnknownCode) Accepted) ≡ Accepted → (a ≡ false) × (b ≡ false)
+pub two_open : (a b : Bool) → ◌≡◌ {A = Result Unit Refusal} (cond a (Err BadFrame) (cond b (Err UnknownCode) (Ok tt))) (Ok tt) → (a ≡ false) × (b ≡ false)
 two_open true b e = let n : ◌≡◌ {A = ℕ} 0 1 = cc in absurd (omega arith)
 two_open false true e = let n : ◌≡◌ {A = ℕ} 0 1 = cc in absurd (omega arith)
 two_open false false e = (refl, refl)
 
-all_shut : (x y z a b : Bool) (w : Written) (r : Refusal) → chain (λ n. Refused n) x y z (cond a (Refused BadFrame) (cond b (Refused UnknownCode) Accepted)) ≡ Refused r
-    → chain (λ n. NotWritten n) x y z (cond a (NotWritten BadFrame) (cond b (NotWritten UnknownCode) w)) ≡ NotWritten r
+all_shut : (x y z a b : Bool) (w : Result ℕ Refusal) (r : Refusal) → ◌≡◌ {A = Result Unit Refusal} (chain (λ n. Err n) x y z (cond a (Err BadFrame) (cond b (Err UnknownCode) (Ok tt)))) (Err r)
+    → chain (λ n. Err n) x y z (cond a (Err BadFrame) (cond b (Err UnknownCode) w)) ≡ Err r
 all_shut true y z a b w r e = cc
 all_shut false true z a b w r e = cc
 all_shut false false true a b w r e = cc
@@ -106,9 +103,9 @@ pub record BooksFine (o : Options) (house festival : Words) : Type 0 where
   pub allowed : Allowed o
   pub house_is : is_book o house ≡ true
   pub festival_is : is_book o festival ≡ true
-  pub past : (w : Written) → unless (λ n. NotWritten n) o (cond (not (is_book o house && is_book o festival)) (NotWritten BadFrame) (cond (lacks_code o (rows_in o house) || lacks_code o (rows_in o festival)) (NotWritten UnknownCode) w)) ≡ w
+  pub past : (w : Result ℕ Refusal) → unless (λ n. Err n) o (cond (not (is_book o house && is_book o festival)) (Err BadFrame) (cond (lacks_code o (rows_in o house) || lacks_code o (rows_in o festival)) (Err UnknownCode) w)) ≡ w
 
-pub books_fine : (o : Options) (house festival : Words) → books_judged o house festival ≡ Accepted → BooksFine o house festival
+pub books_fine : (o : Options) (house festival : Words) → books_judged o house festival ≡ Ok tt → BooksFine o house festival
 unfolding books_judged
 books_fine o house festival e =
     let p = chain_open (bad_options o) (many_carried o) (bad_ranked o) _ e in
@@ -121,7 +118,7 @@ books_fine o house festival e =
       past = λ w. rw (p.0, p.1, p.2, q.0, q.1);
     }
 
-pub books_refused : (o : Options) (house festival out : Words) (r : Refusal) → books_judged o house festival ≡ Refused r → merge_answer o house festival out ≡ NotWritten r
+pub books_refused : (o : Options) (house festival out : Words) (r : Refusal) → books_judged o house festival ≡ Err r → merge_answer o house festival out ≡ Err r
 unfolding books_judged merge_answer
 books_refused o house festival out r e =
     all_shut (bad_options o) (many_carried o) (bad_ranked o) (not (is_book o house && is_book o festival)) (lacks_code o (rows_in o house) || lacks_code o (rows_in o festival)) _ r e
@@ -130,9 +127,9 @@ books_refused o house festival out r e =
 pub record BookFine (o : Options) (book : Words) : Type 0 where
   pub allowed : Allowed o
   pub is : is_book o book ≡ true
-  pub past : (w : Written) → unless (λ n. NotWritten n) o (cond (not (is_book o book)) (NotWritten BadFrame) (cond (lacks_code o (rows_in o book)) (NotWritten UnknownCode) w)) ≡ w
+  pub past : (w : Result ℕ Refusal) → unless (λ n. Err n) o (cond (not (is_book o book)) (Err BadFrame) (cond (lacks_code o (rows_in o book)) (Err UnknownCode) w)) ≡ w
 
-pub book_fine : (o : Options) (book : Words) → book_judged o book ≡ Accepted → BookFine o book
+pub book_fine : (o : Options) (book : Words) → book_judged o book ≡ Ok tt → BookFine o book
 unfolding book_judged
 book_fine o book e =
     let p = chain_open (bad_options o) (many_carried o) (bad_ranked o) _ e in
@@ -143,7 +140,7 @@ book_fine o book e =
       past = λ w. rw (p.0, p.1, p.2, q.0, q.1);
     }
 
-pub book_refused : (o : Options) (q : ℕ) (book out : Words) (r : Refusal) → book_judged o book ≡ Refused r → stand_answer o q book out ≡ NotWritten r
+pub book_refused : (o : Options) (q : ℕ) (book out : Words) (r : Refusal) → book_judged o book ≡ Err r → stand_answer o q book out ≡ Err r
 unfolding book_judged stand_answer
 book_refused o q book out r e = all_shut (bad_options o) (many_carried o) (bad_ranked o) (not (is_book o book)) (lacks_code o (rows_in o book)) _ r e
 
@@ -167,9 +164,9 @@ module _ (c : ℕ) (f : Words) (h : is_table c f ≡ true) where
   }
 
 -- The answer of a call is that of what it leaves.
-pub leave_answer : (c : ℕ) (rows : Rows) (w : Written) (out : Words) → w ≡ (leave c rows w out).answer
-leave_answer c rows (Wrote n) out = refl
-leave_answer c rows (NotWritten n) out = refl
+pub leave_answer : (c : ℕ) (rows : Rows) (w : Result ℕ Refusal) (out : Words) → w ≡ (leave c rows w out).answer
+leave_answer c rows (Ok n) out = refl
+leave_answer c rows (Err n) out = refl
 
 -- ---- room, as it is tested
 pub room_short : (n c room : ℕ) → leb (frame_words n c) room ≡ false → ltb room (frame_words n c) ≡ true

@@ -1,4 +1,5 @@
 -- The promises of the merge. Assumes nothing.
+use Rattle.std.specs.Prelude.{Result, Ok, Err}
 use mathlib.Core.Path.{◌≡◌, refl, sym, ap, ◌∙◌}
 use mathlib.Core.Bool.{Bool, true, false, cond, not, ◌&&◌, ◌||◌}
 use Prim.Native.Nat.{ℕ, ◌+◌, ◌≤◌, ◌<◌}
@@ -17,8 +18,6 @@ use Rattle.order.specs.Listed.{lacks_code}
 use Rattle.tables.specs.Table.{table_of, laid, leave}
 use Rattle.frames.specs.declared.refusals.Refusal.{Refusal}
 use Rattle.frames.specs.declared.refusals.Refusal.TheVariants.{BadOptions, TooManyCarried, BadRanks, BadFrame, UnknownCode, Unsorted, NoRoom}
-use Rattle.tables.specs.declared.Written.{Written}
-use Rattle.tables.specs.declared.Written.TheVariants.{Rows as Wrote, Refused}
 use Rattle.tables.proofs.TableLaws.{Wide, table_is, table_rows_lem, table_length, laid_take}
 use Rattle.tables.proofs.CellLaws.{rows_are_wide}
 use Rattle.books.specs.Merge.{merge}
@@ -30,13 +29,13 @@ use Rattle.books.specs.bookmerge.Promises.{MergedBook, Promises}
 
 -- ---- what the answer says
 -- A test that stops a call did not stop one that wrote, or that another number stopped.
-passed : (b : Bool) (n : Refusal) (t : Written) (k : ℕ) → cond b (Refused n) t ≡ Wrote k → (b ≡ false) × (t ≡ Wrote k)
+passed : (b : Bool) (n : Refusal) (t : Result ℕ Refusal) (k : ℕ) → cond b (Err n) t ≡ Ok k → (b ≡ false) × (t ≡ Ok k)
 passed true n t k e = (cc, cc)
 passed false n t k e = (refl, e)
 
 six : (x y z a b c d : Bool) (m : ℕ) →
-    cond x (Refused BadOptions) (cond y (Refused TooManyCarried) (cond z (Refused BadRanks) (cond a (Refused BadFrame) (cond b (Refused UnknownCode) (cond c (Refused Unsorted) (cond d (Refused NoRoom) (Wrote m)))))))
-    ≡ Refused NoRoom → d ≡ true
+    cond x (Err BadOptions) (cond y (Err TooManyCarried) (cond z (Err BadRanks) (cond a (Err BadFrame) (cond b (Err UnknownCode) (cond c (Err Unsorted) (cond d (Err NoRoom) (Ok m)))))))
+    ≡ Err NoRoom → d ≡ true
 six true y z a b c d m e = cc
 six false true z a b c d m e = cc
 six false false true a b c d m e = cc
@@ -46,7 +45,7 @@ six false false false false false true d m e = cc
 six false false false false false false true m e = refl
 six false false false false false false false m e = cc
 
-same_rows : (m k : ℕ) → Wrote m ≡ Wrote k → m ≡ k
+same_rows : (m k : ℕ) → ◌≡◌ {A = Result ℕ Refusal} (Ok m) (Ok k) → m ≡ k
 same_rows m k e = cc
 
 module _ (o : Options) (house festival out : Words) where
@@ -66,9 +65,9 @@ module _ (o : Options) (house festival out : Words) where
   unfolding merge_call
   answers = sym (leave_answer c all (merge_answer o house festival out) out)
 
-  leaves : (w : Written) → merge_answer o house festival out ≡ w → (merge_call o house festival out).out ≡ (leave c all w out).out
+  leaves : (w : Result ℕ Refusal) → merge_answer o house festival out ≡ w → (merge_call o house festival out).out ≡ (leave c all w out).out
   unfolding merge_call
-  leaves w e = ap (λ (z : Written). (leave c all z out).out) e
+  leaves w e = ap (λ (z : Result ℕ Refusal). (leave c all z out).out) e
 
   -- A merge that was written: both books are tables and sorted, their rows are so many, and they had room.
   record Done (k : ℕ) : Type 0 where
@@ -79,7 +78,7 @@ module _ (o : Options) (house festival out : Words) where
     room : frame_words (length H + length F) c ≤ length out
     count : length H + length F ≡ k
 
-  done : (k : ℕ) → merge_answer o house festival out ≡ Wrote k → Done k
+  done : (k : ℕ) → merge_answer o house festival out ≡ Ok k → Done k
   unfolding merge_answer
   done k e =
       let p1 = passed (bad_options o) BadOptions _ k e in
@@ -100,7 +99,7 @@ module _ (o : Options) (house festival out : Words) where
         count = same_rows (length H + length F) k p6.1;
       }
 
-  short : merge_answer o house festival out ≡ Refused NoRoom → length out < frame_words (length H + length F) c
+  short : merge_answer o house festival out ≡ Err NoRoom → length out < frame_words (length H + length F) c
   unfolding merge_answer
   short e =
       ltb-true (length out) (frame_words (length H + length F) c)
@@ -143,8 +142,8 @@ module _ (o : Options) (house festival out : Words) where
 
   pub promises : Promises o house festival out
   promises = record {
-    kept = λ n e. leaves (Refused n) (sym answers ∙ e);
-    merged = λ k e. let a = sym answers ∙ e in let d = done k a in rw (leaves (Wrote k) a, ← size k d) (merged_book k d);
+    kept = λ n e. leaves (Err n) (sym answers ∙ e);
+    merged = λ k e. let a = sym answers ∙ e in let d = done k a in rw (leaves (Ok k) a, ← size k d) (merged_book k d);
     counted = λ k e. sym (done k (sym answers ∙ e)).count ∙ rw (many house, many festival);
     enough = λ h e. let s = short (sym answers ∙ e) in let g : frame_words (length H + length F) c ≤ length out = rw (many house, many festival) h in absurd (omega (arith, s, g));
   }

@@ -1,4 +1,5 @@
 -- What the call answers and leaves, from what its parts do. Assumes nothing.
+use Rattle.std.specs.Prelude.{Result, Ok, Err}
 use mathlib.Core.Path.{◌≡◌, sym, ap, ◌∙◌}
 use mathlib.Core.Bool.{true, false}
 use Prim.Native.Nat.{ℕ, ◌*◌, ◌≤◌, ◌<◌}
@@ -16,9 +17,6 @@ use Rattle.tables.specs.Table.{leave, laid, table_of}
 use Rattle.tables.specs.Lay.{flat, lay_cells}
 use Rattle.frames.specs.declared.refusals.Refusal.{Refusal}
 use Rattle.frames.specs.declared.refusals.Refusal.TheVariants.{BadColumns, Unsorted, NoRoom}
-use Rattle.tables.specs.declared.Written.{Written}
-use Rattle.tables.specs.declared.Written.TheVariants.{Rows as Wrote, Refused}
-use Rattle.frames.specs.declared.outcomes.Took.TheVariants.{Accepted, Refused as NotTaken}
 use Rattle.tables.proofs.LayLaws.{lay_table}
 use Rattle.tables.proofs.CellLaws.{flat_length}
 use Rattle.books.specs.Standing.{notices}
@@ -30,40 +28,40 @@ use Rattle.books.specs.noticecall.BookRows.{BookIn, list_answer, ListContract}
 
 -- ---- by rows
 module _ (o : Options) (q : ℕ) (R : Rows) (out : Words) where
-  leaves : (r : Written) → list_answer o q R out ≡ r → ListContract o q R out r (leave 2 (notices o q 0 R) r out).out
-  leaves r e = record { answer = sym e; words = ap (λ (z : Written). (leave 2 (notices o q 0 R) z out).out) (sym e) }
+  leaves : (r : Result ℕ Refusal) → list_answer o q R out ≡ r → ListContract o q R out r (leave 2 (notices o q 0 R) r out).out
+  leaves r e = record { answer = sym e; words = ap (λ (z : Result ℕ Refusal). (leave 2 (notices o q 0 R) z out).out) (sym e) }
 
-  answer_column : o.carried ≤ q → list_answer o q R out ≡ Refused BadColumns
+  answer_column : o.carried ≤ q → list_answer o q R out ≡ Err BadColumns
   unfolding list_answer
   answer_column l = rw (le-ltb q o.carried l)
 
-  pub no_column : o.carried ≤ q → ListContract o q R out (Refused BadColumns) out
-  no_column l = leaves (Refused BadColumns) (answer_column l)
+  pub no_column : o.carried ≤ q → ListContract o q R out (Err BadColumns) out
+  no_column l = leaves (Err BadColumns) (answer_column l)
 
   module _ (b : q < o.carried) where
-    answer_unsorted : sorted o R ≡ false → list_answer o q R out ≡ Refused Unsorted
+    answer_unsorted : sorted o R ≡ false → list_answer o q R out ≡ Err Unsorted
     unfolding list_answer
     answer_unsorted e = rw (lt-ltb q o.carried b, e)
 
-    pub unsorted : sorted o R ≡ false → ListContract o q R out (Refused Unsorted) out
-    unsorted e = leaves (Refused Unsorted) (answer_unsorted e)
+    pub unsorted : sorted o R ≡ false → ListContract o q R out (Err Unsorted) out
+    unsorted e = leaves (Err Unsorted) (answer_unsorted e)
 
     module _ (c : sorted o R ≡ true) (n : ℕ) (k : n ≡ length R) where
-      answer_short : leb (frame_words n 2) (length out) ≡ false → list_answer o q R out ≡ Refused NoRoom
+      answer_short : leb (frame_words n 2) (length out) ≡ false → list_answer o q R out ≡ Err NoRoom
       unfolding list_answer
       answer_short e = rw (lt-ltb q o.carried b, c, ← k, room_short n 2 (length out) e)
 
-      pub no_room_lem : leb (frame_words n 2) (length out) ≡ false → ListContract o q R out (Refused NoRoom) out
-      no_room_lem e = leaves (Refused NoRoom) (answer_short e)
+      pub no_room_lem : leb (frame_words n 2) (length out) ≡ false → ListContract o q R out (Err NoRoom) out
+      no_room_lem e = leaves (Err NoRoom) (answer_short e)
 
-      answer_wrote : frame_words n 2 ≤ length out → list_answer o q R out ≡ Wrote n
+      answer_wrote : frame_words n 2 ≤ length out → list_answer o q R out ≡ Ok n
       unfolding list_answer
       answer_wrote l = rw (lt-ltb q o.carried b, c, ← k, le-ltb (length out) (frame_words n 2) l)
 
       pub wrote : frame_words n 2 ≤ length out → (out₁ out₂ : Words) → out₁ ≡ lay_cells (2 * n) 0 (flat (notices o q 0 R)) out → out₂ ≡ set (set out₁ 0 (pos n)) 1 (pos 2)
-          → ListContract o q R out (Wrote n) out₂
+          → ListContract o q R out (Ok n) out₂
       wrote l out₁ out₂ p u =
-          let w = leaves (Wrote n) (answer_wrote l) in
+          let w = leaves (Ok n) (answer_wrote l) in
           let N : Rows = notices o q 0 R in
           let g : length N ≡ n = notices_length o q 0 R ∙ sym k in
           let f : length (flat N) ≡ 2 * n = flat_length 2 N (notices_wide o q 0 R) ∙ omega (arith, g) in
@@ -78,32 +76,32 @@ module _ (o : Options) (q : ℕ) (book out : Words) where
   abbrev rows : Rows
   rows = notices o q 0 (rows_in o book)
 
-  call_leaves : (r : Written) → stand_answer o q book out ≡ r → StandContract o q book out r (leave 2 rows r out).out
+  call_leaves : (r : Result ℕ Refusal) → stand_answer o q book out ≡ r → StandContract o q book out r (leave 2 rows r out).out
   unfolding stand_call
   call_leaves r e = record {
     answer = sym e ∙ leave_answer 2 rows (stand_answer o q book out) out;
-    words = ap (λ (z : Written). (leave 2 rows z out).out) (sym e);
+    words = ap (λ (z : Result ℕ Refusal). (leave 2 rows z out).out) (sym e);
   }
 
-  pub stand_refused : (r : Refusal) → book_judged o book ≡ NotTaken r → StandContract o q book out (Refused r) out
-  stand_refused r e = call_leaves (Refused r) (book_refused o q book out r e)
+  pub stand_refused : (r : Refusal) → book_judged o book ≡ Err r → StandContract o q book out (Err r) out
+  stand_refused r e = call_leaves (Err r) (book_refused o q book out r e)
 
-  module _ (v : book_judged o book ≡ Accepted) (w : ℕ) (e : w ≡ right_columns o) where
+  module _ (v : book_judged o book ≡ Ok tt) (w : ℕ) (e : w ≡ right_columns o) where
     answer_list : stand_answer o q book out ≡ list_answer o q (rows_in o book) out
     unfolding stand_answer list_answer
     answer_list = (book_fine o book v).past _
 
-    contract : (r : Written) (out' : Words) → ListContract o q (rows_in o book) out r out' → StandContract o q book out r out'
+    contract : (r : Result ℕ Refusal) (out' : Words) → ListContract o q (rows_in o book) out r out' → StandContract o q book out r out'
     contract r out' c =
         let a : stand_answer o q book out ≡ r = answer_list ∙ sym c.answer in
         let z = call_leaves r a in
-        record { answer = z.answer; words = c.words ∙ ap (λ (z : Written). (leave 2 rows z out).out) (sym c.answer) ∙ z.words }
+        record { answer = z.answer; words = c.words ∙ ap (λ (z : Result ℕ Refusal). (leave 2 rows z out).out) (sym c.answer) ∙ z.words }
 
     rows_are : rows_of w (row_count book) (values_in w book) (marks_in w book) ≡ rows_in o book
     unfolding frame_rows
     rows_are = rw e
 
-    pub listed : (r : Written) (out' : Words) → ListContract o q (rows_of w (row_count book) (values_in w book) (marks_in w book)) out r out' → StandContract o q book out r out'
+    pub listed : (r : Result ℕ Refusal) (out' : Words) → ListContract o q (rows_of w (row_count book) (values_in w book) (marks_in w book)) out r out' → StandContract o q book out r out'
     listed r out' c = contract r out' (rw (← rows_are) c)
 
 -- ---- a table's words are a book

@@ -1,4 +1,5 @@
 -- The promises of the call. Assumes nothing.
+use Rattle.std.specs.Prelude.{Result, Ok, Err}
 use mathlib.Core.Path.{◌≡◌, refl, sym, ap, ◌∙◌}
 use mathlib.Core.Bool.{Bool, true, false, cond, not}
 use Prim.Native.Nat.{ℕ, ◌≤◌, ◌<◌}
@@ -16,8 +17,6 @@ use Rattle.order.specs.Listed.{lacks_code}
 use Rattle.tables.specs.Table.{table_of, laid, leave}
 use Rattle.frames.specs.declared.refusals.Refusal.{Refusal}
 use Rattle.frames.specs.declared.refusals.Refusal.TheVariants.{BadOptions, TooManyCarried, BadRanks, BadFrame, UnknownCode, BadColumns, Unsorted, NoRoom}
-use Rattle.tables.specs.declared.Written.{Written}
-use Rattle.tables.specs.declared.Written.TheVariants.{Rows as Wrote, Refused}
 use Rattle.tables.proofs.TableLaws.{Wide, table_is, table_rows_lem, table_length, laid_take}
 use Rattle.books.specs.Standing.{notices}
 use Rattle.books.specs.Calls.{is_book, rows_in, stand_answer, stand_call}
@@ -26,13 +25,13 @@ use Rattle.books.proofs.notices.NoticeLaws.{notices_length, notices_wide}
 use Rattle.books.specs.noticecall.Promises.{Listed, Promises}
 
 -- ---- what the answer says
-passed : (b : Bool) (n : Refusal) (t : Written) (k : ℕ) → cond b (Refused n) t ≡ Wrote k → (b ≡ false) × (t ≡ Wrote k)
+passed : (b : Bool) (n : Refusal) (t : Result ℕ Refusal) (k : ℕ) → cond b (Err n) t ≡ Ok k → (b ≡ false) × (t ≡ Ok k)
 passed true n t k e = (cc, cc)
 passed false n t k e = (refl, e)
 
 six : (x y z a b c d f : Bool) (m : ℕ) →
-    cond x (Refused BadOptions) (cond y (Refused TooManyCarried) (cond z (Refused BadRanks) (cond a (Refused BadFrame) (cond b (Refused UnknownCode) (cond c (Refused BadColumns) (cond d (Refused Unsorted) (cond f (Refused NoRoom) (Wrote m))))))))
-    ≡ Refused NoRoom → f ≡ true
+    cond x (Err BadOptions) (cond y (Err TooManyCarried) (cond z (Err BadRanks) (cond a (Err BadFrame) (cond b (Err UnknownCode) (cond c (Err BadColumns) (cond d (Err Unsorted) (cond f (Err NoRoom) (Ok m))))))))
+    ≡ Err NoRoom → f ≡ true
 six true y z a b c d f m e = cc
 six false true z a b c d f m e = cc
 six false false true a b c d f m e = cc
@@ -43,7 +42,7 @@ six false false false false false false true f m e = cc
 six false false false false false false false true m e = refl
 six false false false false false false false false m e = cc
 
-same_rows : (m k : ℕ) → Wrote m ≡ Wrote k → m ≡ k
+same_rows : (m k : ℕ) → ◌≡◌ {A = Result ℕ Refusal} (Ok m) (Ok k) → m ≡ k
 same_rows m k e = cc
 
 module _ (o : Options) (q : ℕ) (book out : Words) where
@@ -57,9 +56,9 @@ module _ (o : Options) (q : ℕ) (book out : Words) where
   unfolding stand_call
   answers = sym (leave_answer 2 all (stand_answer o q book out) out)
 
-  leaves : (w : Written) → stand_answer o q book out ≡ w → (stand_call o q book out).out ≡ (leave 2 all w out).out
+  leaves : (w : Result ℕ Refusal) → stand_answer o q book out ≡ w → (stand_call o q book out).out ≡ (leave 2 all w out).out
   unfolding stand_call
-  leaves w e = ap (λ (z : Written). (leave 2 all z out).out) e
+  leaves w e = ap (λ (z : Result ℕ Refusal). (leave 2 all z out).out) e
 
   wide : Wide 2 all
   wide = notices_wide o q 0 R
@@ -72,7 +71,7 @@ module _ (o : Options) (q : ℕ) (book out : Words) where
   many = rows_length (right_columns o) (row_count book) (values_in (right_columns o) book) (marks_in (right_columns o) book)
 
   -- The answer tells how many rows there are, and that their notices had room.
-  wrote : (k : ℕ) → stand_answer o q book out ≡ Wrote k → (frame_words (length R) 2 ≤ length out) × (length R ≡ k)
+  wrote : (k : ℕ) → stand_answer o q book out ≡ Ok k → (frame_words (length R) 2 ≤ length out) × (length R ≡ k)
   unfolding stand_answer
   wrote k e =
       let p1 = passed (bad_options o) BadOptions _ k e in
@@ -85,7 +84,7 @@ module _ (o : Options) (q : ℕ) (book out : Words) where
       let p6 = passed (ltb (length out) (frame_words (length R) 2)) NoRoom _ k p14.1 in
       (ltb-false (length out) (frame_words (length R) 2) p6.0, same_rows (length R) k p6.1)
 
-  short : stand_answer o q book out ≡ Refused NoRoom → length out < frame_words (length R) 2
+  short : stand_answer o q book out ≡ Err NoRoom → length out < frame_words (length R) 2
   unfolding stand_answer
   short e =
       ltb-true (length out) (frame_words (length R) 2)
@@ -102,8 +101,8 @@ module _ (o : Options) (q : ℕ) (book out : Words) where
 
   pub promises : Promises o q book out
   promises = record {
-    kept = λ n e. leaves (Refused n) (sym answers ∙ e);
-    listed = λ k e. let w = wrote k (sym answers ∙ e) in let z : length all ≡ k = size ∙ w.1 in rw (leaves (Wrote k) (sym answers ∙ e), ← z) (lists (rw size w.0));
+    kept = λ n e. leaves (Err n) (sym answers ∙ e);
+    listed = λ k e. let w = wrote k (sym answers ∙ e) in let z : length all ≡ k = size ∙ w.1 in rw (leaves (Ok k) (sym answers ∙ e), ← z) (lists (rw size w.0));
     counted = λ k e. sym (wrote k (sym answers ∙ e)).1 ∙ many;
     enough = λ h e. let s = short (sym answers ∙ e) in absurd (omega (arith, many, s, h));
   }

@@ -2,11 +2,9 @@
 use mathlib.Core.Path.{◌≡◌, refl, sym, ap, subst, ◌∙◌}
 use mathlib.Core.Bool.{Bool, true, false, cond, not, ◌&&◌}
 use mathlib.Core.List.{List, [], ◌∷◌, ◌++◌}
-use mathlib.Core.Logic.{◌⊎◌, ⊎_elim}
 use Prim.Native.Nat.{ℕ, suc, ◌+◌, ◌-◌, ◌*◌, ◌^◌, ◌≤◌, ◌<◌}
 use native.Mathlib.Numerals.{add-one}
 use native.Mathlib.Omega.{arith}
-use denote.Enum.Declared.{tag_of}
 use mir.Syntax.{w64}
 use mir.Val.{of_z}
 use lib.Dec.{eqb, lit<}
@@ -15,14 +13,13 @@ use lib.Signed.{mag}
 use lib.ListN.{length, drop, set, get_or}
 use Rattle.frames.specs.Cells.{Cell, null, value, cell, is_null, is_zero, cell_of, value_word, mark_word, rows_of, row_from, Rows, Words}
 use Rattle.order.specs.Requires.{cell_at}
-use Rattle.order.specs.options.Options.{with_list, without_list, key_rule}
+use Rattle.order.specs.options.Options.{with_list, without_list}
 use Rattle.order.specs.declared.options.Terms.{Terms}
-use Rattle.order.specs.Order.{cmp_cell, cmp_row, is_equal, sorted}
-use Rattle.order.proofs.OrderLaws.{cmp_cell_is, cell_equal}
+use Rattle.order.specs.Order.{cmp_row, is_equal, sorted}
 use Rattle.order.specs.declared.options.Options.{Options}
-use Rattle.order.specs.declared.Order.{Order}
-use Rattle.order.specs.declared.Order.TheVariants.{Less, Equal, Greater}
-use Rattle.order.specs.contracts.Order.{the_type}
+use Rattle.std.specs.declared.cmp.Ordering.{Ordering}
+use Rattle.std.specs.declared.cmp.Ordering.TheVariants.{Less, Equal, Greater}
+use Rattle.std.specs.Ordering.{is_eq}
 use Rattle.order.proofs.SortedLaws.{Ordered, ordered, sorted_drop}
 use Rattle.frames.proofs.FrontLaws.{word_flag}
 use Rattle.order.proofs.RowLaws.{row_cell}
@@ -160,11 +157,12 @@ pub lay_pair : (m k : ℕ) (f : Cell) (x : Cell) (out : Words) → lay_cells m k
 unfolding lay_cells
 lay_pair m k f x out = rw (add-one k)
 
--- ---- the next row does not correct
-pub not_equal_arm : (x : Order) → (tag_of the_type x ≡ 0) ⊎ (tag_of the_type x ≡ 2) → is_equal x ≡ false
-not_equal_arm Less t = refl
-not_equal_arm Equal t = absurd (⊎_elim (λ l. omega arith) (λ l. omega arith) t)
-not_equal_arm Greater t = refl
+-- ---- whether the next row corrects
+-- The test for equal rows, as std has it.
+pub equal_by : (x : Ordering) → is_equal x ≡ is_eq x
+equal_by Less = refl
+equal_by Equal = refl
+equal_by Greater = refl
 
 module _ (o : Options) (w n : ℕ) (vs ms : Words) (i last : ℕ) where
   pub last_alone : i + 1 ≡ n → last_by o (row_from w (i * w) vs ms) i last (rest w (i + 1) n vs ms) ≡ i
@@ -216,50 +214,3 @@ module _ (o : Options) (q i last : ℕ) where
     pub notice_names : (eqb last i && not (is_one (cell_at (p + (o.by + 1 + q)) vs ms))) ≡ false → notice_by o q i last (row_from w p vs ms) ≡ value (pos 0) ∷ value (pos last) ∷ []
     unfolding notice_by
     notice_names d = rw (e, at_column, d)
-
--- ---- keys that are equal
-keys_null : (x y : Cell) → is_null x ≡ true → is_null y ≡ is_equal (cmp_cell key_rule x y)
-keys_null null null e = refl
-keys_null null (value b) e = refl
-keys_null (value a) null e = cc
-keys_null (value a) (value b) e = cc
-
-keys_apart : (x y : Cell) → is_null x ≡ false → is_null y ≡ true → is_equal (cmp_cell key_rule x y) ≡ false
-keys_apart null y e f = cc
-keys_apart (value a) null e f = refl
-keys_apart (value a) (value b) e f = cc
-
-not_equal : (x : Order) → (x ≡ Equal → ⊥) → is_equal x ≡ false
-not_equal Less h = refl
-not_equal Equal h = absurd (h refl)
-not_equal Greater h = refl
-
-is_value : (v m : ℤ) → is_null (cell_of v m) ≡ false → cell_of v m ≡ value v
-is_value v m e = by (is_zero m) e
-  where
-    by : (b : Bool) → is_null (cond b null (value v)) ≡ false → cond b null (value v) ≡ value v
-    by true h = cc
-    by false h = refl
-
-same_number : (a b : ℤ) → value a ≡ value b → a ≡ b
-same_number a b e = cc
-
-module _ (p q : ℕ) (vs ms : Words) where
-  pub key_null : is_null (cell_at p vs ms) ≡ true → is_null (cell_at q vs ms) ≡ is_equal (cmp_cell key_rule (cell_at p vs ms) (cell_at q vs ms))
-  key_null e = keys_null (cell_at p vs ms) (cell_at q vs ms) e
-
-  module _ (e : is_null (cell_at p vs ms) ≡ false) where
-    pub key_apart : is_null (cell_at q vs ms) ≡ true → is_equal (cmp_cell key_rule (cell_at p vs ms) (cell_at q vs ms)) ≡ false
-    key_apart f = keys_apart (cell_at p vs ms) (cell_at q vs ms) e f
-
-    module _ (f : is_null (cell_at q vs ms) ≡ false) where
-      as_values : cmp_cell key_rule (cell_at p vs ms) (cell_at q vs ms) ≡ cmp_cell key_rule (value (get_or vs p (pos 0))) (value (get_or vs q (pos 0)))
-      as_values = rw (is_value (get_or vs p (pos 0)) (get_or ms p (pos 0)) e, is_value (get_or vs q (pos 0)) (get_or ms q (pos 0)) f)
-
-      pub key_same : get_or vs p (pos 0) ≡ get_or vs q (pos 0) → is_equal (cmp_cell key_rule (cell_at p vs ms) (cell_at q vs ms)) ≡ true
-      key_same h =
-          let d : cmp_cell key_rule (value (get_or vs p (pos 0))) (value (get_or vs q (pos 0))) ≡ Equal = rw h ((cmp_cell_is key_rule).equal (value (get_or vs q (pos 0)))) in
-          ap is_equal (as_values ∙ d)
-
-      pub key_other : (get_or vs p (pos 0) ≡ get_or vs q (pos 0) → ⊥) → is_equal (cmp_cell key_rule (cell_at p vs ms) (cell_at q vs ms)) ≡ false
-      key_other h = ap is_equal as_values ∙ not_equal _ (λ d. h (same_number (get_or vs p (pos 0)) (get_or vs q (pos 0)) (cell_equal key_rule (value (get_or vs p (pos 0))) (value (get_or vs q (pos 0))) d)))

@@ -1,13 +1,12 @@
 -- Two books by their rows: what their merge asks, answers and writes. Assumes nothing.
-use Rattle.std.specs.Prelude.{◌≡◌, cond, not, ◌&&◌, ℕ, ◌+◌, ◌≤◌, ltb, length}
+use Rattle.frames.specs.declared.refusals.Refusal.{Refusal}
+use Rattle.std.specs.Prelude.{◌≡◌, cond, not, ◌&&◌, ℕ, ◌+◌, ◌≤◌, ltb, length, Result, Ok, Err}
 use Rattle.frames.specs.Cells.{Rows, Words}
 use Rattle.frames.specs.Frame.{frame_words}
 use Rattle.order.specs.declared.options.Options.{Options}
 use Rattle.order.specs.Order.{sorted}
 use Rattle.tables.specs.Table.{leave}
 use Rattle.frames.specs.declared.refusals.Refusal.TheVariants.{Unsorted, NoRoom}
-use Rattle.tables.specs.declared.Written.{Written}
-use Rattle.tables.specs.declared.Written.TheVariants.{Rows as Wrote, Refused}
 use Rattle.books.specs.Merge.{merge}
 use Rattle.books.specs.Requires.{Book}
 
@@ -18,13 +17,13 @@ pub record BooksIn (o : Options) (w nh : ℕ) (hv hm : Words) (nf : ℕ) (fv fm 
   pub narrow : w ≤ 13
 
 -- Refusals 14 and 6.
-unfoldable pub books_answer : Options → ℕ → Rows → Rows → Words → Written
+unfoldable pub books_answer : Options → ℕ → Rows → Rows → Words → Result ℕ Refusal
 books_answer o w house festival out =
-    cond (not (sorted o house && sorted o festival)) (Refused Unsorted)
-    (cond (ltb (length out) (frame_words (length house + length festival) w)) (Refused NoRoom)
-    (Wrote (length house + length festival)))
+    cond (not (sorted o house && sorted o festival)) (Err Unsorted)
+    (cond (ltb (length out) (frame_words (length house + length festival) w)) (Err NoRoom)
+    (Ok (length house + length festival)))
 
 -- What the part behind the rule of tables leaves.
-pub record BooksContract (o : Options) (w : ℕ) (house festival : Rows) (out : Words) (r : Written) (out' : Words) : Type 0 where
+pub record BooksContract (o : Options) (w : ℕ) (house festival : Rows) (out : Words) (r : Result ℕ Refusal) (out' : Words) : Type 0 where
   pub answer : r ≡ books_answer o w house festival out
   pub words : out' ≡ (leave w (merge o house festival) (books_answer o w house festival out) out).out

@@ -1,7 +1,7 @@
 // All notices, from the last row back: on a sorted table the next row decides.
 ghost use Rattle.std.specs.Prelude.{◌≡◌, ℕ, ◌+◌, ◌*◌, ◌<◌};
-ghost use Rattle.frames.specs.Cells.{row_from, rows_of};
-ghost use Rattle.order.specs.options.Options.{with_list, key_rule};
+ghost use Rattle.frames.specs.Cells.{row_from, rows_in};
+ghost use Rattle.order.specs.options.Options.{key_rule, options_of};
 ghost use Rattle.order.specs.Order.{cmp_cell, cmp_row, is_equal};
 ghost use Rattle.order.specs.Requires.{cell_at, CellIn, RowAt, RowsIn};
 ghost use Rattle.tables.specs.Requires.{rest};
@@ -10,98 +10,60 @@ ghost use Rattle.books.specs.Standing.{notices};
 ghost use Rattle.books.specs.notices.Requires.{last_by, ListRoom};
 
 use crate::notices::row::put_notice;
+use frames::RowSlice;
 use groups::neighbours::same_values;
-use order::Order;
-use order::options::Terms;
+use order::options::Rules;
 use rows::compare::cmp_row;
 use rows::keyed::null_at;
 
 // Whether the keys at p and q are equal: both null, or the same number.
-fn same_key(values: &[i64], marks: &[i64], p: usize, q: usize) -> bool
-    requires { CellIn p values.now marks.now × CellIn q values.now marks.now }
-    ensures { result ≡ is_equal (cmp_cell key_rule (cell_at p values.now marks.now) (cell_at q values.now marks.now)) }
+fn same_key(rows: RowSlice<'_>, p: usize, q: usize) -> bool
+    requires { CellIn p rows.values.now rows.marks.now × CellIn q rows.values.now rows.marks.now }
+    ensures { result ≡ is_equal (cmp_cell key_rule (cell_at p rows.entry.values.now rows.entry.marks.now) (cell_at q rows.entry.values.now rows.entry.marks.now)) }
 {
-    if null_at(marks, p) {
-        return null_at(marks, q);
+    if null_at(rows.marks, p) {
+        return null_at(rows.marks, q);
     }
-    if null_at(marks, q) {
+    if null_at(rows.marks, q) {
         return false;
     }
-    if values[p] != values[q] {
-        return false;
-    }
-    true
+    rows.values[p] == rows.values[q]
 }
 
 // Whether the rows at p and q have the same group and key. If both have the same by-values their keys decide, and most neighbours have.
-fn same_row(
-    values: &[i64],
-    marks: &[i64],
-    p: usize,
-    q: usize,
-    o: Terms,
-    codes: &[i64],
-    rising: &[u8],
-) -> bool
-    requires { RowAt (with_list o codes.now rising.now) p values.now marks.now × RowAt (with_list o codes.now rising.now) q values.now marks.now }
-    ensures { (w : ℕ) → o.by < w → result ≡ is_equal (cmp_row (with_list o codes.now rising.now) (row_from w p values.now marks.now) (row_from w q values.now marks.now)) }
+fn same_row(rows: RowSlice<'_>, p: usize, q: usize, rules: Rules<'_>) -> bool
+    requires { RowAt (options_of rules) p rows.values.now rows.marks.now × RowAt (options_of rules) q rows.values.now rows.marks.now }
+    ensures { (w : ℕ) → rules.entry.terms.by < w → result ≡ is_equal (cmp_row (options_of rules.entry) (row_from w p rows.entry.values.now rows.entry.marks.now) (row_from w q rows.entry.values.now rows.entry.marks.now)) }
 {
-    if same_values(values, marks, p, q, o) {
-        let by = o.by;
-        return same_key(values, marks, p + by, q + by);
+    if same_values(rows, p, q, rules.terms) {
+        return same_key(rows, p + rules.terms.by, q + rules.terms.by);
     }
-    match cmp_row(values, marks, p, values, marks, q, o, codes, rising) {
-        Order::Equal => true,
-        _ => false,
-    }
+    cmp_row(rows, p, rows, q, rules).is_eq()
 }
 
 // The last row of row i's group and key, if `last` is that of the next row's.
-fn last_row(
-    values: &[i64],
-    marks: &[i64],
-    n: usize,
-    w: usize,
-    i: usize,
-    last: usize,
-    o: Terms,
-    codes: &[i64],
-    rising: &[u8],
-) -> usize
-    requires { RowsIn (with_list o codes.now rising.now) w n values.now marks.now × (i < n) }
-    ensures { result ≡ last_by (with_list o codes.now rising.now) (row_from w (i * w) values.now marks.now) i last (rest w (i + 1) n values.now marks.now) }
+fn last_row(rows: RowSlice<'_>, i: usize, last: usize, rules: Rules<'_>) -> usize
+    requires { RowsIn (options_of rules) rows.width rows.count rows.values.now rows.marks.now × (i < rows.count) }
+    ensures { result ≡ last_by (options_of rules.entry) (row_from rows.entry.width (i * rows.entry.width) rows.entry.values.now rows.entry.marks.now) i last (rest rows.entry.width (i + 1) rows.entry.count rows.entry.values.now rows.entry.marks.now) }
 {
     let j = i + 1;
-    if j == n {
+    if j == rows.count {
         return i;
     }
-    if same_row(values, marks, j * w, i * w, o, codes, rising) {
+    if same_row(rows, j * rows.width, i * rows.width, rules) {
         return last;
     }
     i
 }
 
 // The notices of n sorted rows, as m cells.
-pub fn put_notices(
-    values: &[i64],
-    marks: &[i64],
-    n: usize,
-    w: usize,
-    column: usize,
-    o: Terms,
-    codes: &[i64],
-    rising: &[u8],
-    m: usize,
-    out: &mut [i64],
-)
-    requires { ListRoom (with_list o codes.now rising.now) w n column m values.now marks.now out.old }
-    ensures { out.new ≡ lay_cells m 0 (flat (notices (with_list o codes.now rising.now) column 0 (rows_of w n values.now marks.now))) out.old }
+pub fn put_notices(rows: RowSlice<'_>, column: usize, rules: Rules<'_>, m: usize, out: &mut [i64])
+    requires { ListRoom (options_of rules) rows.width rows.count column m rows.values.now rows.marks.now out.old }
+    ensures { out.new ≡ lay_cells m 0 (flat (notices (options_of rules.entry) column 0 (rows_in rows.entry))) out.old }
 {
-    let mut i = n;
-    let mut last = n;
-    while 0 < i {
-        i -= 1;
-        last = last_row(values, marks, n, w, i, last, o, codes, rising);
-        put_notice(values, marks, w, i, column, last, o, m, out);
+    let mut last = rows.count;
+    for i in (0..rows.count).rev() {
+        last = last_row(rows, i, last, rules);
+        put_notice(rows, i, column, last, rules.terms, m, out);
     }
 }

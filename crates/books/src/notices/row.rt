@@ -7,6 +7,7 @@ ghost use Rattle.tables.specs.Lay.{CellRoom, lay_cells};
 ghost use Rattle.books.specs.Standing.{is_one, nameless};
 ghost use Rattle.books.specs.notices.Requires.{notice_by, NoticeRoom};
 
+use frames::RowSlice;
 use order::options::Terms;
 use rows::keyed::{null_at, null_group};
 use tables::put_cell;
@@ -23,17 +24,17 @@ fn is_nameless(marks: &[i64], p: usize, o: Terms) -> bool
 }
 
 // Whether row i stands: it is the last of its group and key, and the cell at place k, where withdrawals are told, does not say 1.
-fn stands(values: &[i64], marks: &[i64], k: usize, i: usize, last: usize) -> bool
-    requires { CellIn k values.now marks.now }
-    ensures { result ≡ (eqb last i && not (is_one (cell_at k values.now marks.now))) }
+fn stands(rows: RowSlice<'_>, k: usize, i: usize, last: usize) -> bool
+    requires { CellIn k rows.values.now rows.marks.now }
+    ensures { result ≡ (eqb last i && not (is_one (cell_at k rows.entry.values.now rows.entry.marks.now))) }
 {
     if last != i {
         return false;
     }
-    if null_at(marks, k) {
+    if null_at(rows.marks, k) {
         return true;
     }
-    values[k] != 1
+    rows.values[k] != 1
 }
 
 // The two cells of a notice go to cells k and k + 1, of m.
@@ -47,9 +48,7 @@ fn put_pair(out: &mut [i64], m: usize, k: usize, flag: i64, named: i64, mark: i6
 
 // What is said of row i, whose group and key have `last` as their last row.
 pub(crate) fn put_notice(
-    values: &[i64],
-    marks: &[i64],
-    w: usize,
+    rows: RowSlice<'_>,
     i: usize,
     column: usize,
     last: usize,
@@ -57,16 +56,16 @@ pub(crate) fn put_notice(
     m: usize,
     out: &mut [i64],
 )
-    requires { NoticeRoom (without_list o) w i column last m values.now marks.now out.old }
-    ensures { out.new ≡ lay_cells m (2 * i) (notice_by (without_list o) column i last (row_from w (i * w) values.now marks.now)) out.old }
+    requires { NoticeRoom (without_list o) rows.width i column last m rows.values.now rows.marks.now out.old }
+    ensures { out.new ≡ lay_cells m (2 * i) (notice_by (without_list o) column i last (row_from rows.entry.width (i * rows.entry.width) rows.entry.values.now rows.entry.marks.now)) out.old }
 {
-    let p = i * w;
+    let p = i * rows.width;
     let k = 2 * i;
-    if is_nameless(marks, p, o) {
+    if is_nameless(rows.marks, p, o) {
         put_pair(out, m, k, 0, 0, 0);
         return;
     }
-    if stands(values, marks, p + (o.by + 1 + column), i, last) {
+    if stands(rows, p + (o.by + 1 + column), i, last) {
         put_pair(out, m, k, 1, 0, 0);
         return;
     }

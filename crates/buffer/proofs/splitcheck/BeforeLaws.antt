@@ -1,8 +1,8 @@
 -- The row before the split in words, and the check at the split as the code goes. Assumes nothing.
+use Rattle.std.specs.Prelude.{Option, Some, None}
 use mathlib.Core.Path.{◌≡◌, refl, sym, ap, ◌∙◌}
 use mathlib.Core.Bool.{Bool, true, false, cond}
 use mathlib.Core.List.{List, []}
-use mathlib.Core.Option.{none, some}
 use Prim.Native.Nat.{ℕ, zero, suc, ◌+◌, ◌-◌, ◌*◌, ◌≤◌, ◌<◌}
 use native.Mathlib.Omega.{arith}
 use lib.ListN.{length, take, drop, get_or, length-drop}
@@ -14,9 +14,7 @@ use Rattle.order.specs.Keyed.{first_keyed, last_keyed, row_at, recall, remember,
 use Rattle.order.specs.Requires.{RowAt, RowsIn, KeysIn}
 use Rattle.order.specs.declared.options.Options.{Options}
 use Rattle.order.specs.declared.Row.{Row}
-use Rattle.order.specs.declared.Order.{Order}
-use Rattle.order.specs.declared.Keyed.{Keyed}
-use Rattle.order.specs.declared.Keyed.TheVariants.{At, Nothing}
+use Rattle.std.specs.declared.cmp.Ordering.{Ordering}
 use Rattle.order.proofs.RowLaws.{row_room}
 use Rattle.frames.proofs.WordLaws.{rows_length, rows_at, rows_drop, cells_take}
 use Rattle.order.proofs.KeyedLaws.{first_found, last_found}
@@ -33,22 +31,19 @@ rows_take w zero (suc s) vs ms h = absurd (omega arith)
 rows_take w (suc n) (suc s) vs ms h = rw (rows_take w n s (drop w vs) (drop w ms) (omega arith))
 
 -- A row with a key that was found is one of them.
-pub last_in : (o : Options) (w n i : ℕ) (vs ms : Words) → last_keyed o (rows_of w n vs ms) ≡ At i → i < n
+pub last_in : (o : Options) (w n i : ℕ) (vs ms : Words) → last_keyed o (rows_of w n vs ms) ≡ Some i → i < n
 last_in o w n i vs ms e = omega (arith, (rw e at (last_found o (rows_of w n vs ms) (length (rows_of w n vs ms)))).1, rows_length w n vs ms)
 
-pub first_in : (o : Options) (w n i : ℕ) (vs ms : Words) → first_keyed o (rows_of w n vs ms) ≡ At i → i < n
+pub first_in : (o : Options) (w n i : ℕ) (vs ms : Words) → first_keyed o (rows_of w n vs ms) ≡ Some i → i < n
 first_in o w n i vs ms e = omega (arith, (rw e at (first_found o 0 (rows_of w n vs ms))).1, rows_length w n vs ms)
 
 -- ---- the row found, and a row before it
-module _ (o : Options) (x : List Cell) (rows : Rows) (found : Keyed) where
-  pub found_nothing : found ≡ Nothing → false ≡ out_of_order o (some x) (row_at rows found)
-  found_nothing e = rw e
-
-  pub found_at : (i : ℕ) (y : List Cell) (z : Order) (b : Bool) → found ≡ At i → get_or rows i [] ≡ y → z ≡ cmp_row o x y → b ≡ is_greater z → b ≡ out_of_order o (some x) (row_at rows found)
+module _ (o : Options) (x : List Cell) (rows : Rows) (found : Option ℕ) where
+  pub found_at : (i : ℕ) (y : List Cell) (z : Ordering) (b : Bool) → found ≡ Some i → get_or rows i [] ≡ y → z ≡ cmp_row o x y → b ≡ is_greater z → b ≡ out_of_order o (Some x) (row_at rows found)
   found_at i y z b e g f h = rw (e, g, ← f) h
 
 -- A row that is found is there, if it is one of n rows that are.
-pub found_in_lem : (o : Options) (w n : ℕ) (found : Keyed) (vs ms : Words) → RowsIn o w n vs ms → FoundAmong found n → FoundIn o w found vs ms
+pub found_in_lem : (o : Options) (w n : ℕ) (found : Option ℕ) (vs ms : Words) → RowsIn o w n vs ms → FoundAmong found n → FoundIn o w found vs ms
 found_in_lem o w n found vs ms p h = record {
   few = p.few;
   wide = p.wide;
@@ -57,26 +52,26 @@ found_in_lem o w n found vs ms p h = record {
 }
 
 -- So are the first and the last row with a key.
-pub first_among : (o : Options) (w n : ℕ) (found : Keyed) (vs ms : Words) → found ≡ first_keyed o (rows_of w n vs ms) → FoundAmong found n
+pub first_among : (o : Options) (w n : ℕ) (found : Option ℕ) (vs ms : Words) → found ≡ first_keyed o (rows_of w n vs ms) → FoundAmong found n
 first_among o w n found vs ms e i h = first_in o w n i vs ms (sym e ∙ h)
 
-pub last_among : (o : Options) (w n : ℕ) (found : Keyed) (vs ms : Words) → found ≡ last_keyed o (rows_of w n vs ms) → FoundAmong found n
+pub last_among : (o : Options) (w n : ℕ) (found : Option ℕ) (vs ms : Words) → found ≡ last_keyed o (rows_of w n vs ms) → FoundAmong found n
 last_among o w n found vs ms e i h = last_in o w n i vs ms (sym e ∙ h)
 
-pub recall_none : (w : ℕ) (m : Row) → m.some ≡ false → recall w m ≡ none
+pub recall_none : (w : ℕ) (m : Row) → m.some ≡ false → recall w m ≡ None
 unfolding recall
 recall_none w m e = rw e
 
-pub recall_some : (w : ℕ) (m : Row) → m.some ≡ true → recall w m ≡ some (row_from w 0 m.values m.marks)
+pub recall_some : (w : ℕ) (m : Row) → m.some ≡ true → recall w m ≡ Some (row_from w 0 m.values m.marks)
 unfolding recall row_from
 recall_some w m e = rw e
 
 -- ---- what is remembered
-module _ (o : Options) (m : Row) (rows : Rows) (found : Keyed) where
-  pub remember_nothing : found ≡ Nothing → m ≡ remember_at o m rows found
+module _ (o : Options) (m : Row) (rows : Rows) (found : Option ℕ) where
+  pub remember_nothing : found ≡ None → m ≡ remember_at o m rows found
   remember_nothing e = rw e
 
-  pub remember_at_lem : (i : ℕ) (x : List Cell) → found ≡ At i → compared o (get_or rows i []) ≡ x → remember x ≡ remember_at o m rows found
+  pub remember_at_lem : (i : ℕ) (x : List Cell) → found ≡ Some i → compared o (get_or rows i []) ≡ x → remember x ≡ remember_at o m rows found
   remember_at_lem i x e g = rw (e, g)
 
 -- What is compared of a row, by its words.
@@ -86,9 +81,9 @@ compared_from o w p vs ms h =
     cells_take (columns o) (take w (drop p vs)) (take w (drop p ms)) ∙ rw (take-take (columns o) w (drop p vs) (omega arith), take-take (columns o) w (drop p ms) (omega arith))
 
 -- ---- the row before the split
-pub words_long : (c w : ℕ) (k : Keyed) (held remembered : Words) → c ≤ w → BeforeIn c w k held remembered → c ≤ length (words_before c w held remembered k)
-words_long c w (At i) held remembered l p = rw (length-take-le w (drop (i * w) held) (rw (length-drop (i * w) held) (omega (arith, p.inside i refl)))) l
-words_long c w Nothing held remembered l p = rw (length-take-le c remembered p.other) (omega arith)
+pub words_long : (c w : ℕ) (k : Option ℕ) (held remembered : Words) → c ≤ w → BeforeIn c w k held remembered → c ≤ length (words_before c w held remembered k)
+words_long c w (Some i) held remembered l p = rw (length-take-le w (drop (i * w) held) (rw (length-drop (i * w) held) (omega (arith, p.inside i refl)))) l
+words_long c w None held remembered l p = rw (length-take-le c remembered p.other) (omega arith)
 
 module _ (w s : ℕ) (vs ms : Words) (m : Row) where
   -- Its cells: of the row that was found, or of the one that is remembered.
@@ -96,16 +91,16 @@ module _ (w s : ℕ) (vs ms : Words) (m : Row) where
   unfolding row_from
   found_row i h = rw (take-take w w (drop (i * w) vs) (omega arith), take-take w w (drop (i * w) ms) (omega arith)) (sym (rows_at w s i vs ms h))
 
-  other_row : (c : ℕ) → m.some ≡ true → some (row_from c 0 (take c m.values) (take c m.marks)) ≡ recall c m
+  other_row : (c : ℕ) → m.some ≡ true → Some (row_from c 0 (take c m.values) (take c m.marks)) ≡ recall c m
   unfolding row_from recall
   other_row c e = rw (take-take c c m.values (omega arith), take-take c c m.marks (omega arith), e)
 
   -- The row before the split, by the words of its values and of its marks.
-  pub row_before_lem : (o : Options) (k : Keyed) → last_keyed o (rows_of w s vs ms) ≡ k
-      → row_before o m (rows_of w s vs ms) ≡ cond (has_before k m.some) (some (cells_of (words_before (columns o) w vs m.values k) (words_before (columns o) w ms m.marks k))) none
+  pub row_before_lem : (o : Options) (k : Option ℕ) → last_keyed o (rows_of w s vs ms) ≡ k
+      → row_before o m (rows_of w s vs ms) ≡ cond (has_before k m.some) (Some (cells_of (words_before (columns o) w vs m.values k) (words_before (columns o) w ms m.marks k))) None
   unfolding row_before recall
-  row_before_lem o (At i) e = rw (e, rows_at w s i vs ms (last_in o w s i vs ms e))
-  row_before_lem o Nothing e = rw e
+  row_before_lem o (Some i) e = rw (e, rows_at w s i vs ms (last_in o w s i vs ms e))
+  row_before_lem o None e = rw e
 
 -- ---- the check at the split
 -- With the split at hand it is the check of a prune that is one.
@@ -123,7 +118,7 @@ module _ {o : Options} {s w n : ℕ} {vs ms : Words} (p : SplitIn o s w n vs ms)
   pub keys_in : KeysIn o w s ms
   keys_in = record { few = p.rows.few; wide = p.rows.wide; marks = (long ms p.rows.marks).0 }
 
-  pub before_in : (k : Keyed) (xs remembered : Words) → last_keyed o (rows_of w s vs ms) ≡ k → n * w ≤ length xs → columns o ≤ length remembered → BeforeIn (columns o) w k xs remembered
+  pub before_in : (k : Option ℕ) (xs remembered : Words) → last_keyed o (rows_of w s vs ms) ≡ k → n * w ≤ length xs → columns o ≤ length remembered → BeforeIn (columns o) w k xs remembered
   before_in k xs remembered e h l = record {
     inside = λ i g. omega (arith, row_room i s w (last_in o w s i vs ms (e ∙ g)), (long xs h).0);
     other = l;
@@ -147,7 +142,7 @@ module _ {o : Options} {s w n : ℕ} {vs ms : Words} (p : SplitIn o s w n vs ms)
   behind_rows : rows_of w (n - s) (lent vs) (lent ms) ≡ drop s (rows_of w n vs ms)
   behind_rows = rw (to_end (s * w) vs, to_end (s * w) ms) (rows_drop w n s vs ms p.place)
 
-  pub front_in : (m : Row) (k : Keyed) (v x : Words) → last_keyed o (rows_of w s vs ms) ≡ k → columns o ≤ length m.values → columns o ≤ length m.marks
+  pub front_in : (m : Row) (k : Option ℕ) (v x : Words) → last_keyed o (rows_of w s vs ms) ≡ k → columns o ≤ length m.values → columns o ≤ length m.marks
       → v ≡ words_before (columns o) w vs m.values k → x ≡ words_before (columns o) w ms m.marks k → RowAt o 0 v x
   front_in m k v x e hv hm ev em =
       let a = words_long (columns o) w k vs m.values p.rows.wide (before_in k vs m.values e p.rows.values hv) in
@@ -156,18 +151,18 @@ module _ {o : Options} {s w n : ℕ} {vs ms : Words} (p : SplitIn o s w n vs ms)
       let d : columns o ≤ length x = rw em b in
       record { few = p.rows.few; values = omega arith; marks = omega arith }
 
-  pub split_none : (m : Row) (k : Keyed) → last_keyed o (rows_of w s vs ms) ≡ k → has_before k m.some ≡ false → false ≡ out_of_order_at o m s (rows_of w n vs ms)
+  pub split_none : (m : Row) (k : Option ℕ) → last_keyed o (rows_of w s vs ms) ≡ k → has_before k m.some ≡ false → false ≡ out_of_order_at o m s (rows_of w n vs ms)
   unfolding out_of_order_at row_before
-  split_none m (At i) e h = cc
-  split_none m Nothing e h = rw (rows_take w n s vs ms p.place, e, recall_none (columns o) m h)
+  split_none m (Some i) e h = cc
+  split_none m None e h = rw (rows_take w n s vs ms p.place, e, recall_none (columns o) m h)
 
   -- What the row of those words is to the rows behind the split decides.
-  pub split_says : (m : Row) (k : Keyed) (v x : Words) (b : Bool) → last_keyed o (rows_of w s vs ms) ≡ k → has_before k m.some ≡ true
+  pub split_says : (m : Row) (k : Option ℕ) (v x : Words) (b : Bool) → last_keyed o (rows_of w s vs ms) ≡ k → has_before k m.some ≡ true
       → v ≡ words_before (columns o) w vs m.values k → x ≡ words_before (columns o) w ms m.marks k
-      → ((wp : ℕ) → o.by < wp → b ≡ out_of_order o (some (row_from wp 0 v x)) (row_at (rows_of w (n - s) (lent vs) (lent ms)) (first_keyed o (rows_of w (n - s) (lent vs) (lent ms)))))
+      → ((wp : ℕ) → o.by < wp → b ≡ out_of_order o (Some (row_from wp 0 v x)) (row_at (rows_of w (n - s) (lent vs) (lent ms)) (first_keyed o (rows_of w (n - s) (lent vs) (lent ms)))))
       → b ≡ out_of_order_at o m s (rows_of w n vs ms)
   unfolding out_of_order_at row_before
-  split_says m (At i) v x b e h ev em f =
+  split_says m (Some i) v x b e h ev em f =
       rw (rows_take w n s vs ms p.place, e, ← behind_rows, ← found_row w s vs ms m i (last_in o w s i vs ms e), ← ev, ← em) (f w p.rows.wide)
-  split_says m Nothing v x b e h ev em f =
+  split_says m None v x b e h ev em f =
       rw (rows_take w n s vs ms p.place, e, ← behind_rows, ← other_row w s vs ms m (columns o) h, ← ev, ← em) (f (columns o) (omega arith))

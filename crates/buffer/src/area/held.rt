@@ -36,12 +36,8 @@ fn move_front(area: &mut [i64], start: usize, n: usize)
     requires { WordsIn start n area.old }
     ensures { area.new ≡ moved start 0 n area.old }
 {
-    let mut i = 0;
-    let mut from = start;
-    while i < n {
-        area[i] = area[from];
-        i += 1;
-        from += 1;
+    for i in 0..n {
+        area[i] = area[start + i];
     }
 }
 
@@ -50,12 +46,9 @@ fn write_words(area: &mut [i64], at: usize, words: &[i64])
     requires { WordsIn at (length words.now) area.old }
     ensures { area.new ≡ written words.now at area.old }
 {
-    let mut i = 0;
-    let mut to = at;
-    while i < words.len() {
-        area[to] = words[i];
-        i += 1;
-        to += 1;
+    // A loop: copy_from_slice took 26 instructions a left row more in a join, where all copies take 7.5 (docs/BENCH.md).
+    for i in 0..words.len() {
+        area[at + i] = words[i];
     }
 }
 

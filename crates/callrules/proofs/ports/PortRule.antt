@@ -13,8 +13,7 @@ use Rattle.frames.specs.declared.outcomes.NodeState.{NodeState}
 use Rattle.frames.specs.declared.outcomes.NodeState.TheVariants.{Running, Flush, Done}
 use Rattle.frames.specs.declared.outcomes.PortState.{PortState}
 use Rattle.frames.specs.declared.outcomes.PortState.TheVariants.{Blocked, Ready, Done as PortDone}
-use Rattle.frames.specs.declared.outcomes.Ported.{Ported}
-use Rattle.frames.specs.declared.outcomes.Ported.TheVariants.{Ports, Refused}
+use Rattle.frames.specs.declared.outcomes.Ports.{Ports}
 use Rattle.callrules.specs.ports.Ports.{to_flush, to_done, ports_in}
 
 -- ---- a test of each in a list
@@ -156,9 +155,8 @@ told_test Running came told = all_of each (ready_test each came told)
 told_test Flush came told = is_port (told left) PortDone && all_of behind (ready_test behind came told)
 told_test Done came told = all_of each (λ p. is_port (told p) PortDone)
 
-abbrev answer_test : NodeState → (Port → PortState) → Ported → Bool
-answer_test t came (Ports a b d) = told_test t came (three a b d)
-answer_test t came (Refused n) = false
+abbrev answer_test : NodeState → (Port → PortState) → Ports → Bool
+answer_test t came p = told_test t came (three p.left p.right p.send)
 
 -- All 3 × 27 combinations.
 all_told : all_of states (λ t. all_of codes (λ l. all_of codes (λ r. all_of codes (λ s. answer_test t (three l r s) (ports_in t l r s))))) ≡ true
@@ -187,13 +185,13 @@ told_by Flush came told h =
 told_by Done came told h = λ p. same_port (told p) PortDone (all_at each (λ p. is_port (told p) PortDone) h p (port_in p))
 
 -- The rule at each combination.
-pub told_rule : (t : NodeState) (l r s a b d : PortState) → ports_in t l r s ≡ Ports a b d → Told t (three l r s) (three a b d)
-told_rule t l r s a b d e =
+pub told_rule : (t : NodeState) (l r s : PortState) (p : Ports) → ports_in t l r s ≡ p → Told t (three l r s) (three p.left p.right p.send)
+told_rule t l r s p e =
     let at-t = all_at states (λ t. all_of codes (λ l. all_of codes (λ r. all_of codes (λ s. answer_test t (three l r s) (ports_in t l r s))))) all_told t (state_in t) in
     let at-l = all_at codes (λ l. all_of codes (λ r. all_of codes (λ s. answer_test t (three l r s) (ports_in t l r s)))) at-t l (code_in l) in
     let at-r = all_at codes (λ r. all_of codes (λ s. answer_test t (three l r s) (ports_in t l r s))) at-l r (code_in r) in
     let at-s = all_at codes (λ s. answer_test t (three l r s) (ports_in t l r s)) at-r s (code_in s) in
-    told_by t (three l r s) (three a b d) (rw e at at-s)
+    told_by t (three l r s) (three p.left p.right p.send) (rw e at at-s)
 
 -- ---- where the node goes
 -- Left has ended: the node is in Flush, or Running with left Done.

@@ -1,12 +1,12 @@
 -- The ports: where a port call takes the node, and what each port is told there. Assumes nothing.
-use Rattle.std.specs.Prelude.{◌≡◌, [], ◌∷◌, Bool, true, false, cond, ◌&&◌, ◌||◌, ℕ, eqb}
+use Rattle.frames.specs.declared.refusals.Refusal.{Refusal}
+use Rattle.std.specs.Prelude.{◌≡◌, [], ◌∷◌, Bool, true, false, cond, ◌&&◌, ◌||◌, ℕ, eqb, Result, Ok, Err}
 use Rattle.frames.specs.outcomes.Answers.{is_running}
 use Rattle.frames.specs.declared.outcomes.NodeState.{NodeState}
 use Rattle.frames.specs.declared.outcomes.NodeState.TheVariants.{Running, Flush, Done}
 use Rattle.frames.specs.declared.outcomes.PortState.{PortState}
 use Rattle.frames.specs.declared.outcomes.PortState.TheVariants.{Blocked, Ready, Done as PortDone}
-use Rattle.frames.specs.declared.outcomes.Ported.{Ported}
-use Rattle.frames.specs.declared.outcomes.Ported.TheVariants.{Ports, Refused}
+use Rattle.frames.specs.declared.outcomes.Ports.{Ports}
 use Rattle.frames.specs.refusals.Tests.{test, first_of}
 use Rattle.frames.specs.declared.refusals.Refusal.TheVariants.{BadJoin, Failed}
 use Rattle.callrules.specs.declared.ports.PortsMoved.{PortsMoved}
@@ -38,16 +38,20 @@ abbrev pub ready_unless : Bool → PortState
 ready_unless blocked = cond blocked Blocked Ready
 
 -- SCOPE 13.3: what is returned to each port, by the node's new state.
-abbrev pub ports_in : NodeState → PortState → PortState → PortState → Ported
+abbrev pub ports_in : NodeState → PortState → PortState → PortState → Ports
 ports_in Running l r s =
-    Ports (ready_unless (port_blocked r || port_blocked s)) (ready_unless (port_blocked l || port_blocked s)) (ready_unless (port_blocked l || port_blocked r))
-ports_in Flush l r s = Ports PortDone (ready_unless (port_blocked s)) (ready_unless (port_blocked r))
-ports_in Done l r s = Ports PortDone PortDone PortDone
+    record {
+      left = ready_unless (port_blocked r || port_blocked s);
+      right = ready_unless (port_blocked l || port_blocked s);
+      send = ready_unless (port_blocked l || port_blocked r);
+    }
+ports_in Flush l r s = record { left = PortDone; right = ready_unless (port_blocked s); send = ready_unless (port_blocked r) }
+ports_in Done l r s = record { left = PortDone; right = PortDone; send = PortDone }
 
 -- A port call by the numbers of a join: refused by 2 or 3, or what the ports are told in the node's next state, with so many words waiting.
-unfoldable pub ports_judged : Bool → Bool → NodeState → PortState → PortState → PortState → ℕ → Ported
+unfoldable pub ports_judged : Bool → Bool → NodeState → PortState → PortState → PortState → ℕ → Result Ports Refusal
 ports_judged bad failed state l r s words =
-    first_of (test bad (Refused BadJoin) ∷ test failed (Refused Failed) ∷ []) (ports_in (to_done (to_flush state l s) words) l r s)
+    first_of (test bad (Err BadJoin) ∷ test failed (Err Failed) ∷ []) (Ok (ports_in (to_done (to_flush state l s) words) l r s))
 
 -- The node's state afterwards: a refused call leaves it.
 unfoldable pub moved_state : Bool → Bool → NodeState → PortState → PortState → ℕ → NodeState

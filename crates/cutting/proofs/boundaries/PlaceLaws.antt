@@ -2,19 +2,17 @@
 use mathlib.Core.Path.{◌≡◌, refl, ap}
 use mathlib.Core.Bool.{Bool, true, false}
 use mathlib.Core.List.{List, [], ◌∷◌}
-use mathlib.Core.Logic.{◌⊎◌, ⊎_elim}
 use Prim.Native.Nat.{ℕ, zero, suc, ◌+◌, ◌-◌, ◌≤◌, ◌<◌}
 use native.Mathlib.Numerals.{add-one}
 use native.Mathlib.Omega.{arith}
-use denote.Enum.Declared.{tag_of}
 use lib.IntN.{pos}
 use lib.ListN.{length, get_or, set}
 use Rattle.frames.specs.Cells.{Cell, Rows, Words, rows_of, row_from}
 use Rattle.order.specs.declared.options.Options.{Options}
 use Rattle.order.specs.Order.{cmp_group, is_less}
-use Rattle.order.specs.declared.Order.{Order}
-use Rattle.order.specs.declared.Order.TheVariants.{Less, Equal, Greater}
-use Rattle.order.specs.contracts.Order.{the_type}
+use Rattle.std.specs.declared.cmp.Ordering.{Ordering}
+use Rattle.std.specs.declared.cmp.Ordering.TheVariants.{Less, Equal, Greater}
+use Rattle.std.specs.Ordering.{is_lt}
 use Rattle.order.proofs.OrderLaws.{cmp_group_is, then_less, group_at_most}
 use Rattle.order.proofs.RowLaws.{rest, rest_more}
 use Rattle.order.proofs.SortedLaws.{Ordered, ordered_at}
@@ -22,13 +20,13 @@ use Rattle.tables.specs.Lay.{flat, lay_cells}
 use Rattle.cutting.specs.boundaries.Boundaries.{cut_at, places}
 
 -- ---- less or not
-pub less_is : (z : Order) → z ≡ Less → is_less z ≡ true
+pub less_is : (z : Ordering) → z ≡ Less → is_less z ≡ true
 less_is z e = rw e
 
-pub not_less_arm : (x : Order) → (tag_of the_type x ≡ 1) ⊎ (tag_of the_type x ≡ 2) → is_less x ≡ false
-not_less_arm Less t = absurd (⊎_elim (λ l. omega arith) (λ l. omega arith) t)
-not_less_arm Equal t = refl
-not_less_arm Greater t = refl
+pub less_only : (x : Ordering) → is_lt x ≡ true → x ≡ Less
+less_only Less e = refl
+less_only Equal e = cc
+less_only Greater e = cc
 
 module _ (o : Options) (g : List Cell) where
   -- One step of a cut.

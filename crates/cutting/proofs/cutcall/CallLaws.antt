@@ -1,4 +1,5 @@
 -- What the call answers and leaves, from what its parts do. Assumes nothing.
+use Rattle.std.specs.Prelude.{Result, Ok, Err}
 use mathlib.Core.Path.{◌≡◌, refl, sym, ap, ◌∙◌}
 use mathlib.Core.Bool.{Bool, true, false, cond, not, ◌&&◌, ◌||◌}
 use mathlib.Core.List.{[], ◌∷◌}
@@ -24,10 +25,6 @@ use Rattle.tables.proofs.LayLaws.{lay_table}
 use Rattle.callrules.specs.Judged.{open_answer}
 use Rattle.frames.specs.declared.refusals.Refusal.{Refusal}
 use Rattle.frames.specs.declared.refusals.Refusal.TheVariants.{BadFrame, UnknownCode, Unsorted, BadBoundaries, NoRoom}
-use Rattle.frames.specs.declared.outcomes.Took.{Took}
-use Rattle.frames.specs.declared.outcomes.Took.TheVariants.{Accepted, Refused as NotTaken}
-use Rattle.tables.specs.declared.Written.{Written}
-use Rattle.tables.specs.declared.Written.TheVariants.{Rows as Wrote, Refused}
 use Rattle.books.proofs.bookjudge.JudgeLaws.{open_shut, open_past, open_allowed, table_values_lem, table_marks, leave_answer, room_short}
 use Rattle.cutting.specs.boundaries.Boundaries.{places, bad_boundaries}
 use Rattle.cutting.specs.cutcall.Calls.{side_columns, rows_in, groups_in, words_judged, rows_judged, cut_answer, cut_call, CutContract, RowsContract, BothIn}
@@ -45,63 +42,63 @@ cells_length o rows (g ∷ gs) = ap suc (cells_length o rows gs)
 
 -- ---- the words, behind the options
 -- Where all is accepted the options are allowed.
-all_open : (o : Options) (t : Took) → unless (λ n. NotTaken n) o t ≡ Accepted → Allowed o × (t ≡ Accepted)
+all_open : (o : Options) (t : Result Unit Refusal) → unless (λ n. Err n) o t ≡ Ok tt → Allowed o × (t ≡ Ok tt)
 all_open o t e = by (open_answer o) refl
   where
-    by : (a : Took) → open_answer o ≡ a → Allowed o × (t ≡ Accepted)
-    by Accepted q = (open_allowed o q, sym (open_past o (λ n. NotTaken n) t q) ∙ e)
-    by (NotTaken r) q = let z : NotTaken r ≡ Accepted = sym (open_shut o (λ n. NotTaken n) t r q) ∙ e in let n : ◌≡◌ {A = ℕ} 0 1 = cc in absurd (omega arith)
+    by : (a : Result Unit Refusal) → open_answer o ≡ a → Allowed o × (t ≡ Ok tt)
+    by (Ok tt) q = (open_allowed o q, sym (open_past o (λ n. Err n) t q) ∙ e)
+    by (Err r) q = let z : Err r ≡ Ok tt = sym (open_shut o (λ n. Err n) t r q) ∙ e in let n : ◌≡◌ {A = ℕ} 0 1 = cc in absurd (omega arith)
 
-abbrev pub words_rest : Options → Bool → Words → Words → Took
+abbrev pub words_rest : Options → Bool → Words → Words → Result Unit Refusal
 words_rest o right table boundaries =
-    cond (not (is_table (side_columns o right) table && is_frame o.by boundaries)) (NotTaken BadFrame)
-    (cond (lacks_code o (rows_in o right table) || lacks_code o (groups_in o boundaries)) (NotTaken UnknownCode) Accepted)
+    cond (not (is_table (side_columns o right) table && is_frame o.by boundaries)) (Err BadFrame)
+    (cond (lacks_code o (rows_in o right table) || lacks_code o (groups_in o boundaries)) (Err UnknownCode) (Ok tt))
 
 module _ (o : Options) (right : Bool) (table boundaries : Words) where
-  pub words_shut : (r : Refusal) → open_answer o ≡ NotTaken r → words_judged o right table boundaries ≡ NotTaken r
+  pub words_shut : (r : Refusal) → open_answer o ≡ Err r → words_judged o right table boundaries ≡ Err r
   unfolding words_judged
-  words_shut r e = open_shut o (λ n. NotTaken n) _ r e
+  words_shut r e = open_shut o (λ n. Err n) _ r e
 
-  pub words_open : open_answer o ≡ Accepted → words_judged o right table boundaries ≡ words_rest o right table boundaries
+  pub words_open : open_answer o ≡ Ok tt → words_judged o right table boundaries ≡ words_rest o right table boundaries
   unfolding words_judged
-  words_open e = open_past o (λ n. NotTaken n) _ e
+  words_open e = open_past o (λ n. Err n) _ e
 
 -- ---- by rows
 module _ (o : Options) (R G : Rows) (out : Words) where
-  leaves : (r : Written) → rows_judged o R G out ≡ r → RowsContract o R G out r (leave 1 (places o R G) r out).out
-  leaves r e = record { answer = sym e; words = ap (λ (z : Written). (leave 1 (places o R G) z out).out) (sym e) }
+  leaves : (r : Result ℕ Refusal) → rows_judged o R G out ≡ r → RowsContract o R G out r (leave 1 (places o R G) r out).out
+  leaves r e = record { answer = sym e; words = ap (λ (z : Result ℕ Refusal). (leave 1 (places o R G) z out).out) (sym e) }
 
-  answer_unsorted : sorted o R ≡ false → rows_judged o R G out ≡ Refused Unsorted
+  answer_unsorted : sorted o R ≡ false → rows_judged o R G out ≡ Err Unsorted
   unfolding rows_judged
   answer_unsorted e = rw e
 
-  pub unsorted : sorted o R ≡ false → RowsContract o R G out (Refused Unsorted) out
-  unsorted e = leaves (Refused Unsorted) (answer_unsorted e)
+  pub unsorted : sorted o R ≡ false → RowsContract o R G out (Err Unsorted) out
+  unsorted e = leaves (Err Unsorted) (answer_unsorted e)
 
   module _ (s : sorted o R ≡ true) where
-    answer_bad : bad_boundaries o G ≡ true → rows_judged o R G out ≡ Refused BadBoundaries
+    answer_bad : bad_boundaries o G ≡ true → rows_judged o R G out ≡ Err BadBoundaries
     unfolding rows_judged
     answer_bad e = rw (s, e)
 
-    pub bad : bad_boundaries o G ≡ true → RowsContract o R G out (Refused BadBoundaries) out
-    bad e = leaves (Refused BadBoundaries) (answer_bad e)
+    pub bad : bad_boundaries o G ≡ true → RowsContract o R G out (Err BadBoundaries) out
+    bad e = leaves (Err BadBoundaries) (answer_bad e)
 
     module _ (b : bad_boundaries o G ≡ false) (k : ℕ) (c : k ≡ length G) where
-      answer_short : leb (frame_words k 1) (length out) ≡ false → rows_judged o R G out ≡ Refused NoRoom
+      answer_short : leb (frame_words k 1) (length out) ≡ false → rows_judged o R G out ≡ Err NoRoom
       unfolding rows_judged
       answer_short e = rw (s, b, ← c, room_short k 1 (length out) e)
 
-      pub no_room_lem : leb (frame_words k 1) (length out) ≡ false → RowsContract o R G out (Refused NoRoom) out
-      no_room_lem e = leaves (Refused NoRoom) (answer_short e)
+      pub no_room_lem : leb (frame_words k 1) (length out) ≡ false → RowsContract o R G out (Err NoRoom) out
+      no_room_lem e = leaves (Err NoRoom) (answer_short e)
 
-      answer_wrote : frame_words k 1 ≤ length out → rows_judged o R G out ≡ Wrote k
+      answer_wrote : frame_words k 1 ≤ length out → rows_judged o R G out ≡ Ok k
       unfolding rows_judged
       answer_wrote l = rw (s, b, ← c, le-ltb (length out) (frame_words k 1) l)
 
       pub wrote : frame_words k 1 ≤ length out → (out₁ out₂ : Words) → out₁ ≡ lay_cells k 0 (flat (places o R G)) out → out₂ ≡ set (set out₁ 0 (pos k)) 1 (pos 1)
-          → RowsContract o R G out (Wrote k) out₂
+          → RowsContract o R G out (Ok k) out₂
       wrote l out₁ out₂ p u =
-          let w = leaves (Wrote k) (answer_wrote l) in
+          let w = leaves (Ok k) (answer_wrote l) in
           let N : Rows = places o R G in
           let g : length N ≡ k = places_length o R G ∙ sym c in
           let f : length (flat N) ≡ k = cells_length o R G ∙ sym c in
@@ -112,7 +109,7 @@ module _ (o : Options) (R G : Rows) (out : Words) where
           record { answer = w.answer; words = t ∙ w.words }
 
 -- ---- by words
-two_open : (a b : Bool) → cond a (NotTaken BadFrame) (cond b (NotTaken UnknownCode) Accepted) ≡ Accepted → (a ≡ false) × (b ≡ false)
+two_open : (a b : Bool) → ◌≡◌ {A = Result Unit Refusal} (cond a (Err BadFrame) (cond b (Err UnknownCode) (Ok tt))) (Ok tt) → (a ≡ false) × (b ≡ false)
 two_open true b e = let n : ◌≡◌ {A = ℕ} 0 1 = cc in absurd (omega arith)
 two_open false true e = let n : ◌≡◌ {A = ℕ} 0 1 = cc in absurd (omega arith)
 two_open false false e = (refl, refl)
@@ -124,7 +121,7 @@ pub record WordsFine (o : Options) (right : Bool) (table boundaries : Words) : T
   pub frame_is : is_frame o.by boundaries ≡ true
 
 module _ (o : Options) (right : Bool) (table boundaries : Words) where
-  pub words_fine : words_judged o right table boundaries ≡ Accepted → WordsFine o right table boundaries
+  pub words_fine : words_judged o right table boundaries ≡ Ok tt → WordsFine o right table boundaries
   unfolding words_judged
   words_fine e =
       let p = all_open o (words_rest o right table boundaries) e in
@@ -136,27 +133,27 @@ module _ (o : Options) (right : Bool) (table boundaries : Words) where
     abbrev rows : Rows
     rows = places o (rows_in o right table) (groups_in o boundaries)
 
-    call_leaves : (r : Written) → cut_answer o right table boundaries out ≡ r → CutContract o right table boundaries out r (leave 1 rows r out).out
+    call_leaves : (r : Result ℕ Refusal) → cut_answer o right table boundaries out ≡ r → CutContract o right table boundaries out r (leave 1 rows r out).out
     unfolding cut_call
-    call_leaves r e = record { answer = sym e; words = ap (λ (z : Written). (leave 1 rows z out).out) (sym e) }
+    call_leaves r e = record { answer = sym e; words = ap (λ (z : Result ℕ Refusal). (leave 1 rows z out).out) (sym e) }
 
-    answer_refused : (r : Refusal) → words_judged o right table boundaries ≡ NotTaken r → cut_answer o right table boundaries out ≡ Refused r
+    answer_refused : (r : Refusal) → words_judged o right table boundaries ≡ Err r → cut_answer o right table boundaries out ≡ Err r
     unfolding cut_answer
     answer_refused r e = rw e
 
-    pub cut_refused : (r : Refusal) → words_judged o right table boundaries ≡ NotTaken r → CutContract o right table boundaries out (Refused r) out
-    cut_refused r e = call_leaves (Refused r) (answer_refused r e)
+    pub cut_refused : (r : Refusal) → words_judged o right table boundaries ≡ Err r → CutContract o right table boundaries out (Err r) out
+    cut_refused r e = call_leaves (Err r) (answer_refused r e)
 
-    module _ (v : words_judged o right table boundaries ≡ Accepted) where
+    module _ (v : words_judged o right table boundaries ≡ Ok tt) where
       answer_rows_lem : cut_answer o right table boundaries out ≡ rows_judged o (rows_in o right table) (groups_in o boundaries) out
       unfolding cut_answer
       answer_rows_lem = rw v
 
-      contract : (r : Written) (out' : Words) → RowsContract o (rows_in o right table) (groups_in o boundaries) out r out' → CutContract o right table boundaries out r out'
+      contract : (r : Result ℕ Refusal) (out' : Words) → RowsContract o (rows_in o right table) (groups_in o boundaries) out r out' → CutContract o right table boundaries out r out'
       contract r out' c =
           let a : cut_answer o right table boundaries out ≡ r = answer_rows_lem ∙ sym c.answer in
           let z = call_leaves r a in
-          record { answer = z.answer; words = c.words ∙ ap (λ (z : Written). (leave 1 rows z out).out) (sym c.answer) ∙ z.words }
+          record { answer = z.answer; words = c.words ∙ ap (λ (z : Result ℕ Refusal). (leave 1 rows z out).out) (sym c.answer) ∙ z.words }
 
       module _ (w : ℕ) (e : w ≡ side_columns o right) where
         table_rows_lem : rows_of w (row_count table) (values_in w table) (marks_in w table) ≡ rows_in o right table
@@ -167,7 +164,7 @@ module _ (o : Options) (right : Bool) (table boundaries : Words) where
         unfolding frame_rows
         group_rows = refl
 
-        pub cut_done : (r : Written) (out' : Words)
+        pub cut_done : (r : Result ℕ Refusal) (out' : Words)
             → RowsContract o (rows_of w (row_count table) (values_in w table) (marks_in w table)) (rows_of o.by (row_count boundaries) (values_in o.by boundaries) (marks_in o.by boundaries)) out r out'
             → CutContract o right table boundaries out r out'
         cut_done r out' c = contract r out' (rw (← table_rows_lem, ← group_rows) c)
@@ -191,10 +188,10 @@ pub cut_answer_lem : (o : Options) (right : Bool) (table boundaries out : Words)
 unfolding cut_call
 cut_answer_lem o right table boundaries out = leave_answer 1 (places o (rows_in o right table) (groups_in o boundaries)) (cut_answer o right table boundaries out) out
 
-left_alone : (rows : Rows) (w : Written) (out : Words) (n : Refusal) → (leave 1 rows w out).answer ≡ Refused n → (leave 1 rows w out).out ≡ out
-left_alone rows (Wrote k) out n e = let z : ◌≡◌ {A = ℕ} 0 1 = cc in absurd (omega arith)
-left_alone rows (Refused r) out n e = refl
+left_alone : (rows : Rows) (w : Result ℕ Refusal) (out : Words) (n : Refusal) → (leave 1 rows w out).answer ≡ Err n → (leave 1 rows w out).out ≡ out
+left_alone rows (Ok k) out n e = let z : ◌≡◌ {A = ℕ} 0 1 = cc in absurd (omega arith)
+left_alone rows (Err r) out n e = refl
 
-pub cut_kept : (o : Options) (right : Bool) (table boundaries out : Words) (n : Refusal) → (cut_call o right table boundaries out).answer ≡ Refused n → (cut_call o right table boundaries out).out ≡ out
+pub cut_kept : (o : Options) (right : Bool) (table boundaries out : Words) (n : Refusal) → (cut_call o right table boundaries out).answer ≡ Err n → (cut_call o right table boundaries out).out ≡ out
 unfolding cut_call
 cut_kept o right table boundaries out n e = left_alone (places o (rows_in o right table) (groups_in o boundaries)) (cut_answer o right table boundaries out) out n e

@@ -1,4 +1,5 @@
 -- What the judge of two tables and boundaries answers, and what it means that it accepts them. Assumes nothing.
+use Rattle.std.specs.Prelude.{Result, Ok, Err}
 use mathlib.Core.Path.{◌≡◌}
 use mathlib.Core.Bool.{true, cond, not, ◌&&◌, ◌||◌}
 use borrow.Author.Tests.{not-false}
@@ -12,16 +13,14 @@ use Rattle.order.specs.Listed.{lacks_code}
 use Rattle.callrules.specs.Judged.{open_answer}
 use Rattle.frames.specs.declared.refusals.Refusal.{Refusal}
 use Rattle.frames.specs.declared.refusals.Refusal.TheVariants.{BadFrame, UnknownCode}
-use Rattle.frames.specs.declared.outcomes.Took.{Took}
-use Rattle.frames.specs.declared.outcomes.Took.TheVariants.{Accepted, Refused}
 use Rattle.books.proofs.bookjudge.JudgeLaws.{chain_open, two_open, open_shut, open_past}
 use Rattle.cutting.specs.cutpairs.Driver.{input_judged}
 
 -- Behind the options.
-abbrev pub input_rest : Options → Words → Words → Words → Took
+abbrev pub input_rest : Options → Words → Words → Words → Result Unit Refusal
 input_rest o left right boundaries =
-    cond (not (is_table (columns o) left && is_table (right_columns o) right && is_frame o.by boundaries)) (Refused BadFrame)
-    (cond (lacks_code o (frame_rows (columns o) left) || lacks_code o (frame_rows (right_columns o) right) || lacks_code o (frame_rows o.by boundaries)) (Refused UnknownCode) Accepted)
+    cond (not (is_table (columns o) left && is_table (right_columns o) right && is_frame o.by boundaries)) (Err BadFrame)
+    (cond (lacks_code o (frame_rows (columns o) left) || lacks_code o (frame_rows (right_columns o) right) || lacks_code o (frame_rows o.by boundaries)) (Err UnknownCode) (Ok tt))
 
 -- What is accepted: the options are allowed, and all three are what they are to be.
 pub record InputFine (o : Options) (left right boundaries : Words) : Type 0 where
@@ -31,15 +30,15 @@ pub record InputFine (o : Options) (left right boundaries : Words) : Type 0 wher
   pub boundaries_are : is_frame o.by boundaries ≡ true
 
 module _ (o : Options) (left right boundaries : Words) where
-  pub input_shut : (r : Refusal) → open_answer o ≡ Refused r → input_judged o left right boundaries ≡ Refused r
+  pub input_shut : (r : Refusal) → open_answer o ≡ Err r → input_judged o left right boundaries ≡ Err r
   unfolding input_judged
-  input_shut r e = open_shut o (λ n. Refused n) _ r e
+  input_shut r e = open_shut o (λ n. Err n) _ r e
 
-  pub input_open : open_answer o ≡ Accepted → input_judged o left right boundaries ≡ input_rest o left right boundaries
+  pub input_open : open_answer o ≡ Ok tt → input_judged o left right boundaries ≡ input_rest o left right boundaries
   unfolding input_judged
-  input_open e = open_past o (λ n. Refused n) _ e
+  input_open e = open_past o (λ n. Err n) _ e
 
-  pub input_fine : input_judged o left right boundaries ≡ Accepted → InputFine o left right boundaries
+  pub input_fine : input_judged o left right boundaries ≡ Ok tt → InputFine o left right boundaries
   unfolding input_judged
   input_fine e =
       let both = is_table (columns o) left && is_table (right_columns o) right in

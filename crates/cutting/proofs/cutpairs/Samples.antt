@@ -1,4 +1,6 @@
 -- The refusals of a join of cut tables, and what it writes, by computation. Assumes nothing.
+use Rattle.frames.specs.declared.refusals.Refusal.{Refusal}
+use Rattle.std.specs.Prelude.{Result, Ok, Err}
 use mathlib.Core.Path.{◌≡◌, refl}
 use mathlib.Core.Bool.{true, false}
 use mathlib.Core.List.{List, [], ◌∷◌, map}
@@ -14,8 +16,6 @@ use Rattle.order.proofs.Samples.{options, carrying, ranks_by, ranking, row, fram
 use Rattle.order.specs.ranks.Ranks.{bad_ranks, rises, rises_behind, below, placed, listed}
 use Rattle.order.specs.declared.options.Options.{Options}
 use Rattle.frames.specs.refusals.Refusals.{number}
-use Rattle.tables.specs.declared.Written.{Written}
-use Rattle.tables.specs.declared.Written.TheVariants.{Rows as Wrote, Refused}
 use Rattle.searching.specs.Search.{search, search_for, find}
 use Rattle.searching.specs.Reach.{need_more, row_needs_more, key_needs_more, narrow, narrow_by, split_at, prune_by}
 use Rattle.matchframe.specs.turnrows.Prunes.{first_prune, kept_rows, last_prune}
@@ -43,9 +43,9 @@ abbrev pub at : List ℕ → Words
 at gs = frame_of 1 (map (λ g. row (g ∷ [])) gs)
 
 -- The number of a refusal, or 0.
-abbrev pub refused_by : Written → ℕ
-refused_by (Wrote n) = 0
-refused_by (Refused r) = number r
+abbrev pub refused_by : Result ℕ Refusal → ℕ
+refused_by (Ok n) = 0
+refused_by (Err r) = number r
 
 -- The number that a join of cut tables is refused by, or 0. Whoever unfolds this unfolds all definitions.
 unfoldable pub number_of : Options → Words → Words → Words → ℕ → ℕ → ℕ → ℕ

@@ -1,4 +1,5 @@
 -- What is answered of rows, and what is left, from what the parts do. Assumes nothing.
+use Rattle.std.specs.Prelude.{Result, Ok, Err}
 use mathlib.Core.Path.{◌≡◌, refl, sym, ap, ◌∙◌}
 use mathlib.Core.Bool.{Bool, true, false, cond, not, ◌&&◌, ◌||◌, or-true}
 use Prim.Native.Nat.{ℕ, ◌*◌, ◌≤◌}
@@ -21,8 +22,6 @@ use Rattle.matching.specs.Requires.{AnswerRoom}
 use Rattle.matching.proofs.GroupLaws.{frame_match}
 use Rattle.frames.specs.declared.refusals.Refusal.{Refusal}
 use Rattle.frames.specs.declared.refusals.Refusal.TheVariants.{Unsorted, BadBoundaries, NoRoom}
-use Rattle.tables.specs.declared.Written.{Written}
-use Rattle.tables.specs.declared.Written.TheVariants.{Rows as Wrote, Refused}
 use Rattle.books.proofs.bookjudge.JudgeLaws.{room_short}
 use Rattle.cutting.specs.boundaries.Boundaries.{bad_boundaries}
 use Rattle.cutting.specs.cutpairs.Cut.{Pair, cut_by, joined}
@@ -36,18 +35,18 @@ and_no false y e = refl
 
 -- ---- the answer, test by test
 module _ (o : Options) (p : Pair) (gs : Rows) (l r n : ℕ) where
-  answer_unsorted : (sorted o p.left && sorted o p.right) ≡ false → Refused Unsorted ≡ pairs_judged o p gs l r n
+  answer_unsorted : (sorted o p.left && sorted o p.right) ≡ false → Err Unsorted ≡ pairs_judged o p gs l r n
   unfolding pairs_judged
   answer_unsorted e = rw e refl
 
-  pub unsorted_left : sorted o p.left ≡ false → Refused Unsorted ≡ pairs_judged o p gs l r n
+  pub unsorted_left : sorted o p.left ≡ false → Err Unsorted ≡ pairs_judged o p gs l r n
   unsorted_left e = answer_unsorted (rw e refl)
 
-  pub unsorted_right : sorted o p.right ≡ false → Refused Unsorted ≡ pairs_judged o p gs l r n
+  pub unsorted_right : sorted o p.right ≡ false → Err Unsorted ≡ pairs_judged o p gs l r n
   unsorted_right e = answer_unsorted (and_no (sorted o p.left) (sorted o p.right) e)
 
   module _ (a : sorted o p.left ≡ true) (b : sorted o p.right ≡ true) where
-    pub bad : bad_boundaries o gs ≡ true → Refused BadBoundaries ≡ pairs_judged o p gs l r n
+    pub bad : bad_boundaries o gs ≡ true → Err BadBoundaries ≡ pairs_judged o p gs l r n
     unfolding pairs_judged
     bad e = rw (a, b, e) refl
 
@@ -55,22 +54,22 @@ module _ (o : Options) (p : Pair) (gs : Rows) (l r n : ℕ) where
       abbrev short : Bool
       short = any_short o l r (cut_by o gs p)
 
-      pub no_output : leb (frame_words k c) n ≡ false → Refused NoRoom ≡ pairs_judged o p gs l r n
+      pub no_output : leb (frame_words k c) n ≡ false → Err NoRoom ≡ pairs_judged o p gs l r n
       unfolding pairs_judged
       no_output e = let z : ltb n (frame_words (length p.left) (answer_columns o)) ≡ true = rw (ek, ec) at (room_short k c n e) in rw (a, b, g, z, or-true short) refl
 
-      pub no_area : short ≡ true → Refused NoRoom ≡ pairs_judged o p gs l r n
+      pub no_area : short ≡ true → Err NoRoom ≡ pairs_judged o p gs l r n
       unfolding pairs_judged
       no_area e = rw (a, b, g, e) refl
 
-      pub written : leb (frame_words k c) n ≡ true → short ≡ false → Wrote k ≡ pairs_judged o p gs l r n
+      pub written : leb (frame_words k c) n ≡ true → short ≡ false → Ok k ≡ pairs_judged o p gs l r n
       unfolding pairs_judged
       written e s =
           let z : ltb n (frame_words (length p.left) (answer_columns o)) ≡ false = rw (ek, ec) at (le-ltb n (frame_words k c) (leb-true (frame_words k c) n e)) in
           rw (a, b, g, s, z, ← ek) refl
 
 -- ---- what it means that nothing is refused
-writes : (t : Bool) (r : Refusal) (k : Written) (n : ℕ) → cond t (Refused r) k ≡ Wrote n → (t ≡ false) × (k ≡ Wrote n)
+writes : (t : Bool) (r : Refusal) (k : Result ℕ Refusal) (n : ℕ) → cond t (Err r) k ≡ Ok n → (t ≡ false) × (k ≡ Ok n)
 writes true r k n e = (cc, cc)
 writes false r k n e = (refl, e)
 
@@ -79,7 +78,7 @@ pub record Passed (o : Options) (p : Pair) (n : ℕ) : Type 0 where
   pub right_sorted : sorted o p.right ≡ true
   pub room : frame_words (length p.left) (answer_columns o) ≤ n
 
-pub passed : (o : Options) (p : Pair) (gs : Rows) (l r n k : ℕ) → pairs_judged o p gs l r n ≡ Wrote k → Passed o p n
+pub passed : (o : Options) (p : Pair) (gs : Rows) (l r n k : ℕ) → pairs_judged o p gs l r n ≡ Ok k → Passed o p n
 unfolding pairs_judged
 passed o p gs l r n k e =
     let x = writes (not (sorted o p.left && sorted o p.right)) Unsorted _ k e in
@@ -118,18 +117,18 @@ answer_room o c n lv lm w m rv rm k gv gm out p q =
 
 -- ---- by rows: what is left
 module _ (o : Options) (p : Pair) (gs : Rows) (l r : ℕ) (out : Words) where
-  leaves : (z : Written) → z ≡ pairs_judged o p gs l r (length out) → PairsContract o p gs l r out z (leave (answer_columns o) (joined_rows o p) z out).out
-  leaves z e = record { answer = e; words = ap (λ (y : Written). (leave (answer_columns o) (joined_rows o p) y out).out) e }
+  leaves : (z : Result ℕ Refusal) → z ≡ pairs_judged o p gs l r (length out) → PairsContract o p gs l r out z (leave (answer_columns o) (joined_rows o p) z out).out
+  leaves z e = record { answer = e; words = ap (λ (y : Result ℕ Refusal). (leave (answer_columns o) (joined_rows o p) y out).out) e }
 
-  pub rows_refused : (z : Written) (x : Refusal) → z ≡ Refused x → z ≡ pairs_judged o p gs l r (length out) → PairsContract o p gs l r out z out
-  rows_refused z x q e = let y = leaves z e in record { answer = e; words = ap (λ (y : Written). (leave (answer_columns o) (joined_rows o p) y out).out) (sym q) ∙ y.words }
+  pub rows_refused : (z : Result ℕ Refusal) (x : Refusal) → z ≡ Err x → z ≡ pairs_judged o p gs l r (length out) → PairsContract o p gs l r out z out
+  rows_refused z x q e = let y = leaves z e in record { answer = e; words = ap (λ (y : Result ℕ Refusal). (leave (answer_columns o) (joined_rows o p) y out).out) (sym q) ∙ y.words }
 
   -- A frame's choices over a sorted table are those of the whole table.
   same_rows : sorted o p.left ≡ true → sorted o p.right ≡ true → frame_answer o 0 p.right p.left ≡ joined_rows o p
   unfolding joined whole_table
   same_rows a b = ap (answer_rows o 0 p.right p.left) (frame_match o 0 p.right p.left b a)
 
-  pub rows_written : (z : Written) (k : ℕ) → z ≡ Wrote k → z ≡ pairs_judged o p gs l r (length out) → (out' : Words) → out' ≡ answered o (frame_answer o 0 p.right p.left) out → PairsContract o p gs l r out z out'
+  pub rows_written : (z : Result ℕ Refusal) (k : ℕ) → z ≡ Ok k → z ≡ pairs_judged o p gs l r (length out) → (out' : Words) → out' ≡ answered o (frame_answer o 0 p.right p.left) out → PairsContract o p gs l r out z out'
   unfolding answered
   rows_written z k q e out' w =
       let y = leaves z e in
@@ -138,6 +137,6 @@ module _ (o : Options) (p : Pair) (gs : Rows) (l r : ℕ) (out : Words) where
         answer = e;
         words = w
             ∙ ap (λ (rs : Rows). laid (table_of (answer_columns o) rs) out) (same_rows t.left_sorted t.right_sorted)
-            ∙ ap (λ (y : Written). (leave (answer_columns o) (joined_rows o p) y out).out) (sym q)
+            ∙ ap (λ (y : Result ℕ Refusal). (leave (answer_columns o) (joined_rows o p) y out).out) (sym q)
             ∙ y.words;
       }

@@ -1,10 +1,9 @@
 -- Two tables cut by boundary groups, and the join of a pair. Assumes nothing.
-use Rattle.std.specs.Prelude.{List, [], ◌∷◌, map, take, drop}
+use Rattle.std.specs.Prelude.{List, [], ◌∷◌, map, take, drop, Option, ℕ}
 use Rattle.frames.specs.Cells.{Cell, Rows}
 use Rattle.order.specs.declared.options.Options.{Options}
 use Rattle.cutting.specs.boundaries.Boundaries.{cut_at}
 use Rattle.matching.specs.Match.{whole_table}
-use Rattle.matching.specs.declared.Choice.{Choice}
 
 -- A left table and a right table.
 pub record Pair : Type 0 where
@@ -24,5 +23,5 @@ cut_by o [] p = p ∷ []
 cut_by o (g ∷ gs) p = before o g p ∷ cut_by o gs (behind o g p)
 
 -- The join of a pair: the whole-table rule for each left row.
-unfoldable pub joined : Options → Pair → List Choice
+unfoldable pub joined : Options → Pair → List (Option ℕ)
 joined o p = map (whole_table o p.right) p.left

@@ -13,7 +13,8 @@ use Rattle.frames.specs.declared.outcomes.NodeState.{NodeState}
 use Rattle.frames.specs.declared.outcomes.NodeState.TheVariants.{Running, Flush, Done}
 use Rattle.frames.specs.declared.outcomes.PortState.{PortState}
 use Rattle.frames.specs.declared.outcomes.PortState.TheVariants.{Blocked, Ready, Done as PortDone}
-use Rattle.ffi.specs.codes.Codes.{is_flag, flag_of, flag_code, are_flags, flags_of, flag_codes, check_of, check_code, is_code, state_of, port_of}
+use Rattle.order.specs.options.Options.{check_code}
+use Rattle.ffi.specs.codes.Codes.{is_flag, flag_of, flag_code, are_flags, flags_of, flag_codes, check_of, is_code, state_of, port_of}
 
 -- Of two tests that both hold each does.
 pub and_both : (a b : Bool) → (a && b) ≡ true → (a ≡ true) × (b ≡ true)

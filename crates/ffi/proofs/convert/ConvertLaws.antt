@@ -1,7 +1,7 @@
 -- Options and joins there and back. Assumes nothing.
+use Rattle.std.specs.Prelude.{None, Some}
 use mathlib.Core.Path.{◌≡◌, refl}
 use mathlib.Core.Bool.{Bool, true, false, cond, ◌&&◌}
-use mathlib.Core.Option.{none, some}
 use Prim.Native.Nat.{ℕ, ◌<◌}
 use native.Mathlib.Omega.{arith}
 use borrow.Author.Tests.{eqb-true}
@@ -65,12 +65,12 @@ join_numbers h e =
 
 -- ---- there and back
 -- What a test lets pass is what stands behind it.
-passed : {A : Type 0} (t : Bool) (x y : A) → cond t (some x) none ≡ some y → (t ≡ true) × (x ≡ y)
+passed : {A : Type 0} (t : Bool) (x y : A) → cond t (Some x) None ≡ Some y → (t ≡ true) × (x ≡ y)
 passed true x y e = (refl, cc)
 passed false x y e = let z : ◌≡◌ {A = ℕ} 0 1 = cc in absurd (omega arith)
 
 -- Numbers that are options o.
-pub decoded_options : (h : HostOptions) (o : Options) → decode_options h ≡ some o → (is_options h ≡ true) × (options_of h ≡ o)
+pub decoded_options : (h : HostOptions) (o : Options) → decode_options h ≡ Some o → (is_options h ≡ true) × (options_of h ≡ o)
 unfolding decode_options
 decoded_options h o e = passed (is_options h) (options_of h) o e
 
@@ -80,7 +80,7 @@ pub record Is (h : HostJoin) (j : Join) : Type 0 where
   pub join : join_of h ≡ j
   pub byte : j.options.strategy < 256
 
-pub decoded : (h : HostJoin) (j : Join) → decode h ≡ some j → Is h j
+pub decoded : (h : HostJoin) (j : Join) → decode h ≡ Some j → Is h j
 unfolding decode
 decoded h j e =
     let p = passed (is_join h) (join_of h) j e in

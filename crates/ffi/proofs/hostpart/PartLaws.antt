@@ -1,4 +1,8 @@
 -- The numbers of a join with another part are the join's with that part. Assumes nothing.
+use Rattle.frames.specs.declared.outcomes.Turn.TheVariants.{Wrote, WantsRight, Idle}
+use Rattle.frames.specs.declared.outcomes.Turn.{Turn}
+use Rattle.frames.specs.declared.refusals.Refusal.{Refusal}
+use Rattle.std.specs.Prelude.{Result, Ok, Err}
 use mathlib.Core.Path.{◌≡◌, refl, sym, ap}
 use mathlib.Core.Bool.{true}
 use Rattle.node.specs.TurnPart.{join_with}
@@ -6,8 +10,6 @@ use Rattle.node.specs.declared.turnparts.Part.{Part}
 use Rattle.ffi.specs.convert.Convert.{is_join, join_of, encode}
 use Rattle.ffi.specs.declared.convert.HostJoin.{HostJoin}
 use Rattle.ffi.proofs.convert.ConvertLaws.{join_numbers}
-use Rattle.frames.specs.declared.outcomes.Answer.{Answer}
-use Rattle.frames.specs.declared.outcomes.Answer.TheVariants.{Wrote, WantsRight, Idle, Refused}
 use Rattle.ffi.specs.results.Results.{turned_host}
 use Rattle.ffi.specs.declared.results.HostTurned.{HostTurned}
 use Rattle.ffi.specs.hostpart.Parts.{part_in}
@@ -16,8 +18,8 @@ pub part_numbers : (h : HostJoin) (p : Part) → is_join h ≡ true → part_in 
 part_numbers h p e = ap (λ y. part_in y p) (sym (join_numbers h e))
 
 -- The answer of a turn by its three numbers.
-pub turned_parts : (a : Answer) (h : HostJoin) → ◌≡◌ {A = HostTurned} (record { answer = (turned_host a h).answer; refusal = (turned_host a h).refusal; sequence = (turned_host a h).sequence; join = h }) (turned_host a h)
-turned_parts (Wrote s) h = refl
-turned_parts WantsRight h = refl
-turned_parts Idle h = refl
-turned_parts (Refused n) h = refl
+pub turned_parts : (a : Result Turn Refusal) (h : HostJoin) → ◌≡◌ {A = HostTurned} (record { answer = (turned_host a h).answer; refusal = (turned_host a h).refusal; sequence = (turned_host a h).sequence; join = h }) (turned_host a h)
+turned_parts (Ok (Wrote s)) h = refl
+turned_parts (Ok WantsRight) h = refl
+turned_parts (Ok Idle) h = refl
+turned_parts (Err n) h = refl

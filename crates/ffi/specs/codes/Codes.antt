@@ -1,5 +1,8 @@
 -- Flags, states, ports and refusals as numbers. Assumes nothing.
-use Rattle.std.specs.Prelude.{Bool, true, cond, ◌&&◌, List, [], ◌∷◌, ℕ, ltb, eqb}
+use Rattle.frames.specs.declared.outcomes.Stop.{Stop}
+use Rattle.frames.specs.declared.outcomes.Stop.TheVariants.{Used, WantsRight, Idle}
+use Rattle.frames.specs.declared.refusals.Refusal.{Refusal}
+use Rattle.std.specs.Prelude.{Bool, true, cond, ◌&&◌, List, [], ◌∷◌, ℕ, ltb, eqb, Result, Ok, Err}
 use Rattle.order.specs.declared.options.Check.{Check}
 use Rattle.order.specs.declared.options.Check.TheVariants.{Off, On, Strict}
 use Rattle.frames.specs.refusals.Refusals.{number}
@@ -7,10 +10,6 @@ use Rattle.frames.specs.declared.outcomes.NodeState.{NodeState}
 use Rattle.frames.specs.declared.outcomes.NodeState.TheVariants.{Running, Flush, Done}
 use Rattle.frames.specs.declared.outcomes.PortState.{PortState}
 use Rattle.frames.specs.declared.outcomes.PortState.TheVariants.{Blocked, Ready, Done as PortDone}
-use Rattle.frames.specs.declared.outcomes.Stop.{Stop}
-use Rattle.frames.specs.declared.outcomes.Stop.TheVariants.{Used, WantsRight, Idle, Refused as StopRefused}
-use Rattle.frames.specs.declared.outcomes.Took.{Took}
-use Rattle.frames.specs.declared.outcomes.Took.TheVariants.{Accepted, Refused}
 
 -- A flag is 0 or 1.
 abbrev pub is_flag : ℕ → Bool
@@ -39,15 +38,9 @@ unfoldable pub flag_codes : List Bool → List ℕ
 flag_codes [] = []
 flag_codes (b ∷ bs) = flag_code b ∷ flag_codes bs
 
--- Order check: 0 off, 1 on, 2 strict.
+-- Order check: 0 off, 1 on, 2 strict; `check_code` is the way back.
 abbrev pub check_of : ℕ → Check
 check_of x = cond (eqb x 0) Off (cond (eqb x 1) On Strict)
-
--- Its number.
-abbrev pub check_code : Check → ℕ
-check_code Off = 0
-check_code On = 1
-check_code Strict = 2
 
 -- An order check's setting, a node's state and a port's state are numbers up to 2.
 abbrev pub is_code : ℕ → Bool
@@ -62,20 +55,20 @@ abbrev pub port_of : ℕ → PortState
 port_of x = cond (eqb x 0) Blocked (cond (eqb x 1) Ready PortDone)
 
 -- Accepted is 0, a refusal its number.
-abbrev pub took_code : Took → ℕ
-took_code Accepted = 0
-took_code (Refused n) = number n
+abbrev pub took_code : Result Unit Refusal → ℕ
+took_code (Ok tt) = 0
+took_code (Err n) = number n
 
 -- What ended a run: 0 its turns are used, 1 wants right, 2 idle, 3 refused.
-abbrev pub stop_code : Stop → ℕ
-stop_code Used = 0
-stop_code WantsRight = 1
-stop_code Idle = 2
-stop_code (StopRefused n) = 3
+abbrev pub stop_code : Result Stop Refusal → ℕ
+stop_code (Ok Used) = 0
+stop_code (Ok WantsRight) = 1
+stop_code (Ok Idle) = 2
+stop_code (Err n) = 3
 
 -- The refusal's number, where a refused turn ended it.
-abbrev pub stop_refusal : Stop → ℕ
-stop_refusal Used = 0
-stop_refusal WantsRight = 0
-stop_refusal Idle = 0
-stop_refusal (StopRefused n) = number n
+abbrev pub stop_refusal : Result Stop Refusal → ℕ
+stop_refusal (Ok Used) = 0
+stop_refusal (Ok WantsRight) = 0
+stop_refusal (Ok Idle) = 0
+stop_refusal (Err n) = number n

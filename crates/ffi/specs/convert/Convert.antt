@@ -1,6 +1,5 @@
 -- A join as a host keeps it, in numbers alone; which join it is, and which numbers are no join. Assumes nothing.
-use Rattle.std.specs.Prelude.{◌≡◌, Bool, cond, ◌&&◌, ℕ, ◌<◌, eqb}
-use Rattle.std.proofs.Math.Option.{Option, none, some}
+use Rattle.std.specs.Prelude.{◌≡◌, Bool, cond, ◌&&◌, ℕ, ◌<◌, eqb, Option, None, Some}
 use Rattle.order.specs.declared.options.Options.{Options}
 use Rattle.order.specs.declared.Row.{Row}
 use Rattle.frames.specs.outcomes.Answers.{state_code}
@@ -70,14 +69,14 @@ encode j = record {
 
 -- Numbers that no join encodes are none.
 unfoldable pub decode : HostJoin → Option Join
-decode h = cond (is_join h) (some (join_of h)) none
+decode h = cond (is_join h) (Some (join_of h)) None
 
 -- ---- there and back
 -- What the library writes is read as what it was (a strategy is a byte in every join that runs; options alone do not tell a list's places in
 -- rising order, which are found anew); what is read came from exactly these numbers,
 -- so a call that changes no field hands back the words that came.
 pub record ThereAndBack : Type 0 where
-  pub options_back : (o : Options) → o.strategy < 256 → given_ranks (encode_ranks o.ranks) ≡ o.ranks → decode_options (encode_options o) ≡ some o
-  pub options_there : (h : HostOptions) (o : Options) → decode_options h ≡ some o → encode_options o ≡ h
-  pub join_back : (j : Join) → j.options.strategy < 256 → decode (encode j) ≡ some j
-  pub join_there : (h : HostJoin) (j : Join) → decode h ≡ some j → encode j ≡ h
+  pub options_back : (o : Options) → o.strategy < 256 → given_ranks (encode_ranks o.ranks) ≡ o.ranks → decode_options (encode_options o) ≡ Some o
+  pub options_there : (h : HostOptions) (o : Options) → decode_options h ≡ Some o → encode_options o ≡ h
+  pub join_back : (j : Join) → j.options.strategy < 256 → decode (encode j) ≡ Some j
+  pub join_there : (h : HostJoin) (j : Join) → decode h ≡ Some j → encode j ≡ h

@@ -1,10 +1,10 @@
 -- Options as a host gives them and as a join in numbers has them; which options they are, and which numbers are none. Assumes nothing.
-use Rattle.std.specs.Prelude.{Bool, cond, ◌&&◌, List, ℕ, ltb}
-use Rattle.std.proofs.Math.Option.{Option, none, some}
+use Rattle.std.specs.Prelude.{Bool, cond, ◌&&◌, List, ℕ, ltb, Option, None, Some}
 use Rattle.order.specs.ranks.Ranks.{ranks_for}
 use Rattle.order.specs.declared.ranks.Ranks.{Ranks}
 use Rattle.order.specs.declared.options.Options.{Options}
-use Rattle.ffi.specs.codes.Codes.{is_flag, flag_of, flag_code, are_flags, flags_of, flag_codes, check_of, check_code, is_code}
+use Rattle.order.specs.options.Options.{check_code}
+use Rattle.ffi.specs.codes.Codes.{is_flag, flag_of, flag_code, are_flags, flags_of, flag_codes, check_of, is_code}
 use Rattle.ffi.specs.declared.hostoptions.HostRanks.{HostRanks}
 use Rattle.ffi.specs.declared.hostoptions.HostOptions.{HostOptions}
 
@@ -62,4 +62,4 @@ encode_options o = record {
 
 -- Numbers that no options encode are none.
 unfoldable pub decode_options : HostOptions → Option Options
-decode_options h = cond (is_options h) (some (options_of h)) none
+decode_options h = cond (is_options h) (Some (options_of h)) None

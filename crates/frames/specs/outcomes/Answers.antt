@@ -1,11 +1,12 @@
 -- The codes of states and ports, and tests of states and answers. Assumes nothing.
-use Rattle.std.specs.Prelude.{Bool, true, false, ℕ, ◌-◌, ◌^◌}
+use Rattle.frames.specs.declared.outcomes.Turn.TheVariants.{Wrote, WantsRight, Idle}
+use Rattle.frames.specs.declared.outcomes.Turn.{Turn}
+use Rattle.frames.specs.declared.refusals.Refusal.{Refusal}
+use Rattle.std.specs.Prelude.{Bool, true, false, ℕ, ◌-◌, ◌^◌, Result, Ok, Err}
 use Rattle.frames.specs.declared.outcomes.NodeState.{NodeState}
 use Rattle.frames.specs.declared.outcomes.NodeState.TheVariants.{Running, Flush, Done}
 use Rattle.frames.specs.declared.outcomes.PortState.{PortState}
 use Rattle.frames.specs.declared.outcomes.PortState.TheVariants.{Blocked, Ready, Done as PortDone}
-use Rattle.frames.specs.declared.outcomes.Answer.{Answer}
-use Rattle.frames.specs.declared.outcomes.Answer.TheVariants.{Wrote, WantsRight, Idle, Refused}
 
 -- The node's states by number: 0 Running, 1 Flush, 2 Done.
 abbrev pub state_code : NodeState → ℕ
@@ -32,11 +33,11 @@ is_done Flush = false
 is_done Done = true
 
 -- Whether a turn wrote.
-abbrev pub wrote : Answer → Bool
-wrote (Wrote s) = true
-wrote WantsRight = false
-wrote Idle = false
-wrote (Refused n) = false
+abbrev pub wrote : Result Turn Refusal → Bool
+wrote (Ok (Wrote s)) = true
+wrote (Ok WantsRight) = false
+wrote (Ok Idle) = false
+wrote (Err n) = false
 
 -- The greatest number of right rows: 2^63 − 1.
 abbrev pub most_rows : ℕ

@@ -7,7 +7,7 @@ use Rattle.frames.specs.Cells.{Cell, cell}
 use Rattle.order.specs.options.Options.{by_rule}
 use Rattle.order.specs.declared.options.Options.{Options}
 use Rattle.order.specs.Order.{cmp_cell, cmp_first, cmp_row}
-use Rattle.order.specs.declared.Order.TheVariants.{Less}
+use Rattle.std.specs.declared.cmp.Ordering.TheVariants.{Less}
 use Rattle.order.proofs.OrderLaws.{row_by_group}
 
 -- What the first by-column says, if it is not Equal, all of them say.

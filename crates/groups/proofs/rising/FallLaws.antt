@@ -6,7 +6,7 @@ use Rattle.frames.specs.Cells.{Cell, null, value, is_null}
 use Rattle.order.specs.options.Options.{key_rule}
 use Rattle.order.specs.declared.options.Options.{Options}
 use Rattle.order.specs.Order.{cmp_cell, cmp_group, cmp_row, is_greater, key_of}
-use Rattle.order.specs.declared.Order.TheVariants.{Equal}
+use Rattle.std.specs.declared.cmp.Ordering.TheVariants.{Equal}
 
 -- A null is greater than no key.
 pub null_first : (x y : Cell) → is_null x ≡ true → is_greater (cmp_cell key_rule x y) ≡ false

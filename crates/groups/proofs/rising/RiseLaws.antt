@@ -12,7 +12,7 @@ use Rattle.order.specs.options.Options.{key_rule}
 use Rattle.order.specs.declared.options.Options.{Options}
 use Rattle.order.specs.Order.{cmp_cell, cmp_group, cmp_row, is_greater, sorted}
 use Rattle.order.specs.Requires.{cell_at}
-use Rattle.order.specs.declared.Order.TheVariants.{Equal}
+use Rattle.std.specs.declared.cmp.Ordering.TheVariants.{Equal}
 use Rattle.order.proofs.RowLaws.{row_cell, row_room, null_mark, rest, rest_all, sorted_more}
 use Rattle.matching.proofs.ScanLaws.{falls_not}
 use Rattle.groups.specs.stretch.Stretch.{SameTo}

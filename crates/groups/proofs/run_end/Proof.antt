@@ -18,24 +18,24 @@ use Rattle.groups.proofs.run_end.Statement.{statement}
 use Rattle.groups.proofs.run_end.Tie as tie
 
 abbrev invariant-loop : tie.invariant-loop-e
-invariant-loop values marks n w i o codes rising by p₀ e₀ p e =
-    (i < e) × (e ≤ n) × (p + w ≡ e * w)
-    × (i + run_length (with_list o codes rising) (between w i n values marks) ≡ e + run_on (with_list o codes rising) (row_from w p values marks) (between w e n values marks))
+invariant-loop rows i rules by p₀ e₀ p e =
+    (i < e) × (e ≤ rows.count) × (p + rows.width ≡ e * rows.width)
+    × (i + run_length (with_list rules.terms rules.codes.now rules.rising.now) (between rows.width i rows.count rows.values.now rows.marks.now) ≡ e + run_on (with_list rules.terms rules.codes.now rules.rising.now) (row_from rows.width p rows.values.now rows.marks.now) (between rows.width e rows.count rows.values.now rows.marks.now))
 
 abbrev decreases-loop : tie.decreases-loop-e
-decreases-loop values marks n w i o codes rising by p₀ e₀ p e = n - e
+decreases-loop rows i rules by p₀ e₀ p e = rows.count - e
 
 -- row i is among the rows
-low : (c : tie.Else-i-n invariant-loop decreases-loop) → c.args.i < c.args.n
-low c = let l = c.if-i-n.false in omega arith
+low : (c : tie.Else-i-rows invariant-loop decreases-loop) → c.args.i < c.args.rows.count
+low c = let l = c.if-i-rows.false in omega arith
 
 -- row e ends within them
-room : (c : tie.In-loop-e invariant-loop decreases-loop) → c.loop-e.e * c.args.w + c.args.w ≤ c.args.n * c.args.w
-room c = row_room c.loop-e.e c.args.n c.args.w c.loop-e-test.true
+room : (c : tie.In-loop-e invariant-loop decreases-loop) → c.loop-e.e * c.args.rows.width + c.args.rows.width ≤ c.args.rows.count * c.args.rows.width
+room c = row_room c.loop-e.e c.args.rows.count c.args.rows.width c.loop-e-test.true
 
 -- the two rows are there
 rows_at : (c : tie.In-loop-e invariant-loop decreases-loop) → let l = c.loop-e in let a = c.args in
-    RowAt (with_list a.o a.codes.now a.rising.now) l.p a.values.now a.marks.now × RowAt (with_list a.o a.codes.now a.rising.now) (l.p + a.w) a.values.now a.marks.now
+    RowAt (with_list a.rules.terms a.rules.codes.now a.rules.rising.now) l.p a.rows.values.now a.rows.marks.now × RowAt (with_list a.rules.terms a.rules.codes.now a.rules.rising.now) (l.p + a.rows.width) a.rows.values.now a.rows.marks.now
 rows_at c =
     let r = room c in
     let p = c.requires.rows in
@@ -43,40 +43,40 @@ rows_at c =
 
 -- and whatever the list
 plain_at : (c : tie.In-loop-e invariant-loop decreases-loop) → let l = c.loop-e in let a = c.args in
-    RowAt (without_list a.o) l.p a.values.now a.marks.now × RowAt (without_list a.o) (l.p + a.w) a.values.now a.marks.now
+    RowAt (without_list a.rules.terms) l.p a.rows.values.now a.rows.marks.now × RowAt (without_list a.rules.terms) (l.p + a.rows.width) a.rows.values.now a.rows.marks.now
 plain_at c =
     let a = c.args in
     let r = rows_at c in
-    let plain = row_terms a.o a.codes.now a.rising.now in
-    (plain c.loop-e.p a.values.now a.marks.now r.0, plain (c.loop-e.p + a.w) a.values.now a.marks.now r.1)
+    let plain = row_terms a.rules.terms a.rules.codes.now a.rules.rising.now in
+    (plain c.loop-e.p a.rows.values.now a.rows.marks.now r.0, plain (c.loop-e.p + a.rows.width) a.rows.values.now a.rows.marks.now r.1)
 
 -- rows with the same by-values are of one run
 alike : (c : tie.Then-same_values invariant-loop decreases-loop) →
     let l = c.loop-e in
     let a = c.args in
-    same_run (with_list a.o a.codes.now a.rising.now) (row_from a.w l.p a.values.now a.marks.now) (row_from a.w (l.e * a.w) a.values.now a.marks.now) ≡ true
+    same_run (with_list a.rules.terms a.rules.codes.now a.rules.rising.now) (row_from a.rows.width l.p a.rows.values.now a.rows.marks.now) (row_from a.rows.width (l.e * a.rows.width) a.rows.values.now a.rows.marks.now) ≡ true
 alike c =
     let s = c in
     let l = c.loop-e in
-    sym (same_yes (with_list s.args.o s.args.codes.now s.args.rising.now) _ _ (rw l.invariant.2 at (c.same_values.ensures c.if-same_values.true s.args.codes.now s.args.rising.now s.args.w s.requires.rows.wide)))
+    sym (same_yes (with_list s.args.rules.terms s.args.rules.codes.now s.args.rules.rising.now) _ _ (rw l.invariant.2 at (c.same_values.ensures c.if-same_values.true s.args.rules.codes.now s.args.rules.rising.now s.args.rows.width s.requires.rows.wide)))
 
 -- what `same_run` says is what row e says to the row before it
 told : (c : tie.After-same_run invariant-loop decreases-loop) (t : Bool) → c.same_run.result ≡ t →
     let l = c.loop-e in
     let a = c.args in
-    same_run (with_list a.o a.codes.now a.rising.now) (row_from a.w l.p a.values.now a.marks.now) (row_from a.w (l.e * a.w) a.values.now a.marks.now) ≡ t
+    same_run (with_list a.rules.terms a.rules.codes.now a.rules.rising.now) (row_from a.rows.width l.p a.rows.values.now a.rows.marks.now) (row_from a.rows.width (l.e * a.rows.width) a.rows.values.now a.rows.marks.now) ≡ t
 told c t e =
     let s = c in
     let l = c.loop-e in
-    sym (rw l.invariant.2 at (c.same_run.ensures s.args.codes.now s.args.rising.now s.args.w s.requires.rows.wide)) ∙ e
+    sym (rw l.invariant.2 at (c.same_run.ensures s.args.rules.codes.now s.args.rules.rising.now s.args.rows.width s.requires.rows.wide)) ∙ e
 
-returns : tie.Need-returns-then-i-n invariant-loop decreases-loop
+returns : tie.Need-returns-then-i-rows invariant-loop decreases-loop
 returns c =
     let a = c.args in
-    rw (c.if-i-n.true, run_past (with_list a.o a.codes.now a.rising.now) a.w a.n a.values.now a.marks.now) (omega arith)
+    rw (c.if-i-rows.true, run_past (with_list a.rules.terms a.rules.codes.now a.rules.rising.now) a.rows.width a.rows.count a.rows.values.now a.rows.marks.now) (omega arith)
 
 mul-p : tie.Need-overflow_mul-p invariant-loop decreases-loop
-mul-p c = omega (arith, row_room c.args.i c.args.n c.args.w (low c))
+mul-p c = omega (arith, row_room c.args.i c.args.rows.count c.args.rows.width (low c))
 
 add-e : tie.Need-overflow_add-e invariant-loop decreases-loop
 add-e c = omega (arith, low c)
@@ -85,13 +85,13 @@ loop-holds : tie.Need-loop-e-init invariant-loop decreases-loop
 loop-holds c =
     let a = c.args in
     let h = low c in
-    (omega arith, omega arith, omega arith, on_first (with_list a.o a.codes.now a.rising.now) a.w a.n a.values.now a.marks.now a.i h)
+    (omega arith, omega arith, omega arith, on_first (with_list a.rules.terms a.rules.codes.now a.rules.rising.now) a.rows.width a.rows.count a.rows.values.now a.rows.marks.now a.i h)
 
 add-q : tie.Need-overflow_add-q invariant-loop decreases-loop
 add-q c = omega (arith, room c)
 
 same-values-requires : tie.Need-same_values-requires invariant-loop decreases-loop
-same-values-requires c κs = plain_at c
+same-values-requires c κs = plain_at c.before
 
 same-end-requires : tie.Need-same_end-e-requires invariant-loop decreases-loop
 same-end-requires c κs =
@@ -101,10 +101,10 @@ same-end-requires c κs =
 
 -- the row before the one where the stretch ends is among the rows
 last : (c : tie.After-same_end-e invariant-loop decreases-loop) → let a = c.args in
-    (c.same_end-e.result - 1) * a.w + a.w ≡ c.same_end-e.result * a.w
+    (c.same_end-e.result - 1) * a.rows.width + a.rows.width ≡ c.same_end-e.result * a.rows.width
 last c =
     let s = c.same_end-e.ensures.start in
-    sym (one_row c.same_end-e.result c.args.w (omega arith))
+    sym (one_row c.same_end-e.result c.args.rows.width (omega arith))
 
 sub-p : tie.Need-overflow_sub-p invariant-loop decreases-loop
 sub-p c = omega (arith, c.same_end-e.ensures.start)
@@ -112,7 +112,7 @@ sub-p c = omega (arith, c.same_end-e.ensures.start)
 mul-p-2 : tie.Need-overflow_mul-p-then-same_values invariant-loop decreases-loop
 mul-p-2 c =
     let s = c in
-    let m = mul-le-mul_right {m = c.same_end-e.result} {n = s.args.n} s.args.w c.same_end-e.ensures.within in
+    let m = mul-le-mul_right {m = c.same_end-e.result} {n = s.args.rows.count} s.args.rows.width c.same_end-e.ensures.within in
     omega (arith, last c, m, s.requires.rows.values)
 
 loop-less : tie.Need-loop-e-smaller-then-same_values invariant-loop decreases-loop
@@ -128,11 +128,11 @@ loop-again c =
     let t = c.loop-e-test.true in
     let k = c.same_end-e.ensures in
     let m = on_more _ _ _ _ _ _ l.e t (alike c.before) in
-    let n = on_stretch (with_list a.o a.codes.now a.rising.now) a.w a.n a.values.now a.marks.now s.requires.rows.wide s.requires.rows.values l.e c.same_end-e.result k in
+    let n = on_stretch (with_list a.rules.terms a.rules.codes.now a.rules.rising.now) a.rows.width a.rows.count a.rows.values.now a.rows.marks.now s.requires.rows.wide s.requires.rows.values l.e c.same_end-e.result k in
     (omega (arith, k.start), k.within, last c, l.invariant.3 ∙ m ∙ n)
 
 same-run-requires : tie.Need-same_run-requires invariant-loop decreases-loop
-same-run-requires c κs = plain_at c.before.before
+same-run-requires c κs = plain_at c.before.before.before.before
 
 returns-2 : tie.Need-returns-then-not-same_run invariant-loop decreases-loop
 returns-2 c =

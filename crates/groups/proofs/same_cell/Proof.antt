@@ -16,28 +16,28 @@ use borrow.Author.Rules.{rules}
 use Rattle.groups.proofs.same_cell.Statement.{statement}
 use Rattle.groups.proofs.same_cell.Tie as tie
 
-mul-cmp-cell : tie.Need-offset_bounds-values-a
+mul-cmp-cell : tie.Need-offset_bounds-rows-a
 mul-cmp-cell c = search rules
 
-shared-slice-copy-out-cmp-cell : tie.Need-bounds-values-a
+shared-slice-copy-out-cmp-cell : tie.Need-bounds-rows-a
 shared-slice-copy-out-cmp-cell c = search rules
 
-mul-cmp-cell-2 : tie.Need-offset_bounds-marks-a
+mul-cmp-cell-2 : tie.Need-offset_bounds-rows-a-2
 mul-cmp-cell-2 c = search rules
 
-shared-slice-copy-out-cmp-cell-2 : tie.Need-bounds-marks-a
+shared-slice-copy-out-cmp-cell-2 : tie.Need-bounds-rows-a-2
 shared-slice-copy-out-cmp-cell-2 c = search rules
 
-mul-cmp-cell-3 : tie.Need-offset_bounds-values-b
+mul-cmp-cell-3 : tie.Need-offset_bounds-rows-b
 mul-cmp-cell-3 c = search rules
 
-shared-slice-copy-out-cmp-cell-3 : tie.Need-bounds-values-b
+shared-slice-copy-out-cmp-cell-3 : tie.Need-bounds-rows-b
 shared-slice-copy-out-cmp-cell-3 c = search rules
 
-mul-cmp-cell-4 : tie.Need-offset_bounds-marks-b
+mul-cmp-cell-4 : tie.Need-offset_bounds-rows-b-2
 mul-cmp-cell-4 c = search rules
 
-shared-slice-copy-out-cmp-cell-4 : tie.Need-bounds-marks-b
+shared-slice-copy-out-cmp-cell-4 : tie.Need-bounds-rows-b-2
 shared-slice-copy-out-cmp-cell-4 c = search rules
 
 cmp-cell-requires : tie.Need-cmp_cell-requires
@@ -48,14 +48,14 @@ enum_told c = search rules
 
 -- the cells' own order is told
 told : (c : tie.After-cmp_cell) → let a = c.args in
-    c.cmp_cell.result ≡ cmp_cell key_rule (cell_at a.a a.values.now a.marks.now) (cell_at a.b a.values.now a.marks.now)
+    c.cmp_cell.result ≡ cmp_cell key_rule (cell_at a.a a.rows.values.now a.rows.marks.now) (cell_at a.b a.rows.values.now a.rows.marks.now)
 told c =
     let a = c.args in
     rw (
-      back (get_or a.values.now a.a (pos 0)) c.cmp_cell-arg-1.given,
-      back (get_or a.marks.now a.a (pos 0)) c.cmp_cell-arg-2-1.given,
-      back (get_or a.values.now a.b (pos 0)) c.cmp_cell-arg-3-1.given,
-      back (get_or a.marks.now a.b (pos 0)) c.cmp_cell-arg-4-1.given,
+      back (get_or a.rows.values.now a.a (pos 0)) c.cmp_cell-arg-1.given,
+      back (get_or a.rows.marks.now a.a (pos 0)) c.cmp_cell-arg-2-1.given,
+      back (get_or a.rows.values.now a.b (pos 0)) c.cmp_cell-arg-3-1.given,
+      back (get_or a.rows.marks.now a.b (pos 0)) c.cmp_cell-arg-4-1.given,
     )
     at c.cmp_cell.ensures
 

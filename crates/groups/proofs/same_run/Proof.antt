@@ -19,17 +19,17 @@ same-cells-requires c κs = search rules
 
 -- where their cells are not all equal, the groups are two
 apart : (c : tie.Else-same_cells) (codes : Words) (rising : List ℕ) (w : ℕ) → let a = c.args in a.o.by < w
-    → is_equal (cmp_group (with_list a.o codes rising) (row_from w a.p a.values.now a.marks.now) (row_from w a.q a.values.now a.marks.now)) ≡ false
+    → is_equal (cmp_group (with_list a.o codes rising) (row_from w a.p a.rows.values.now a.rows.marks.now) (row_from w a.q a.rows.values.now a.rows.marks.now)) ≡ false
 apart c codes rising w h =
     let s = c in
     let a = s.args in
-    not_alike (with_list a.o codes rising) w a.p a.q a.values.now a.marks.now h s.requires.0.values s.requires.1.values (c.same_cells.ensures.1 c.if-same_cells.false)
+    not_alike (with_list a.o codes rising) w a.p a.q a.rows.values.now a.rows.marks.now h s.requires.0.values s.requires.1.values (c.same_cells.ensures.1 c.if-same_cells.false)
 
 returns : tie.Need-returns-then-same_cells
 returns c = λ codes rising w h.
     let s = c in
     let a = s.args in
-    same_yes (with_list a.o codes rising) _ _ (same_group_lem (with_list a.o codes rising) w a.p a.q a.values.now a.marks.now h s.requires.0.values s.requires.1.values (c.same_cells.ensures.0 c.if-same_cells.true))
+    same_yes (with_list a.o codes rising) _ _ (same_group_lem (with_list a.o codes rising) w a.p a.q a.rows.values.now a.rows.marks.now h s.requires.0.values s.requires.1.values (c.same_cells.ensures.0 c.if-same_cells.true))
 
 null-group-requires : tie.Need-null_group-requires
 null-group-requires c κs = search rules
@@ -39,8 +39,8 @@ returns-2 c = λ codes rising w h.
     let i = c in
     let s = i in
     let a = s.args in
-    let n = c.null_group.ensures w a.values.now h s.requires.0.values in
-    same_no (with_list a.o codes rising) _ _ (apart i.before.before codes rising w h) (sym n ∙ not-true _ c.if-not-null_group.true-raw)
+    let n = c.null_group.ensures w a.rows.values.now h s.requires.0.values in
+    same_no (with_list a.o codes rising) _ _ (apart i.before.before.before codes rising w h) (sym n ∙ not-true _ c.if-not-null_group.true-raw)
 
 null-group-requires-2 : tie.Need-null_group-requires-2
 null-group-requires-2 c κs = search rules
@@ -50,8 +50,8 @@ returns-3 c = λ codes rising w h.
     let i = c in
     let s = i in
     let a = s.args in
-    let n = c.null_group.ensures w a.values.now h s.requires.0.values in
-    c.null_group-2.ensures w a.values.now h s.requires.1.values ∙ same_nulls (with_list a.o codes rising) _ _ (apart i.before.before.before codes rising w h) (sym n ∙ not-false _ c.if-not-null_group.false-raw)
+    let n = c.null_group.ensures w a.rows.values.now h s.requires.0.values in
+    c.null_group-2.ensures w a.rows.values.now h s.requires.1.values ∙ same_nulls (with_list a.o codes rising) _ _ (apart i.before.before.before.before.before codes rising w h) (sym n ∙ not-false _ c.if-not-null_group.false-raw)
 
 pub same_run_spec : {M : Type 1} → statement M
 same_run_spec =

@@ -12,7 +12,7 @@ use Rattle.order.specs.Order.{cmp_group, null_group, sorted}
 use Rattle.order.proofs.OrderLaws.{AtMost, cmp_group_is, group_at_most, at_most_equal, at_most, equal_at_most, equal_flip, same_right}
 use Rattle.order.proofs.RowLaws.{rows_from}
 use Rattle.order.proofs.SortedLaws.{sorted_at, sorted_cut}
-use Rattle.order.specs.declared.Order.TheVariants.{Less, Equal}
+use Rattle.std.specs.declared.cmp.Ordering.TheVariants.{Less, Equal}
 use Rattle.matching.specs.Groups.{runs}
 use Rattle.matching.specs.Stretches.{between, run_on, run_length, standing}
 use Rattle.matching.specs.Moves.{keys_sorted}

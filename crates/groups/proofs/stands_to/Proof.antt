@@ -12,7 +12,7 @@ returns : tie.Need-returns-then-null_group
 unfolding standing
 returns c = λ wl wr h k.
     let a = c.args in
-    let n = c.null_group.ensures wr a.rv.now (omega arith) (omega arith) in
+    let n = c.null_group.ensures wr a.right.values.now (omega arith) (omega arith) in
     rw (sym n ∙ c.if-null_group.true)
 
 cmp-group-requires : tie.Need-cmp_group-requires
@@ -22,7 +22,7 @@ returns-2 : tie.Need-returns
 unfolding standing
 returns-2 c = λ wl wr h k.
     let a = c.args in
-    let n = c.null_group.ensures wr a.rv.now (omega arith) (omega arith) in
+    let n = c.null_group.ensures wr a.right.values.now (omega arith) (omega arith) in
     rw (sym n ∙ c.if-null_group.false) (c.cmp_group.ensures wr wl k h)
 
 pub stands_to_spec : {M : Type 1} → statement M

@@ -10,7 +10,7 @@ use Rattle.frames.specs.Cells.{Cell, Words, cell_of, row_from}
 use Rattle.order.specs.declared.options.Options.{Options}
 use Rattle.order.specs.Order.{cmp_group}
 use Rattle.order.specs.Requires.{cell_at}
-use Rattle.order.specs.declared.Order.TheVariants.{Equal}
+use Rattle.std.specs.declared.cmp.Ordering.TheVariants.{Equal}
 use Rattle.order.proofs.OrderLaws.{equal_group}
 use Rattle.order.proofs.RowLaws.{row_cell}
 use Rattle.groups.specs.stretch.Stretch.{Have, SameTo}
@@ -54,13 +54,6 @@ pass_more P e n w left q d l f r before here k g h = by (dec_lt (k + left) n)
       where
         expand : (k l n d w : ℕ) → k + l ≡ n + d → k * w + l * w ≡ n * w + d * w
         expand k l n d w e = let z : (k + l) * w ≡ (n + d) * w = rw e in omega arith
-
--- One row more, and four.
-pub pass_one : (P : ℕ → Type 0) (e n w left q : ℕ) → left ≤ n → 0 < left → q + left * w ≡ n * w → ((k : ℕ) → e ≤ k → k + left < n → P (k * w)) → P q → (k : ℕ) → e ≤ k → k + (left - 1) < n → P (k * w)
-pass_one P e n w left q l f r before here = pass_more P e n w left q 1 l f r before one
-  where
-    one : (j : ℕ) → j < 1 → P (q + j * w)
-    one j h = let z : j ≡ 0 = omega arith in let y : q + 0 * w ≡ q = omega arith in rw (z, y) here
 
 pub left_less : (n w left q d : ℕ) → d ≤ left → q + left * w ≡ n * w → q + d * w + (left - d) * w ≡ n * w
 left_less n w left q d h r = let z : (d + (left - d)) * w ≡ left * w = let y : d + (left - d) ≡ left = omega arith in rw y in omega arith

@@ -1,8 +1,10 @@
 -- A list of calls in numbers is a list of the node's, call by call. Assumes nothing.
+use Rattle.frames.specs.declared.outcomes.Turn.{Turn}
+use Rattle.frames.specs.declared.refusals.Refusal.{Refusal}
+use Rattle.std.specs.Prelude.{Result, Ok, Err, Some}
 use mathlib.Core.Path.{◌≡◌, refl, sym, ap, subst, ◌∙◌}
 use mathlib.Core.Bool.{Bool, true, false, ◌&&◌}
 use mathlib.Core.List.{[], ◌∷◌}
-use mathlib.Core.Option.{some}
 use Prim.Native.Nat.{ℕ, zero, suc}
 use native.Mathlib.Omega.{arith}
 use borrow.Author.Tests.{ltb-true}
@@ -12,11 +14,7 @@ use Rattle.node.specs.declared.Join.{Join}
 use Rattle.node.proofs.runs.RunLaws.{turn_areas}
 use Rattle.frames.specs.outcomes.Answers.{port_code}
 use Rattle.frames.specs.declared.outcomes.PortState.{PortState}
-use Rattle.frames.specs.declared.outcomes.Took.{Took}
-use Rattle.frames.specs.declared.outcomes.Took.TheVariants.{Accepted, Refused}
-use Rattle.frames.specs.declared.outcomes.Ported.{Ported}
-use Rattle.frames.specs.declared.outcomes.Ported.TheVariants.{Ports, Refused as PortsRefused}
-use Rattle.frames.specs.declared.outcomes.Answer.{Answer}
+use Rattle.frames.specs.declared.outcomes.Ports.{Ports}
 use Rattle.frames.specs.declared.refusals.Refusal.TheVariants.{BadJoin}
 use Rattle.ffi.specs.codes.Codes.{is_code, port_of}
 use Rattle.ffi.proofs.codes.CodeLaws.{and_both}
@@ -39,33 +37,33 @@ module _ (j : Join) (l r : Words) where
   unfolding left_call queued
   left_right f = go (left_answer j l r f) refl
     where
-      go : (t : Took) → left_answer j l r f ≡ t → (left_call j l r f).right ≡ r
-      go Accepted e = rw (e, left_call)
-      go (Refused n) e = rw (e, left_call)
+      go : (t : Result Unit Refusal) → left_answer j l r f ≡ t → (left_call j l r f).right ≡ r
+      go (Ok tt) e = rw (e, left_call)
+      go (Err n) e = rw (e, left_call)
 
   right_left : (f : Words) → (right_call j l r f).left ≡ l
   unfolding right_call pushed_right
   right_left f = go (right_answer j l r f) refl
     where
-      go : (t : Took) → right_answer j l r f ≡ t → (right_call j l r f).left ≡ l
-      go Accepted e = rw (e, right_call)
-      go (Refused n) e = rw (e, right_call)
+      go : (t : Result Unit Refusal) → right_answer j l r f ≡ t → (right_call j l r f).left ≡ l
+      go (Ok tt) e = rw (e, right_call)
+      go (Err n) e = rw (e, right_call)
 
   end_areas : ((end_call j l r).left ≡ l) × ((end_call j l r).right ≡ r)
   unfolding end_call
   end_areas = go (end_answer j l r) refl
     where
-      go : (t : Took) → end_answer j l r ≡ t → ((end_call j l r).left ≡ l) × ((end_call j l r).right ≡ r)
-      go Accepted e = rw (e, end_call) (refl, refl)
-      go (Refused n) e = rw (e, end_call) (refl, refl)
+      go : (t : Result Unit Refusal) → end_answer j l r ≡ t → ((end_call j l r).left ≡ l) × ((end_call j l r).right ≡ r)
+      go (Ok tt) e = rw (e, end_call) (refl, refl)
+      go (Err n) e = rw (e, end_call) (refl, refl)
 
   ports_areas : (x y z : PortState) → ((ports_call j l r x y z).left ≡ l) × ((ports_call j l r x y z).right ≡ r)
   unfolding ports_call
   ports_areas x y z = go (ports_answer j l r x y z) refl
     where
-      go : (t : Ported) → ports_answer j l r x y z ≡ t → ((ports_call j l r x y z).left ≡ l) × ((ports_call j l r x y z).right ≡ r)
-      go (Ports a b d) e = rw (e, ports_call) (refl, refl)
-      go (PortsRefused n) e = rw (e, ports_call) (refl, refl)
+      go : (t : Result Ports Refusal) → ports_answer j l r x y z ≡ t → ((ports_call j l r x y z).left ≡ l) × ((ports_call j l r x y z).right ≡ r)
+      go (Ok p) e = rw (e, ports_call) (refl, refl)
+      go (Err n) e = rw (e, ports_call) (refl, refl)
 
 -- A code up to 2 is a port's.
 code_there : (x : ℕ) → is_code x ≡ true → port_code (port_of x) ≡ x
@@ -78,7 +76,7 @@ code_there (suc (suc (suc x))) e = absurd (omega (arith, ltb-true (suc (suc (suc
 abbrev Step-follows : HostWorld → World → HostCall → Type 0
 Step-follows v w c = ((host_step v c).event ≡ event_for w c) × Agree (host_step v c).world (final w (calls_for w c))
 
-module _ (h : HostJoin) (w : World) (d : decode h ≡ some w.join) where
+module _ (h : HostJoin) (w : World) (d : decode h ≡ Some w.join) where
   abbrev v : HostWorld
   v = record { join = h; left = w.left; right = w.right }
 
@@ -89,16 +87,16 @@ module _ (h : HostJoin) (w : World) (d : decode h ≡ some w.join) where
   unfolding host_step final step
   on_left_lem f =
       let s = follows.by_left f in (
-        ap (λ (z : HostAfter Took). on_left f (took_host z.answer z.join)) s.whole,
-        record { join = s.again; left = ap (λ (z : HostAfter Took). z.left) s.whole; right = sym (left_right w.join w.left w.right f) },
+        ap (λ (z : HostAfter (Result Unit Refusal)). on_left f (took_host z.answer z.join)) s.whole,
+        record { join = s.again; left = ap (λ (z : HostAfter (Result Unit Refusal)). z.left) s.whole; right = sym (left_right w.join w.left w.right f) },
       )
 
   on_right_lem : (f : Words) → Step-follows v w (right f)
   unfolding host_step final step
   on_right_lem f =
       let s = follows.by_right f in (
-        ap (λ (z : HostAfter Took). on_right f (took_host z.answer z.join)) s.whole,
-        record { join = s.again; left = sym (right_left w.join w.left w.right f); right = ap (λ (z : HostAfter Took). z.right) s.whole },
+        ap (λ (z : HostAfter (Result Unit Refusal)). on_right f (took_host z.answer z.join)) s.whole,
+        record { join = s.again; left = sym (right_left w.join w.left w.right f); right = ap (λ (z : HostAfter (Result Unit Refusal)). z.right) s.whole },
       )
 
   on_end_lem : Step-follows v w end
@@ -106,14 +104,14 @@ module _ (h : HostJoin) (w : World) (d : decode h ≡ some w.join) where
   on_end_lem =
       let s = follows.by_end in
       let a = end_areas w.join w.left w.right in
-      (ap (λ (z : HostAfter Took). on_end (took_host z.answer z.join)) s.whole, record { join = s.again; left = sym a.0; right = sym a.1 })
+      (ap (λ (z : HostAfter (Result Unit Refusal)). on_end (took_host z.answer z.join)) s.whole, record { join = s.again; left = sym a.0; right = sym a.1 })
 
   on_turn_lem : (out : Words) → Step-follows v w (turn out)
   unfolding host_step final step
   on_turn_lem out =
       let s = follows.by_turn out in
       let a = turn_areas w.join w.left w.right out in
-      (ap (λ (z : HostAfter Answer). on_turn (turned_host z.answer z.join) z.out) s.whole, record { join = s.again; left = sym a.0; right = sym a.1 })
+      (ap (λ (z : HostAfter (Result Turn Refusal)). on_turn (turned_host z.answer z.join) z.out) s.whole, record { join = s.again; left = sym a.0; right = sym a.1 })
 
   on_run_lem : (k : ℕ) (out : Words) → Step-follows v w (run k out)
   unfolding host_step
@@ -123,7 +121,7 @@ module _ (h : HostJoin) (w : World) (d : decode h ≡ some w.join) where
       let q = ran_from k w out in
       let j : (final w (turns_of k w out)).join ≡ q.join = ap (λ (z : World). z.join) t.world in (
         ap (λ (z : HostAfter Made). on_run (ran_host z.answer z.join) z.out) s.whole ∙ rw (j, ← t.turns, ← t.written, ← t.stop, t.words),
-        record { join = s.again ∙ ap some (sym j); left = ap (λ (z : World). z.left) (sym t.world); right = ap (λ (z : World). z.right) (sym t.world) },
+        record { join = s.again ∙ ap Some (sym j); left = ap (λ (z : World). z.left) (sym t.world); right = ap (λ (z : World). z.right) (sym t.world) },
       )
 
   -- Ports that can be said, and ports that cannot.
@@ -141,15 +139,15 @@ module _ (h : HostJoin) (w : World) (d : decode h ≡ some w.join) where
           let s = said a b c q.0 q.1 p.1 in
           let k = ports_areas w.join w.left w.right (port_of a) (port_of b) (port_of c) in
           rw (e, code_there a q.0, code_there b q.1, code_there c p.1) (
-            rw e at (ap (λ (z : HostAfter Ported). on_ports a b c (ported_host z.answer z.join)) s.whole),
+            rw e at (ap (λ (z : HostAfter (Result Ports Refusal)). on_ports a b c (ported_host z.answer z.join)) s.whole),
             record { join = rw e at s.again; left = sym k.0; right = sym k.1 },
           )
       go false e =
           rw e
-          (ap (λ (z : HostJoin). on_ports a b c (ported_host (PortsRefused BadJoin) z)) (sym (there_and_back.join_there h w.join d)), record { join = d; left = refl; right = refl })
+          (ap (λ (z : HostJoin). on_ports a b c (ported_host (Err BadJoin) z)) (sym (there_and_back.join_there h w.join d)), record { join = d; left = refl; right = refl })
 
 -- ---- any call, and lists
-step_by : (h : HostJoin) (w : World) → decode h ≡ some w.join → (c : HostCall) → Step-follows (record { join = h; left = w.left; right = w.right }) w c
+step_by : (h : HostJoin) (w : World) → decode h ≡ Some w.join → (c : HostCall) → Step-follows (record { join = h; left = w.left; right = w.right }) w c
 step_by h w d (left f) = on_left_lem h w d f
 step_by h w d (right f) = on_right_lem h w d f
 step_by h w d end = on_end_lem h w d

@@ -1,8 +1,11 @@
 -- The whole-table theorem, of what a host reads off its calls: it reads what the node's events say. Assumes nothing.
+use Rattle.frames.specs.declared.outcomes.Turn.TheVariants.{Wrote, WantsRight, Idle}
+use Rattle.frames.specs.declared.outcomes.Turn.{Turn}
+use Rattle.frames.specs.declared.refusals.Refusal.{Refusal}
+use Rattle.std.specs.Prelude.{Result, Ok, Err, Some}
 use mathlib.Core.Path.{◌≡◌, refl, sym, ap, ◌∙◌}
 use mathlib.Core.Bool.{Bool, true, false, cond, ◌&&◌}
 use mathlib.Core.List.{List, [], ◌∷◌, ◌++◌, append-nil, append_assoc, map}
-use mathlib.Core.Option.{some}
 use Prim.Native.Nat.{ℕ, zero, suc, ◌+◌, ◌*◌, ◌≤◌, ◌<◌}
 use native.Mathlib.Omega.{arith}
 use lib.Dec.{eqb}
@@ -18,10 +21,6 @@ use Rattle.callrules.specs.Judged.{open_answer}
 use Rattle.node.specs.runs.Run.{turn_words}
 use Rattle.node.proofs.runs.RunLaws.{turn_fits, turn_length}
 use Rattle.frames.specs.outcomes.Answers.{wrote, is_done}
-use Rattle.frames.specs.declared.outcomes.Answer.{Answer}
-use Rattle.frames.specs.declared.outcomes.Answer.TheVariants.{Wrote, WantsRight, Idle, Refused as TurnRefused}
-use Rattle.frames.specs.declared.outcomes.Took.{Took}
-use Rattle.frames.specs.declared.outcomes.Took.TheVariants.{Accepted, Refused}
 use Rattle.ffi.specs.codes.Codes.{is_code, took_code, state_of}
 use Rattle.ffi.specs.hostoptions.HostOptions.{is_options, options_of, decode_options}
 use Rattle.ffi.proofs.convert.ConvertLaws.{decoded}
@@ -46,15 +45,15 @@ use Rattle.hostcalls.specs.hostlists.HostTable.{host_start, host_left_in, host_r
 use Rattle.hostcalls.proofs.hostlists.Follow.{host_lists}
 
 -- ---- refusal 0 is acceptance, answer 0 is Wrote
-taken : (a : Took) (xs : List Words) → cond (eqb (took_code a) 0) xs [] ≡ when a xs
-taken Accepted xs = refl
-taken (Refused n) xs = rw (number_above n) refl
+taken : (a : Result Unit Refusal) (xs : List Words) → cond (eqb (took_code a) 0) xs [] ≡ when a xs
+taken (Ok tt) xs = refl
+taken (Err n) xs = rw (number_above n) refl
 
-written_by_lem : (a : Answer) (h : HostJoin) (xs : List Words) → cond (eqb (turned_host a h).answer 0) xs [] ≡ when_wrote a xs
-written_by_lem (Wrote s) h xs = refl
-written_by_lem WantsRight h xs = refl
-written_by_lem Idle h xs = refl
-written_by_lem (TurnRefused n) h xs = refl
+written_by_lem : (a : Result Turn Refusal) (h : HostJoin) (xs : List Words) → cond (eqb (turned_host a h).answer 0) xs [] ≡ when_wrote a xs
+written_by_lem (Ok (Wrote s)) h xs = refl
+written_by_lem (Ok WantsRight) h xs = refl
+written_by_lem (Ok Idle) h xs = refl
+written_by_lem (Err n) h xs = refl
 
 -- ---- the words of a turn tell its rows, whatever stands behind them
 count_more : (p q : Words) → 0 < length p → row_count (p ++ q) ≡ row_count p
@@ -130,11 +129,11 @@ full_wrote : (j : Join) (l r out : Words) (os : List Words) → Full (answer_col
     → Full (answer_columns j.options) (when_wrote (turn_call j l r out).answer ((turn_call j l r out).out ∷ []) ++ os)
 full_wrote j l r out os f = go (turn_call j l r out).answer refl
   where
-    go : (a : Answer) → (turn_call j l r out).answer ≡ a → Full (answer_columns j.options) (when_wrote a ((turn_call j l r out).out ∷ []) ++ os)
-    go (Wrote s) e = (omega (arith, (turn_fits j l r out (ap wrote e)).room, turn_length j l r out), f)
-    go WantsRight e = f
-    go Idle e = f
-    go (TurnRefused n) e = f
+    go : (a : Result Turn Refusal) → (turn_call j l r out).answer ≡ a → Full (answer_columns j.options) (when_wrote a ((turn_call j l r out).out ∷ []) ++ os)
+    go (Ok (Wrote s)) e = (omega (arith, (turn_fits j l r out (ap wrote e)).room, turn_length j l r out), f)
+    go (Ok WantsRight) e = f
+    go (Ok Idle) e = f
+    go (Err n) e = f
 
 turns_full : (outs : List Words) (w : World) → Full (answer_columns w.join.options) (outputs (events w (map node_turn outs)))
 unfolding events outputs step
@@ -224,17 +223,17 @@ says_all (c ∷ cs) w =
 
 -- ---- from the opening on
 -- An opening that returned refusal 0 has options, and they are not refused.
-opened : (h : HostOptions) → (open_host h).refusal ≡ 0 → (decode_options h ≡ some (options_of h)) × (refused_options (options_of h) ≡ false)
+opened : (h : HostOptions) → (open_host h).refusal ≡ 0 → (decode_options h ≡ Some (options_of h)) × (refused_options (options_of h) ≡ false)
 unfolding decode_options open_answer
 opened h z = go (is_options h) refl
   where
-    fine : (a b c : Bool) → took_code (cond a (Refused BadOptions) (cond b (Refused TooManyCarried) (cond c (Refused BadRanks) Accepted))) ≡ 0 → (a ≡ false) × (b ≡ false) × (c ≡ false)
+    fine : (a b c : Bool) → took_code (cond a (Err BadOptions) (cond b (Err TooManyCarried) (cond c (Err BadRanks) (Ok tt)))) ≡ 0 → (a ≡ false) × (b ≡ false) × (c ≡ false)
     fine true b c e = absurd (omega arith)
     fine false true c e = absurd (omega arith)
     fine false false true e = absurd (omega arith)
     fine false false false e = (refl, refl, refl)
 
-    go : (b : Bool) → is_options h ≡ b → (decode_options h ≡ some (options_of h)) × (refused_options (options_of h) ≡ false)
+    go : (b : Bool) → is_options h ≡ b → (decode_options h ≡ Some (options_of h)) × (refused_options (options_of h) ≡ false)
     go true e =
         let f = fine (bad_options (options_of h)) (many_carried (options_of h)) (bad_ranked (options_of h)) (sym (ap (λ (t : HostTook). t.refusal) (open_through h e)) ∙ z) in
         (rw e, good_allowed (options_of h) f.0 f.1 f.2)

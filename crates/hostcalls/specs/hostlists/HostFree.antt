@@ -1,6 +1,5 @@
 -- A host may alter the free words of its areas between calls: none of its calls returns anything else for it. The statement; its proof stands in proofs/. Assumes nothing.
-use Rattle.std.specs.Prelude.{◌≡◌, List}
-use Rattle.std.proofs.Math.Option.{some}
+use Rattle.std.specs.Prelude.{◌≡◌, List, Some}
 use Rattle.node.specs.declared.Join.{Join}
 use Rattle.ffi.specs.convert.Convert.{decode}
 use Rattle.lists.specs.Unread.{Alike}
@@ -10,5 +9,5 @@ use Rattle.hostcalls.specs.hostlists.HostLists.{HostCall, HostWorld, host_events
 -- their outputs.
 abbrev pub HostFree : Type 0
 HostFree =
-    (v v' : HostWorld) (j : Join) → decode v.join ≡ some j → v'.join ≡ v.join → Alike j v.left v.right v'.left v'.right
+    (v v' : HostWorld) (j : Join) → decode v.join ≡ Some j → v'.join ≡ v.join → Alike j v.left v.right v'.left v'.right
     → (calls : List HostCall) → host_events v' calls ≡ host_events v calls

@@ -1,10 +1,8 @@
 -- Lists of calls in numbers, as a host in C makes them, and the list of the node's calls that each is. The statement; its proof stands in proofs/. Assumes nothing.
-use Rattle.std.specs.Prelude.{◌≡◌, cond, ◌&&◌, List, [], ◌∷◌, ◌++◌, ℕ, length, drop}
-use Rattle.std.proofs.Math.Option.{some}
+use Rattle.std.specs.Prelude.{◌≡◌, cond, ◌&&◌, List, [], ◌∷◌, ◌++◌, ℕ, length, drop, Err, Some}
 use Rattle.frames.specs.Cells.{Words}
 use Rattle.frames.specs.outcomes.Answers.{port_code}
 use Rattle.frames.specs.declared.refusals.Refusal.TheVariants.{BadJoin}
-use Rattle.frames.specs.declared.outcomes.Ported.TheVariants.{Refused as PortsRefused}
 use Rattle.ffi.specs.codes.Codes.{is_code, port_of}
 use Rattle.ffi.specs.convert.Convert.{encode, decode}
 use Rattle.ffi.specs.declared.convert.HostJoin.{HostJoin}
@@ -114,7 +112,7 @@ event_for w (left f) = encode_step (step w (node_left f))
 event_for w (right f) = encode_step (step w (node_right f))
 event_for w end = encode_step (step w node_end)
 event_for w (ports l r s) =
-    cond (is_code l && is_code r && is_code s) (encode_step (step w (node_ports (port_of l) (port_of r) (port_of s)))) (on_ports l r s (ported_host (PortsRefused BadJoin) (encode w.join)))
+    cond (is_code l && is_code r && is_code s) (encode_step (step w (node_ports (port_of l) (port_of r) (port_of s)))) (on_ports l r s (ported_host (Err BadJoin) (encode w.join)))
 event_for w (turn out) = encode_step (step w (node_turn out))
 event_for w (run k out) = encode_run k w out
 
@@ -126,7 +124,7 @@ node_events w (c ∷ cs) = event_for w c ∷ node_events (final w (calls_for w c
 -- ---- the theorem
 -- The numbers are the node's join, over the same areas.
 pub record Agree (v : HostWorld) (w : World) : Type 0 where
-  pub join : decode v.join ≡ some w.join
+  pub join : decode v.join ≡ Some w.join
   pub left : v.left ≡ w.left
   pub right : v.right ≡ w.right
 

@@ -1,4 +1,6 @@
 -- The calls in numbers, from what their parts do; and that a refused one alters no word. Assumes nothing.
+use Rattle.frames.specs.declared.refusals.Refusal.{Refusal}
+use Rattle.std.specs.Prelude.{Result, Err}
 use mathlib.Core.Path.{◌≡◌, refl, sym, ap, ◌∙◌}
 use mathlib.Core.Bool.{Bool, true, false}
 use Prim.Native.Nat.{ℕ}
@@ -6,8 +8,6 @@ use Rattle.frames.specs.Cells.{Words}
 use Rattle.order.specs.declared.options.Options.{Options}
 use Rattle.tables.specs.Table.{After}
 use Rattle.frames.specs.declared.refusals.Refusal.TheVariants.{BadOptions}
-use Rattle.tables.specs.declared.Written.{Written}
-use Rattle.tables.specs.declared.Written.TheVariants.{Refused}
 use Rattle.ffi.specs.hostoptions.HostOptions.{is_options, options_of}
 use Rattle.ffi.specs.declared.hostoptions.HostOptions.{HostOptions}
 use Rattle.books.specs.Calls.{merge_call, MergeContract, stand_call, StandContract}
@@ -19,7 +19,7 @@ use Rattle.hosttables.specs.bookhost.Calls.{merge_host, HostMergeContract, Merge
 
 -- ---- two books merged
 module _ (h : HostOptions) (house festival out : Words) where
-  shut : is_options h ≡ false → merge_host h house festival out ≡ record { answer = Refused BadOptions; out = out }
+  shut : is_options h ≡ false → merge_host h house festival out ≡ record { answer = Err BadOptions; out = out }
   unfolding merge_host
   shut e = rw e
 
@@ -27,12 +27,12 @@ module _ (h : HostOptions) (house festival out : Words) where
   unfolding merge_host
   through e = rw e
 
-  pub merge_shut : is_options h ≡ false → (r : HostWritten) → r ≡ written_host (Refused BadOptions) → HostMergeContract h house festival out r out
+  pub merge_shut : is_options h ≡ false → (r : HostWritten) → r ≡ written_host (Err BadOptions) → HostMergeContract h house festival out r out
   merge_shut e r k =
       let g = shut e in
       record { result = k ∙ ap (λ (a : After). written_host a.answer) (sym g); words = ap (λ (a : After). a.out) (sym g) }
 
-  pub merge_through : is_options h ≡ true → (o : Options) → o ≡ options_of h → (w : Written) (r : HostWritten) (out' : Words)
+  pub merge_through : is_options h ≡ true → (o : Options) → o ≡ options_of h → (w : Result ℕ Refusal) (r : HostWritten) (out' : Words)
       → MergeContract o house festival out w out' → r ≡ written_host w → HostMergeContract h house festival out r out'
   merge_through e o is w r out' m k =
       let g = through e in
@@ -46,7 +46,7 @@ module _ (h : HostOptions) (house festival out : Words) where
   pub merge_kept : MergeKept h house festival out
   merge_kept n = by (is_options h) refl
     where
-      by : (t : Bool) → is_options h ≡ t → (merge_host h house festival out).answer ≡ Refused n → (merge_host h house festival out).out ≡ out
+      by : (t : Bool) → is_options h ≡ t → (merge_host h house festival out).answer ≡ Err n → (merge_host h house festival out).out ≡ out
       by true e a =
           let g = through e in
           ap (λ (a : After). a.out) g ∙ (promises (options_of h) house festival out).kept n (ap (λ (a : After). a.answer) (sym g) ∙ a)
@@ -54,7 +54,7 @@ module _ (h : HostOptions) (house festival out : Words) where
 
 -- ---- which notice stands
 module _ (h : HostOptions) (q : ℕ) (book out : Words) where
-  stand_closed : is_options h ≡ false → stand_host h q book out ≡ record { answer = Refused BadOptions; out = out }
+  stand_closed : is_options h ≡ false → stand_host h q book out ≡ record { answer = Err BadOptions; out = out }
   unfolding stand_host
   stand_closed e = rw e
 
@@ -62,12 +62,12 @@ module _ (h : HostOptions) (q : ℕ) (book out : Words) where
   unfolding stand_host
   stand_open e = rw e
 
-  pub stand_shut : is_options h ≡ false → (r : HostWritten) → r ≡ written_host (Refused BadOptions) → HostStandContract h q book out r out
+  pub stand_shut : is_options h ≡ false → (r : HostWritten) → r ≡ written_host (Err BadOptions) → HostStandContract h q book out r out
   stand_shut e r k =
       let g = stand_closed e in
       record { result = k ∙ ap (λ (a : After). written_host a.answer) (sym g); words = ap (λ (a : After). a.out) (sym g) }
 
-  pub stand_through : is_options h ≡ true → (o : Options) → o ≡ options_of h → (w : Written) (r : HostWritten) (out' : Words)
+  pub stand_through : is_options h ≡ true → (o : Options) → o ≡ options_of h → (w : Result ℕ Refusal) (r : HostWritten) (out' : Words)
       → StandContract o q book out w out' → r ≡ written_host w → HostStandContract h q book out r out'
   stand_through e o is w r out' m k =
       let g = stand_open e in
@@ -81,7 +81,7 @@ module _ (h : HostOptions) (q : ℕ) (book out : Words) where
   pub stand_kept : StandKept h q book out
   stand_kept n = by (is_options h) refl
     where
-      by : (t : Bool) → is_options h ≡ t → (stand_host h q book out).answer ≡ Refused n → (stand_host h q book out).out ≡ out
+      by : (t : Bool) → is_options h ≡ t → (stand_host h q book out).answer ≡ Err n → (stand_host h q book out).out ≡ out
       by true e a =
           let g = stand_open e in
           ap (λ (a : After). a.out) g ∙ (stand-promises (options_of h) q book out).kept n (ap (λ (a : After). a.answer) (sym g) ∙ a)

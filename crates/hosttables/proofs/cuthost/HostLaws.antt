@@ -1,4 +1,6 @@
 -- The call in numbers, from what its parts do; and that a refused one alters no word. Assumes nothing.
+use Rattle.frames.specs.declared.refusals.Refusal.{Refusal}
+use Rattle.std.specs.Prelude.{Result, Err}
 use mathlib.Core.Path.{◌≡◌, refl, sym, ap, ◌∙◌}
 use mathlib.Core.Bool.{Bool, true, false}
 use Prim.Native.Nat.{ℕ}
@@ -6,8 +8,6 @@ use Rattle.frames.specs.Cells.{Words}
 use Rattle.order.specs.declared.options.Options.{Options}
 use Rattle.tables.specs.Table.{After}
 use Rattle.frames.specs.declared.refusals.Refusal.TheVariants.{BadOptions}
-use Rattle.tables.specs.declared.Written.{Written}
-use Rattle.tables.specs.declared.Written.TheVariants.{Refused}
 use Rattle.ffi.specs.codes.Codes.{flag_of}
 use Rattle.ffi.specs.hostoptions.HostOptions.{options_of}
 use Rattle.ffi.specs.declared.hostoptions.HostOptions.{HostOptions}
@@ -18,7 +18,7 @@ use Rattle.tables.specs.declared.tableresults.HostWritten.{HostWritten}
 use Rattle.hosttables.specs.cuthost.Calls.{tells, cut_host, HostCutContract, CutKept}
 
 module _ (h : HostOptions) (right : ℕ) (table boundaries out : Words) where
-  closed : tells h right ≡ false → cut_host h right table boundaries out ≡ record { answer = Refused BadOptions; out = out }
+  closed : tells h right ≡ false → cut_host h right table boundaries out ≡ record { answer = Err BadOptions; out = out }
   unfolding cut_host
   closed e = rw e
 
@@ -26,12 +26,12 @@ module _ (h : HostOptions) (right : ℕ) (table boundaries out : Words) where
   unfolding cut_host
   open_to e = rw e
 
-  pub host_shut : tells h right ≡ false → (r : HostWritten) → r ≡ written_host (Refused BadOptions) → HostCutContract h right table boundaries out r out
+  pub host_shut : tells h right ≡ false → (r : HostWritten) → r ≡ written_host (Err BadOptions) → HostCutContract h right table boundaries out r out
   host_shut e r k =
       let g = closed e in
       record { result = k ∙ ap (λ (a : After). written_host a.answer) (sym g); words = ap (λ (a : After). a.out) (sym g) }
 
-  pub host_through : tells h right ≡ true → (o : Options) → o ≡ options_of h → (b : Bool) → b ≡ flag_of right → (w : Written) (r : HostWritten) (out' : Words)
+  pub host_through : tells h right ≡ true → (o : Options) → o ≡ options_of h → (b : Bool) → b ≡ flag_of right → (w : Result ℕ Refusal) (r : HostWritten) (out' : Words)
       → CutContract o b table boundaries out w out' → r ≡ written_host w → HostCutContract h right table boundaries out r out'
   host_through e o is b side w r out' m k =
       let g = open_to e in
@@ -45,7 +45,7 @@ module _ (h : HostOptions) (right : ℕ) (table boundaries out : Words) where
   pub host_kept : CutKept h right table boundaries out
   host_kept n = by (tells h right) refl
     where
-      by : (t : Bool) → tells h right ≡ t → (cut_host h right table boundaries out).answer ≡ Refused n → (cut_host h right table boundaries out).out ≡ out
+      by : (t : Bool) → tells h right ≡ t → (cut_host h right table boundaries out).answer ≡ Err n → (cut_host h right table boundaries out).out ≡ out
       by true e a =
           let g = open_to e in
           ap (λ (a : After). a.out) g ∙ cut_kept (options_of h) (flag_of right) table boundaries out n (ap (λ (a : After). a.answer) (sym g) ∙ a)

@@ -1,14 +1,13 @@
 -- The call in numbers, from what its parts do; and that a refused one alters no word. Assumes nothing.
+use Rattle.frames.specs.declared.refusals.Refusal.{Refusal}
+use Rattle.std.specs.Prelude.{Result, Err}
 use mathlib.Core.Path.{◌≡◌, refl, sym, ap, ◌∙◌}
-use mathlib.Core.Bool.{Bool, true, false, not, ◌&&◌}
+use mathlib.Core.Bool.{Bool, true, false, ◌&&◌}
 use Prim.Native.Nat.{ℕ}
-use borrow.Author.Tests.{not-true, not-false}
 use Rattle.frames.specs.Cells.{Words}
 use Rattle.ffi.specs.codes.Codes.{is_flag, flag_of}
 use Rattle.tables.specs.Table.{After}
 use Rattle.frames.specs.declared.refusals.Refusal.TheVariants.{BadOptions}
-use Rattle.tables.specs.declared.Written.{Written}
-use Rattle.tables.specs.declared.Written.TheVariants.{Refused}
 use Rattle.spans.specs.Calls.{span_call, SpanContract}
 use Rattle.spans.proofs.PromiseLaws.{promises}
 use Rattle.tables.specs.tableresults.Numbers.{written_host}
@@ -16,7 +15,7 @@ use Rattle.tables.specs.declared.tableresults.HostWritten.{HostWritten}
 use Rattle.hosttables.specs.spanhost.Call.{bounds_of, spans_host, HostSpanContract, Kept}
 
 module _ (lower upper : ℕ) (points intervals out : Words) where
-  refused : (is_flag lower && is_flag upper) ≡ false → spans_host lower upper points intervals out ≡ record { answer = Refused BadOptions; out = out }
+  refused : (is_flag lower && is_flag upper) ≡ false → spans_host lower upper points intervals out ≡ record { answer = Err BadOptions; out = out }
   unfolding spans_host
   refused e = rw e
 
@@ -29,16 +28,16 @@ module _ (lower upper : ℕ) (points intervals out : Words) where
     both_are : (is_flag lower && is_flag upper) ≡ z
     both_are = sym (e ∙ rw (p, q))
 
-    pub host_refused : not z ≡ true → (r : HostWritten) → r ≡ written_host (Refused BadOptions) → HostSpanContract lower upper points intervals out r out
+    pub host_refused : z ≡ false → (r : HostWritten) → r ≡ written_host (Err BadOptions) → HostSpanContract lower upper points intervals out r out
     host_refused t r h =
-        let g = refused (both_are ∙ not-true z t) in
+        let g = refused (both_are ∙ t) in
         record { result = h ∙ ap (λ (a : After). written_host a.answer) (sym g); words = ap (λ (a : After). a.out) (sym g) }
 
-    pub host_through : not z ≡ false → (l u : Bool) → l ≡ flag_of lower → u ≡ flag_of upper → (w : Written) (r : HostWritten) (out' : Words)
+    pub host_through : z ≡ true → (l u : Bool) → l ≡ flag_of lower → u ≡ flag_of upper → (w : Result ℕ Refusal) (r : HostWritten) (out' : Words)
         → SpanContract (record { lower_in = l; upper_in = u }) points intervals out w out' → r ≡ written_host w
         → HostSpanContract lower upper points intervals out r out'
     host_through t l u a b w r out' s h =
-        let g = through (both_are ∙ not-false z t) in
+        let g = through (both_are ∙ t) in
         let k : SpanContract (bounds_of lower upper) points intervals out w out' = rw (a, b) at s in
         record {
           result = h ∙ ap written_host k.answer ∙ ap (λ (a : After). written_host a.answer) (sym g);
@@ -49,7 +48,7 @@ module _ (lower upper : ℕ) (points intervals out : Words) where
   pub kept : Kept lower upper points intervals out
   kept n = by (is_flag lower && is_flag upper) refl
     where
-      by : (t : Bool) → (is_flag lower && is_flag upper) ≡ t → (spans_host lower upper points intervals out).answer ≡ Refused n → (spans_host lower upper points intervals out).out ≡ out
+      by : (t : Bool) → (is_flag lower && is_flag upper) ≡ t → (spans_host lower upper points intervals out).answer ≡ Err n → (spans_host lower upper points intervals out).out ≡ out
       by true e h =
           let g = through e in
           ap (λ (a : After). a.out) g ∙ (promises (bounds_of lower upper) points intervals out).kept n (ap (λ (a : After). a.answer) (sym g) ∙ h)

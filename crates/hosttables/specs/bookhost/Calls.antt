@@ -1,10 +1,9 @@
 -- The calls over books, in numbers. Assumes nothing.
-use Rattle.std.specs.Prelude.{◌≡◌, cond, ℕ}
+use Rattle.std.specs.Prelude.{◌≡◌, cond, ℕ, Err}
 use Rattle.frames.specs.Cells.{Words}
 use Rattle.tables.specs.Table.{After}
 use Rattle.frames.specs.declared.refusals.Refusal.{Refusal}
 use Rattle.frames.specs.declared.refusals.Refusal.TheVariants.{BadOptions}
-use Rattle.tables.specs.declared.Written.TheVariants.{Refused}
 use Rattle.order.specs.declared.options.Options.{Options}
 use Rattle.ffi.specs.hostoptions.HostOptions.{is_options, options_of}
 use Rattle.ffi.specs.declared.hostoptions.HostOptions.{HostOptions}
@@ -14,7 +13,7 @@ use Rattle.tables.specs.declared.tableresults.HostWritten.{HostWritten}
 
 -- Numbers that tell no options are refused by 1 before any word is looked at, and no word is altered; else all is as the call over these options leaves it.
 abbrev pub under : HostOptions → (Options → After) → Words → After
-under h call out = cond (is_options h) (call (options_of h)) (record { answer = Refused BadOptions; out = out })
+under h call out = cond (is_options h) (call (options_of h)) (record { answer = Err BadOptions; out = out })
 
 -- ---- two books, one season
 unfoldable pub merge_host : HostOptions → Words → Words → Words → After
@@ -27,7 +26,7 @@ pub record HostMergeContract (h : HostOptions) (house festival out : Words) (r :
 
 -- What a host can lean on: a refused call alters no word. (Of a call that is not refused, bookmerge's Promises tell what it writes.)
 abbrev pub MergeKept : HostOptions → Words → Words → Words → Type 0
-MergeKept h house festival out = (n : Refusal) → (merge_host h house festival out).answer ≡ Refused n → (merge_host h house festival out).out ≡ out
+MergeKept h house festival out = (n : Refusal) → (merge_host h house festival out).answer ≡ Err n → (merge_host h house festival out).out ≡ out
 
 -- ---- which notice stands
 unfoldable pub stand_host : HostOptions → ℕ → Words → Words → After
@@ -39,4 +38,4 @@ pub record HostStandContract (h : HostOptions) (q : ℕ) (book out : Words) (r :
 
 -- A refused call alters no word. (Of a call that is not refused, noticecall's Promises tell what it writes.)
 abbrev pub StandKept : HostOptions → ℕ → Words → Words → Type 0
-StandKept h q book out = (n : Refusal) → (stand_host h q book out).answer ≡ Refused n → (stand_host h q book out).out ≡ out
+StandKept h q book out = (n : Refusal) → (stand_host h q book out).answer ≡ Err n → (stand_host h q book out).out ≡ out

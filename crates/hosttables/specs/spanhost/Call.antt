@@ -1,11 +1,10 @@
 -- The call over points and intervals, in numbers. Assumes nothing.
-use Rattle.std.specs.Prelude.{◌≡◌, cond, ◌&&◌, ℕ}
+use Rattle.std.specs.Prelude.{◌≡◌, cond, ◌&&◌, ℕ, Err}
 use Rattle.frames.specs.Cells.{Words}
 use Rattle.ffi.specs.codes.Codes.{is_flag, flag_of}
 use Rattle.tables.specs.Table.{After}
 use Rattle.frames.specs.declared.refusals.Refusal.{Refusal}
 use Rattle.frames.specs.declared.refusals.Refusal.TheVariants.{BadOptions}
-use Rattle.tables.specs.declared.Written.TheVariants.{Refused}
 use Rattle.spans.specs.Calls.{span_call}
 use Rattle.spans.specs.declared.Bounds.{Bounds}
 use Rattle.tables.specs.tableresults.Numbers.{written_host}
@@ -19,7 +18,7 @@ bounds_of lower upper = record { lower_in = flag_of lower; upper_in = flag_of up
 unfoldable pub spans_host : ℕ → ℕ → Words → Words → Words → After
 spans_host lower upper points intervals out =
     cond (is_flag lower && is_flag upper) (span_call (bounds_of lower upper) points intervals out)
-    (record { answer = Refused BadOptions; out = out })
+    (record { answer = Err BadOptions; out = out })
 
 -- The contract: the answer in numbers, and the words of the output afterwards.
 pub record HostSpanContract (lower upper : ℕ) (points intervals out : Words) (r : HostWritten) (out' : Words) : Type 0 where
@@ -28,4 +27,4 @@ pub record HostSpanContract (lower upper : ℕ) (points intervals out : Words) (
 
 -- What a host can lean on: a refused call alters no word. (Of a call that is not refused, spans' Promises tells what it writes.)
 abbrev pub Kept : ℕ → ℕ → Words → Words → Words → Type 0
-Kept lower upper points intervals out = (n : Refusal) → (spans_host lower upper points intervals out).answer ≡ Refused n → (spans_host lower upper points intervals out).out ≡ out
+Kept lower upper points intervals out = (n : Refusal) → (spans_host lower upper points intervals out).answer ≡ Err n → (spans_host lower upper points intervals out).out ≡ out

@@ -1,4 +1,5 @@
 -- The match of a row is that over its group's own notices, counted among them; so is what is written, by the whole-table theorem. Assumes nothing.
+use Rattle.std.specs.Prelude.{Option, Some, None}
 use mathlib.Core.Path.{◌≡◌, refl, sym, ap, ◌∙◌}
 use mathlib.Core.Bool.{Bool, true, false, cond, not}
 use mathlib.Core.List.{List, [], ◌∷◌, map}
@@ -12,15 +13,13 @@ use Rattle.frames.specs.Cells.{Cell, null, Rows, Words}
 use Rattle.order.specs.options.Options.{columns, refused_options}
 use Rattle.order.specs.Order.{cmp_group, is_equal, sorted}
 use Rattle.order.specs.declared.options.Options.{Options}
-use Rattle.order.specs.declared.Order.{Order}
-use Rattle.order.specs.declared.Order.TheVariants.{Less, Equal, Greater}
+use Rattle.std.specs.declared.cmp.Ordering.{Ordering}
+use Rattle.std.specs.declared.cmp.Ordering.TheVariants.{Less, Equal, Greater}
 use Rattle.order.proofs.OrderLaws.{cmp_group_is, same_right}
 use Rattle.frames.proofs.BoolLaws.{and-true}
 use Rattle.matching.specs.Match.{nobody, choose, tolerate, too_far, match_table, whole_table, qualifies}
 use Rattle.matching.specs.Answer.{answer_row}
 use Rattle.matching.specs.Picked.{Picked}
-use Rattle.matching.specs.declared.Choice.{Choice}
-use Rattle.matching.specs.declared.Choice.TheVariants.{Row, Nothing}
 use Rattle.matching.proofs.MayLaws.{may, may_out, is_false}
 use Rattle.matching.proofs.PickedLaw.{picked_row}
 use Rattle.lists.specs.Lists.{Call, Entry, left_frames, rows_in}
@@ -29,7 +28,7 @@ use Rattle.lists.proofs.WholeTableTheorem.{whole_table_theorem}
 use Rattle.lists.specs.isolation.Isolation.{in_group, of_group, written_for, Own, none, place, own_before, own_at, own, own_choice, Alone, Finished, Isolation}
 use Rattle.lists.proofs.isolation.PlaceLaws.{choice_by, those, choose_those, tolerate_by}
 
-is_equal_lem : (z : Order) → is_equal z ≡ true → z ≡ Equal
+is_equal_lem : (z : Ordering) → is_equal z ≡ true → z ≡ Equal
 is_equal_lem Less e = cc
 is_equal_lem Equal e = refl
 is_equal_lem Greater e = cc
@@ -62,7 +61,7 @@ module _ (o : Options) (g : List Cell) (R : Rows) (x : List Cell) (e : in_group 
       ∙ ap (choose o x (may o x) nobody 0) (group_those o g R))
 
   -- The row that it names is one of them.
-  own_row : sorted o R ≡ true → (n : ℕ) → whole_table o R x ≡ Row n → own_at o g R (pos n) ≡ place (own_before o g R n)
+  own_row : sorted o R ≡ true → (n : ℕ) → whole_table o R x ≡ Some n → own_at o g R (pos n) ≡ place (own_before o g R n)
   unfolding whole_table own_at qualifies
   own_row s n h =
       let p : Picked o R x n = picked_row o R s x n h in
@@ -80,9 +79,9 @@ module _ (o : Options) (g : List Cell) (R : Rows) (x : List Cell) (e : in_group 
   unfolding own answer_row
   own_is s = by (whole_table o R x) refl own_match
     where
-      by : (m : Choice) → whole_table o R x ≡ m → choice_by (own_before o g R) m ≡ whole_table o (of_group o g R) x → own o g R (as_written (answer_row o 0 R x m)) ≡ own_choice (whole_table o (of_group o g R) x)
-      by Nothing h q = rw (← q) (own_none o.with_distance)
-      by (Row n) h q = own_row s n h ∙ ap own_choice q
+      by : (m : Option ℕ) → whole_table o R x ≡ m → choice_by (own_before o g R) m ≡ whole_table o (of_group o g R) x → own o g R (as_written (answer_row o 0 R x m)) ≡ own_choice (whole_table o (of_group o g R) x)
+      by None h q = rw (← q) (own_none o.with_distance)
+      by (Some n) h q = own_row s n h ∙ ap own_choice q
 
 -- For each left row of the group.
 own_all : (o : Options) (g : List Cell) (R : Rows) → sorted o R ≡ true → (xs : Rows)

@@ -1,4 +1,5 @@
 -- The choice among rows, told by other places: rows that may not be chosen are left out, and the others are counted without them. Assumes nothing.
+use Rattle.std.specs.Prelude.{Option, Some, None}
 use mathlib.Core.Path.{◌≡◌, refl, ap, ◌∙◌}
 use mathlib.Core.Bool.{Bool, true, false, cond}
 use mathlib.Core.List.{List, [], ◌∷◌}
@@ -9,17 +10,15 @@ use Rattle.frames.specs.Cells.{Cell, Rows}
 use Rattle.order.specs.options.Options.{strategy_of}
 use Rattle.order.specs.declared.options.Options.{Options}
 use Rattle.matching.specs.Match.{Hit, nobody, hit, meet, choose, takes_over, too_far, tolerate}
-use Rattle.matching.specs.declared.Choice.{Choice}
-use Rattle.matching.specs.declared.Choice.TheVariants.{Row, Nothing}
 
 -- A choice, and a match, with its number told anew.
 abbrev pub hit_by : (ℕ → ℕ) → Hit → Hit
 hit_by f nobody = nobody
 hit_by f (hit n r) = hit (f n) r
 
-abbrev pub choice_by : (ℕ → ℕ) → Choice → Choice
-choice_by f (Row n) = Row (f n)
-choice_by f Nothing = Nothing
+abbrev pub choice_by : (ℕ → ℕ) → Option ℕ → Option ℕ
+choice_by f (Some n) = Some (f n)
+choice_by f None = None
 
 -- The rows for which a test holds.
 unfoldable pub those : (List Cell → Bool) → Rows → Rows
@@ -32,7 +31,7 @@ module _ (o : Options) (x : List Cell) where
   tolerate_by f nobody = refl
   tolerate_by f (hit n r) = by (too_far o x r)
     where
-      by : (t : Bool) → cond t Nothing (Row (f n)) ≡ choice_by f (cond t Nothing (Row n))
+      by : (t : Bool) → cond t None (Some (f n)) ≡ choice_by f (cond t None (Some n))
       by true = refl
       by false = refl
 

@@ -1,8 +1,8 @@
 -- A move changes no later answer: what it leaves holds the same (moved_same), and where that stands is not told (elsewhere). Assumes nothing.
+use Rattle.std.specs.Prelude.{Ok}
 use mathlib.Core.Path.{◌≡◌, sym, ◌∙◌}
 use mathlib.Core.Bool.{false}
 use Rattle.frames.specs.Cells.{Words}
-use Rattle.frames.specs.declared.outcomes.Took.TheVariants.{Accepted}
 use Rattle.node.specs.State.{bad_join}
 use Rattle.node.specs.moves.Moves.{move_call, MovedSame}
 use Rattle.node.proofs.moves.MoveLaws.{moved_same, move_good}
@@ -11,7 +11,7 @@ use Rattle.lists.specs.Elsewhere.{SameLive}
 use Rattle.lists.proofs.Elsewhere.{elsewhere}
 use Rattle.lists.specs.movelists.MoveLists.{moved_to, MoveLists}
 
-moved_live : (w : World) (new_left new_right : Words) → (move_call w.join w.left w.right new_left new_right).answer ≡ Accepted → SameLive (moved_to w new_left new_right) w
+moved_live : (w : World) (new_left new_right : Words) → (move_call w.join w.left w.right new_left new_right).answer ≡ Ok tt → SameLive (moved_to w new_left new_right) w
 moved_live w new_left new_right e =
     let m : MovedSame w.join w.left w.right new_left new_right = moved_same w.join w.left w.right new_left new_right e in
     let g : bad_join w.join w.left w.right ≡ false = move_good w.join w.left w.right new_left new_right e in

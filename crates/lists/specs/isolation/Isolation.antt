@@ -1,12 +1,10 @@
 -- A rival's notices cannot move a company's matches: one group of two lists of calls. The statement; its proof stands in proofs/. Assumes nothing.
-use Rattle.std.specs.Prelude.{◌≡◌, Bool, true, false, cond, ◌&&◌, List, [], ◌∷◌, map, ℕ, ltb, ℤ, pos, negsuc, length, take, get_or}
+use Rattle.std.specs.Prelude.{◌≡◌, Bool, true, false, cond, ◌&&◌, List, [], ◌∷◌, map, ℕ, ltb, ℤ, pos, negsuc, length, take, get_or, Option, Some, None}
 use Rattle.frames.specs.Cells.{Cell, Rows, Words, is_zero}
 use Rattle.order.specs.options.Options.{refused_options}
 use Rattle.order.specs.Order.{cmp_group, is_equal, null_group}
 use Rattle.order.specs.declared.options.Options.{Options}
 use Rattle.matching.specs.Match.{whole_table}
-use Rattle.matching.specs.declared.Choice.{Choice}
-use Rattle.matching.specs.declared.Choice.TheVariants.{Row, Nothing}
 use Rattle.lists.specs.Lists.{Call, Entry, left_frames, outputs, is_right_ended}
 use Rattle.lists.specs.WholeTables.{all, lefts, rights, turned_rows, matches, Declared}
 
@@ -45,9 +43,9 @@ unfoldable pub own : Options → List Cell → Rows → Entry → Own
 own o g rights e = cond (is_zero (get_or e.marks 0 (pos 0))) none (own_at o g rights (get_or e.values 0 (pos 0)))
 
 -- Of a match over the group's own notices alone.
-abbrev pub own_choice : Choice → Own
-own_choice (Row k) = place k
-own_choice Nothing = none
+abbrev pub own_choice : Option ℕ → Own
+own_choice (Some k) = place k
+own_choice None = none
 
 -- One group of a list of calls (SCOPE 15).
 module _ (o : Options) (g : List Cell) (l r : Words) (calls : List Call) where

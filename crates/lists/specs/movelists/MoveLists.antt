@@ -1,7 +1,6 @@
 -- A move changes no later answer (SCOPE 5.16, 15.19). The statement; its proof stands in proofs/. Assumes nothing.
-use Rattle.std.specs.Prelude.{◌≡◌, List, map}
+use Rattle.std.specs.Prelude.{◌≡◌, List, map, Ok}
 use Rattle.frames.specs.Cells.{Words}
-use Rattle.frames.specs.declared.outcomes.Took.TheVariants.{Accepted}
 use Rattle.node.specs.moves.Moves.{move_call}
 use Rattle.lists.specs.Lists.{Call, World, events, final}
 use Rattle.lists.specs.Elsewhere.{SameLive, no_room}
@@ -21,4 +20,4 @@ pub record MovedOn (w : World) (new_left new_right : Words) : Type 0 where
 
 -- Of any join, good or bad, any areas and any new areas.
 abbrev pub MoveLists : Type 0
-MoveLists = (w : World) (new_left new_right : Words) → (move_call w.join w.left w.right new_left new_right).answer ≡ Accepted → MovedOn w new_left new_right
+MoveLists = (w : World) (new_left new_right : Words) → (move_call w.join w.left w.right new_left new_right).answer ≡ Ok tt → MovedOn w new_left new_right

@@ -1,4 +1,5 @@
 -- The choices of an answer, laid at its first places: they are read back there, and spread they are the answer's cells. Assumes nothing.
+use Rattle.std.specs.Prelude.{Option, Some, None}
 use mathlib.Core.Path.{◌≡◌, refl, sym, ap, subst, ◌∙◌}
 use mathlib.Core.Bool.{Bool, true, false, cond}
 use mathlib.Core.List.{List, [], ◌∷◌, map}
@@ -20,8 +21,6 @@ use Rattle.matching.specs.Groups.{match_frame}
 use Rattle.matching.specs.Answer.{number_word, choice_mark, cells_from, answer_row, answer_rows, frame_answer, answered}
 use Rattle.matching.specs.Stretches.{lay}
 use Rattle.matching.specs.Requires.{FrameRoom, AnswerRoom}
-use Rattle.matching.specs.declared.Choice.{Choice}
-use Rattle.matching.specs.declared.Choice.TheVariants.{Row, Nothing}
 use Rattle.matching.proofs.AnswerRows.{answer_wide, answer_count}
 use Rattle.matching.proofs.FromLaws.{From, AllFrom, frame_from_lem}
 use Rattle.matching.proofs.GroupLaws.{frame_length}
@@ -29,16 +28,16 @@ use Rattle.matchframe.specs.carrying.Spread.{choice_at, choices_from, spread, Nu
 use Rattle.order.proofs.options.ColumnLaws.{columns_some}
 
 -- The cell that a choice is written as.
-abbrev choice_cell : Choice → Cell
-choice_cell (Row k) = value (pos k)
-choice_cell Nothing = null
+abbrev choice_cell : Option ℕ → Cell
+choice_cell (Some k) = value (pos k)
+choice_cell None = null
 
 -- Choices are laid as these cells.
-lay_cells_lem : (m i : ℕ) (ks : List Choice) (out : Words) → lay m i ks out ≡ lay_cells m i (map choice_cell ks) out
+lay_cells_lem : (m i : ℕ) (ks : List (Option ℕ)) (out : Words) → lay m i ks out ≡ lay_cells m i (map choice_cell ks) out
 unfolding lay lay_cells
 lay_cells_lem m i [] out = refl
-lay_cells_lem m i (Row k ∷ ks) out = lay_cells_lem m (suc i) ks (set (set out (2 + i) (pos k)) (2 + m + i) (pos 1))
-lay_cells_lem m i (Nothing ∷ ks) out = lay_cells_lem m (suc i) ks (set (set out (2 + i) (pos 0)) (2 + m + i) (pos 0))
+lay_cells_lem m i (Some k ∷ ks) out = lay_cells_lem m (suc i) ks (set (set out (2 + i) (pos k)) (2 + m + i) (pos 1))
+lay_cells_lem m i (None ∷ ks) out = lay_cells_lem m (suc i) ks (set (set out (2 + i) (pos 0)) (2 + m + i) (pos 0))
 
 -- Rows of c cells have c cells each.
 flat_length : (c : ℕ) (rs : Rows) → Wide c rs → length (flat rs) ≡ length rs * c
@@ -60,12 +59,12 @@ one_column o e = go o.with_distance e
 
 -- If nothing is carried and no distance is written, a row is the cell of its choice.
 module _ (o : Options) (i : ℕ) (rights : Rows) (p : o.carried ≡ 0) (d : o.with_distance ≡ false) where
-  plain_row : (x : List Cell) (k : Choice) → answer_row o i rights x k ≡ choice_cell k ∷ []
+  plain_row : (x : List Cell) (k : Option ℕ) → answer_row o i rights x k ≡ choice_cell k ∷ []
   unfolding answer_row cells_from
-  plain_row x (Row k) = rw (d, p)
-  plain_row x Nothing = rw (d, p)
+  plain_row x (Some k) = rw (d, p)
+  plain_row x None = rw (d, p)
 
-  plain_cells : (xs : Rows) (ks : List Choice) → length xs ≡ length ks → flat (answer_rows o i rights xs ks) ≡ map choice_cell ks
+  plain_cells : (xs : Rows) (ks : List (Option ℕ)) → length xs ≡ length ks → flat (answer_rows o i rights xs ks) ≡ map choice_cell ks
   unfolding flat answer_rows
   plain_cells [] [] e = refl
   plain_cells [] (k ∷ ks) e = absurd (omega arith)
@@ -74,7 +73,7 @@ module _ (o : Options) (i : ℕ) (rights : Rows) (p : o.carried ≡ 0) (d : o.wi
 
 -- ---- the words of a choice that was laid
 module _ (m : ℕ) where
-  words_laid : (i : ℕ) (k : Choice) (ks : List Choice) (out : Words) → i + suc (length ks) ≤ m → 2 + 2 * m ≤ length out
+  words_laid : (i : ℕ) (k : Option ℕ) (ks : List (Option ℕ)) (out : Words) → i + suc (length ks) ≤ m → 2 + 2 * m ≤ length out
       → (get_or (lay m i (k ∷ ks) out) (2 + i) (pos 0) ≡ number_word k) × (get_or (lay m i (k ∷ ks) out) (2 + m + i) (pos 0) ≡ choice_mark k)
   unfolding lay
   words_laid i k ks out h r =
@@ -90,31 +89,31 @@ module _ (m : ℕ) where
         b ∙ get_or-set_same v (2 + m + i) (choice_mark k) (pos 0) (omega arith),
       )
 
-  choice_back : (k : Choice) (out : Words) (i : ℕ) → get_or out (2 + i) (pos 0) ≡ number_word k → get_or out (2 + m + i) (pos 0) ≡ choice_mark k → choice_at m out i ≡ k
-  choice_back (Row k) out i a b = rw (a, b)
-  choice_back Nothing out i a b = rw (a, b)
+  choice_back : (k : Option ℕ) (out : Words) (i : ℕ) → get_or out (2 + i) (pos 0) ≡ number_word k → get_or out (2 + m + i) (pos 0) ≡ choice_mark k → choice_at m out i ≡ k
+  choice_back (Some k) out i a b = rw (a, b)
+  choice_back None out i a b = rw (a, b)
 
   -- Choices that are laid are read back.
-  choices_back : (i : ℕ) (ks : List Choice) (out : Words) → i + length ks ≤ m → 2 + 2 * m ≤ length out → choices_from m (lay m i ks out) i (length ks) ≡ ks
+  choices_back : (i : ℕ) (ks : List (Option ℕ)) (out : Words) → i + length ks ≤ m → 2 + 2 * m ≤ length out → choices_from m (lay m i ks out) i (length ks) ≡ ks
   unfolding choices_from lay
   choices_back i [] out h r = refl
   choices_back i (k ∷ ks) out h r =
       let w = words_laid i k ks out h r in
       let u : Words = set (set out (2 + i) (number_word k)) (2 + m + i) (choice_mark k) in
       let l : length u ≡ length out = simp length-set in
-      ap (λ (z : Choice). z ∷ choices_from m (lay m i (k ∷ ks) out) (suc i) (length ks)) (choice_back k (lay m i (k ∷ ks) out) i w.0 w.1)
-      ∙ ap (λ (z : List Choice). k ∷ z) (choices_back (suc i) ks u (omega arith) (omega arith))
+      ap (λ (z : Option ℕ). z ∷ choices_from m (lay m i (k ∷ ks) out) (suc i) (length ks)) (choice_back k (lay m i (k ∷ ks) out) i w.0 w.1)
+      ∙ ap (λ (z : List (Option ℕ)). k ∷ z) (choices_back (suc i) ks u (omega arith) (omega arith))
 
   module _ (number nr : ℕ) where
-    numbered_by : (k : Choice) (out : Words) (i : ℕ) → From number (number + nr) k → get_or out (2 + i) (pos 0) ≡ number_word k → get_or out (2 + m + i) (pos 0) ≡ choice_mark k → Numbered number nr m out i
-    numbered_by (Row k) out i f a b = record { whole = λ e. rw a; from = λ e. rw a f.0; below = λ e. rw a f.1 }
-    numbered_by Nothing out i f a b = record { whole = λ e. absurd (none e); from = λ e. absurd (none e); below = λ e. absurd (none e) }
+    numbered_by : (k : Option ℕ) (out : Words) (i : ℕ) → From number (number + nr) k → get_or out (2 + i) (pos 0) ≡ number_word k → get_or out (2 + m + i) (pos 0) ≡ choice_mark k → Numbered number nr m out i
+    numbered_by (Some k) out i f a b = record { whole = λ e. rw a; from = λ e. rw a f.0; below = λ e. rw a f.1 }
+    numbered_by None out i f a b = record { whole = λ e. absurd (none e); from = λ e. absurd (none e); below = λ e. absurd (none e) }
       where
         none : is_zero (get_or out (2 + m + i) (pos 0)) ≡ false → ⊥
         none e = let t : true ≡ false = rw b at e in let z : ◌≡◌ {A = ℕ} 0 1 = cc in omega arith
 
     -- Each of them has the number of a right row, if the choices have.
-    numbered_laid : (i : ℕ) (ks : List Choice) (out : Words) → AllFrom number (number + nr) ks → i + length ks ≤ m → 2 + 2 * m ≤ length out
+    numbered_laid : (i : ℕ) (ks : List (Option ℕ)) (out : Words) → AllFrom number (number + nr) ks → i + length ks ≤ m → 2 + 2 * m ≤ length out
         → (j : ℕ) → i ≤ j → j < i + length ks → Numbered number nr m (lay m i ks out) j
     unfolding lay
     numbered_laid i [] out f h r j a b = absurd (omega arith)
@@ -136,7 +135,7 @@ module _ (o : Options) (wl nl : ℕ) (lv lm : Words) (wr nr : ℕ) (rv rm : Word
   abbrev left : Rows
   left = rows_of wl nl lv lm
 
-  abbrev choices : List Choice
+  abbrev choices : List (Option ℕ)
   choices = match_frame o number held left
 
   numbers_in : nl ≤ m
@@ -185,7 +184,7 @@ module _ (o : Options) (wl nl : ℕ) (lv lm : Words) (wr nr : ℕ) (rv rm : Word
       let t = h.within in
       let u = le-mul_of_pos_right {m = answer_columns o} nl (columns_some o) in
       s
-      ∙ ap (λ (z : List Choice). lay_cells m 0 (flat (answer_rows o number held left z)) out₁) b
+      ∙ ap (λ (z : List (Option ℕ)). lay_cells m 0 (flat (answer_rows o number held left z)) out₁) b
       ∙ ap (lay_cells m 0 (flat (frame_answer o number held left))) (e ∙ lay_cells_lem m 0 choices out)
       ∙ lay_over m 0 (flat (frame_answer o number held left)) (map choice_cell choices) out (omega arith) (omega arith)
 

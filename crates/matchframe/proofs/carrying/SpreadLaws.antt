@@ -1,4 +1,5 @@
 -- Rows of an answer, spread from the last one on: what is written of a row, and that the numbers before it stay until it is their turn. Assumes nothing.
+use Rattle.std.specs.Prelude.{Option, Some, None}
 use mathlib.Core.Path.{◌≡◌, refl, sym, ap, ◌∙◌}
 use mathlib.Core.Bool.{Bool, true, false, cond}
 use mathlib.Core.List.{List, [], ◌∷◌, ◌++◌}
@@ -21,8 +22,6 @@ use Rattle.order.proofs.RowLaws.{row_cell, rows_from, row_room}
 use Rattle.tables.specs.Lay.{flat, lay_cells}
 use Rattle.tables.proofs.LayLaws.{lay_append, lay_keeps, lay_order, value_apart, mark_apart}
 use Rattle.matching.specs.Answer.{cells_from, distance_cell, last_column, answer_row, answer_rows}
-use Rattle.matching.specs.declared.Choice.{Choice}
-use Rattle.matching.specs.declared.Choice.TheVariants.{Row, Nothing}
 use Rattle.matching.proofs.FromLaws.{From}
 use Rattle.matchframe.specs.carrying.Loops.{cells_at, last_at, row_with, rows_with, RightIn, RowSpread}
 use Rattle.matchframe.specs.carrying.Spread.{choice_at, choices_from, spread, Numbered, SpreadIn}
@@ -75,12 +74,12 @@ last_length o v q vs ms = go o.with_distance
     go false = omega arith
 
 module _ (o : Options) (number w : ℕ) (vs ms : Words) where
-  pub row_length : (v : Cell) (k : Choice) → length (row_with o number w vs ms v k) ≡ answer_columns o
+  pub row_length : (v : Cell) (k : Option ℕ) → length (row_with o number w vs ms v k) ≡ answer_columns o
   unfolding row_with
-  row_length v (Row k) =
+  row_length v (Some k) =
       let q : ℕ = (k - number) * w in
       omega (arith, length-append (cells_at (q + columns o) o.carried vs ms) (last_at o v q vs ms), cells_length (q + columns o) o.carried vs ms, last_length o v q vs ms)
-  row_length v Nothing = length-replicate (answer_columns o) null
+  row_length v None = length-replicate (answer_columns o) null
 
   cells_from_lem : (i j p : ℕ) → j + p ≤ w → i * w + w ≤ length vs → cells_from j p (row_from w (i * w) vs ms) ≡ cells_at (i * w + j) p vs ms
   unfolding cells_from cells_at
@@ -90,9 +89,9 @@ module _ (o : Options) (number w : ℕ) (vs ms : Words) where
       rw (row_cell w (i * w) j vs ms (omega arith) (omega arith), ← z) (ap (λ (r : List Cell). cell_at (i * w + j) vs ms ∷ r) (cells_from_lem i (suc j) p (omega arith) l))
 
   module _ (nr : ℕ) (wide : right_columns o ≤ w) (there : nr * w ≤ length vs) where
-    row_words : (x : List Cell) (v : Cell) (k : Choice) → key_of o x ≡ v → From number (number + nr) k → answer_row o number (rows_of w nr vs ms) x k ≡ row_with o number w vs ms v k
+    row_words : (x : List Cell) (v : Cell) (k : Option ℕ) → key_of o x ≡ v → From number (number + nr) k → answer_row o number (rows_of w nr vs ms) x k ≡ row_with o number w vs ms v k
     unfolding row_with answer_row
-    row_words x v (Row k) e h =
+    row_words x v (Some k) e h =
         let i : ℕ = k - number in
         let a = h.0 in
         let b = h.1 in
@@ -101,7 +100,7 @@ module _ (o : Options) (number w : ℕ) (vs ms : Words) where
         ∙ ap (λ (y : Cell). value (pos k) ∷ cells_from (columns o) o.carried (row_from w (i * w) vs ms) ++ cond o.with_distance (distance_cell (distance y (key_of o x)) ∷ []) []) (row_cell w (i * w) o.by vs ms (omega arith) (omega arith))
         ∙ ap (λ (y : Cell). value (pos k) ∷ cells_from (columns o) o.carried (row_from w (i * w) vs ms) ++ cond o.with_distance (distance_cell (distance (cell_at (i * w + o.by) vs ms) y) ∷ []) []) e
         ∙ ap (λ (r : List Cell). value (pos k) ∷ r ++ last_at o v (i * w) vs ms) (cells_from_lem i (columns o) o.carried (omega arith) (omega arith))
-    row_words x v Nothing e h = refl
+    row_words x v None e h = refl
 
     -- All rows of n choices, by the keys of the left rows.
     pub rows_words : (key : ℕ → Cell) (m n i : ℕ) (out : Words) (lefts : Rows) → length lefts ≡ n → ((j : ℕ) → j < n → key_of o (get_or lefts j []) ≡ key (i + j)) → ((j : ℕ) → i ≤ j → j < i + n → From number (number + nr) (choice_at m out j))
@@ -122,7 +121,7 @@ pub numbered_from : (number nr m : ℕ) (out : Words) (i : ℕ) → Numbered num
 numbered_from number nr m out i h = by (is_zero (get_or out (2 + m + i) (pos 0))) h.from h.below
   where
     by : (b : Bool) → (b ≡ false → number ≤ nat_abs (get_or out (2 + i) (pos 0))) → (b ≡ false → nat_abs (get_or out (2 + i) (pos 0)) < number + nr)
-        → From number (number + nr) (cond b Nothing (Row (nat_abs (get_or out (2 + i) (pos 0)))))
+        → From number (number + nr) (cond b None (Some (nat_abs (get_or out (2 + i) (pos 0)))))
     by true f g = tt
     by false f g = (f refl, g refl)
 
@@ -132,9 +131,9 @@ pub whole_fits : (z : ℤ) → z ≡ pos (nat_abs z) → mag z < 2 ^ 63 → T (n
 whole_fits (pos n) e h = (tt, h)
 whole_fits (negsuc n) e h = let z : ◌≡◌ {A = ℕ} 0 1 = cc in absurd (omega arith)
 
-module _ (o : Options) (number w : ℕ) (vs ms : Words) (v : Cell) (m k : ℕ) (out : Words) (x : Choice) where
+module _ (o : Options) (number w : ℕ) (vs ms : Words) (v : Cell) (m k : ℕ) (out : Words) (x : Option ℕ) where
   -- A number, behind it what its right row carries, and last the distance.
-  pub row_chosen : (r q : ℕ) (out₁ out₂ out₃ : Words) → x ≡ Row r → q ≡ (r - number) * w → out₁ ≡ set (set out (2 + k) (pos r)) (2 + m + k) (pos 1)
+  pub row_chosen : (r q : ℕ) (out₁ out₂ out₃ : Words) → x ≡ Some r → q ≡ (r - number) * w → out₁ ≡ set (set out (2 + k) (pos r)) (2 + m + k) (pos 1)
       → out₂ ≡ lay_cells m (k + 1) (cells_at (q + o.by + 1) o.carried vs ms) out₁ → out₃ ≡ lay_cells m (k + 1 + o.carried) (last_at o v q vs ms) out₂ → out₃ ≡ lay_cells m k (row_with o number w vs ms v x) out
   unfolding lay_cells row_with
   row_chosen r q out₁ out₂ out₃ e p a b d =
@@ -148,10 +147,10 @@ module _ (o : Options) (number w : ℕ) (vs ms : Words) (v : Cell) (m k : ℕ) (
       b ∙ ap (λ (t : ℕ). lay_cells m (k + 1) (cells_at t o.carried vs ms) out₁) z ∙ ap (λ (t : ℕ). lay_cells m t cells out₁) (add-one k) ∙ ap (lay_cells m (suc k) cells) a in
       let all : out₃ ≡ lay_cells m (suc k + length cells) last (lay_cells m (suc k) cells first) =
       d ∙ ap (λ (t : ℕ). lay_cells m (k + 1 + o.carried) (last_at o v t vs ms) out₂) p ∙ ap (λ (t : ℕ). lay_cells m t last out₂) y ∙ ap (lay_cells m (suc k + length cells) last) carried in
-      let row : lay_cells m k (row_with o number w vs ms v (Row r)) out ≡ lay_cells m (suc k + length cells) last (lay_cells m (suc k) cells first) = lay_append m (suc k) cells last first in
-      all ∙ sym row ∙ ap (λ (t : Choice). lay_cells m k (row_with o number w vs ms v t) out) (sym e)
+      let row : lay_cells m k (row_with o number w vs ms v (Some r)) out ≡ lay_cells m (suc k + length cells) last (lay_cells m (suc k) cells first) = lay_append m (suc k) cells last first in
+      all ∙ sym row ∙ ap (λ (t : Option ℕ). lay_cells m k (row_with o number w vs ms v t) out) (sym e)
 
-  pub row_none : (c : ℕ) (out₁ : Words) → x ≡ Nothing → c ≡ answer_columns o → out₁ ≡ lay_cells m k (replicate c null) out → out₁ ≡ lay_cells m k (row_with o number w vs ms v x) out
+  pub row_none : (c : ℕ) (out₁ : Words) → x ≡ None → c ≡ answer_columns o → out₁ ≡ lay_cells m k (replicate c null) out → out₁ ≡ lay_cells m k (row_with o number w vs ms v x) out
   unfolding row_with
   row_none c out₁ e p a = rw (a, e, p)
 
@@ -226,8 +225,8 @@ module _ (o : Options) (n wl : ℕ) (lv lm : Words) (w nr : ℕ) (vs ms : Words)
   key_in i = cell_at (i * wl + o.by) lv lm
 
   -- A right number that is there has its words there.
-  right_in_lem : (x : Choice) → From number (number + nr) x → RightIn o w vs ms number x
-  right_in_lem (Row k) f =
+  right_in_lem : (x : Option ℕ) → From number (number + nr) x → RightIn o w vs ms number x
+  right_in_lem (Some k) f =
       let i : ℕ = k - number in
       let a = f.0 in
       let b = f.1 in
@@ -237,7 +236,7 @@ module _ (o : Options) (n wl : ℕ) (lv lm : Words) (w nr : ℕ) (vs ms : Words)
       let z = h.right.marks in
       let y = h.numbers in
       (a, omega arith, record { values = omega arith; marks = omega arith })
-  right_in_lem Nothing f = tt
+  right_in_lem None f = tt
 
   -- Row i may be spread, if those behind it are.
   pub row_asked : (i : ℕ) (now : Words) → i < n → length now ≡ length out → now ≡ spread_on o number w vs ms key_in m n out (i + 1) → RowSpread o i wl lv lm w vs ms number m now

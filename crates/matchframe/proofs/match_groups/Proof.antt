@@ -1,4 +1,6 @@
+use Rattle.std.specs.Prelude.{Option, ℕ}
 use mathlib.Core.Path.{◌≡◌, refl, sym, ap, ◌∙◌}
+use mathlib.Core.Bool.{true, false}
 use mathlib.Core.List.{List, map}
 use Prim.Native.Nat.{◌+◌, ◌-◌, ◌*◌, ◌≤◌, ◌<◌}
 use native.Mathlib.Nat.{mul-le-mul_right}
@@ -14,7 +16,6 @@ use Rattle.matching.specs.Groups.{runs, by_runs}
 use Rattle.matching.specs.Match.{match_in}
 use Rattle.matching.specs.Stretches.{between, lay}
 use Rattle.matching.specs.Loops.{RunAt, RunRoom}
-use Rattle.matching.specs.declared.Choice.{Choice}
 use Rattle.matching.proofs.BestLaws.{match_small}
 use Rattle.matching.proofs.TermLaws.{room_terms, lay_terms}
 use Rattle.matching.proofs.WalkLaws.{run_up, run_within, between_length}
@@ -23,25 +24,25 @@ use Rattle.matchframe.proofs.match_groups.Statement.{statement}
 use Rattle.matchframe.proofs.match_groups.Tie as tie
 
 abbrev invariant-loop : tie.invariant-loop-i
-invariant-loop lv lm nl wl rv rm nr wr number o codes rising m out₀ at₀ end₀ i₀ out at end i =
-    (i ≤ nl) × (length out ≡ length out₀) × RunAt (with_list o codes rising) wr nr rv rm at end
-    × (lay m 0 (by_runs (with_list o codes rising) number (runs (with_list o codes rising) (rows_of wr nr rv rm)) (runs (with_list o codes rising) (rows_of wl nl lv lm))) out₀ ≡ lay m i (groups_from (with_list o codes rising) number m wl nl lv lm wr nr rv rm at i) out)
+invariant-loop left right number rules m out₀ at₀ end₀ i₀ out at end i =
+    (i ≤ left.count) × (length out ≡ length out₀) × RunAt (with_list rules.terms rules.codes.now rules.rising.now) right.width right.count right.values.now right.marks.now at end
+    × (lay m 0 (by_runs (with_list rules.terms rules.codes.now rules.rising.now) number (runs (with_list rules.terms rules.codes.now rules.rising.now) (rows_of right.width right.count right.values.now right.marks.now)) (runs (with_list rules.terms rules.codes.now rules.rising.now) (rows_of left.width left.count left.values.now left.marks.now))) out₀ ≡ lay m i (groups_from (with_list rules.terms rules.codes.now rules.rising.now) number m left.width left.count left.values.now left.marks.now right.width right.count right.values.now right.marks.now at i) out)
 
 abbrev decreases-loop : tie.decreases-loop-i
-decreases-loop lv lm nl wl rv rm nr wr number o codes rising m out₀ at₀ end₀ i₀ out at end i = nl - i
+decreases-loop left right number rules m out₀ at₀ end₀ i₀ out at end i = left.count - i
 
 -- the left run at row i has a row and ends within the rows
-ahead : (c : tie.After-run_end-e invariant-loop decreases-loop) → (c.loop-i.i < c.run_end-e.result) × (c.run_end-e.result ≤ c.args.nl)
+ahead : (c : tie.After-run_end-e invariant-loop decreases-loop) → (c.loop-i.i < c.run_end-e.result) × (c.run_end-e.result ≤ c.args.left.count)
 ahead c =
     let a = c.args in
     let i = c.loop-i.i in
-    let u = run_up (with_list a.o a.codes.now a.rising.now) a.wl a.nl a.lv.now a.lm.now i c.loop-i-test.true in
-    let v = run_within (with_list a.o a.codes.now a.rising.now) a.wl a.nl a.lv.now a.lm.now i c.loop-i-test.true in
+    let u = run_up (with_list a.rules.terms a.rules.codes.now a.rules.rising.now) a.left.width a.left.count a.left.values.now a.left.marks.now i c.loop-i-test.true in
+    let v = run_within (with_list a.rules.terms a.rules.codes.now a.rules.rising.now) a.left.width a.left.count a.left.values.now a.left.marks.now i c.loop-i-test.true in
     let q = c.run_end-e.ensures in
     (omega arith, omega arith)
 
-room : (c : tie.After-run_end-e invariant-loop decreases-loop) → let a = c.args in c.loop-i.i * a.wl + a.wl ≤ a.nl * a.wl
-room c = let a = c.args in row_room c.loop-i.i a.nl a.wl c.loop-i-test.true
+room : (c : tie.After-run_end-e invariant-loop decreases-loop) → let a = c.args in c.loop-i.i * a.left.width + a.left.width ≤ a.left.count * a.left.width
+room c = let a = c.args in row_room c.loop-i.i a.left.count a.left.width c.loop-i-test.true
 
 run-end-requires : tie.Need-run_end-end-requires invariant-loop decreases-loop
 run-end-requires c κs = record { rows = c.requires.right; within = omega arith }
@@ -53,7 +54,7 @@ loop-holds c =
       omega arith,
       refl,
       record { rows = s.requires.right; within = omega arith; run = c.run_end-end.ensures },
-      ap (λ (ks : List Choice). lay a.m 0 ks a.out.now) (groups_all (with_list a.o a.codes.now a.rising.now) a.number a.m a.wl a.nl a.lv.now a.lm.now a.wr a.nr a.rv.now a.rm.now),
+      ap (λ (ks : List (Option ℕ)). lay a.m 0 ks a.out.now) (groups_all (with_list a.rules.terms a.rules.codes.now a.rules.rising.now) a.number a.m a.left.width a.left.count a.left.values.now a.left.marks.now a.right.width a.right.count a.right.values.now a.right.marks.now),
     )
 
 run-end-requires-2 : tie.Need-run_end-e-requires invariant-loop decreases-loop
@@ -66,7 +67,7 @@ serve-requires : tie.Need-serve-r-requires invariant-loop decreases-loop
 serve-requires c κs =
     let r = room c in
     let p = c.requires.left in
-    record { left = record { few = p.few; values = omega arith; marks = omega arith }; right = c.loop-i.invariant.2 }
+    (record { left = record { few = p.few; values = omega arith; marks = omega arith }; right = c.loop-i.invariant.2 }, λ (e : false ≡ true). absurd cc)
 
 -- what a run needs to be matched
 run_room : (c : tie.After-serve-r invariant-loop decreases-loop) →
@@ -74,7 +75,7 @@ run_room : (c : tie.After-serve-r invariant-loop decreases-loop) →
     let l = e.loop-i in
     let a = e.args in
     let r = c.serve-r.result in
-    RunRoom (without_list a.o) a.wl a.m a.lv.now a.lm.now l.i e.run_end-e.result a.wr a.rv.now a.rm.now r.at r.used a.number l.out
+    RunRoom (without_list a.rules.terms) a.left.width a.m a.left.values.now a.left.marks.now l.i e.run_end-e.result a.right.width a.right.values.now a.right.marks.now r.at r.used a.number l.out
 run_room c =
     let e = c in
     let l = e.loop-i in
@@ -82,10 +83,10 @@ run_room c =
     let p = s.requires in
     let g = c.serve-r.ensures.0 in
     let u = ahead e.before in
-    let h = mul-le-mul_right {m = c.serve-r.result.used} {n = s.args.nr} s.args.wr g.within in
-    let k = mul-le-mul_right {m = e.run_end-e.result} {n = s.args.nl} s.args.wl u.1 in
+    let h = mul-le-mul_right {m = c.serve-r.result.used} {n = s.args.right.count} s.args.right.width g.within in
+    let k = mul-le-mul_right {m = e.run_end-e.result} {n = s.args.left.count} s.args.left.width u.1 in
     let a = s.args in
-    room_terms a.o a.codes.now a.rising.now a.wl a.m a.lv.now a.lm.now _ _ a.wr a.rv.now a.rm.now _ _ a.number _
+    room_terms a.rules.terms a.rules.codes.now a.rules.rising.now a.left.width a.m a.left.values.now a.left.marks.now _ _ a.right.width a.right.values.now a.right.marks.now _ _ a.number _
     (record {
       left = record { few = p.left.few; wide = p.left.wide; values = omega (arith, k, p.left.values); marks = omega (arith, k, p.left.marks) };
       upward = omega arith;
@@ -103,19 +104,19 @@ again : (c : tie.After-serve-r invariant-loop decreases-loop) (out : Words) →
     let a = e.args in
     let r = c.serve-r.result in
     length out ≡ length l.out
-    → out ≡ lay a.m l.i (map (match_in (without_list a.o) (a.number + r.at) (between a.wr r.at r.used a.rv.now a.rm.now)) (between a.wl l.i e.run_end-e.result a.lv.now a.lm.now)) l.out
-    → invariant-loop a.lv.now a.lm.now a.nl a.wl a.rv.now a.rm.now a.nr a.wr a.number a.o a.codes.now a.rising.now a.m a.out.now 0 0 0 out r.at r.end e.run_end-e.result
+    → out ≡ lay a.m l.i (map (match_in (without_list a.rules.terms) (a.number + r.at) (between a.right.width r.at r.used a.right.values.now a.right.marks.now)) (between a.left.width l.i e.run_end-e.result a.left.values.now a.left.marks.now)) l.out
+    → invariant-loop a.left a.right a.number a.rules a.m a.out.now 0 0 0 out r.at r.end e.run_end-e.result
 again c out long laid =
     let e = c in
     let l = e.loop-i in
     let s = e in
     let a = s.args in
     let g = c.serve-r in
-    let m = groups_more (with_list a.o a.codes.now a.rising.now) a.number a.m a.wl a.nl a.lv.now a.lm.now a.wr a.nr a.rv.now a.rm.now l.at l.i e.run_end-e.result g.result l.out e.loop-i-test.true e.run_end-e.ensures (g.ensures.1 a.wl s.requires.left.wide) in (
+    let m = groups_more (with_list a.rules.terms a.rules.codes.now a.rules.rising.now) a.number a.m a.left.width a.left.count a.left.values.now a.left.marks.now a.right.width a.right.count a.right.values.now a.right.marks.now l.at l.i e.run_end-e.result g.result l.out e.loop-i-test.true e.run_end-e.ensures (g.ensures.1 a.left.width s.requires.left.wide) in (
       (ahead e.before).1,
       long ∙ l.invariant.1,
       g.ensures.0.run,
-      l.invariant.3 ∙ rw (laid ∙ lay_terms a.o a.codes.now a.rising.now a.m l.i (a.number + g.result.at) (between a.wr g.result.at g.result.used a.rv.now a.rm.now) (between a.wl l.i e.run_end-e.result a.lv.now a.lm.now) l.out) m,
+      l.invariant.3 ∙ rw (laid ∙ lay_terms a.rules.terms a.rules.codes.now a.rules.rising.now a.m l.i (a.number + g.result.at) (between a.right.width g.result.at g.result.used a.right.values.now a.right.marks.now) (between a.left.width l.i e.run_end-e.result a.left.values.now a.left.marks.now) l.out) m,
     )
 
 is-short-requires : tie.Need-is_short-requires invariant-loop decreases-loop
@@ -137,18 +138,18 @@ choice : (c : tie.After-match_row-choice invariant-loop decreases-loop) →
     let l = g.loop-i in
     let a = g.args in
     let r = g.serve-r.result in
-    c.match_row-choice.result ≡ match_in (without_list a.o) (a.number + r.at) (between a.wr r.at r.used a.rv.now a.rm.now) (row_from a.wl (l.i * a.wl) a.lv.now a.lm.now)
+    c.match_row-choice.result ≡ match_in (without_list a.rules.terms) (a.number + r.at) (between a.right.width r.at r.used a.right.values.now a.right.marks.now) (row_from a.left.width (l.i * a.left.width) a.left.values.now a.left.marks.now)
 choice c =
     let s = c in
-    c.match_row-choice.ensures s.args.wl s.requires.left.wide
+    c.match_row-choice.ensures s.args.left.width s.requires.left.wide
 
 mul-match-row : tie.Need-overflow_mul-from invariant-loop decreases-loop
 mul-match-row c = let r = room c.before.before.before in let p = c.requires.left in omega arith
 
 match-row-requires : tie.Need-match_row-choice-requires invariant-loop decreases-loop
 match-row-requires c κs =
-    let r = room c.before.before.before in
-    let p = run_room c.before.before in
+    let r = room c.before.before.before.before in
+    let p = run_room c.before.before.before in
     let l = c.requires.left in
     record { left = record { few = p.left.few; values = omega (arith, r, l.values, l.wide); marks = omega (arith, r, l.marks, l.wide) }; right = p.right; upward = p.run; numbers = p.numbers }
 
@@ -156,13 +157,13 @@ put-requires : tie.Need-put-requires invariant-loop decreases-loop
 put-requires c κs =
     let g = c in
     let a = g.args in
-    let p = run_room g.before.before.before.before in
-    let u = ahead g.before.before.before.before.before in
-    let e = between_length a.wr a.rv.now a.rm.now g.serve-r.result.at g.serve-r.result.used in
-    (record { there = omega (arith, u.0, p.within); room = p.room }, rw (choice c.before) (match_small (without_list a.o) (a.number + g.serve-r.result.at) _ _ (omega (arith, p.run, p.numbers))))
+    let p = run_room g.before.before.before.before.before in
+    let u = ahead g.before.before.before.before.before.before in
+    let e = between_length a.right.width a.right.values.now a.right.marks.now g.serve-r.result.at g.serve-r.result.used in
+    (record { there = omega (arith, u.0, p.within); room = p.room }, rw (choice c.before) (match_small (without_list a.rules.terms) (a.number + g.serve-r.result.at) _ _ (omega (arith, p.run, p.numbers))))
 
 loop-less : tie.Need-loop-i-smaller-then-is_short invariant-loop decreases-loop
-loop-less c = let e = c in let u = ahead e.before.before.before.before.before.before.before in let t = e.loop-i-test.true in omega arith
+loop-less c = let e = c in let u = ahead e.before.before.before.before.before.before.before.before in let t = e.loop-i-test.true in omega arith
 
 loop-again : tie.Need-loop-i-preserved-then-is_short invariant-loop decreases-loop
 loop-again c =
@@ -171,21 +172,21 @@ loop-again c =
     let l = g.loop-i in
     let r = g.serve-r.result in
     let e = g.run_end-e.result in
-    let f = match_in (without_list a.o) (a.number + r.at) (between a.wr r.at r.used a.rv.now a.rm.now) in
-    let n = one c.before.before.before.before in
-    let u = ahead g.before.before.before.before.before.before.before in
-    let laid : c.put.new.out ≡ lay a.m l.i (map f (between a.wl l.i e a.lv.now a.lm.now)) l.out =
-    sym (lay_more a.m f a.wl a.lv.now a.lm.now l.i e l.out u.0 ∙ rw (n, c.put.ensures, choice c.before.before.before) (lay_done a.m f a.wl a.lv.now a.lm.now (l.i + 1) _)) in
-    again g.before.before.before.before.before.before c.put.new.out c.put.auto.out laid
+    let f = match_in (without_list a.rules.terms) (a.number + r.at) (between a.right.width r.at r.used a.right.values.now a.right.marks.now) in
+    let n = one c.before.before.before.before.before in
+    let u = ahead g.before.before.before.before.before.before.before.before in
+    let laid : c.put.new.out ≡ lay a.m l.i (map f (between a.left.width l.i e a.left.values.now a.left.marks.now)) l.out =
+    sym (lay_more a.m f a.left.width a.left.values.now a.left.marks.now l.i e l.out u.0 ∙ rw (n, c.put.ensures, choice c.before.before.before) (lay_done a.m f a.left.width a.left.values.now a.left.marks.now (l.i + 1) _)) in
+    again g.before.before.before.before.before.before.before c.put.new.out c.put.auto.out laid
 
 match-run-requires : tie.Need-match_run-requires invariant-loop decreases-loop
-match-run-requires c κs = run_room c.before.before.before
+match-run-requires c κs = run_room c.before.before.before.before
 
 loop-less-2 : tie.Need-loop-i-smaller invariant-loop decreases-loop
-loop-less-2 c = let e = c in let u = ahead e.before.before.before.before.before.before in let t = e.loop-i-test.true in omega arith
+loop-less-2 c = let e = c in let u = ahead e.before.before.before.before.before.before.before in let t = e.loop-i-test.true in omega arith
 
 loop-again-2 : tie.Need-loop-i-preserved invariant-loop decreases-loop
-loop-again-2 c = again c.before.before.before.before.before _ c.match_run.auto.out c.match_run.ensures
+loop-again-2 c = again c.before.before.before.before.before.before _ c.match_run.auto.out c.match_run.ensures
 
 same_length : tie.Need-shape_of-out invariant-loop decreases-loop
 same_length c = c.loop-i.invariant.1
@@ -194,8 +195,8 @@ returns : tie.Need-returns invariant-loop decreases-loop
 returns c =
     let l = c.loop-i in
     let a = c.args in
-    let e : l.i ≡ a.nl = omega (arith, c.loop-i-test.false, l.invariant.0) in
-    sym (l.invariant.3 ∙ rw e (groups_end (with_list a.o a.codes.now a.rising.now) a.number a.m a.wl a.nl a.lv.now a.lm.now a.wr a.nr a.rv.now a.rm.now l.at l.out))
+    let e : l.i ≡ a.left.count = omega (arith, c.loop-i-test.false, l.invariant.0) in
+    sym (l.invariant.3 ∙ rw e (groups_end (with_list a.rules.terms a.rules.codes.now a.rules.rising.now) a.number a.m a.left.width a.left.count a.left.values.now a.left.marks.now a.right.width a.right.count a.right.values.now a.right.marks.now l.at l.out))
 
 pub match_groups_spec : {M : Type 1} → statement M
 match_groups_spec =

@@ -1,10 +1,10 @@
+use Rattle.std.specs.Prelude.{Option, ℕ}
 use mathlib.Core.Path.{ap, ◌∙◌}
 use mathlib.Core.List.{List}
 use Prim.Native.Nat.{◌+◌}
 use native.Mathlib.Omega.{arith}
 use Rattle.order.specs.options.Options.{with_list}
 use Rattle.matching.specs.Stretches.{between, lay}
-use Rattle.matching.specs.declared.Choice.{Choice}
 use Rattle.matching.proofs.TermLaws.{room_terms, lay_terms}
 use Rattle.matching.proofs.LayLaws.{frame_plain, frame_grouped}
 use borrow.Author.Rules.{rules}
@@ -16,29 +16,29 @@ match-all-requires c κs =
     let s = c in
     let a = s.args in
     let p = s.requires in
-    room_terms a.o a.codes.now a.rising.now a.wl a.m a.lv.now a.lm.now 0 a.nl a.wr a.rv.now a.rm.now 0 a.nr a.number a.out.now
+    room_terms a.rules.terms a.rules.codes.now a.rules.rising.now a.left.width a.m a.left.values.now a.left.marks.now 0 a.left.count a.right.width a.right.values.now a.right.marks.now 0 a.right.count a.number a.out.now
     (record { left = p.left; upward = omega arith; within = p.within; right = p.right; run = omega arith; numbers = p.numbers; room = p.room })
 
 match-groups-requires : tie.Need-match_groups-requires
 match-groups-requires c κs = search rules
 
-same_length : tie.Need-shape_of-out-then-o-eq0
+same_length : tie.Need-shape_of-out-then-rules-eq0
 same_length c = search rules
 
-returns : tie.Need-returns-then-o-eq0
+returns : tie.Need-returns-then-rules-eq0
 returns c =
     let a = c.args in
     c.match_all.ensures
-    ∙ lay_terms a.o a.codes.now a.rising.now a.m 0 (a.number + 0) (between a.wr 0 a.nr a.rv.now a.rm.now) (between a.wl 0 a.nl a.lv.now a.lm.now) a.out.now
-    ∙ ap (λ (ks : List Choice). lay a.m 0 ks a.out.now) (frame_plain (with_list a.o a.codes.now a.rising.now) a.number a.m a.wl a.nl a.lv.now a.lm.now a.wr a.nr a.rv.now a.rm.now c.if-o-eq0.true)
+    ∙ lay_terms a.rules.terms a.rules.codes.now a.rules.rising.now a.m 0 (a.number + 0) (between a.right.width 0 a.right.count a.right.values.now a.right.marks.now) (between a.left.width 0 a.left.count a.left.values.now a.left.marks.now) a.out.now
+    ∙ ap (λ (ks : List (Option ℕ)). lay a.m 0 ks a.out.now) (frame_plain (with_list a.rules.terms a.rules.codes.now a.rules.rising.now) a.number a.m a.left.width a.left.count a.left.values.now a.left.marks.now a.right.width a.right.count a.right.values.now a.right.marks.now c.if-rules-eq0.true)
 
-same-length-2 : tie.Need-shape_of-out-else-o-eq0
+same-length-2 : tie.Need-shape_of-out-else-rules-eq0
 same-length-2 c = search rules
 
-returns-2 : tie.Need-returns-else-o-eq0
+returns-2 : tie.Need-returns-else-rules-eq0
 returns-2 c =
     let a = c.args in
-    c.match_groups.ensures ∙ ap (λ (ks : List Choice). lay a.m 0 ks a.out.now) (frame_grouped (with_list a.o a.codes.now a.rising.now) a.number a.m a.wl a.nl a.lv.now a.lm.now a.wr a.nr a.rv.now a.rm.now c.if-o-eq0.false)
+    c.match_groups.ensures ∙ ap (λ (ks : List (Option ℕ)). lay a.m 0 ks a.out.now) (frame_grouped (with_list a.rules.terms a.rules.codes.now a.rules.rising.now) a.number a.m a.left.width a.left.count a.left.values.now a.left.marks.now a.right.width a.right.count a.right.values.now a.right.marks.now c.if-rules-eq0.false)
 
 pub match_rows_spec : {M : Type 1} → statement M
 match_rows_spec =

@@ -9,7 +9,7 @@ use Rattle.order.specs.options.Options.{with_list, without_list}
 use Rattle.order.specs.declared.options.Options.{Options}
 use Rattle.order.specs.declared.options.Terms.{Terms}
 use Rattle.order.specs.Order.{cmp_first, cmp_group, null_in, null_group, sorted}
-use Rattle.order.specs.declared.Order.TheVariants.{Equal}
+use Rattle.std.specs.declared.cmp.Ordering.TheVariants.{Equal}
 use Rattle.order.proofs.SortedLaws.{all_by}
 use Rattle.matching.specs.Moves.{keys_sorted}
 use Rattle.matching.specs.Stretches.{between}

@@ -1,4 +1,5 @@
 -- What is remembered is the same with a list and without one. Assumes nothing.
+use Rattle.std.specs.Prelude.{Option}
 use mathlib.Core.Path.{◌≡◌, ap, ◌∙◌}
 use mathlib.Core.Bool.{cond}
 use mathlib.Core.List.{List}
@@ -9,7 +10,6 @@ use Rattle.order.specs.options.Options.{is_on, with_list, without_list}
 use Rattle.order.specs.declared.options.Terms.{Terms}
 use Rattle.order.specs.Keyed.{last_keyed, last_left_at, remember_at, remember_last}
 use Rattle.order.specs.declared.Row.{Row}
-use Rattle.order.specs.declared.Keyed.{Keyed}
 use Rattle.order.proofs.TermLaws.{last_terms, last_left_terms, remember_terms}
 use Rattle.matchframe.specs.turnrows.Prunes.{remembered, remembered_left}
 
@@ -18,10 +18,10 @@ module _ (t : Terms) (codes : Words) (rising : List ℕ) (m : Row) (rs : Rows) w
   unfolding remembered remember_last
   remembered_terms =
       ap (λ (r : Row). cond (is_on t.check) r m)
-      (remember_terms t codes rising m rs (last_keyed (without_list t) rs) ∙ ap (λ (k : Keyed). remember_at (with_list t codes rising) m rs k) (last_terms t codes rising rs (length rs)))
+      (remember_terms t codes rising m rs (last_keyed (without_list t) rs) ∙ ap (λ (k : Option ℕ). remember_at (with_list t codes rising) m rs k) (last_terms t codes rising rs (length rs)))
 
   pub remembered_left_terms : remembered_left (without_list t) m rs ≡ remembered_left (with_list t codes rising) m rs
   unfolding remembered_left
   remembered_left_terms =
       ap (λ (r : Row). cond (is_on t.check) r m)
-      (remember_terms t codes rising m rs (last_left_at (without_list t) rs) ∙ ap (λ (k : Keyed). remember_at (with_list t codes rising) m rs k) (last_left_terms t codes rising rs))
+      (remember_terms t codes rising m rs (last_left_at (without_list t) rs) ∙ ap (λ (k : Option ℕ). remember_at (with_list t codes rising) m rs k) (last_left_terms t codes rising rs))

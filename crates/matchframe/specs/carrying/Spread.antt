@@ -1,20 +1,18 @@
 -- An answer whose rows stand as numbers alone, spread over all its columns. Assumes nothing.
-use Rattle.std.specs.Prelude.{◌≡◌, false, cond, List, [], ◌∷◌, ℕ, zero, suc, ◌+◌, ◌-◌, ◌*◌, ◌^◌, ◌≤◌, ◌<◌, pos, nat_abs, length, get_or}
+use Rattle.std.specs.Prelude.{◌≡◌, false, cond, List, [], ◌∷◌, ℕ, zero, suc, ◌+◌, ◌-◌, ◌*◌, ◌^◌, ◌≤◌, ◌<◌, pos, nat_abs, length, get_or, Option, Some, None}
 use Rattle.frames.specs.Cells.{Rows, Words, is_zero}
 use Rattle.order.specs.options.Options.{right_columns, answer_columns}
 use Rattle.order.specs.declared.options.Options.{Options}
 use Rattle.order.specs.Requires.{RowsIn}
 use Rattle.tables.specs.Lay.{flat, lay_cells}
 use Rattle.matching.specs.Answer.{answer_rows}
-use Rattle.matching.specs.declared.Choice.{Choice}
-use Rattle.matching.specs.declared.Choice.TheVariants.{Row, Nothing}
 
 -- The choice whose number and mark stand at place i of an answer of m cells.
-abbrev pub choice_at : ℕ → Words → ℕ → Choice
-choice_at m out i = cond (is_zero (get_or out (2 + m + i) (pos 0))) Nothing (Row (nat_abs (get_or out (2 + i) (pos 0))))
+abbrev pub choice_at : ℕ → Words → ℕ → Option ℕ
+choice_at m out i = cond (is_zero (get_or out (2 + m + i) (pos 0))) None (Some (nat_abs (get_or out (2 + i) (pos 0))))
 
 -- n choices from place i on.
-unfoldable pub choices_from : ℕ → Words → ℕ → ℕ → List Choice
+unfoldable pub choices_from : ℕ → Words → ℕ → ℕ → List (Option ℕ)
 choices_from m out i zero = []
 choices_from m out i (suc n) = choice_at m out i ∷ choices_from m out (suc i) n
 

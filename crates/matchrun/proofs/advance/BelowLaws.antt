@@ -1,7 +1,7 @@
 -- Keys below a left key: the test of an inclusive bound by an exclusive one, four rows at once. Assumes nothing.
 use mathlib.Core.Path.{◌≡◌, refl, sym, ap, ◌∙◌}
 use mathlib.Core.Bool.{Bool, true, false, cond, not, ◌||◌}
-use Prim.Native.Nat.{ℕ, zero, suc, ◌+◌, ◌-◌, ◌*◌, ◌^◌, ◌≤◌, ◌<◌}
+use Prim.Native.Nat.{ℕ, zero, suc, ◌+◌, ◌-◌, ◌^◌, ◌≤◌, ◌<◌}
 use native.Mathlib.Omega.{arith}
 use native.Mathlib.Decide.{dec_lt}
 use borrow.Author.Tests.{lt-ltb, le-ltb, ltb-false, not-true}
@@ -11,7 +11,7 @@ use lib.Signed.{lt_z, mag}
 use Rattle.frames.specs.Cells.{value}
 use Rattle.order.specs.Order.{is_less, is_equal}
 use Rattle.order.proofs.OrderLaws.{cmp_z_is, less_greater}
-use Rattle.order.specs.declared.Order.TheVariants.{Less, Equal, Greater}
+use Rattle.std.specs.declared.cmp.Ordering.TheVariants.{Less, Equal, Greater}
 use Rattle.matching.specs.Moves.{NotAbove}
 use Rattle.matching.proofs.CursorLaws.{back_down}
 use Rattle.matchrun.specs.advance.Below.{below, HasNext, last_true}
@@ -88,10 +88,3 @@ module _ (P : ℕ → Bool) (n : ℕ) (down : (i k : ℕ) → n ≤ i → i ≤ 
   last_true_stops false false false p q r =
       let e : n + 0 ≡ n = omega arith in
       (λ k l h. absurd (omega (arith, l, h)), rw e p, omega arith)
-
--- The same by choices, the last test first.
-pub last_true_chosen : (start step : ℕ) (a b c : Bool) → cond c (start + step + step + step) (cond b (start + step + step) (cond a (start + step) start)) ≡ start + last_true a b c * step
-last_true_chosen start step a b true = omega arith
-last_true_chosen start step a true false = omega arith
-last_true_chosen start step true false false = omega arith
-last_true_chosen start step false false false = omega arith

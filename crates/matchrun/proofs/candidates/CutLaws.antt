@@ -16,8 +16,8 @@ use Rattle.order.proofs.OrderLaws.{AtMost, IsOrder, cmp_cell_is, greater_less, l
 use Rattle.order.proofs.KeyLaws.{farther_above, nearer_below}
 use Rattle.frames.proofs.BoolLaws.{and-true}
 use Rattle.order.specs.declared.options.Options.{Options}
-use Rattle.order.specs.declared.Order.{Order}
-use Rattle.order.specs.declared.Order.TheVariants.{Less, Equal, Greater}
+use Rattle.std.specs.declared.cmp.Ordering.{Ordering}
+use Rattle.std.specs.declared.cmp.Ordering.TheVariants.{Less, Equal, Greater}
 use Rattle.order.specs.declared.options.Strategy.{Strategy}
 use Rattle.order.specs.declared.options.Strategy.TheVariants.{Backward, Forward, Nearest}
 use Rattle.matching.specs.Match.{Hit, nobody, hit, on_side, fits, nearer, takes_over, choose, tolerate, match_in}
@@ -46,7 +46,7 @@ fore_fits eq b v u h e =
 K : IsOrder (cmp_cell key_rule)
 K = cmp_cell_is key_rule
 
-side_above : (z : Order) → on_side Backward true z ≡ false → z ≡ Greater
+side_above : (z : Ordering) → on_side Backward true z ≡ false → z ≡ Greater
 side_above Less e = cc
 side_above Equal e = cc
 side_above Greater e = refl

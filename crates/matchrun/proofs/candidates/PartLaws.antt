@@ -18,7 +18,7 @@ use Rattle.order.proofs.OrderLaws.{cmp_cell_is, cell_equal, three, three_less, n
 use Rattle.order.proofs.KeyLaws.{key_up}
 use Rattle.frames.proofs.BoolLaws.{and-true}
 use Rattle.order.specs.declared.options.Options.{Options}
-use Rattle.order.specs.declared.Order.TheVariants.{Less, Equal, Greater}
+use Rattle.std.specs.declared.cmp.Ordering.TheVariants.{Less, Equal, Greater}
 use Rattle.order.specs.declared.options.Strategy.TheVariants.{Backward, Forward, Nearest}
 use Rattle.matching.specs.Match.{on_side, match_in}
 use Rattle.matching.specs.Stretches.{between}

@@ -24,7 +24,7 @@ returns : tie.Need-returns-then-not-keys_sorted
 returns c = c.scan_run.ensures
 
 -- the left run is sorted
-left_sorted : (c : tie.Else-not-keys_sorted) → let a = c.args in keys_sorted (without_list a.o) (between a.wl a.from a.to a.lv.now a.lm.now) ≡ true
+left_sorted : (c : tie.Else-not-keys_sorted) → let a = c.args in keys_sorted (without_list a.o) (between a.left.width a.from a.to a.left.values.now a.left.marks.now) ≡ true
 left_sorted c = sym c.keys_sorted.ensures ∙ not-false c.keys_sorted.result c.if-not-keys_sorted.false-raw
 
 candidates-requires : tie.Need-candidates-part-requires
@@ -36,7 +36,7 @@ candidates-requires c κs =
 part_room : (c : tie.After-candidates-part) →
     let a = c.args in
     let r = c.candidates-part.result in
-    RunRoom (without_list a.o) a.wl a.m a.lv.now a.lm.now a.from a.to a.wr a.rv.now a.rm.now r.from r.to a.number a.out.now
+    RunRoom (without_list a.o) a.left.width a.m a.left.values.now a.left.marks.now a.from a.to a.right.width a.right.values.now a.right.marks.now r.from r.to a.number a.out.now
 part_room c =
     let s = c in
     let a = s.args in
@@ -46,7 +46,7 @@ part_room c =
       left = p.left;
       upward = p.upward;
       within = p.within;
-      right = rows_less (without_list a.o) a.wr a.rv.now a.rm.now c.candidates-part.result.to a.end e.within p.right;
+      right = rows_less (without_list a.o) a.right.width a.right.values.now a.right.marks.now c.candidates-part.result.to a.end e.within p.right;
       run = e.upward;
       numbers = omega (arith, e.within, p.numbers);
       room = p.room;

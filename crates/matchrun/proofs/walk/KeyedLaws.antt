@@ -1,4 +1,5 @@
 -- The choice where every row has a key and the keys do not fall: from where the right cursor stands, by strategy; and what a move of the cursor keeps. Assumes nothing.
+use Rattle.std.specs.Prelude.{Option, None}
 use mathlib.Core.Path.{◌≡◌, refl, sym, ◌∙◌}
 use mathlib.Core.Bool.{Bool, true, false, not, ◌&&◌}
 use mathlib.Core.List.{List}
@@ -13,15 +14,13 @@ use Rattle.frames.specs.Cells.{Cell, value, Words, row_from}
 use Rattle.order.specs.options.Options.{strategy_of, key_rule}
 use Rattle.order.specs.Order.{cmp_cell, key_of}
 use Rattle.order.specs.declared.options.Options.{Options}
-use Rattle.order.specs.declared.Order.{Order}
-use Rattle.order.specs.declared.Order.TheVariants.{Less, Equal, Greater}
+use Rattle.std.specs.declared.cmp.Ordering.{Ordering}
+use Rattle.std.specs.declared.cmp.Ordering.TheVariants.{Less, Equal, Greater}
 use Rattle.order.specs.declared.options.Strategy.{Strategy}
 use Rattle.order.specs.declared.options.Strategy.TheVariants.{Backward, Forward, Nearest}
 use Rattle.matching.specs.Match.{nobody, on_side, nearer, fits, choose, tolerate, match_in}
 use Rattle.matching.specs.Moves.{key_at, NotAbove, Rising, fits_key, Behind, Stopped, CursorAt, passes_row, goes_on, walk_on}
 use Rattle.matching.specs.Stretches.{between, hit_at}
-use Rattle.matching.specs.declared.Choice.{Choice}
-use Rattle.matching.specs.declared.Choice.TheVariants.{Nothing}
 use Rattle.matching.proofs.ChoiceLaws.{choose_dead}
 use Rattle.matching.proofs.MayLaws.{never, is_false}
 use Rattle.matching.proofs.BestLaws.{key_at_lem, none_far, row_near}
@@ -34,7 +33,7 @@ use Rattle.matchrun.specs.choices.Choices.{unless_far}
 use Rattle.matchrun.specs.walk.Keyed.{Marked}
 
 -- Forward's side is where Backward's is not, with equality the other way.
-pub fore_not : (eq : Bool) (z : Order) → on_side Forward eq z ≡ not (on_side Backward (not eq) z)
+pub fore_not : (eq : Bool) (z : Ordering) → on_side Forward eq z ≡ not (on_side Backward (not eq) z)
 fore_not true Less = refl
 fore_not true Equal = refl
 fore_not true Greater = refl
@@ -52,7 +51,7 @@ module _ (o : Options) (w at end : ℕ) (vs ms : Words) (marked : Marked o w at 
 
   -- No row fits: there is no choice.
   none_fits : (s : Strategy) → strategy_of o ≡ s → ((k : ℕ) → at ≤ k → k < end → fits_key s o.allow_eq (value v) (key k) ≡ false)
-      → match_in o (first + at) (between w at end vs ms) x ≡ Nothing
+      → match_in o (first + at) (between w at end vs ms) x ≡ None
   unfolding match_in tolerate fits
   none_fits s told none = rw (choose_dead o x (fits o x) nobody (first + at) (between w at end vs ms) (all_between w vs ms (λ r. fits o x r ≡ false) at end dead))
     where
@@ -99,7 +98,7 @@ module _ (o : Options) (w at end : ℕ) (vs ms : Words) (marked : Marked o w at 
     not_below k g h =
         is_false (below inclusive v (val k)) (λ t. never (below inclusive v (val c)) (back_down inclusive (key c) (key k) (value v) (up c k l g h) t) (stop (omega (arith, g, h))))
 
-    back_none : strategy_of o ≡ Backward → o.allow_eq ≡ inclusive → c ≡ at → match_in o (first + at) (between w at end vs ms) x ≡ Nothing
+    back_none : strategy_of o ≡ Backward → o.allow_eq ≡ inclusive → c ≡ at → match_in o (first + at) (between w at end vs ms) x ≡ None
     back_none told q e = none_fits Backward told (λ k g h. rw q (not_below k (omega (arith, e, g)) h))
 
     back_last : strategy_of o ≡ Backward → o.allow_eq ≡ inclusive → c ≤ end → at < c → unless_far o.tolerance v (val (c - 1)) (first + (c - 1)) ≡ match_in o (first + at) (between w at end vs ms) x
@@ -109,7 +108,7 @@ module _ (o : Options) (w at end : ℕ) (vs ms : Words) (marked : Marked o w at 
         rests_at_lem Backward told (c - 1) (omega arith) (omega arith) (λ k g t. rw q f) (λ t. rw (q, e) (stop (omega (arith, t)))) (rw q f)
 
     -- The last row that is below v, or none.
-    pub back_choice : strategy_of o ≡ Backward → o.allow_eq ≡ inclusive → c ≤ end → (r : Choice) → (c ≡ at → r ≡ Nothing)
+    pub back_choice : strategy_of o ≡ Backward → o.allow_eq ≡ inclusive → c ≤ end → (r : Option ℕ) → (c ≡ at → r ≡ None)
         → (at < c → r ≡ unless_far o.tolerance v (val (c - 1)) (first + (c - 1))) → r ≡ match_in o (first + at) (between w at end vs ms) x
     back_choice told q m r none some = by (dec_lt at c)
       where
@@ -117,7 +116,7 @@ module _ (o : Options) (w at end : ℕ) (vs ms : Words) (marked : Marked o w at 
         by (yes h) = some h ∙ back_last told q m h
         by (no h) = let e : c ≡ at = omega (arith, h, l) in none e ∙ sym (back_none told q e)
 
-    fore_none : strategy_of o ≡ Forward → not o.allow_eq ≡ inclusive → c ≡ end → match_in o (first + at) (between w at end vs ms) x ≡ Nothing
+    fore_none : strategy_of o ≡ Forward → not o.allow_eq ≡ inclusive → c ≡ end → match_in o (first + at) (between w at end vs ms) x ≡ None
     fore_none told q e = none_fits Forward told (λ k g h. rw (fore_not o.allow_eq (cmp_cell key_rule (key k) (value v)), q, before k g (omega (arith, e, h))))
 
     fore_first : strategy_of o ≡ Forward → not o.allow_eq ≡ inclusive → c < end → unless_far o.tolerance v (val c) (first + c) ≡ match_in o (first + at) (between w at end vs ms) x
@@ -126,7 +125,7 @@ module _ (o : Options) (w at end : ℕ) (vs ms : Words) (marked : Marked o w at 
         (λ t. rw (fore_not o.allow_eq (cmp_cell key_rule (key c) (value v)), q, stop h)) (rw (fore_not o.allow_eq (cmp_cell key_rule (key c) (value v)), q, stop h))
 
     -- The first row that is not below v, or none.
-    pub fore_choice : strategy_of o ≡ Forward → not o.allow_eq ≡ inclusive → c ≤ end → (r : Choice) → (c ≡ end → r ≡ Nothing)
+    pub fore_choice : strategy_of o ≡ Forward → not o.allow_eq ≡ inclusive → c ≤ end → (r : Option ℕ) → (c ≡ end → r ≡ None)
         → (c < end → r ≡ unless_far o.tolerance v (val c) (first + c)) → r ≡ match_in o (first + at) (between w at end vs ms) x
     fore_choice told q m r none some = by (dec_lt c end)
       where

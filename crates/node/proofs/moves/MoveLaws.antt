@@ -1,4 +1,5 @@
 -- A move by its answer: what an accepted one leaves, word for word, and what a refused one does. Assumes nothing.
+use Rattle.std.specs.Prelude.{Result, Ok, Err}
 use mathlib.Core.Path.{◌≡◌, refl, sym, ap, ◌∙◌}
 use mathlib.Core.Bool.{Bool, true, false, cond}
 use mathlib.Core.List.{[]}
@@ -17,8 +18,6 @@ use Rattle.callrules.proofs.FeedLaws.{or_both}
 use Rattle.frames.specs.outcomes.Answers.{most_rows}
 use Rattle.frames.specs.declared.refusals.Refusal.{Refusal}
 use Rattle.frames.specs.declared.refusals.Refusal.TheVariants.{BadJoin, NoRoom}
-use Rattle.frames.specs.declared.outcomes.Took.{Took}
-use Rattle.frames.specs.declared.outcomes.Took.TheVariants.{Accepted, Refused}
 use Rattle.node.specs.State.{right_width, bad_join, held_of, waiting, held_values, held_marks}
 use Rattle.node.specs.Calls.{After, after}
 use Rattle.node.specs.declared.Join.{Join}
@@ -27,7 +26,7 @@ use Rattle.node.specs.moves.Moves.{no_room_in, move_answer, at_front, left_moved
 use Rattle.node.specs.moves.Requires.{right_copied}
 
 -- ---- what is accepted
-passed : (b : Bool) (n : Refusal) (t : Took) → cond b (Refused n) t ≡ Accepted → (b ≡ false) × (t ≡ Accepted)
+passed : (b : Bool) (n : Refusal) (t : Result Unit Refusal) → cond b (Err n) t ≡ Ok tt → (b ≡ false) × (t ≡ Ok tt)
 passed true n t e = let z : ◌≡◌ {A = ℕ} 0 1 = cc in absurd (omega arith)
 passed false n t e = (refl, e)
 
@@ -46,11 +45,11 @@ fits_by j left right new_left new_right e f =
       right_room = ltb-false (capacity (right_width j) new_right) j.held p.1;
     }
 
-taken_tests : (j : Join) (left right new_left new_right : Words) → move_answer j left right new_left new_right ≡ Accepted → (bad_join j left right ≡ false) × (no_room_in j new_left new_right ≡ false)
+taken_tests : (j : Join) (left right new_left new_right : Words) → move_answer j left right new_left new_right ≡ Ok tt → (bad_join j left right ≡ false) × (no_room_in j new_left new_right ≡ false)
 unfolding move_answer
 taken_tests j left right new_left new_right e =
     let p = passed (bad_join j left right) BadJoin _ e in
-    let q = passed (no_room_in j new_left new_right) NoRoom Accepted p.1 in
+    let q = passed (no_room_in j new_left new_right) NoRoom (Ok tt) p.1 in
     (p.0, q.0)
 
 -- The held rows, by their words.
@@ -153,37 +152,37 @@ module _ (j : Join) (left right new_left new_right : Words) (t : Fits j left rig
 
 -- ---- the theorem
 -- What a call answers: it does what is done where it is accepted, else nothing.
-abbrev by_move : Took → After Took → Join → Words → Words → After Took
-by_move t done j left right = elim t [ Accepted ↦ done | Refused n ↦ after (Refused n) j left right [] ]
+abbrev by_move : Result Unit Refusal → After (Result Unit Refusal) → Join → Words → Words → After (Result Unit Refusal)
+by_move t done j left right = elim t [ Ok tt ↦ done | Err n ↦ after (Err n) j left right [] ]
 
-says : (t : Took) (done : After Took) (j : Join) (left right : Words) → done.answer ≡ Accepted → (by_move t done j left right).answer ≡ Accepted → t ≡ Accepted
-says Accepted done j left right d e = refl
-says (Refused n) done j left right d e = e
+says : (t : Result Unit Refusal) (done : After (Result Unit Refusal)) (j : Join) (left right : Words) → done.answer ≡ Ok tt → (by_move t done j left right).answer ≡ Ok tt → t ≡ Ok tt
+says (Ok tt) done j left right d e = refl
+says (Err n) done j left right d e = e
 
 -- ---- the call by its tests
 module _ (j : Join) (left right new_left new_right : Words) where
-  pub move_bad : bad_join j left right ≡ true → move_call j left right new_left new_right ≡ after (Refused BadJoin) j new_left new_right []
+  pub move_bad : bad_join j left right ≡ true → move_call j left right new_left new_right ≡ after (Err BadJoin) j new_left new_right []
   unfolding move_call move_answer
   move_bad e = rw (e, move_call)
 
-  pub move_short : bad_join j left right ≡ false → no_room_in j new_left new_right ≡ true → move_call j left right new_left new_right ≡ after (Refused NoRoom) j new_left new_right []
+  pub move_short : bad_join j left right ≡ false → no_room_in j new_left new_right ≡ true → move_call j left right new_left new_right ≡ after (Err NoRoom) j new_left new_right []
   unfolding move_call move_answer
   move_short e f = rw (e, f, move_call)
 
   pub move_done : bad_join j left right ≡ false → no_room_in j new_left new_right ≡ false
-      → move_call j left right new_left new_right ≡ after Accepted (at_front j) (left_moved j left new_left) (right_moved j right new_right) []
+      → move_call j left right new_left new_right ≡ after (Ok tt) (at_front j) (left_moved j left new_left) (right_moved j right new_right) []
   unfolding move_call move_answer
   move_done e f = rw (e, f, move_call)
 
 -- A move that is accepted passed both tests.
-accepted : (j : Join) (left right new_left new_right : Words) → (move_call j left right new_left new_right).answer ≡ Accepted → (bad_join j left right ≡ false) × (no_room_in j new_left new_right ≡ false)
+accepted : (j : Join) (left right new_left new_right : Words) → (move_call j left right new_left new_right).answer ≡ Ok tt → (bad_join j left right ≡ false) × (no_room_in j new_left new_right ≡ false)
 unfolding move_call
 accepted j left right new_left new_right e =
-    let done = after Accepted (at_front j) (left_moved j left new_left) (right_moved j right new_right) [] in
+    let done = after (Ok tt) (at_front j) (left_moved j left new_left) (right_moved j right new_right) [] in
     taken_tests j left right new_left new_right (says (move_answer j left right new_left new_right) done j new_left new_right refl e)
 
 -- Only a join that holds together is moved.
-pub move_good : (j : Join) (left right new_left new_right : Words) → (move_call j left right new_left new_right).answer ≡ Accepted → bad_join j left right ≡ false
+pub move_good : (j : Join) (left right new_left new_right : Words) → (move_call j left right new_left new_right).answer ≡ Ok tt → bad_join j left right ≡ false
 move_good j left right new_left new_right e = (accepted j left right new_left new_right e).0
 
 pub moved_same : Moved
@@ -207,14 +206,14 @@ moved_same j left right new_left new_right e =
 
 -- ---- for the code
 module _ (j : Join) (left right new_left new_right : Words) where
-  pub bad_move : bad_join j left right ≡ true → MoveContract j left right new_left new_right (record { answer = Refused BadJoin; join = j }) new_left new_right
+  pub bad_move : bad_join j left right ≡ true → MoveContract j left right new_left new_right (record { answer = Err BadJoin; join = j }) new_left new_right
   bad_move e = let w = move_bad j left right new_left new_right e in record { answer = rw w; join = rw w; left_words = rw w; right_words = rw w }
 
-  pub no_room_move : bad_join j left right ≡ false → no_room_in j new_left new_right ≡ true → MoveContract j left right new_left new_right (record { answer = Refused NoRoom; join = j }) new_left new_right
+  pub no_room_move : bad_join j left right ≡ false → no_room_in j new_left new_right ≡ true → MoveContract j left right new_left new_right (record { answer = Err NoRoom; join = j }) new_left new_right
   no_room_move e f = let w = move_short j left right new_left new_right e f in record { answer = rw w; join = rw w; left_words = rw w; right_words = rw w }
 
   pub done_move : (left' right' : Words) → bad_join j left right ≡ false → no_room_in j new_left new_right ≡ false
       → left' ≡ written (take j.queue_words (drop j.queue_start left)) 0 new_left → right' ≡ right_copied (right_width j) j.base j.held right new_right
-      → MoveContract j left right new_left new_right (record { answer = Accepted; join = at_front j }) left' right'
+      → MoveContract j left right new_left new_right (record { answer = Ok tt; join = at_front j }) left' right'
   unfolding left_moved right_moved right_copied waiting held_values held_marks
   done_move left' right' e f x y = let w = move_done j left right new_left new_right e f in record { answer = rw w; join = rw w; left_words = rw w x; right_words = rw w y }

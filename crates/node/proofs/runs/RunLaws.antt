@@ -1,4 +1,9 @@
 -- A run of turns: that a turn that writes stays within its output; and the run after some of its turns. Assumes nothing.
+use Rattle.frames.specs.declared.outcomes.Turn.TheVariants.{Wrote, WantsRight, Idle}
+use Rattle.frames.specs.declared.outcomes.Stop.{Stop}
+use Rattle.frames.specs.declared.outcomes.Stop.TheVariants.{Used}
+use Rattle.frames.specs.declared.outcomes.Turn.{Turn}
+use Rattle.std.specs.Prelude.{Result, Ok, Err}
 use mathlib.Core.Path.{◌≡◌, refl, sym, ap, ◌∙◌}
 use mathlib.Core.Bool.{Bool, true, false, cond, not, ◌&&◌}
 use mathlib.Core.List.{[], ◌++◌, append_assoc, append-nil}
@@ -36,10 +41,6 @@ use Rattle.node.specs.declared.Join.{Join}
 use Rattle.frames.specs.refusals.Refusals.{marks_failed}
 use Rattle.frames.specs.declared.refusals.Refusal.{Refusal}
 use Rattle.frames.specs.declared.refusals.Refusal.TheVariants.{BadJoin, Failed, Closed, BadFrame, UnknownCode, NoRoom}
-use Rattle.frames.specs.declared.outcomes.Answer.{Answer}
-use Rattle.frames.specs.declared.outcomes.Answer.TheVariants.{Wrote, WantsRight, Idle, Refused}
-use Rattle.frames.specs.declared.outcomes.Stop.{Stop}
-use Rattle.frames.specs.declared.outcomes.Stop.TheVariants.{Used}
 use Rattle.node.specs.declared.TurnedJoin.{TurnedJoin}
 
 -- ---- what a turn that writes leaves in its output
@@ -58,7 +59,7 @@ answered_fits o rs out wide few room = record {
   rest = rw (answered_count o rs out) (answered_rest o rs out wide);
 }
 
-apart : (n : Refusal) (s : ℕ) → Refused n ≡ Wrote s → ⊥
+apart : (n : Refusal) (s : ℕ) → Err n ≡ Ok (Wrote s) → ⊥
 apart n s e = let z : ◌≡◌ {A = ℕ} 0 1 = cc in omega arith
 
 module _ (j : Join) (left right out : Words) where
@@ -71,17 +72,17 @@ module _ (j : Join) (left right out : Words) where
     pub frame : is_frame (left_width j) (front (left_width j) (waiting j left)) ≡ true
     pub room : frame_words (length rows) (answer_columns j.options) ≤ length out
 
-  passed : (s : ℕ) → turn_answer j left right out ≡ Wrote s → Passed
+  passed : (s : ℕ) → turn_answer j left right out ≡ Ok (Wrote s) → Passed
   unfolding turn_answer
   passed s e =
-      let p2 = past (bad_join j left right) (Refused BadJoin) _ (Wrote s) (apart BadJoin s) e in
-      let p3 = past j.failed (Refused Failed) _ (Wrote s) (apart Failed s) p2.1 in
-      let p4 = past (is_done j.state) (Refused Closed) _ (Wrote s) (apart Closed s) p3.1 in
-      let pi = past (eqb j.queue_words 0) Idle _ (Wrote s) (λ x. let z : ◌≡◌ {A = ℕ} 0 1 = cc in omega arith) p4.1 in
-      let p5 = past (not (is_frame (left_width j) (front (left_width j) (waiting j left)))) (Refused BadFrame) _ (Wrote s) (apart BadFrame s) pi.1 in
-      let p12 = past (lacks_code j.options rows) (Refused UnknownCode) _ (Wrote s) (apart UnknownCode s) p5.1 in
-      let pw = past (not j.right_ended && need_more j.options rows (held_of j right)) WantsRight _ (Wrote s) (λ x. let z : ◌≡◌ {A = ℕ} 0 1 = cc in omega arith) p12.1 in
-      let p6 = past (ltb (length out) (frame_words (length rows) (answer_columns j.options))) (Refused NoRoom) _ (Wrote s) (apart NoRoom s) pw.1 in
+      let p2 = past (bad_join j left right) (Err BadJoin) _ (Ok (Wrote s)) (apart BadJoin s) e in
+      let p3 = past j.failed (Err Failed) _ (Ok (Wrote s)) (apart Failed s) p2.1 in
+      let p4 = past (is_done j.state) (Err Closed) _ (Ok (Wrote s)) (apart Closed s) p3.1 in
+      let pi = past (eqb j.queue_words 0) (Ok Idle) _ (Ok (Wrote s)) (λ x. let z : ◌≡◌ {A = ℕ} 0 1 = cc in omega arith) p4.1 in
+      let p5 = past (not (is_frame (left_width j) (front (left_width j) (waiting j left)))) (Err BadFrame) _ (Ok (Wrote s)) (apart BadFrame s) pi.1 in
+      let p12 = past (lacks_code j.options rows) (Err UnknownCode) _ (Ok (Wrote s)) (apart UnknownCode s) p5.1 in
+      let pw = past (not j.right_ended && need_more j.options rows (held_of j right)) (Ok WantsRight) _ (Ok (Wrote s)) (λ x. let z : ◌≡◌ {A = ℕ} 0 1 = cc in omega arith) p12.1 in
+      let p6 = past (ltb (length out) (frame_words (length rows) (answer_columns j.options))) (Err NoRoom) _ (Ok (Wrote s)) (apart NoRoom s) pw.1 in
       record { unbroken = p2.0; frame = not-false (is_frame (left_width j) (front (left_width j) (waiting j left))) p5.0; room = ltb-false (length out) (frame_words (length rows) (answer_columns j.options)) p6.0 }
 
   -- It carries few columns.
@@ -89,11 +90,11 @@ module _ (j : Join) (left right out : Words) where
   unfolding turn_call
   turn_carried = go (turn_answer j left right out) refl
     where
-      go : (a : Answer) → turn_answer j left right out ≡ a → wrote (turn_call j left right out).answer ≡ true → j.options.carried ≤ 8
-      go (Wrote s) e = λ g. (good j left right (passed s e).unbroken).carried
-      go WantsRight e = rw (e, turn_call) (λ g. let z : ◌≡◌ {A = ℕ} 0 1 = cc in absurd (omega arith))
-      go Idle e = rw (e, turn_call) (λ g. let z : ◌≡◌ {A = ℕ} 0 1 = cc in absurd (omega arith))
-      go (Refused n) e = rw (e, turn_call) (λ g. let z : ◌≡◌ {A = ℕ} 0 1 = cc in absurd (omega arith))
+      go : (a : Result Turn Refusal) → turn_answer j left right out ≡ a → wrote (turn_call j left right out).answer ≡ true → j.options.carried ≤ 8
+      go (Ok (Wrote s)) e = λ g. (good j left right (passed s e).unbroken).carried
+      go (Ok WantsRight) e = rw (e, turn_call) (λ g. let z : ◌≡◌ {A = ℕ} 0 1 = cc in absurd (omega arith))
+      go (Ok Idle) e = rw (e, turn_call) (λ g. let z : ◌≡◌ {A = ℕ} 0 1 = cc in absurd (omega arith))
+      go (Err n) e = rw (e, turn_call) (λ g. let z : ◌≡◌ {A = ℕ} 0 1 = cc in absurd (omega arith))
 
   -- The answer that is written: its rows are as many as the frame's, and as wide as an answer is.
   abbrev first : ℕ
@@ -115,7 +116,7 @@ module _ (j : Join) (left right out : Words) where
   unfolding matches
   matches_wide = answer_wide j.options (j.pruned + first) kept rows (match_frame j.options (j.pruned + first) kept rows)
 
-  matches_room : (s : ℕ) → turn_answer j left right out ≡ Wrote s → frame_words (length matches) (answer_columns j.options) ≤ length out
+  matches_room : (s : ℕ) → turn_answer j left right out ≡ Ok (Wrote s) → frame_words (length matches) (answer_columns j.options) ≤ length out
   matches_room s e = rw matches_length (passed s e).room
 
   turned_out : (turned j left right out).out ≡ answered j.options matches out
@@ -126,45 +127,45 @@ module _ (j : Join) (left right out : Words) where
   unfolding turn_call
   turn_fits = go (turn_answer j left right out) refl
     where
-      go : (a : Answer) → turn_answer j left right out ≡ a → wrote (turn_call j left right out).answer ≡ true → Fits (answer_columns j.options) out (turn_call j left right out).out
-      go (Wrote s) e = rw (e, turn_call) (λ g.
+      go : (a : Result Turn Refusal) → turn_answer j left right out ≡ a → wrote (turn_call j left right out).answer ≡ true → Fits (answer_columns j.options) out (turn_call j left right out).out
+      go (Ok (Wrote s)) e = rw (e, turn_call) (λ g.
           let p = passed s e in
           rw turned_out (answered_fits j.options matches out matches_wide (omega (arith, matches_length, frame_rows_lem (left_width j) _ p.frame, frame_few (left_width j) _ p.frame)) (matches_room s e)))
-      go WantsRight e = rw (e, turn_call) (λ g. let z : ◌≡◌ {A = ℕ} 0 1 = cc in absurd (omega arith))
-      go Idle e = rw (e, turn_call) (λ g. let z : ◌≡◌ {A = ℕ} 0 1 = cc in absurd (omega arith))
-      go (Refused n) e = rw (e, turn_call) (λ g. let z : ◌≡◌ {A = ℕ} 0 1 = cc in absurd (omega arith))
+      go (Ok WantsRight) e = rw (e, turn_call) (λ g. let z : ◌≡◌ {A = ℕ} 0 1 = cc in absurd (omega arith))
+      go (Ok Idle) e = rw (e, turn_call) (λ g. let z : ◌≡◌ {A = ℕ} 0 1 = cc in absurd (omega arith))
+      go (Err n) e = rw (e, turn_call) (λ g. let z : ◌≡◌ {A = ℕ} 0 1 = cc in absurd (omega arith))
 
   -- No turn changes the output's length.
   pub turn_length : length (turn_call j left right out).out ≡ length out
   unfolding turn_call
   turn_length = go (turn_answer j left right out) refl
     where
-      go : (a : Answer) → turn_answer j left right out ≡ a → length (turn_call j left right out).out ≡ length out
-      go (Wrote s) e = rw (e, turn_call, turned_out) (answered_length j.options matches out matches_wide (matches_room s e))
-      go WantsRight e = rw (e, turn_call)
-      go Idle e = rw (e, turn_call)
-      go (Refused n) e = rw (e, turn_call)
+      go : (a : Result Turn Refusal) → turn_answer j left right out ≡ a → length (turn_call j left right out).out ≡ length out
+      go (Ok (Wrote s)) e = rw (e, turn_call, turned_out) (answered_length j.options matches out matches_wide (matches_room s e))
+      go (Ok WantsRight) e = rw (e, turn_call)
+      go (Ok Idle) e = rw (e, turn_call)
+      go (Err n) e = rw (e, turn_call)
 
   -- A turn that does not write leaves the output as it was; no turn changes an area.
   pub turn_untouched : wrote (turn_call j left right out).answer ≡ false → (turn_call j left right out).out ≡ out
   unfolding turn_call turned
   turn_untouched = go (turn_answer j left right out) refl
     where
-      go : (a : Answer) → turn_answer j left right out ≡ a → wrote (turn_call j left right out).answer ≡ false → (turn_call j left right out).out ≡ out
-      go (Wrote s) e = rw (e, turn_call) (λ g. let z : ◌≡◌ {A = ℕ} 0 1 = cc in absurd (omega arith))
-      go WantsRight e = rw (e, turn_call) (λ g. refl)
-      go Idle e = rw (e, turn_call) (λ g. refl)
-      go (Refused n) e = rw (e, turn_call) (λ g. refl)
+      go : (a : Result Turn Refusal) → turn_answer j left right out ≡ a → wrote (turn_call j left right out).answer ≡ false → (turn_call j left right out).out ≡ out
+      go (Ok (Wrote s)) e = rw (e, turn_call) (λ g. let z : ◌≡◌ {A = ℕ} 0 1 = cc in absurd (omega arith))
+      go (Ok WantsRight) e = rw (e, turn_call) (λ g. refl)
+      go (Ok Idle) e = rw (e, turn_call) (λ g. refl)
+      go (Err n) e = rw (e, turn_call) (λ g. refl)
 
   pub turn_areas : ((turn_call j left right out).left ≡ left) × ((turn_call j left right out).right ≡ right)
   unfolding turn_call turned
   turn_areas = go (turn_answer j left right out) refl
     where
-      go : (a : Answer) → turn_answer j left right out ≡ a → ((turn_call j left right out).left ≡ left) × ((turn_call j left right out).right ≡ right)
-      go (Wrote s) e = rw (e, turn_call) (refl, refl)
-      go WantsRight e = rw (e, turn_call) (refl, refl)
-      go Idle e = rw (e, turn_call) (refl, refl)
-      go (Refused n) e = rw (e, turn_call) (refl, refl)
+      go : (a : Result Turn Refusal) → turn_answer j left right out ≡ a → ((turn_call j left right out).left ≡ left) × ((turn_call j left right out).right ≡ right)
+      go (Ok (Wrote s)) e = rw (e, turn_call) (refl, refl)
+      go (Ok WantsRight) e = rw (e, turn_call) (refl, refl)
+      go (Ok Idle) e = rw (e, turn_call) (refl, refl)
+      go (Err n) e = rw (e, turn_call) (refl, refl)
 
 -- A turn keeps the options.
 pub turn_options : (j : Join) (left right out : Words) → (turn_call j left right out).join.options ≡ j.options
@@ -175,11 +176,11 @@ turn_options j left right out = go (turn_answer j left right out) refl
     spoilt true = refl
     spoilt false = refl
 
-    go : (a : Answer) → turn_answer j left right out ≡ a → (turn_call j left right out).join.options ≡ j.options
-    go (Wrote s) e = rw (e, turn_call)
-    go WantsRight e = rw (e, turn_call)
-    go Idle e = rw (e, turn_call)
-    go (Refused n) e = rw (e, turn_call) (spoilt (marks_failed n))
+    go : (a : Result Turn Refusal) → turn_answer j left right out ≡ a → (turn_call j left right out).join.options ≡ j.options
+    go (Ok (Wrote s)) e = rw (e, turn_call)
+    go (Ok WantsRight) e = rw (e, turn_call)
+    go (Ok Idle) e = rw (e, turn_call)
+    go (Err n) e = rw (e, turn_call) (spoilt (marks_failed n))
 
 -- ---- a run
 then_then : (a b c d : ℕ) (xs ys : Words) (r : Ran) → and_then a b xs (and_then c d ys r) ≡ and_then (a + c) (b + d) (xs ++ ys) r
@@ -194,7 +195,7 @@ then_none r =
     let q : 0 + r.words ≡ r.words = omega arith in
     rw (p, q)
 
-then_end : (a b : ℕ) (s : Stop) (j : Join) (xs ys : Words) → and_then a b xs (ran 0 0 s j ys) ≡ ran a b s j (xs ++ ys)
+then_end : (a b : ℕ) (s : Result Stop Refusal) (j : Join) (xs ys : Words) → and_then a b xs (ran 0 0 s j ys) ≡ ran a b s j (xs ++ ys)
 then_end a b s j xs ys =
     let p : a + 0 ≡ a = omega arith in
     let q : b + 0 ≡ b = omega arith in
@@ -208,20 +209,20 @@ module _ (k : ℕ) (j₀ : Join) (left right out₀ : Words) where
     pub same : length out ≡ length out₀
     pub rest : run_call k j₀ left right out₀ ≡ and_then made at (take at out) (run_call (k - made) j left right (drop at out))
 
-  pub leaves : (t n : ℕ) (s : Stop) (j : Join) (out : Words) → run_call k j₀ left right out₀ ≡ ran t n s j out → RunContract j₀ k left right out₀ (record { turns = t; words = n; stop = s; join = j }) out
+  pub leaves : (t n : ℕ) (s : Result Stop Refusal) (j : Join) (out : Words) → run_call k j₀ left right out₀ ≡ ran t n s j out → RunContract j₀ k left right out₀ (record { turns = t; words = n; stop = s; join = j }) out
   leaves t n s j out e = record { turns = rw e; written = rw e; stop = rw e; join = rw e; words = rw e }
 
   module _ {made at : ℕ} {j : Join} {out : Words} (m : Made made at j out) where
     -- k turns are used.
-    pub run_used : k ≤ made → RunContract j₀ k left right out₀ (record { turns = made; words = at; stop = Used; join = j }) out
+    pub run_used : k ≤ made → RunContract j₀ k left right out₀ (record { turns = made; words = at; stop = Ok Used; join = j }) out
     unfolding run_call
     run_used h =
         let z : k - made ≡ 0 = omega (arith, m.few) in
-        leaves made at Used j out (rw (z, then_end made at Used j (take at out) (drop at out), take-append-drop at out) at m.rest)
+        leaves made at (Ok Used) j out (rw (z, then_end made at (Ok Used) j (take at out) (drop at out), take-append-drop at out) at m.rest)
 
     -- The next turn x, which is lent the output from word `at` on and leaves ys there.
     module _ (h : made < k) (x : TurnedJoin) (ys : Words) (turned : TurnContract j left right (take (length out - at) (drop at out)) x ys) where
-      abbrev t : After Answer
+      abbrev t : After (Result Turn Refusal)
       t = turn_call j left right (drop at out)
 
       -- The output as it is then.
@@ -253,7 +254,7 @@ module _ (k : ℕ) (j₀ : Join) (left right out₀ : Words) where
       one = omega arith
 
       -- A turn that does not write ends the run.
-      pub run_stops : wrote x.answer ≡ false → (s : Stop) → s ≡ stop_of x.answer → RunContract j₀ k left right out₀ (record { turns = made; words = at; stop = s; join = x.join }) put
+      pub run_stops : wrote x.answer ≡ false → (s : Result Stop Refusal) → s ≡ stop_of x.answer → RunContract j₀ k left right out₀ (record { turns = made; words = at; stop = s; join = x.join }) put
       unfolding run_call
       run_stops g s is =
           let q : wrote t.answer ≡ false = rw leaves_it.answer at g in

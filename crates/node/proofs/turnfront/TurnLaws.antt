@@ -1,4 +1,8 @@
 -- A turn over plain values: what its answers tell, what its words are, and what it leaves. Assumes nothing.
+use Rattle.frames.specs.declared.outcomes.Turn.TheVariants.{Wrote, WantsRight, Idle}
+use Rattle.frames.specs.declared.outcomes.Turn.{Turn}
+use Rattle.frames.specs.declared.refusals.Refusal.{Refusal}
+use Rattle.std.specs.Prelude.{Result, Ok, Err}
 use mathlib.Core.Path.{◌≡◌, refl, sym, ap, ◌∙◌}
 use mathlib.Core.Bool.{Bool, true, false, not, cond, ◌&&◌, ◌||◌}
 use Prim.Native.Nat.{ℕ, ◌+◌, ◌-◌, ◌*◌, ◌%◌, ◌^◌, ◌≤◌, ◌<◌}
@@ -27,8 +31,6 @@ use Rattle.matching.proofs.ChoiceLaws.{cond_ind}
 use Rattle.matchframe.specs.sortedrows.Requires.{BothSorted}
 use Rattle.frames.specs.outcomes.Answers.{wrote, last_sequence}
 use Rattle.frames.specs.declared.refusals.Refusal.TheVariants.{NoRoom, UsedUp, LeftOrder, RightOrder}
-use Rattle.frames.specs.declared.outcomes.Answer.{Answer}
-use Rattle.frames.specs.declared.outcomes.Answer.TheVariants.{Wrote, WantsRight, Idle, Refused}
 use Rattle.frames.proofs.outcomes.Tests.{past}
 use Rattle.matchframe.specs.turnrows.Prunes.{bad_left, bad_right_at, first_prune, kept_rows, last_prune}
 use Rattle.matchframe.proofs.turnrows.PruneLaws.{first_within, drops_within}
@@ -73,73 +75,73 @@ module _ (o : Options) (on : is_on o.check ≡ true) where
 
 -- ---- the answers
 -- The join of a turn that does not write.
-abbrev pub stopped : Part → Answer → Part
-stopped j (Wrote s) = j
-stopped j WantsRight = j
-stopped j Idle = j
-stopped j (Refused n) = spoiled_part n j
+abbrev pub stopped : Part → Result Turn Refusal → Part
+stopped j (Ok (Wrote s)) = j
+stopped j (Ok WantsRight) = j
+stopped j (Ok Idle) = j
+stopped j (Err n) = spoiled_part n j
 
 module _ (o : Options) (j : Part) (rows held : Rows) where
-  room_all : (P : Answer → Type 0) (room : ℕ) → P WantsRight → P (Refused NoRoom) → P (Refused UsedUp) → P (Wrote j.sequence) → P (room_answer o j rows held room)
+  room_all : (P : Result Turn Refusal → Type 0) (room : ℕ) → P (Ok WantsRight) → P (Err NoRoom) → P (Err UsedUp) → P (Ok (Wrote j.sequence)) → P (room_answer o j rows held room)
   unfolding room_answer
   room_all P room pw p6 p7 p =
       cond_ind P (not j.right_ended && need_more o rows held) (λ t. pw) (λ t.
       cond_ind P (ltb room (frame_words (length rows) (answer_columns o))) (λ u. p6) (λ u.
       cond_ind P (eqb j.sequence last_sequence) (λ v. p7) (λ v. p)))
 
-  order_all : (P : Answer → Type 0) (s : ℕ) → P (Refused LeftOrder) → P (Refused RightOrder) → P (Wrote j.sequence) → P (order_answer o j rows held s)
+  order_all : (P : Result Turn Refusal → Type 0) (s : ℕ) → P (Err LeftOrder) → P (Err RightOrder) → P (Ok (Wrote j.sequence)) → P (order_answer o j rows held s)
   unfolding order_answer
   order_all P s p8 p9 p =
       cond_ind P (bad_left o j.last_left rows) (λ t. p8) (λ t.
       cond_ind P (bad_right_at o j.last_right (length rows) s held) (λ u. p9) (λ u. p))
 
   -- A turn that has what it needs, and rows in order, writes at the sequence that it came with.
-  pub room_goes : (room : ℕ) (t : Answer) → t ≡ room_answer o j rows held room → wrote t ≡ true → room_answer o j rows held room ≡ Wrote j.sequence
+  pub room_goes : (room : ℕ) (t : Result Turn Refusal) → t ≡ room_answer o j rows held room → wrote t ≡ true → room_answer o j rows held room ≡ Ok (Wrote j.sequence)
   room_goes room t e g =
-      room_all (λ a. wrote a ≡ true → a ≡ Wrote j.sequence) room (λ x. cc) (λ x. cc) (λ x. cc) (λ x. refl) (sym (ap wrote e) ∙ g)
+      room_all (λ a. wrote a ≡ true → a ≡ Ok (Wrote j.sequence)) room (λ x. cc) (λ x. cc) (λ x. cc) (λ x. refl) (sym (ap wrote e) ∙ g)
 
-  order_writes : (s : ℕ) (t : Answer) → t ≡ order_answer o j rows held s → wrote t ≡ true → order_answer o j rows held s ≡ Wrote j.sequence
-  order_writes s t e g = order_all (λ a. wrote a ≡ true → a ≡ Wrote j.sequence) s (λ x. cc) (λ x. cc) (λ x. refl) (sym (ap wrote e) ∙ g)
+  order_writes : (s : ℕ) (t : Result Turn Refusal) → t ≡ order_answer o j rows held s → wrote t ≡ true → order_answer o j rows held s ≡ Ok (Wrote j.sequence)
+  order_writes s t e g = order_all (λ a. wrote a ≡ true → a ≡ Ok (Wrote j.sequence)) s (λ x. cc) (λ x. cc) (λ x. refl) (sym (ap wrote e) ∙ g)
 
   -- With the check on, the rows of a turn that goes on are sorted.
-  order_sorted : (s : ℕ) → order_answer o j rows held s ≡ Wrote j.sequence → is_on o.check ≡ true → (sorted o rows ≡ true) × (sorted o held ≡ true)
+  order_sorted : (s : ℕ) → order_answer o j rows held s ≡ Ok (Wrote j.sequence) → is_on o.check ≡ true → (sorted o rows ≡ true) × (sorted o held ≡ true)
   unfolding order_answer
   order_sorted s e on =
-      let p = past (bad_left o j.last_left rows) (Refused LeftOrder) _ (Wrote j.sequence) (λ x. let z : ◌≡◌ {A = ℕ} 0 1 = cc in omega arith) e in
-      let q = past (bad_right_at o j.last_right (length rows) s held) (Refused RightOrder) (Wrote j.sequence) (Wrote j.sequence) (λ x. let z : ◌≡◌ {A = ℕ} 0 1 = cc in omega arith) p.1 in
+      let p = past (bad_left o j.last_left rows) (Err LeftOrder) _ (Ok (Wrote j.sequence)) (λ x. let z : ◌≡◌ {A = ℕ} 0 1 = cc in omega arith) e in
+      let q = past (bad_right_at o j.last_right (length rows) s held) (Err RightOrder) (Ok (Wrote j.sequence)) (Ok (Wrote j.sequence)) (λ x. let z : ◌≡◌ {A = ℕ} 0 1 = cc in omega arith) p.1 in
       (left_sorted o on j.last_left rows p.0, right_sorted o on j.last_right (length rows) s held q.0)
 
   -- What a turn that has what it needs can count on.
-  pub room_there : (room : ℕ) → room_answer o j rows held room ≡ Wrote j.sequence → (frame_words (length rows) (answer_columns o) ≤ room) × (j.sequence ≡ last_sequence → ⊥)
+  pub room_there : (room : ℕ) → room_answer o j rows held room ≡ Ok (Wrote j.sequence) → (frame_words (length rows) (answer_columns o) ≤ room) × (j.sequence ≡ last_sequence → ⊥)
   unfolding room_answer
   room_there room e =
-      let p = past (not j.right_ended && need_more o rows held) WantsRight _ (Wrote j.sequence) (λ x. let z : ◌≡◌ {A = ℕ} 0 1 = cc in omega arith) e in
-      let q = past (ltb room (frame_words (length rows) (answer_columns o))) (Refused NoRoom) _ (Wrote j.sequence) (λ x. let z : ◌≡◌ {A = ℕ} 0 1 = cc in omega arith) p.1 in
-      let r = past (eqb j.sequence last_sequence) (Refused UsedUp) (Wrote j.sequence) (Wrote j.sequence) (λ x. let z : ◌≡◌ {A = ℕ} 0 1 = cc in omega arith) q.1 in
+      let p = past (not j.right_ended && need_more o rows held) (Ok WantsRight) _ (Ok (Wrote j.sequence)) (λ x. let z : ◌≡◌ {A = ℕ} 0 1 = cc in omega arith) e in
+      let q = past (ltb room (frame_words (length rows) (answer_columns o))) (Err NoRoom) _ (Ok (Wrote j.sequence)) (λ x. let z : ◌≡◌ {A = ℕ} 0 1 = cc in omega arith) p.1 in
+      let r = past (eqb j.sequence last_sequence) (Err UsedUp) (Ok (Wrote j.sequence)) (Ok (Wrote j.sequence)) (λ x. let z : ◌≡◌ {A = ℕ} 0 1 = cc in omega arith) q.1 in
       (ltb-false room (frame_words (length rows) (answer_columns o)) q.0, eqb-false j.sequence last_sequence r.0)
 
   module _ (k : ℕ) (out : Words) where
-    not_written : (a : Answer) → rows_answer o j rows held (length out) ≡ a → wrote a ≡ false → RowsTurned o j rows held k out (record { answer = a; part = stopped j a }) out
+    not_written : (a : Result Turn Refusal) → rows_answer o j rows held (length out) ≡ a → wrote a ≡ false → RowsTurned o j rows held k out (record { answer = a; part = stopped j a }) out
     unfolding rows_turn
-    not_written (Wrote s) e g = let z : ◌≡◌ {A = ℕ} 0 1 = cc in absurd (omega arith)
-    not_written WantsRight e g = record { answer = rw (e, rows_turn); part = rw (e, rows_turn); words = rw (e, rows_turn) }
-    not_written Idle e g = record { answer = rw (e, rows_turn); part = rw (e, rows_turn); words = rw (e, rows_turn) }
-    not_written (Refused n) e g = record { answer = rw (e, rows_turn); part = rw (e, rows_turn); words = rw (e, rows_turn) }
+    not_written (Ok (Wrote s)) e g = let z : ◌≡◌ {A = ℕ} 0 1 = cc in absurd (omega arith)
+    not_written (Ok WantsRight) e g = record { answer = rw (e, rows_turn); part = rw (e, rows_turn); words = rw (e, rows_turn) }
+    not_written (Ok Idle) e g = record { answer = rw (e, rows_turn); part = rw (e, rows_turn); words = rw (e, rows_turn) }
+    not_written (Err n) e g = record { answer = rw (e, rows_turn); part = rw (e, rows_turn); words = rw (e, rows_turn) }
 
-    without : (a : Answer) → room_answer o j rows held (length out) ≡ a → wrote a ≡ false → rows_answer o j rows held (length out) ≡ a
+    without : (a : Result Turn Refusal) → room_answer o j rows held (length out) ≡ a → wrote a ≡ false → rows_answer o j rows held (length out) ≡ a
     unfolding rows_answer
-    without (Wrote s) e g = let z : ◌≡◌ {A = ℕ} 0 1 = cc in absurd (omega arith)
-    without WantsRight e g = rw (e, rows_answer)
-    without Idle e g = rw (e, rows_answer)
-    without (Refused n) e g = rw (e, rows_answer)
+    without (Ok (Wrote s)) e g = let z : ◌≡◌ {A = ℕ} 0 1 = cc in absurd (omega arith)
+    without (Ok WantsRight) e g = rw (e, rows_answer)
+    without (Ok Idle) e g = rw (e, rows_answer)
+    without (Err n) e g = rw (e, rows_answer)
 
     -- Without what it needs it changes nothing.
-    pub room_stops : (t : Answer) → t ≡ room_answer o j rows held (length out) → wrote t ≡ false → RowsTurned o j rows held k out (record { answer = t; part = j }) out
+    pub room_stops : (t : Result Turn Refusal) → t ≡ room_answer o j rows held (length out) → wrote t ≡ false → RowsTurned o j rows held k out (record { answer = t; part = j }) out
     room_stops t e g =
         let same : stopped j t ≡ j = rw e (room_all (λ a. stopped j a ≡ j) (length out) refl refl refl refl) in
         rw same at (not_written t (without t (sym e) g) g)
 
-    module _ (needs : room_answer o j rows held (length out) ≡ Wrote j.sequence) (s : ℕ) (at : s ≡ last_prune o rows held) (t : Answer) (judged : t ≡ order_answer o j rows held s) where
+    module _ (needs : room_answer o j rows held (length out) ≡ Ok (Wrote j.sequence)) (s : ℕ) (at : s ≡ last_prune o rows held) (t : Result Turn Refusal) (judged : t ≡ order_answer o j rows held s) where
       is_order : rows_answer o j rows held (length out) ≡ t
       unfolding rows_answer
       is_order = rw (needs, rows_answer, judged, at)
@@ -154,7 +156,7 @@ module _ (o : Options) (j : Part) (rows held : Rows) where
           → Written o j rows kept first s k out r out' → RowsTurned o j rows held k out (record { answer = t; part = r }) out'
       unfolding rows_turn
       order_goes g kept first r out' ek ef w =
-          let e : rows_answer o j rows held (length out) ≡ Wrote j.sequence = is_order ∙ judged ∙ order_writes s t judged g in
+          let e : rows_answer o j rows held (length out) ≡ Ok (Wrote j.sequence) = is_order ∙ judged ∙ order_writes s t judged g in
           record { answer = rw (e, rows_turn) (judged ∙ order_writes s t judged g); part = rw (e, rows_turn, ← ek, ← ef, ← at) w.part; words = rw (e, rows_turn, ← ek, ← ef) w.words }
 
 -- ---- the words
@@ -190,7 +192,7 @@ module _ {o : Options} {j : Part} {c w n : ℕ} {lv lm rv rm : Words} (t : TurnI
       kept_are = rw (ev, em, ← is) (rows_drop w j.held first rv rm first_in)
 
       -- With the check on, both sides of a turn that goes on are sorted: the kept rows are all held rows.
-      both_sorted : (s : ℕ) (a : Answer) → a ≡ order_answer o j rows held s → wrote a ≡ true → is_on o.check ≡ true → BothSorted o c n lv lm w (j.held - first) kv km
+      both_sorted : (s : ℕ) (a : Result Turn Refusal) → a ≡ order_answer o j rows held s → wrote a ≡ true → is_on o.check ≡ true → BothSorted o c n lv lm w (j.held - first) kv km
       both_sorted s a judged goes on =
           let p = order_sorted o j rows held s (order_writes o j rows held s a judged goes) on in
           record { left = p.0; right = rw (kept_are, kept_all o on rows held) p.1 }
@@ -203,7 +205,7 @@ module _ {o : Options} {j : Part} {c w n : ℕ} {lv lm rv rm : Words} (t : TurnI
         pub both_in : first + s ≤ j.held
         both_in = omega (arith, is, last_is, drops_within o rows held, rows_length w j.held rv rm)
 
-        pub write_in : (out : Words) → room_answer o j rows held (length out) ≡ Wrote j.sequence → (a : Answer) → a ≡ order_answer o j rows held s → wrote a ≡ true → WriteIn o j c w n lv lm first s kv km out
+        pub write_in : (out : Words) → room_answer o j rows held (length out) ≡ Ok (Wrote j.sequence) → (a : Result Turn Refusal) → a ≡ order_answer o j rows held s → wrote a ≡ true → WriteIn o j c w n lv lm first s kv km out
         write_in out needs a judged goes =
             let p = room_there o j rows held (length out) needs in
             record {

@@ -1,5 +1,6 @@
 -- A join moved to other areas (SCOPE 5.14 to 5.16): what the call answers, and the join and the words that it leaves. Assumes nothing.
-use Rattle.std.specs.Prelude.{◌≡◌, Bool, false, ◌||◌, [], ◌∷◌, ◌*◌, ltb, length}
+use Rattle.frames.specs.declared.refusals.Refusal.{Refusal}
+use Rattle.std.specs.Prelude.{◌≡◌, Bool, false, ◌||◌, [], ◌∷◌, ◌*◌, ltb, length, Result, Ok, Err}
 use Rattle.frames.specs.Cells.{Words}
 use Rattle.buffer.specs.area.Area.{capacity, written}
 use Rattle.node.specs.State.{queue_at, held_at, right_width, bad_join, held_of, waiting, held_values, held_marks}
@@ -8,17 +9,15 @@ use Rattle.node.specs.declared.Join.{Join}
 use Rattle.node.specs.declared.TookJoin.{TookJoin}
 use Rattle.frames.specs.refusals.Tests.{test, first_of}
 use Rattle.frames.specs.declared.refusals.Refusal.TheVariants.{BadJoin, NoRoom}
-use Rattle.frames.specs.declared.outcomes.Took.{Took}
-use Rattle.frames.specs.declared.outcomes.Took.TheVariants.{Accepted, Refused}
 
 -- SCOPE 16, number 6: the new areas have no room for the words that wait, or for the rows that are held.
 abbrev pub no_room_in : Join → Words → Words → Bool
 no_room_in j new_left new_right = ltb (length new_left) j.queue_words || ltb (capacity (right_width j) new_right) j.held
 
 -- SCOPE 16.3: its tests in checking order. Whether the join has failed or ended is not asked.
-unfoldable pub move_answer : Join → Words → Words → Words → Words → Took
+unfoldable pub move_answer : Join → Words → Words → Words → Words → Result Unit Refusal
 move_answer j left right new_left new_right =
-    first_of (test (bad_join j left right) (Refused BadJoin) ∷ test (no_room_in j new_left new_right) (Refused NoRoom) ∷ []) Accepted
+    first_of (test (bad_join j left right) (Err BadJoin) ∷ test (no_room_in j new_left new_right) (Err NoRoom) ∷ []) (Ok tt)
 
 -- The join with what waits and what is held at the front of its areas.
 abbrev pub at_front : Join → Join
@@ -33,11 +32,11 @@ unfoldable pub right_moved : Join → Words → Words → Words
 right_moved j right new_right = written (held_marks j right) (capacity (right_width j) new_right * right_width j) (written (held_values j right) 0 new_right)
 
 -- A move: refused, it changes nothing. The areas that it leaves are the new ones; the old ones are only read.
-unfoldable pub move_call : Join → Words → Words → Words → Words → After Took
+unfoldable pub move_call : Join → Words → Words → Words → Words → After (Result Unit Refusal)
 move_call j left right new_left new_right =
     elim (move_answer j left right new_left new_right) [
-      | Accepted ↦ after Accepted (at_front j) (left_moved j left new_left) (right_moved j right new_right) []
-      | Refused n ↦ after (Refused n) j new_left new_right []
+      | Ok tt ↦ after (Ok tt) (at_front j) (left_moved j left new_left) (right_moved j right new_right) []
+      | Err n ↦ after (Err n) j new_left new_right []
     ]
 
 -- What the call leaves: the answer, the join handed back, and the new areas' words as they are afterwards.
@@ -61,4 +60,4 @@ pub record MovedSame (j : Join) (left right new_left new_right : Words) : Type 0
 
 -- Of any join, good or bad, any areas and any new areas.
 abbrev pub Moved : Type 0
-Moved = (j : Join) (left right new_left new_right : Words) → (move_call j left right new_left new_right).answer ≡ Accepted → MovedSame j left right new_left new_right
+Moved = (j : Join) (left right new_left new_right : Words) → (move_call j left right new_left new_right).answer ≡ Ok tt → MovedSame j left right new_left new_right

@@ -1,18 +1,16 @@
 -- A turn from its first test on, by the join without its state. Assumes nothing.
-use Rattle.std.specs.Prelude.{◌≡◌, Bool, cond, ◌+◌, ◌%◌, ◌≤◌, length, take, drop}
+use Rattle.frames.specs.declared.outcomes.Turn.TheVariants.{Wrote, WantsRight, Idle}
+use Rattle.std.specs.Prelude.{◌≡◌, Bool, cond, ◌+◌, ◌%◌, ◌≤◌, length, take, drop, Option, Some, None, Ok, Err, ℕ}
 use Rattle.frames.specs.Cells.{Words}
 use Rattle.frames.specs.Frame.{frame_rows}
 use Rattle.frames.specs.Front.{front_of}
 use Rattle.order.specs.declared.options.Options.{Options}
 use Rattle.order.specs.options.Options.{columns, right_columns, Few}
-use Rattle.frames.specs.declared.Front.{Front}
-use Rattle.frames.specs.declared.Front.TheVariants.{Words as Long, Nothing}
 use Rattle.order.specs.Listed.{lacks_code}
 use Rattle.buffer.specs.area.Area.{capacity, held_rows}
 use Rattle.frames.specs.outcomes.Answers.{most_rows}
 use Rattle.frames.specs.declared.outcomes.NodeState.{NodeState}
 use Rattle.frames.specs.declared.refusals.Refusal.TheVariants.{BadFrame, UnknownCode}
-use Rattle.frames.specs.declared.outcomes.Answer.TheVariants.{Wrote, WantsRight, Idle, Refused}
 use Rattle.callrules.specs.Judged.{ready_judged}
 use Rattle.node.specs.declared.turnparts.Part.{Part}
 use Rattle.node.specs.turnfront.Turns.{Left, left, rows_turn}
@@ -26,22 +24,22 @@ waiting_in j area = take j.queue_words (drop j.queue_start area)
 unfoldable pub listed_turn : Options → Part → Words → Words → Words → Left
 listed_turn o j f right out =
     let rows = frame_rows (columns o) f in
-    cond (lacks_code o rows) (left (Refused UnknownCode) j out)
+    cond (lacks_code o rows) (left (Err UnknownCode) j out)
     (rows_turn o j rows (held_rows (right_columns o) j.base j.held right) (length f) out)
 
 -- With the front of so many words, or with none: a front that is no frame is 5.
-unfoldable pub front_turn : Options → Part → Front → Words → Words → Words → Left
-front_turn o j Nothing area right out = left (Refused BadFrame) j out
-front_turn o j (Long k) area right out = listed_turn o j (take k (drop j.queue_start area)) right out
+unfoldable pub front_turn : Options → Part → Option ℕ → Words → Words → Words → Left
+front_turn o j None area right out = left (Err BadFrame) j out
+front_turn o j (Some k) area right out = listed_turn o j (take k (drop j.queue_start area)) right out
 
 -- All of it: 2, 3, in Done 4, Idle, or the front's turn.
 unfoldable pub queue_turn : Options → Bool → NodeState → Part → Words → Words → Words → Left
 queue_turn o bad state j area right out =
     elim (ready_judged bad j.failed state j.queue_words j.sequence) [
-      | Wrote s ↦ front_turn o j (front_of (columns o) (waiting_in j area)) area right out
-      | WantsRight ↦ left WantsRight j out
-      | Idle ↦ left Idle j out
-      | Refused n ↦ left (Refused n) j out
+      | Ok (Wrote s) ↦ front_turn o j (front_of (columns o) (waiting_in j area)) area right out
+      | Ok WantsRight ↦ left (Ok WantsRight) j out
+      | Ok Idle ↦ left (Ok Idle) j out
+      | Err n ↦ left (Err n) j out
     ]
 
 pub record ListedTurned (o : Options) (j : Part) (f right out : Words) (r : TurnedPart) (out' : Words) : Type 0 where

@@ -1,5 +1,8 @@
 -- What a turn works on, the join without its state: what the turn has and needs, what it writes and leaves. Assumes nothing.
-use Rattle.std.specs.Prelude.{◌≡◌, Bool, not, ◌&&◌, true, List, [], ◌∷◌, ℕ, ◌+◌, ◌-◌, ◌%◌, ◌^◌, ◌≤◌, ◌<◌, ltb, eqb, length, take}
+use Rattle.frames.specs.declared.outcomes.Turn.TheVariants.{Wrote, WantsRight}
+use Rattle.frames.specs.declared.outcomes.Turn.{Turn}
+use Rattle.frames.specs.declared.refusals.Refusal.{Refusal}
+use Rattle.std.specs.Prelude.{◌≡◌, Bool, not, ◌&&◌, true, List, [], ◌∷◌, ℕ, ◌+◌, ◌-◌, ◌%◌, ◌^◌, ◌≤◌, ◌<◌, ltb, eqb, length, take, Result, Ok, Err}
 use Rattle.frames.specs.Cells.{Rows, Words}
 use Rattle.frames.specs.Frame.{frame_words, frame_limit}
 use Rattle.order.specs.options.Options.{columns, right_columns, answer_columns, is_on}
@@ -11,31 +14,29 @@ use Rattle.matching.specs.Answer.{frame_answer, answered}
 use Rattle.frames.specs.outcomes.Answers.{most_rows, last_sequence}
 use Rattle.frames.specs.refusals.Tests.{Test, test, first_of}
 use Rattle.frames.specs.declared.refusals.Refusal.TheVariants.{NoRoom, UsedUp, LeftOrder, RightOrder}
-use Rattle.frames.specs.declared.outcomes.Answer.{Answer}
-use Rattle.frames.specs.declared.outcomes.Answer.TheVariants.{Wrote, WantsRight, Refused}
 use Rattle.matchframe.specs.sortedrows.Requires.{BothSorted}
 use Rattle.matchframe.specs.turnrows.Prunes.{bad_left, bad_right_at, remembered, remembered_left}
 use Rattle.node.specs.declared.turnparts.Part.{Part}
 
 -- ---- answers; Wrote is that of a turn that goes on
 -- SCOPE 16.3, a turn from Wants right on: right rows, 6 and 7.
-abbrev pub room_tests : Options → Bool → ℕ → Rows → Rows → ℕ → List (Test Answer)
+abbrev pub room_tests : Options → Bool → ℕ → Rows → Rows → ℕ → List (Test (Result Turn Refusal))
 room_tests o ended sequence rows held room =
-    test (not ended && need_more o rows held) WantsRight
-    ∷ test (ltb room (frame_words (length rows) (answer_columns o))) (Refused NoRoom)
-    ∷ test (eqb sequence last_sequence) (Refused UsedUp)
+    test (not ended && need_more o rows held) (Ok WantsRight)
+    ∷ test (ltb room (frame_words (length rows) (answer_columns o))) (Err NoRoom)
+    ∷ test (eqb sequence last_sequence) (Err UsedUp)
     ∷ []
 
 -- Left out of order 8, right out of order 9.
-abbrev pub order_tests : Bool → Bool → List (Test Answer)
-order_tests left right = test left (Refused LeftOrder) ∷ test right (Refused RightOrder) ∷ []
+abbrev pub order_tests : Bool → Bool → List (Test (Result Turn Refusal))
+order_tests left right = test left (Err LeftOrder) ∷ test right (Err RightOrder) ∷ []
 
-unfoldable pub room_answer : Options → Part → Rows → Rows → ℕ → Answer
-room_answer o j rows held room = first_of (room_tests o j.right_ended j.sequence rows held room) (Wrote j.sequence)
+unfoldable pub room_answer : Options → Part → Rows → Rows → ℕ → Result Turn Refusal
+room_answer o j rows held room = first_of (room_tests o j.right_ended j.sequence rows held room) (Ok (Wrote j.sequence))
 
-unfoldable pub order_answer : Options → Part → Rows → Rows → ℕ → Answer
+unfoldable pub order_answer : Options → Part → Rows → Rows → ℕ → Result Turn Refusal
 order_answer o j rows held s =
-    first_of (order_tests (bad_left o j.last_left rows) (bad_right_at o j.last_right (length rows) s held)) (Wrote j.sequence)
+    first_of (order_tests (bad_left o j.last_left rows) (bad_right_at o j.last_right (length rows) s held)) (Ok (Wrote j.sequence))
 
 -- ---- what a turn leaves
 -- The join without d held rows and without a waiting frame of k words, at the next sequence, with the rows that are remembered now.

@@ -5,6 +5,7 @@ use Rattle.frames.specs.Cells.{Words}
 use Rattle.order.specs.ranks.Ranks.{codes_of, bad_ranks}
 use Rattle.order.specs.declared.options.Options.{Options}
 use Rattle.order.specs.declared.options.Terms.{Terms}
+use Rattle.order.specs.declared.options.Rules.{Rules}
 use Rattle.order.specs.declared.options.Strategy.{Strategy}
 use Rattle.order.specs.declared.options.Strategy.TheVariants.{Backward, Forward, Nearest}
 use Rattle.order.specs.declared.options.Check.{Check}
@@ -43,6 +44,10 @@ with_list t codes rising = record {
   with_distance = t.with_distance;
 }
 
+-- The options that rules tell.
+abbrev pub options_of : Rules → Options
+options_of r = with_list r.terms r.codes.now r.rising.now
+
 -- The options that have these terms and no list: what looks at keys alone is the same with them.
 abbrev pub without_list : Terms → Options
 without_list t = record {
@@ -62,6 +67,12 @@ without_list t = record {
 -- SCOPE 3.1: the strategy by its number.
 abbrev pub strategy_of : Options → Strategy
 strategy_of o = cond (eqb o.strategy 0) Backward (cond (eqb o.strategy 1) Forward Nearest)
+
+-- The order check by number: 0 off, 1 on, 2 strict.
+abbrev pub check_code : Check → ℕ
+check_code Off = 0
+check_code On = 1
+check_code Strict = 2
 
 -- SCOPE 3.4: whether the order check is on; strict does all that on does.
 abbrev pub is_on : Check → Bool

@@ -1,4 +1,6 @@
 -- What the judge of two tables answers, test by test; and what its answer says of a plan. Assumes nothing.
+use Rattle.planning.specs.declared.Figures.{Figures}
+use Rattle.std.specs.Prelude.{Result, Ok, Err}
 use mathlib.Core.Path.{◌≡◌}
 use mathlib.Core.Bool.{Bool, true, false, cond, not, ◌&&◌, ◌||◌}
 use Prim.Native.Nat.{ℕ}
@@ -15,31 +17,27 @@ use Rattle.tables.specs.Options.{unless}
 use Rattle.callrules.specs.Judged.{open_answer}
 use Rattle.frames.specs.declared.refusals.Refusal.{Refusal}
 use Rattle.frames.specs.declared.refusals.Refusal.TheVariants.{BadFrame, UnknownCode}
-use Rattle.frames.specs.declared.outcomes.Took.{Took}
-use Rattle.frames.specs.declared.outcomes.Took.TheVariants.{Accepted, Refused}
-use Rattle.planning.specs.declared.Planned.{Planned}
-use Rattle.planning.specs.declared.Planned.TheVariants.{Refused as NotPlanned}
 use Rattle.planning.specs.Call.{plan_call}
 use Rattle.books.proofs.bookjudge.JudgeLaws.{chain, chain_open, two_open, open_shut, open_past}
 use Rattle.planning.specs.planjudge.Judged.{tables_judged}
 
 -- Behind the options.
-abbrev pub tables_rest : Options → Words → Words → Took
+abbrev pub tables_rest : Options → Words → Words → Result Unit Refusal
 tables_rest o left right =
-    cond (not (is_table (columns o) left && is_table (right_columns o) right)) (Refused BadFrame)
-    (cond (lacks_code o (frame_rows (columns o) left) || lacks_code o (frame_rows (right_columns o) right)) (Refused UnknownCode) Accepted)
+    cond (not (is_table (columns o) left && is_table (right_columns o) right)) (Err BadFrame)
+    (cond (lacks_code o (frame_rows (columns o) left) || lacks_code o (frame_rows (right_columns o) right)) (Err UnknownCode) (Ok tt))
 
 module _ (o : Options) (left right : Words) where
-  pub tables_shut : (r : Refusal) → open_answer o ≡ Refused r → tables_judged o left right ≡ Refused r
+  pub tables_shut : (r : Refusal) → open_answer o ≡ Err r → tables_judged o left right ≡ Err r
   unfolding tables_judged
-  tables_shut r e = open_shut o (λ n. Refused n) _ r e
+  tables_shut r e = open_shut o (λ n. Err n) _ r e
 
-  pub tables_open : open_answer o ≡ Accepted → tables_judged o left right ≡ tables_rest o left right
+  pub tables_open : open_answer o ≡ Ok tt → tables_judged o left right ≡ tables_rest o left right
   unfolding tables_judged
-  tables_open e = open_past o (λ n. Refused n) _ e
+  tables_open e = open_past o (λ n. Err n) _ e
 
-all_shut : (x y z a b : Bool) (p : Planned) (r : Refusal) → chain (λ n. Refused n) x y z (cond a (Refused BadFrame) (cond b (Refused UnknownCode) Accepted)) ≡ Refused r
-    → chain (λ n. NotPlanned n) x y z (cond a (NotPlanned BadFrame) (cond b (NotPlanned UnknownCode) p)) ≡ NotPlanned r
+all_shut : (x y z a b : Bool) (p : Result Figures Refusal) (r : Refusal) → ◌≡◌ {A = Result Unit Refusal} (chain (λ n. Err n) x y z (cond a (Err BadFrame) (cond b (Err UnknownCode) (Ok tt)))) (Err r)
+    → chain (λ n. Err n) x y z (cond a (Err BadFrame) (cond b (Err UnknownCode) p)) ≡ Err r
 all_shut true y z a b p r e = cc
 all_shut false true z a b p r e = cc
 all_shut false false true a b p r e = cc
@@ -52,9 +50,9 @@ pub record TablesFine (o : Options) (left right : Words) : Type 0 where
   pub allowed : Allowed o
   pub left_is : is_table (columns o) left ≡ true
   pub right_is : is_table (right_columns o) right ≡ true
-  pub past : (p : Planned) → unless (λ n. NotPlanned n) o (cond (not (is_table (columns o) left && is_table (right_columns o) right)) (NotPlanned BadFrame) (cond (lacks_code o (frame_rows (columns o) left) || lacks_code o (frame_rows (right_columns o) right)) (NotPlanned UnknownCode) p)) ≡ p
+  pub past : (p : Result Figures Refusal) → unless (λ n. Err n) o (cond (not (is_table (columns o) left && is_table (right_columns o) right)) (Err BadFrame) (cond (lacks_code o (frame_rows (columns o) left) || lacks_code o (frame_rows (right_columns o) right)) (Err UnknownCode) p)) ≡ p
 
-pub tables_fine : (o : Options) (left right : Words) → tables_judged o left right ≡ Accepted → TablesFine o left right
+pub tables_fine : (o : Options) (left right : Words) → tables_judged o left right ≡ Ok tt → TablesFine o left right
 unfolding tables_judged
 tables_fine o left right e =
     let p = chain_open (bad_options o) (many_carried o) (bad_ranked o) _ e in
@@ -67,7 +65,7 @@ tables_fine o left right e =
       past = λ w. rw (p.0, p.1, p.2, q.0, q.1);
     }
 
-pub tables_refused : (o : Options) (left right hl hr : Words) (r : Refusal) → tables_judged o left right ≡ Refused r → plan_call o left right hl hr ≡ NotPlanned r
+pub tables_refused : (o : Options) (left right hl hr : Words) (r : Refusal) → tables_judged o left right ≡ Err r → plan_call o left right hl hr ≡ Err r
 unfolding tables_judged plan_call
 tables_refused o left right hl hr r e =
     all_shut (bad_options o) (many_carried o) (bad_ranked o) (not (is_table (columns o) left && is_table (right_columns o) right)) (lacks_code o (frame_rows (columns o) left) || lacks_code o (frame_rows (right_columns o) right)) _ r e

@@ -1,4 +1,6 @@
 -- Neither reader shows a distance as a price. Assumes nothing.
+use Rattle.frames.specs.declared.refusals.Refusal.{Refusal}
+use Rattle.std.specs.Prelude.{Option, Some, None, Result, Err}
 use mathlib.Core.Path.{◌≡◌, refl, sym, ap, ◌∙◌}
 use mathlib.Core.Bool.{Bool, true, false, cond}
 use mathlib.Core.List.{List, [], ◌∷◌, ◌++◌, map, append-nil}
@@ -14,13 +16,10 @@ use Rattle.order.specs.declared.options.Options.{Options}
 use Rattle.tables.proofs.TableLaws.{table_rows_lem}
 use Rattle.matching.specs.Answer.{cells_from, answer_row, answer_rows}
 use Rattle.matching.specs.Groups.{match_frame}
-use Rattle.matching.specs.declared.Choice.{Choice}
-use Rattle.matching.specs.declared.Choice.TheVariants.{Row, Nothing}
 use Rattle.matching.proofs.AnswerRows.{answer_wide, answer_count}
 use Rattle.matching.proofs.GroupLaws.{frame_length}
 use Rattle.frames.specs.declared.refusals.Refusal.TheVariants.{TooManyCarried, BadColumns}
-use Rattle.readers.specs.declared.Shown.{Shown}
-use Rattle.readers.specs.declared.Shown.TheVariants.{Refused}
+use Rattle.readers.specs.declared.CellWords.{CellWords}
 use Rattle.readers.specs.Reader.{plain_knows, distance_knows, shown, cell_in, read_distance}
 use Rattle.readers.proofs.ViewLaws.{plain_knows_lem, plain_not, distance_knows_plain, distance_knows_lem}
 use Rattle.readers.proofs.AgreeLaws.{read_known, read_unknown, frame_made}
@@ -53,24 +52,24 @@ cells_wide j (suc n) r = ap suc (cells_wide (suc j) n r)
 
 module _ (o : Options) (i : ℕ) (rights : Rows) where
   -- ---- a row of an answer: its shared part, and the distance behind it where the join adds one
-  abbrev last : Bool → List Cell → Choice → List Cell
+  abbrev last : Bool → List Cell → Option ℕ → List Cell
   last b x m = cond b (distance_of o i rights x m ∷ []) []
 
-  row_parts : (x : List Cell) (m : Choice) → answer_row o i rights x m ≡ shared_row o i rights m ++ last o.with_distance x m
+  row_parts : (x : List Cell) (m : Option ℕ) → answer_row o i rights x m ≡ shared_row o i rights m ++ last o.with_distance x m
   unfolding answer_row
-  row_parts x (Row k) = refl
-  row_parts x Nothing = go o.with_distance
+  row_parts x (Some k) = refl
+  row_parts x None = go o.with_distance
     where
       go : (b : Bool) → replicate (cond b (suc (shared_columns o)) (shared_columns o)) null ≡ replicate (shared_columns o) null ++ cond b (null ∷ []) []
       go true = nulls_more (shared_columns o)
       go false = sym (append-nil (replicate (shared_columns o) null))
 
-  shared_wide : (m : Choice) → length (shared_row o i rights m) ≡ shared_columns o
-  shared_wide (Row k) = ap suc (cells_wide (columns o) o.carried (get_or rights (k - i) []))
-  shared_wide Nothing = nulls_wide (shared_columns o)
+  shared_wide : (m : Option ℕ) → length (shared_row o i rights m) ≡ shared_columns o
+  shared_wide (Some k) = ap suc (cells_wide (columns o) o.carried (get_or rights (k - i) []))
+  shared_wide None = nulls_wide (shared_columns o)
 
   -- In the shared columns a row is its shared part.
-  cell_shared : (xs : Rows) (ms : List Choice) → length xs ≡ length ms → (row column : ℕ) → column < shared_columns o
+  cell_shared : (xs : Rows) (ms : List (Option ℕ)) → length xs ≡ length ms → (row column : ℕ) → column < shared_columns o
       → cell_in (answer_rows o i rights xs ms) row column ≡ cell_in (map (shared_row o i rights) ms) row column
   unfolding answer_rows
   cell_shared [] [] e row column h = refl
@@ -81,11 +80,11 @@ module _ (o : Options) (i : ℕ) (rights : Rows) where
   cell_shared (x ∷ xs) (m ∷ ms) e (suc row) column h = cell_shared xs ms (omega arith) row column h
 
   -- Without a distance it is nothing else.
-  row_shared : o.with_distance ≡ false → (x : List Cell) (m : Choice) → answer_row o i rights x m ≡ shared_row o i rights m
+  row_shared : o.with_distance ≡ false → (x : List Cell) (m : Option ℕ) → answer_row o i rights x m ≡ shared_row o i rights m
   row_shared d x m =
       row_parts x m ∙ ap (λ (b : Bool). shared_row o i rights m ++ last b x m) d ∙ append-nil (shared_row o i rights m)
 
-  rows_shared : o.with_distance ≡ false → (xs : Rows) (ms : List Choice) → length xs ≡ length ms → answer_rows o i rights xs ms ≡ map (shared_row o i rights) ms
+  rows_shared : o.with_distance ≡ false → (xs : Rows) (ms : List (Option ℕ)) → length xs ≡ length ms → answer_rows o i rights xs ms ≡ map (shared_row o i rights) ms
   unfolding answer_rows
   rows_shared d [] [] e = refl
   rows_shared d [] (m ∷ ms) e = absurd (omega arith)
@@ -94,8 +93,8 @@ module _ (o : Options) (i : ℕ) (rights : Rows) where
       ap (λ (z : List Cell). z ∷ answer_rows o i rights xs ms) (row_shared d x m) ∙ ap (λ (z : Rows). shared_row o i rights m ∷ z) (rows_shared d xs ms (omega arith))
 
   -- With one it stands behind them.
-  cell_distance : o.with_distance ≡ true → (xs : Rows) (ms : List Choice) → length xs ≡ length ms → (row : ℕ) → row < length ms
-      → cell_in (answer_rows o i rights xs ms) row (shared_columns o) ≡ distance_of o i rights (get_or xs row []) (get_or ms row Nothing)
+  cell_distance : o.with_distance ≡ true → (xs : Rows) (ms : List (Option ℕ)) → length xs ≡ length ms → (row : ℕ) → row < length ms
+      → cell_in (answer_rows o i rights xs ms) row (shared_columns o) ≡ distance_of o i rights (get_or xs row []) (get_or ms row None)
   unfolding answer_rows
   cell_distance d [] [] e row h = absurd (omega arith)
   cell_distance d [] (m ∷ ms) e row h = absurd (omega arith)
@@ -105,13 +104,13 @@ module _ (o : Options) (i : ℕ) (rights : Rows) where
       ∙ seam (shared_row o i rights m) (distance_of o i rights x m) (shared_columns o) (shared_wide m)
   cell_distance d (x ∷ xs) (m ∷ ms) e (suc row) h = cell_distance d xs ms (omega arith) row (omega arith)
 
-  cell_past : (ms : List Choice) (row : ℕ) → cell_in (map (shared_row o i rights) ms) row (shared_columns o) ≡ null
+  cell_past : (ms : List (Option ℕ)) (row : ℕ) → cell_in (map (shared_row o i rights) ms) row (shared_columns o) ≡ null
   cell_past [] row = refl
   cell_past (m ∷ ms) zero = past (shared_row o i rights m) (shared_columns o) (shared_wide m)
   cell_past (m ∷ ms) (suc row) = cell_past ms row
 
 -- ---- what the readers show of it
-module _ (o : Options) (i : ℕ) (rights xs : Rows) (ms : List Choice) (small : o.carried ≤ 8) (e : length xs ≡ length ms) (few : length ms ≤ 4096) where
+module _ (o : Options) (i : ℕ) (rights xs : Rows) (ms : List (Option ℕ)) (small : o.carried ≤ 8) (e : length xs ≡ length ms) (few : length ms ≤ 4096) where
   abbrev c : ℕ
   c = answer_columns o
 
@@ -124,7 +123,7 @@ module _ (o : Options) (i : ℕ) (rights xs : Rows) (ms : List Choice) (small : 
   back : frame_rows c f ≡ answer_rows o i rights xs ms
   back = table_rows_lem c (answer_rows o i rights xs ms) (answer_wide o i rights xs ms)
 
-  eight : (x : Shown) → cond (ltb 8 o.carried) (Refused TooManyCarried) x ≡ x
+  eight : (x : Result CellWords Refusal) → cond (ltb 8 o.carried) (Err TooManyCarried) x ≡ x
   eight x = rw (le-ltb 8 o.carried small)
 
   plain_at : (b : Bool) → o.with_distance ≡ b → plain_knows o.carried c ≡ plain_knows o.carried (cond b (suc (shared_columns o)) (shared_columns o))
@@ -146,7 +145,7 @@ module _ (o : Options) (i : ℕ) (rights xs : Rows) (ms : List Choice) (small : 
     plain_shows = λ d.
         read_known c f made plain_knows o.carried row column (plain_at false d ∙ plain_knows_lem o.carried) ∙ eight (shown (cell_in (frame_rows c f) row column))
         ∙ ap (λ (rs : Rows). shown (cell_in rs row column)) (back ∙ rows_shared o i rights d xs ms e);
-    plain_refuses = λ d. read_unknown c f made plain_knows o.carried row column (plain_at true d ∙ plain_not o.carried) ∙ eight (Refused BadColumns);
+    plain_refuses = λ d. read_unknown c f made plain_knows o.carried row column (plain_at true d ∙ plain_not o.carried) ∙ eight (Err BadColumns);
     shared_shown = λ h. distance_reads row column ∙ ap shown (cell_shared o i rights xs ms e row column h);
     distance_shown = λ d h. distance_reads row (shared_columns o) ∙ ap shown (cell_distance o i rights d xs ms e row h);
     none_shown = λ d. distance_reads row (shared_columns o) ∙ ap (λ (rs : Rows). shown (cell_in rs row (shared_columns o))) (rows_shared o i rights d xs ms e) ∙ ap shown (cell_past o i rights ms row);

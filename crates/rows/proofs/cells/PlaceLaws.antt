@@ -4,7 +4,7 @@ use Rattle.frames.specs.Cells.{Cell, null, value, cell_of, is_zero, Words}
 use Rattle.order.specs.ranks.Ranks.{place_in}
 use Rattle.order.specs.options.Options.{Rule}
 use Rattle.order.specs.Order.{next, cmp_z, cmp_value, cmp_cell}
-use Rattle.order.specs.declared.Order.TheVariants.{Less, Equal, Greater}
+use Rattle.std.specs.declared.cmp.Ordering.TheVariants.{Less, Equal, Greater}
 use Rattle.order.proofs.OrderLaws.{cmp_value_is}
 
 module _ (cs : Words) (a b : ℤ) (p q : ℕ) (at : p ≡ place_in cs a) (other : q ≡ place_in cs b) where

@@ -1,18 +1,9 @@
 -- Nulls among rows are zeros among their marks. Assumes nothing.
-use Rattle.std.proofs.Common.{◌≡◌, ℕ, zero, suc, ◌+◌, ◌*◌, ◌<◌, ◌≤◌, Bool, true, false, ◌||◌, List, [], ◌∷◌, ◌++◌, length, get_or, take, drop, pos, sym, refl, ap, ◌∙◌, add-one, arith, length-drop, take-append-drop, drop_of_length-le, length-take-le, drop-cons}
+use Rattle.std.proofs.Common.{◌≡◌, ℕ, zero, suc, ◌*◌, ◌≤◌, Bool, true, false, ◌||◌, List, [], ◌∷◌, ◌++◌, length, take, drop, sym, refl, ap, ◌∙◌, arith, length-drop, take-append-drop, length-take-le}
 use Rattle.frames.specs.Cells.{Cell, cell, is_null, is_zero, cell_of, cells_of, Words, rows_of}
 use Rattle.order.specs.Order.{null_in}
 use Rattle.order.proofs.RowLaws.{null_mark}
 use Rattle.rows.specs.nulls.Nulls.{any_null, any_zero}
-
--- ---- one pass over marks
-pub zero_more : (ms : Words) (i : ℕ) → i < length ms → any_zero (drop i ms) ≡ (is_zero (get_or ms i (pos 0)) || any_zero (drop (i + 1) ms))
-unfolding any_zero
-zero_more ms i h = rw (add-one i, drop-cons ms i (pos 0) h)
-
-pub zero_done : (ms : Words) (i : ℕ) → length ms ≤ i → any_zero (drop i ms) ≡ false
-unfolding any_zero
-zero_done ms i h = rw (drop_of_length-le ms h)
 
 -- A null among the cells of a row, its first cell taken by itself.
 null_first : (n : ℕ) (x : Cell) (r : List Cell) → null_in (suc n) (x ∷ r) ≡ (is_null x || null_in n r)

@@ -4,6 +4,7 @@ ghost use Rattle.frames.specs.Cells.{cell_of, row_from, value_word, mark_word};
 ghost use Rattle.order.specs.Keyed.{no_row, remember};
 ghost use Rattle.order.specs.Requires.{SmallRow};
 
+use frames::RowSlice;
 use order::Row;
 
 // The value word of a cell: 0 where it is null.
@@ -38,18 +39,16 @@ pub fn no_row() -> Row
 }
 
 // The row of width w at p, copied.
-pub fn copy_row(values: &[i64], marks: &[i64], p: usize, w: usize) -> Row
-    requires { SmallRow w p values.now marks.now }
-    ensures { result ≡ remember (row_from w p values.now marks.now) }
+pub fn copy_row(rows: RowSlice<'_>, p: usize) -> Row
+    requires { SmallRow rows.width p rows.values.now rows.marks.now }
+    ensures { result ≡ remember (row_from rows.entry.width p rows.entry.values.now rows.entry.marks.now) }
 {
     let mut v = [0i64; 5];
     let mut m = [0i64; 5];
-    let mut j = 0;
-    while j < w {
+    for j in 0..rows.width {
         let k = p + j;
-        v[j] = value_word(values[k], marks[k]);
-        m[j] = mark_word(marks[k]);
-        j += 1;
+        v[j] = value_word(rows.values[k], rows.marks[k]);
+        m[j] = mark_word(rows.marks[k]);
     }
     Row {
         some: true,

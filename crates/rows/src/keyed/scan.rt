@@ -6,7 +6,6 @@ ghost use Rattle.order.specs.Order.{null_key, null_group};
 ghost use Rattle.order.specs.Keyed.{first_keyed, last_keyed};
 ghost use Rattle.order.specs.Requires.{cell_at, MarkIn, MarksAt, KeysIn};
 
-use order::Keyed;
 use order::options::Terms;
 
 // Whether the cell at place k is null.
@@ -30,47 +29,40 @@ pub fn null_group(marks: &[i64], p: usize, o: Terms) -> bool
     requires { MarksAt (without_list o) p marks.now }
     ensures { (w : ℕ) (vs : Words) → o.by < w → p + o.by < length vs → result ≡ null_group (without_list o) (row_from w p vs marks.now) }
 {
-    let by = o.by;
-    let mut j = 0;
-    while j < by {
+    for j in 0..o.by {
         if null_at(marks, p + j) {
             return true;
         }
-        j += 1;
     }
     false
 }
 
 // The first row with a key, of n rows that are each w wide.
-pub fn first_keyed(marks: &[i64], n: usize, w: usize, o: Terms) -> Keyed
+pub fn first_keyed(marks: &[i64], n: usize, w: usize, o: Terms) -> Option<usize>
     requires { KeysIn (without_list o) w n marks.now }
     ensures { (vs : Words) → n * w ≤ length vs → result ≡ first_keyed (without_list o) (rows_of w n vs marks.now) }
 {
     let mut p = 0;
-    let mut i = 0;
-    while i < n {
+    for i in 0..n {
         if !null_key(marks, p, o) {
-            return Keyed::At(i);
+            return Some(i);
         }
         p += w;
-        i += 1;
     }
-    Keyed::Nothing
+    None
 }
 
 // The last row with a key, of n rows that are each w wide.
-pub fn last_keyed(marks: &[i64], n: usize, w: usize, o: Terms) -> Keyed
+pub fn last_keyed(marks: &[i64], n: usize, w: usize, o: Terms) -> Option<usize>
     requires { KeysIn (without_list o) w n marks.now }
     ensures { (vs : Words) → n * w ≤ length vs → result ≡ last_keyed (without_list o) (rows_of w n vs marks.now) }
 {
     let mut p = n * w;
-    let mut i = n;
-    while 0 < i {
+    for i in (0..n).rev() {
         p -= w;
-        i -= 1;
         if !null_key(marks, p, o) {
-            return Keyed::At(i);
+            return Some(i);
         }
     }
-    Keyed::Nothing
+    None
 }

@@ -1,4 +1,5 @@
 -- What adding a frame's sales answers and leaves, from what its parts do. Assumes nothing.
+use Rattle.std.specs.Prelude.{Result, Ok, Err}
 use mathlib.Core.Path.{◌≡◌, refl, sym, ap, ◌∙◌}
 use mathlib.Core.Bool.{Bool, true, false, not, ◌&&◌, ◌||◌}
 use mathlib.Core.List.{List}
@@ -16,21 +17,19 @@ use Rattle.frames.proofs.BoolLaws.{and-true}
 use Rattle.order.specs.options.Options.{columns}
 use Rattle.order.specs.declared.options.Options.{Options}
 use Rattle.frames.specs.declared.refusals.Refusal.{Refusal}
-use Rattle.frames.specs.declared.outcomes.Took.TheVariants.{Accepted, Refused as NotAccepted}
 use Rattle.takings.specs.Subtotals.{Subtotal, add_all, subtotals_of}
 use Rattle.takings.specs.Sales.{sales_of, amounts_of}
 use Rattle.takings.specs.Calls.{table_width, rows_in, sales_by, columns_in, known_columns, fine_subtotals, leave, add_answer, add_call}
 use Rattle.takings.specs.declared.Taken.{Taken}
-use Rattle.takings.specs.declared.Taken.TheVariants.{Table, Refused}
 use Rattle.subtotals.specs.takejudge.Judge.{Sheet, fine_rows}
 use Rattle.subtotals.specs.takewords.Judged.{sales_judged}
 use Rattle.subtotals.proofs.takewords.JudgeLaws.{sales_fine, sales_refused}
 use Rattle.sales.specs.addrows.Rows.{rows_answer, RowsContract}
 use Rattle.sales.specs.addcall.AddRows.{AddContract}
 
-leave_answer : (o : Options) (ts : List Subtotal) (w : Taken) (out : Words) → w ≡ (leave o ts w out).answer
-leave_answer o ts (Table n k) out = refl
-leave_answer o ts (Refused r) out = refl
+leave_answer : (o : Options) (ts : List Subtotal) (w : Result Taken Refusal) (out : Words) → w ≡ (leave o ts w out).answer
+leave_answer o ts (Ok t) out = refl
+leave_answer o ts (Err r) out = refl
 
 -- ---- tables and frames by their words
 module _ (c : ℕ) (f : Words) (h : is_table c f ≡ true) where
@@ -66,17 +65,17 @@ module _ (o : Options) (table : Words) (k : ℤ) (left answers out : Words) wher
   abbrev all : List Subtotal
   all = add_all o (subtotals_of o (rows_in o table)) (amounts_of (sales_by o left answers))
 
-  call_leaves : (r : Taken) → add_answer o table k left answers out ≡ r → AddContract o table k left answers out r (leave o all r out).out
+  call_leaves : (r : Result Taken Refusal) → add_answer o table k left answers out ≡ r → AddContract o table k left answers out r (leave o all r out).out
   unfolding add_call
   call_leaves r e = record {
     answer = sym e ∙ leave_answer o all (add_answer o table k left answers out) out;
-    words = ap (λ (z : Taken). (leave o all z out).out) (sym e);
+    words = ap (λ (z : Result Taken Refusal). (leave o all z out).out) (sym e);
   }
 
-  pub add_refused : (r : Refusal) → sales_judged o table left answers ≡ NotAccepted r → AddContract o table k left answers out (Refused r) out
-  add_refused r e = call_leaves (Refused r) (sales_refused o table left answers k out r e)
+  pub add_refused : (r : Refusal) → sales_judged o table left answers ≡ Err r → AddContract o table k left answers out (Err r) out
+  add_refused r e = call_leaves (Err r) (sales_refused o table left answers k out r e)
 
-  module _ (v : sales_judged o table left answers ≡ Accepted) (w c d : ℕ) (e : w ≡ table_width o) (f : c ≡ columns o) (g : d ≡ columns_in answers) (rows : ℕ) (y : rows ≡ row_count left) where
+  module _ (v : sales_judged o table left answers ≡ Ok tt) (w c d : ℕ) (e : w ≡ table_width o) (f : c ≡ columns o) (g : d ≡ columns_in answers) (rows : ℕ) (y : rows ≡ row_count left) where
     answer_rows_lem : add_answer o table k left answers out ≡ rows_answer o (table_width o) (rows_in o table) k (sales_by o left answers) out
     unfolding add_answer rows_answer fine_subtotals fine_rows
     answer_rows_lem = (sales_fine o table left answers v).past _
@@ -92,13 +91,13 @@ module _ (o : Options) (table : Words) (k : ℤ) (left answers out : Words) wher
     unfolding sales_by frame_rows
     sales_are = rw (f, g, y) (ap (λ (z : ℕ). sales_of o (rows_of (columns o) (row_count left) (values_in (columns o) left) (marks_in (columns o) left)) (rows_of (columns_in answers) z (values_in (columns_in answers) answers) (marks_in (columns_in answers) answers))) same_height)
 
-    contract : (r : Taken) (out' : Words) → RowsContract o (table_width o) (rows_in o table) k (sales_by o left answers) out r out' → AddContract o table k left answers out r out'
+    contract : (r : Result Taken Refusal) (out' : Words) → RowsContract o (table_width o) (rows_in o table) k (sales_by o left answers) out r out' → AddContract o table k left answers out r out'
     contract r out' c =
         let a : add_answer o table k left answers out ≡ r = answer_rows_lem ∙ sym c.answer in
         let z = call_leaves r a in
-        record { answer = z.answer; words = c.words ∙ ap (λ (z : Taken). (leave o all z out).out) (sym c.answer) ∙ z.words }
+        record { answer = z.answer; words = c.words ∙ ap (λ (z : Result Taken Refusal). (leave o all z out).out) (sym c.answer) ∙ z.words }
 
-    pub rows_added : (r : Taken) (out' : Words)
+    pub rows_added : (r : Result Taken Refusal) (out' : Words)
         → RowsContract o w (rows_of w (row_count table) (values_in w table) (marks_in w table)) k (sales_of o (rows_of (suc o.by) rows (values_in c left) (marks_in c left)) (rows_of d rows (values_in d answers) (marks_in d answers))) out r out'
         → AddContract o table k left answers out r out'
     rows_added r out' c = contract r out' (rw (← rows_are, ← sales_are, ← e) c)

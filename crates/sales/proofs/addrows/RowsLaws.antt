@@ -1,4 +1,5 @@
 -- What adding a frame's sales by rows answers and leaves, from what its parts do. Assumes nothing.
+use Rattle.std.specs.Prelude.{Result, Err, Ok}
 use mathlib.Core.Path.{◌≡◌, refl, sym, ap, ◌∙◌}
 use mathlib.Core.Bool.{Bool, true, false, cond, not, ◌||◌}
 use mathlib.Core.List.{List, [], ◌∷◌, map}
@@ -22,7 +23,7 @@ use Rattle.takings.specs.Subtotals.{Subtotal, add_all, ascending, row_of, subtot
 use Rattle.takings.specs.Sales.{Sale, with_amount, sales_of, amounts_of, nulls_of, beyond_amounts}
 use Rattle.takings.specs.Calls.{table_width, result, leave}
 use Rattle.takings.specs.declared.Taken.{Taken}
-use Rattle.takings.specs.declared.Taken.TheVariants.{Table, Refused}
+use Rattle.takings.specs.Calls.{taken_of}
 use Rattle.takings.proofs.SubtotalLaws.{all_sales_lem}
 use Rattle.subtotals.specs.takejudge.Judge.{Sheet, fine_rows}
 use Rattle.subtotals.proofs.takejudge.JudgeLaws.{beyond_words_lem}
@@ -38,7 +39,7 @@ or_parts true b e = (cc, cc)
 or_parts false b e = (refl, e)
 
 -- Two refusals by one number.
-twice : (x y : Bool) (r : Refusal) (z : Taken) → (x || y) ≡ true → cond x (Refused r) (cond y (Refused r) z) ≡ Refused r
+twice : (x y : Bool) (r : Refusal) (z : Result Taken Refusal) → (x || y) ≡ true → cond x (Err r) (cond y (Err r) z) ≡ Err r
 twice true y r z e = refl
 twice false y r z e = rw e
 
@@ -58,15 +59,15 @@ module _ (o : Options) (w : ℕ) (A : Rows) (k : ℤ) (sales : List Sale) (out :
   abbrev ts : List Subtotal
   ts = add_all o (subtotals_of o A) (amounts_of sales)
 
-  leaves : (r : Taken) → rows_answer o w A k sales out ≡ r → RowsContract o w A k sales out r (leave o ts r out).out
-  leaves r e = record { answer = sym e; words = ap (λ (z : Taken). (leave o ts z out).out) (sym e) }
+  leaves : (r : Result Taken Refusal) → rows_answer o w A k sales out ≡ r → RowsContract o w A k sales out r (leave o ts r out).out
+  leaves r e = record { answer = sym e; words = ap (λ (z : Result Taken Refusal). (leave o ts z out).out) (sym e) }
 
-  answer_unsorted : fine_rows o w A ≡ false → rows_answer o w A k sales out ≡ Refused Unsorted
+  answer_unsorted : fine_rows o w A ≡ false → rows_answer o w A k sales out ≡ Err Unsorted
   unfolding rows_answer
   answer_unsorted e = rw e
 
-  pub unsorted : fine_rows o w A ≡ false → RowsContract o w A k sales out (Refused Unsorted) out
-  unsorted e = leaves (Refused Unsorted) (answer_unsorted e)
+  pub unsorted : fine_rows o w A ≡ false → RowsContract o w A k sales out (Err Unsorted) out
+  unsorted e = leaves (Err Unsorted) (answer_unsorted e)
 
   abbrev rows_beyond : Bool
   rows_beyond = beyond_rows o A || beyond_number k || beyond_amounts (amounts_of sales)
@@ -78,34 +79,34 @@ module _ (o : Options) (w : ℕ) (A : Rows) (k : ℤ) (sales : List Sale) (out :
   sums = all_sales_lem o (subtotals_of o A) (amounts_of sales) ∙ ap (λ (z : ℕ). sales_in (subtotals_of o A) + z) (one_each sales)
 
   module _ (d : fine_rows o w A ≡ true) where
-    answer_beyond : beyond_sales o A k sales ≡ true → rows_answer o w A k sales out ≡ Refused Beyond
+    answer_beyond : beyond_sales o A k sales ≡ true → rows_answer o w A k sales out ≡ Err Beyond
     unfolding rows_answer result beyond_sales
     answer_beyond e = rw (d, sums) (twice rows_beyond sums_beyond Beyond _ e)
 
-    pub beyond : beyond_sales o A k sales ≡ true → RowsContract o w A k sales out (Refused Beyond) out
-    beyond e = leaves (Refused Beyond) (answer_beyond e)
+    pub beyond : beyond_sales o A k sales ≡ true → RowsContract o w A k sales out (Err Beyond) out
+    beyond e = leaves (Err Beyond) (answer_beyond e)
 
     module _ (b : beyond_sales o A k sales ≡ false) where
       within : (rows_beyond ≡ false) × (sums_beyond ≡ false)
       unfolding beyond_sales
       within = or_parts rows_beyond sums_beyond b
 
-      answer_short : ltb (length out) (frame_words (length ts) (table_width o)) ≡ true → rows_answer o w A k sales out ≡ Refused NoRoom
+      answer_short : ltb (length out) (frame_words (length ts) (table_width o)) ≡ true → rows_answer o w A k sales out ≡ Err NoRoom
       unfolding rows_answer result
       answer_short e = rw (d, within.0, sums, within.1, e)
 
-      answer_wrote : ltb (length out) (frame_words (length ts) (table_width o)) ≡ false → rows_answer o w A k sales out ≡ Table (length ts) (pos (nat_abs k + nulls_of sales))
+      answer_wrote : ltb (length out) (frame_words (length ts) (table_width o)) ≡ false → rows_answer o w A k sales out ≡ Ok (taken_of (length ts) (pos (nat_abs k + nulls_of sales)))
       unfolding rows_answer result
       answer_wrote e = rw (d, within.0, sums, within.1, e)
 
-      pub no_room_lem : leb (frame_words (length ts) (table_width o)) (length out) ≡ false → RowsContract o w A k sales out (Refused NoRoom) out
-      no_room_lem e = leaves (Refused NoRoom) (answer_short (lt-ltb (length out) (frame_words (length ts) (table_width o)) (leb-false (frame_words (length ts) (table_width o)) (length out) e)))
+      pub no_room_lem : leb (frame_words (length ts) (table_width o)) (length out) ≡ false → RowsContract o w A k sales out (Err NoRoom) out
+      no_room_lem e = leaves (Err NoRoom) (answer_short (lt-ltb (length out) (frame_words (length ts) (table_width o)) (leb-false (frame_words (length ts) (table_width o)) (length out) e)))
 
       pub wrote : leb (frame_words (length ts) (table_width o)) (length out) ≡ true → (m : ℕ) (out' : Words) → m ≡ length ts → out' ≡ laid (table_of (table_width o) (map row_of ts)) out
-          → RowsContract o w A k sales out (Table m (pos (nat_abs k + nulls_of sales))) out'
+          → RowsContract o w A k sales out (Ok (taken_of m (pos (nat_abs k + nulls_of sales)))) out'
       wrote h m out' c e =
           let l = leb-true (frame_words (length ts) (table_width o)) (length out) h in
-          let r = leaves (Table (length ts) (pos (nat_abs k + nulls_of sales))) (answer_wrote (le-ltb (length out) (frame_words (length ts) (table_width o)) l)) in
+          let r = leaves (Ok (taken_of (length ts) (pos (nat_abs k + nulls_of sales)))) (answer_wrote (le-ltb (length out) (frame_words (length ts) (table_width o)) l)) in
           rw c (record { answer = r.answer; words = e ∙ r.words })
 
       pub numbers : (beyond_number k ≡ false) × (nat_abs k + nulls_of sales ≤ most_sales)

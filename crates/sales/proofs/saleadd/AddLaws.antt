@@ -2,11 +2,9 @@
 use mathlib.Core.Path.{◌≡◌, refl, sym, ap, ◌∙◌}
 use mathlib.Core.Bool.{Bool, true, false, ◌||◌}
 use mathlib.Core.List.{List, [], ◌∷◌, ◌++◌}
-use mathlib.Core.Logic.{◌⊎◌, ⊎_elim}
 use Prim.Native.Nat.{ℕ, zero, suc, ◌+◌, ◌-◌, ◌*◌, ◌≤◌, ◌<◌}
 use native.Mathlib.Omega.{arith}
 use borrow.Author.Tests.{le-leb, ltb-false}
-use denote.Enum.Declared.{tag_of}
 use lib.Dec.{ltb}
 use lib.IntN.{ℤ, pos, nat_abs}
 use lib.ListN.{length, take, drop, get_or, length-append, length-drop}
@@ -14,15 +12,14 @@ use lib.Seq.{paste}
 use Rattle.frames.specs.Cells.{Cell, Words}
 use Rattle.frames.specs.Frame.{pairs_fine}
 use Rattle.order.specs.declared.options.Options.{Options}
-use Rattle.order.specs.declared.Order.{Order}
-use Rattle.order.specs.declared.Order.TheVariants.{Less, Equal, Greater}
+use Rattle.std.specs.declared.cmp.Ordering.{Ordering}
+use Rattle.std.specs.declared.cmp.Ordering.TheVariants.{Less, Equal, Greater}
 use Rattle.takings.specs.Subtotals.{Subtotal, cmp_sub, plus, insert, add_all, ascending, sales_in, most_sales, most_amount}
 use Rattle.takings.specs.Sales.{Sale, amounts_of, beyond_amounts}
 use Rattle.takings.proofs.SubtotalLaws.{Every, Bounded, bounded_insert, all_sales_lem}
 use Rattle.sales.specs.salekind.Kinds.{kind_of}
 use Rattle.sales.specs.declared.salekind.Kind.{Kind}
 use Rattle.sales.specs.declared.salekind.Kind.TheVariants.{Unmatched, Nothing, Amount}
-use Rattle.sales.specs.contracts.salekind.Kind.{the_type}
 use Rattle.sales.proofs.salekind.KindLaws.{sales_from, left_at, answer_at, from_all, from_none, row_unmatched, row_nothing, row_amount, amount_at, beyond_cons, none_sold}
 use Rattle.sales.specs.saleinsert.Held.{Held, sub_at, unit_of}
 use Rattle.sales.proofs.saleinsert.InsertLaws.{sums_at, times_least, body_long}
@@ -37,7 +34,7 @@ unfolding insert
 insert_grows o u [] = (omega arith, omega arith)
 insert_grows o u (t ∷ ts) = by (cmp_sub o u t) (insert_grows o u ts)
   where
-    by : (z : Order) → (length ts ≤ length (insert o u ts)) × (1 ≤ length (insert o u ts))
+    by : (z : Ordering) → (length ts ≤ length (insert o u ts)) × (1 ≤ length (insert o u ts))
         → (length (t ∷ ts) ≤ length {A = Subtotal} (elim z [ Less ↦ u ∷ t ∷ ts | Equal ↦ plus t u ∷ ts | Greater ↦ t ∷ insert o u ts ])) × (1 ≤ length {A = Subtotal} (elim z [ Less ↦ u ∷ t ∷ ts | Equal ↦ plus t u ∷ ts | Greater ↦ t ∷ insert o u ts ]))
     by Less h = (omega arith, omega arith)
     by Equal h = (omega arith, omega arith)
@@ -211,9 +208,3 @@ module _ (o : Options) (n rows d : ℕ) (table lv lm av am b₀ : Words) where
   running_ends t₀ m taken i body body' l r k e =
       let z : add_all o r.whole (U i) ≡ r.whole = ap (λ (z : List Sale). add_all o r.whole (amounts_of z)) (from_none o rows d lv lm av am i l) ∙ ap (add_all o r.whole) none_sold.0 ∙ all_none o r.whole in
       rw (← r.left, z) (all_written_lem o n m taken t₀ r.whole table b₀ body r.written (rest_room t₀ m taken i body r k) body' e)
-
--- ---- an arm that is not the amounts'
-pub not_amount : (x : Kind) → (tag_of the_type x ≡ 0) ⊎ (tag_of the_type x ≡ 1) → x ≡ Amount → ⊥
-not_amount Unmatched t e = let z : ◌≡◌ {A = ℕ} 0 1 = cc in omega arith
-not_amount Nothing t e = let z : ◌≡◌ {A = ℕ} 0 1 = cc in omega arith
-not_amount Amount t e = ⊎_elim (λ l. omega arith) (λ l. omega arith) t

@@ -17,7 +17,7 @@ use Rattle.order.specs.declared.options.Options.{Options}
 use Rattle.order.specs.Order.{cmp_cell, cmp_first, cmp_group}
 use Rattle.order.specs.Requires.{cell_at}
 use Rattle.order.proofs.RowLaws.{row_cell}
-use Rattle.order.specs.declared.Order.{Order}
+use Rattle.std.specs.declared.cmp.Ordering.{Ordering}
 use Rattle.sales.specs.salegroup.Group.{plain, SaleAt}
 
 -- An order of groups reads its by-values alone.
@@ -43,11 +43,11 @@ as_marked o p body ms s few e h =
     ∙ sym (value_at_lem (take o.by (drop p body)) i (omega (arith, length-take-le o.by (drop p body) (omega arith))) ∙ ap value (get_or-take o.by (drop p body) i (pos 0) l)))
 
 -- ---- groups of one by-value
-single_decides : (o : Options) (r s : List Cell) (z : Order) → o.by ≡ 1 → z ≡ cmp_cell (by_rule o 0) (cell 0 r) (cell 0 s) → z ≡ cmp_group o r s
+single_decides : (o : Options) (r s : List Cell) (z : Ordering) → o.by ≡ 1 → z ≡ cmp_cell (by_rule o 0) (cell 0 r) (cell 0 s) → z ≡ cmp_group o r s
 unfolding cmp_first
 single_decides o r s z b e = e ∙ ap (λ (k : ℕ). cmp_first o k r s) (sym b)
 
-pub single_told : (o : Options) (p : ℕ) (body : Words) (q : ℕ) (vs ms : Words) (z : Order) → SaleAt o p body q vs ms → (eqb o.by 1 && not (is_ranked o 0)) ≡ true
+pub single_told : (o : Options) (p : ℕ) (body : Words) (q : ℕ) (vs ms : Words) (z : Ordering) → SaleAt o p body q vs ms → (eqb o.by 1 && not (is_ranked o 0)) ≡ true
     → z ≡ cmp_cell (record { descending = get_or o.descending 0 false; nulls_last = get_or o.nulls_last 0 false; codes = [] }) (value (get_or body p (pos 0))) (cell_at q vs ms)
     → z ≡ cmp_group o (plain o.by p body) (row_from (suc o.by) q vs ms)
 single_told o p body q vs ms z h t e =

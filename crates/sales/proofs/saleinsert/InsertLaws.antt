@@ -14,8 +14,8 @@ use Rattle.frames.specs.Frame.{pairs_fine}
 use Rattle.frames.proofs.WordLaws.{map-append}
 use Rattle.order.specs.declared.options.Options.{Options}
 use Rattle.order.specs.Order.{cmp_first, cmp_group, null_group, null_in}
-use Rattle.order.specs.declared.Order.{Order}
-use Rattle.order.specs.declared.Order.TheVariants.{Less, Equal, Greater}
+use Rattle.std.specs.declared.cmp.Ordering.{Ordering}
+use Rattle.std.specs.declared.cmp.Ordering.TheVariants.{Less, Equal, Greater}
 use Rattle.order.proofs.OrderLaws.{cmp_group_is, greater_less, less_greater, equal_flip, group_equal}
 use Rattle.order.proofs.RowLaws.{row_cell, row_length}
 use Rattle.tables.specs.Table.{words_of}
@@ -65,13 +65,13 @@ module _ (o : Options) where
       (equal_right t.group (sub_at ts p).group g (above_at t.group ts p r.0 (omega arith)) h, below_equal g ts p r.1 (omega arith) h)
 
   -- ---- an arm that is known
-  arm_less : (x y v : List Subtotal) (z : Order) → z ≡ Less → ◌≡◌ {A = List Subtotal} (elim z [ Less ↦ x | Equal ↦ y | Greater ↦ v ]) x
+  arm_less : (x y v : List Subtotal) (z : Ordering) → z ≡ Less → ◌≡◌ {A = List Subtotal} (elim z [ Less ↦ x | Equal ↦ y | Greater ↦ v ]) x
   arm_less x y v z e = rw e
 
-  arm_equal : (x y v : List Subtotal) (z : Order) → z ≡ Equal → ◌≡◌ {A = List Subtotal} (elim z [ Less ↦ x | Equal ↦ y | Greater ↦ v ]) y
+  arm_equal : (x y v : List Subtotal) (z : Ordering) → z ≡ Equal → ◌≡◌ {A = List Subtotal} (elim z [ Less ↦ x | Equal ↦ y | Greater ↦ v ]) y
   arm_equal x y v z e = rw e
 
-  arm_greater : (x y v : List Subtotal) (z : Order) → z ≡ Greater → ◌≡◌ {A = List Subtotal} (elim z [ Less ↦ x | Equal ↦ y | Greater ↦ v ]) v
+  arm_greater : (x y v : List Subtotal) (z : Ordering) → z ≡ Greater → ◌≡◌ {A = List Subtotal} (elim z [ Less ↦ x | Equal ↦ y | Greater ↦ v ]) v
   arm_greater x y v z e = rw e
 
   past : (u : Subtotal) (xs zs : List Subtotal) → Below u.group xs → insert o u (xs ++ zs) ≡ xs ++ insert o u zs
@@ -275,7 +275,7 @@ second_taken o b zero r s h = refl
 second_taken o b (suc j) r s h = rw (second_taken o b j r s (omega arith), get_or-take b s j null (omega arith))
 
 -- How a row of the words compares is how the table's row does.
-pub row_told : (o : Options) (n : ℕ) (ts : List Subtotal) (b₀ body : Words) → Held o n ts b₀ body → (x : List Cell) (p : ℕ) → p < n → (z : Order) → cmp_at o (suc (suc o.by)) body x p ≡ z
+pub row_told : (o : Options) (n : ℕ) (ts : List Subtotal) (b₀ body : Words) → Held o n ts b₀ body → (x : List Cell) (p : ℕ) → p < n → (z : Ordering) → cmp_at o (suc (suc o.by)) body x p ≡ z
     → cmp_group o (sub_at ts p).group (take o.by x) ≡ z
 row_told o n ts b₀ body k x p l z c =
     let w : ℕ = suc (suc o.by) in

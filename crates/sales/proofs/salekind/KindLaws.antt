@@ -154,9 +154,6 @@ module _ (o : Options) (n d : ℕ) (lv lm av am : Words) where
     pub nulls : nulls_of (S 0) ≡ k + nulls_of (S i)
     pub beyond : beyond_amounts (amounts_of (S 0)) ≡ beyond_amounts (amounts_of (S i))
 
-  pub going_starts : Going 0 0 0
-  going_starts = record { sales = omega arith; nulls = omega arith; beyond = refl }
-
   abbrev K : ℕ → Kind
   K i = kind_of o (left_at o n d lv lm av am i) (answer_at o n d lv lm av am i)
 

@@ -8,7 +8,7 @@ use lib.ListN.{length, take}
 use Rattle.frames.specs.Cells.{Cell, Words}
 use Rattle.order.specs.declared.options.Options.{Options}
 use Rattle.order.specs.Order.{cmp_group}
-use Rattle.order.specs.declared.Order.TheVariants.{Less, Equal}
+use Rattle.std.specs.declared.cmp.Ordering.TheVariants.{Less, Equal}
 use Rattle.order.proofs.OrderLaws.{cmp_group_is}
 use Rattle.takings.specs.Subtotals.{Subtotal, insert, add_all}
 use Rattle.takings.proofs.SubtotalLaws.{Rising, rising, rising_insert}

@@ -7,12 +7,12 @@ use native.Mathlib.Omega.{arith}
 use native.Mathlib.Decide.{dec_lt}
 use lib.IntN.{ℤ, pos}
 use lib.ListN.{length, take, drop, get_or, length-append, length-drop, take-append-drop, get_or-append}
-use lib.Seq.{paste, take_at, drop_at, get_or-append-add, get_or-take, get_or-drop, drop-drop, drop-append-add, length-take-le, take-take, take_all}
+use lib.Seq.{paste, take_at, drop_at, get_or-append-add, get_or-take, get_or-drop, drop-drop, drop-append-add, length-take-le, take_all}
 use Rattle.frames.specs.Cells.{Cell, Words, row_from}
 use Rattle.order.specs.declared.options.Options.{Options}
 use Rattle.order.specs.Order.{cmp_group}
-use Rattle.order.specs.declared.Order.{Order}
-use Rattle.order.specs.declared.Order.TheVariants.{Less, Equal, Greater}
+use Rattle.std.specs.declared.cmp.Ordering.{Ordering}
+use Rattle.std.specs.declared.cmp.Ordering.TheVariants.{Less, Equal, Greater}
 use Rattle.order.proofs.OrderLaws.{cmp_group_is, greater_less, less_greater}
 use Rattle.order.proofs.RowLaws.{row_room}
 use Rattle.takings.specs.Subtotals.{Subtotal, cmp_sub, plus, insert, ascending}
@@ -74,7 +74,7 @@ module _ (o : Options) where
   insert_front u [] (y ∷ ys) a = first_greater o u (y ∷ ys) (λ l. less_greater (cmp_group_is o) u.group y.group a.0)
   insert_front u (x ∷ xs) ys a = by (cmp_sub o u x) (insert_front u xs ys a)
     where
-      by : (z : Order) → insert o u (xs ++ ys) ≡ insert o u xs ++ ys
+      by : (z : Ordering) → insert o u (xs ++ ys) ≡ insert o u xs ++ ys
           → ◌≡◌ {A = List Subtotal} (elim z [ Less ↦ u ∷ x ∷ (xs ++ ys) | Equal ↦ plus x u ∷ (xs ++ ys) | Greater ↦ x ∷ insert o u (xs ++ ys) ]) (elim z [ Less ↦ u ∷ x ∷ xs | Equal ↦ plus x u ∷ xs | Greater ↦ x ∷ insert o u xs ] ++ ys)
       by Less e = refl
       by Equal e = refl
@@ -287,7 +287,3 @@ passed_addable b m taken end table body body₁ e room there n p h i l k =
     let x : (m + (p - taken)) * w + (b + 1) ≡ (m + (p - taken)) * w + b + 1 = omega arith in
     let y : p * w + (b + 1) ≡ p * w + b + 1 = omega arith in
     rw (t, rw (x, y) at u) (h p i)
-
--- A part of a table, pasted whole.
-pub pasted_part : (body table : Words) (at k : ℕ) → k ≤ length table → paste body at (take k table) (length (take k table)) ≡ paste body at table k
-pasted_part body table at k h = rw (length-take-le k table h) (ap (λ (z : Words). take at body ++ z ++ drop (at + k) body) (take-take k k table (omega arith)))

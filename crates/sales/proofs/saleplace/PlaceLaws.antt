@@ -7,8 +7,8 @@ use native.Mathlib.Omega.{arith}
 use native.Mathlib.Decide.{dec_lt}
 use Rattle.frames.specs.Cells.{Cell, Words}
 use Rattle.order.specs.declared.options.Options.{Options}
-use Rattle.order.specs.declared.Order.{Order}
-use Rattle.order.specs.declared.Order.TheVariants.{Less, Equal, Greater}
+use Rattle.std.specs.declared.cmp.Ordering.{Ordering}
+use Rattle.std.specs.declared.cmp.Ordering.TheVariants.{Less, Equal, Greater}
 use Rattle.sales.specs.saleplace.Place.{cmp_at, PlacedBy, Placed}
 
 -- The words of rows bound the rows.
@@ -20,14 +20,14 @@ at_least (suc n) w h = let i = at_least n w h in let e : suc n * w ≡ w + n * w
 true_false : {A : Type 0} → true ≡ false → A
 true_false e = let z : ◌≡◌ {A = ℕ} 0 1 = cc in absurd (omega arith)
 
-pub found_by : (f : ℕ → Order) (low high r : ℕ) → low ≤ r → r < high → f r ≡ Equal → PlacedBy f low high r true
+pub found_by : (f : ℕ → Ordering) (low high r : ℕ) → low ≤ r → r < high → f r ≡ Equal → PlacedBy f low high r true
 found_by f low high r l h e = record { least = l; within = omega arith; yes = λ t. (h, e); no = λ t. true_false t }
 
-pub missing_by : (f : ℕ → Order) (low high r : ℕ) → low ≤ r → r ≤ high → (low < r → f (r - 1) ≡ Less) → (r < high → f r ≡ Greater) → PlacedBy f low high r false
+pub missing_by : (f : ℕ → Ordering) (low high r : ℕ) → low ≤ r → r ≤ high → (low < r → f (r - 1) ≡ Less) → (r < high → f r ≡ Greater) → PlacedBy f low high r false
 missing_by f low high r l h a b = record { least = l; within = h; yes = λ t. true_false (sym t); no = λ t. (a, b) }
 
 -- Comparisons that say the same of each row place alike.
-pub placed_alike : (o : Options) (w low high : ℕ) (body : Words) (g : List Cell) (f : ℕ → Order) (r : ℕ) (here : Bool) → ((i : ℕ) → i < high → f i ≡ cmp_at o w body g i) → PlacedBy f low high r here → Placed o w low high body g r here
+pub placed_alike : (o : Options) (w low high : ℕ) (body : Words) (g : List Cell) (f : ℕ → Ordering) (r : ℕ) (here : Bool) → ((i : ℕ) → i < high → f i ≡ cmp_at o w body g i) → PlacedBy f low high r here → Placed o w low high body g r here
 placed_alike o w low high body g f r here e p = record {
   least = p.least;
   within = p.within;

@@ -12,8 +12,8 @@ use lib.ListN.{length}
 use Rattle.frames.specs.Cells.{Rows, Words, rows_of}
 use Rattle.frames.specs.Frame.{frame_words}
 use Rattle.order.specs.declared.options.Options.{Options}
-use Rattle.order.specs.declared.Order.{Order}
-use Rattle.order.specs.declared.Order.TheVariants.{Less, Equal, Greater}
+use Rattle.std.specs.declared.cmp.Ordering.{Ordering}
+use Rattle.std.specs.declared.cmp.Ordering.TheVariants.{Less, Equal, Greater}
 use Rattle.takings.specs.Subtotals.{Subtotal, cmp_sub, plus, insert, add_all, subtotals_of, beyond_rows, beyond_number, sales_in, most_sales}
 use Rattle.takings.specs.Sales.{Sale, amounts_of, nulls_of, beyond_amounts}
 use Rattle.subtotals.specs.subtables.Sheet.{beyond_words, count_words, Counted}
@@ -123,7 +123,7 @@ unfolding insert
 insert_most o u [] = omega arith
 insert_most o u (t ∷ ts) = by (cmp_sub o u t) (insert_most o u ts)
   where
-    by : (z : Order) → length (insert o u ts) ≤ suc (length ts) → length {A = Subtotal} (elim z [ Less ↦ u ∷ t ∷ ts | Equal ↦ plus t u ∷ ts | Greater ↦ t ∷ insert o u ts ]) ≤ suc (length (t ∷ ts))
+    by : (z : Ordering) → length (insert o u ts) ≤ suc (length ts) → length {A = Subtotal} (elim z [ Less ↦ u ∷ t ∷ ts | Equal ↦ plus t u ∷ ts | Greater ↦ t ∷ insert o u ts ]) ≤ suc (length (t ∷ ts))
     by Less h = omega arith
     by Equal h = omega arith
     by Greater h = omega arith

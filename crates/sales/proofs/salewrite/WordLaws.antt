@@ -1,48 +1,16 @@
--- One word more, as the loops go; and a row of subtotals as one stretch of words. Assumes nothing.
+-- A row of subtotals as one stretch of words. Assumes nothing.
 use mathlib.Core.Path.{◌≡◌, sym, ap, ◌∙◌}
 use mathlib.Core.List.{[], ◌∷◌, ◌++◌, append_assoc}
-use Prim.Native.Nat.{ℕ, suc, ◌+◌, ◌-◌, ◌≤◌, ◌<◌}
-use native.Mathlib.Numerals.{add-one}
+use Prim.Native.Nat.{ℕ, ◌+◌, ◌-◌, ◌≤◌}
 use native.Mathlib.Omega.{arith}
 use lib.IntN.{ℤ, pos}
-use lib.ListN.{length, take, drop, get_or, set, replicate, length-drop, length-append, length-replicate, get_or-replicate, take-append-drop, get_or-append}
-use lib.Seq.{paste, paste-suc, take-suc, drop-cons, set_at, get_or-take, take_all, length-take-le, drop-drop}
+use lib.ListN.{length, take, drop, get_or, set, length-drop, length-append}
+use lib.Seq.{paste, drop-cons, set_at, take_all, length-take-le, drop-drop}
 use Rattle.frames.specs.Cells.{Words}
 
--- ---- words moved up
--- With k words below still to move, the words from k on stand w places higher.
-pub shift_step : (b₀ b : Words) (k to w : ℕ) (a : ℤ) → suc k ≤ to → to + w ≤ length b₀ → b ≡ paste b₀ (suc k + w) (drop (suc k) b₀) (to - suc k) → a ≡ get_or b k (pos 0)
-    → set b (k + w) a ≡ paste b₀ (k + w) (drop k b₀) (to - k)
-shift_step b₀ b k to w a h r e f =
-    let m : to - k ≡ suc (to - suc k) = omega arith in
-    let s : suc k + w ≡ suc (k + w) = omega arith in
-    let n : suc (k + w) + (to - suc k) ≡ k + w + suc (to - suc k) = omega arith in
-    let T : Words = take (k + w) b₀ in
-    let M : Words = take (to - suc k) (drop (suc k) b₀) in
-    let E : Words = drop (k + w + suc (to - suc k)) b₀ in
-    let lt : length T ≡ k + w = length-take-le (k + w) b₀ (omega arith) in
-    let first : take (suc (k + w)) b₀ ≡ T ++ (get_or b₀ (k + w) (pos 0) ∷ []) = take-suc b₀ (k + w) (pos 0) (omega arith) in
-    let all : b ≡ T ++ get_or b₀ (k + w) (pos 0) ∷ (M ++ E) =
-    e ∙ ap (λ (z : ℕ). take z b₀ ++ M ++ drop (z + (to - suc k)) b₀) s ∙ ap (λ (z : ℕ). take (suc (k + w)) b₀ ++ M ++ drop z b₀) n
-    ∙ ap (λ (z : Words). z ++ M ++ E) first ∙ simp append_assoc in
-    let read : a ≡ get_or b₀ k (pos 0) =
-    f ∙ ap (λ (z : Words). get_or z k (pos 0)) (e ∙ append_assoc (take (suc k + w) b₀) M (drop (suc k + w + (to - suc k)) b₀))
-    ∙ get_or-append (take (suc k + w) b₀) (M ++ drop (suc k + w + (to - suc k)) b₀) (pos 0) k (omega (arith, length-take-le (suc k + w) b₀ (omega arith)))
-    ∙ get_or-take (suc k + w) b₀ k (pos 0) (omega arith) in
-    let next : take (suc (to - suc k)) (drop k b₀) ≡ get_or b₀ k (pos 0) ∷ M = ap (take (suc (to - suc k))) (drop-cons b₀ k (pos 0) (omega arith)) in
-    ap (λ (z : Words). set z (k + w) a) all ∙ set_at T (get_or b₀ (k + w) (pos 0)) (M ++ E) a (k + w) lt
-    ∙ rw (m, next, read) (simp append_assoc)
-
-pub shift_starts : (b₀ : Words) (to w : ℕ) → to + w ≤ length b₀ → b₀ ≡ paste b₀ (to + w) (drop to b₀) (to - to)
-shift_starts b₀ to w h =
-    let z : to - to ≡ 0 = omega arith in
-    let y : to + w + 0 ≡ to + w = omega arith in
-    rw (z, y) (sym (take-append-drop (to + w) b₀) ∙ simp append_assoc)
-
--- ---- ones
-pub ones_step : (b₀ b : Words) (at n i : ℕ) → b ≡ paste b₀ at (replicate n (pos 1)) i → at + i < length b₀ → i < n → set b (at + i) (pos 1) ≡ paste b₀ at (replicate n (pos 1)) (i + 1)
-ones_step b₀ b at n i e h k =
-    rw (e, add-one i) (ap (set (paste b₀ at (replicate n (pos 1)) i) (at + i)) (sym (get_or-replicate n i (pos 1) (pos 0) k)) ∙ paste-suc b₀ at (replicate n (pos 1)) i (pos 0) h (omega (arith, length-replicate n (pos 1))))
+-- ---- a part written whole
+pub put_pasted : (b g : Words) (at n : ℕ) → length g ≡ n → take at b ++ (g ++ drop n (drop at b)) ≡ paste b at g n
+put_pasted b g at n l = rw (take_all n g (omega arith), drop-drop n at b) (sym (append_assoc (take at b) g (drop (at + n) b)))
 
 -- ---- a row
 pub row_laid : (b b₁ g : Words) (at n : ℕ) (x y : ℤ) → at + n + 2 ≤ length b → length g ≡ n → b₁ ≡ paste b at g n → set (set b₁ (at + n) x) (at + n + 1) y ≡ paste b at (g ++ x ∷ y ∷ []) (n + 2)

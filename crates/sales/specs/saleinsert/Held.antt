@@ -5,7 +5,7 @@ use Rattle.frames.specs.Cells.{Cell, value, value_word, Words, row_from}
 use Rattle.frames.specs.Frame.{pairs_fine}
 use Rattle.order.specs.declared.options.Options.{Options}
 use Rattle.order.specs.Order.{cmp_group, null_group}
-use Rattle.order.specs.declared.Order.TheVariants.{Less, Equal, Greater}
+use Rattle.std.specs.declared.cmp.Ordering.TheVariants.{Less, Equal, Greater}
 use Rattle.tables.specs.Table.{words_of}
 use Rattle.takings.specs.Subtotals.{Subtotal, insert, ascending, row_of, most_amount, most_sales}
 

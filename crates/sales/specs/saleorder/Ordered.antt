@@ -4,17 +4,17 @@ use Rattle.frames.specs.Cells.{Cell, Words}
 use Rattle.order.specs.options.Options.{Few}
 use Rattle.order.specs.declared.options.Options.{Options}
 use Rattle.order.specs.Order.{cmp_group}
-use Rattle.order.specs.declared.Order.{Order}
-use Rattle.order.specs.declared.Order.TheVariants.{Less, Equal}
+use Rattle.std.specs.declared.cmp.Ordering.{Ordering}
+use Rattle.std.specs.declared.cmp.Ordering.TheVariants.{Less, Equal}
 use Rattle.sales.specs.salekind.Kinds.{kind_of}
 use Rattle.sales.specs.salecount.Counts.{is_amount}
 
 -- How the last sale's group, if there was one, stands to that of the left row x.
-abbrev pub group_side : Options → Bool → List Cell → List Cell → Order
+abbrev pub group_side : Options → Bool → List Cell → List Cell → Ordering
 group_side o any l x = cond any (cmp_group o l x) Less
 
 -- The same, if x with its answer row a is a sale with an amount.
-abbrev pub side_of : Options → Bool → List Cell → List Cell → List Cell → Order
+abbrev pub side_of : Options → Bool → List Cell → List Cell → List Cell → Ordering
 side_of o any l x a = cond (is_amount (kind_of o x a)) (group_side o any l x) Equal
 
 -- Two left rows and an answer row are there, and groups compare.

@@ -5,7 +5,7 @@ use Rattle.frames.specs.Frame.{pairs_fine}
 use Rattle.order.specs.options.Options.{Few}
 use Rattle.order.specs.declared.options.Options.{Options}
 use Rattle.order.specs.Order.{null_group}
-use Rattle.order.specs.declared.Order.TheVariants.{Less}
+use Rattle.std.specs.declared.cmp.Ordering.TheVariants.{Less}
 use Rattle.takings.specs.Subtotals.{Subtotal, insert, ascending, most_amount}
 use Rattle.sales.specs.saleplace.Place.{cmp_at}
 use Rattle.sales.specs.saleinsert.Held.{Held, Addable, unit_of}

@@ -1,4 +1,5 @@
 -- What stands before a cut and behind it, and what the rows on the other side are to a left row: nothing. Assumes nothing.
+use Rattle.std.specs.Prelude.{Option, Some, None}
 use mathlib.Core.Path.{◌≡◌, refl, sym, ap, ◌∙◌}
 use mathlib.Core.Bool.{Bool, true, false, cond}
 use mathlib.Core.List.{List, [], ◌∷◌, ◌++◌}
@@ -9,13 +10,11 @@ use lib.Seq.{length-take-le}
 use Rattle.frames.specs.Cells.{Cell, Rows}
 use Rattle.order.specs.Order.{cmp_group, cmp_row, is_less, sorted}
 use Rattle.order.specs.declared.options.Options.{Options}
-use Rattle.order.specs.declared.Order.{Order}
-use Rattle.order.specs.declared.Order.TheVariants.{Less, Equal, Greater}
+use Rattle.std.specs.declared.cmp.Ordering.{Ordering}
+use Rattle.std.specs.declared.cmp.Ordering.TheVariants.{Less, Equal, Greater}
 use Rattle.order.proofs.OrderLaws.{AtMost, cmp_group_is, not_less, not_both, at_most, less_then, equal_at_most, equal_flip, group_at_most}
 use Rattle.order.proofs.SortedLaws.{All, all_map, Ordered, ordered}
 use Rattle.matching.specs.Match.{Hit, nobody, meet, choose, tolerate, match_table, whole_table}
-use Rattle.matching.specs.declared.Choice.{Choice}
-use Rattle.matching.specs.declared.Choice.TheVariants.{Row, Nothing}
 use Rattle.matching.proofs.ChoiceLaws.{choose_append, choose_dead}
 use Rattle.matching.proofs.MayLaws.{may, may_out, is_false}
 use Rattle.lists.proofs.isolation.PlaceLaws.{hit_by, choice_by, tolerate_by, step_by}
@@ -23,7 +22,7 @@ use Rattle.cutting.specs.boundaries.Boundaries.{cut_at}
 use Rattle.cutting.proofs.boundaries.PlaceLaws.{less_is, cut_within}
 use Rattle.schedules.specs.cuts.Appended.{later}
 
-pub is_less_lem : (z : Order) → is_less z ≡ true → z ≡ Less
+pub is_less_lem : (z : Ordering) → is_less z ≡ true → z ≡ Less
 is_less_lem Less e = refl
 is_less_lem Equal e = cc
 is_less_lem Greater e = cc
@@ -88,9 +87,9 @@ module _ (o : Options) (x : List Cell) where
       choose_later may n (cond (may r) (meet o x i r c) c) (suc i) rs
       ∙ (let q : n + suc i ≡ suc (n + i) = omega arith in rw (q, step_by o x (λ k. n + k) (may r) i r c))
 
-  later_is : (n : ℕ) (m : Choice) → choice_by (λ k. n + k) m ≡ later n m
-  later_is n (Row i) = refl
-  later_is n Nothing = refl
+  later_is : (n : ℕ) (m : Option ℕ) → choice_by (λ k. n + k) m ≡ later n m
+  later_is n (Some i) = refl
+  later_is n None = refl
 
   pub match_later : (n : ℕ) (rs : Rows) → match_table o n rs x ≡ later n (whole_table o rs x)
   unfolding match_table whole_table

@@ -1,5 +1,6 @@
 -- What is due for a left row of a pair, over the pair's own right rows, is due over the uncut table once the right rows before the pair are counted: the row that is
 -- matched, what it carries and how far it is, is the same of both. Assumes nothing.
+use Rattle.std.specs.Prelude.{Option, Some, None}
 use mathlib.Core.Path.{◌≡◌, refl, sym, ap, ◌∙◌}
 use mathlib.Core.Bool.{Bool, true, false, cond}
 use mathlib.Core.List.{List, [], ◌∷◌, ◌++◌, append-nil, append_assoc, map, map-append, map-map}
@@ -10,13 +11,11 @@ use lib.Seq.{drop_at, length-take-le}
 use Rattle.frames.specs.Cells.{Cell, null, Rows}
 use Rattle.order.specs.declared.options.Options.{Options}
 use Rattle.order.specs.Order.{cmp_group}
-use Rattle.order.specs.declared.Order.TheVariants.{Less}
+use Rattle.std.specs.declared.cmp.Ordering.TheVariants.{Less}
 use Rattle.order.proofs.OrderLaws.{AtMost}
 use Rattle.order.proofs.SortedLaws.{All, ordered, sorted_drop}
 use Rattle.matching.specs.Match.{whole_table}
 use Rattle.matching.specs.Answer.{answer_row}
-use Rattle.matching.specs.declared.Choice.{Choice}
-use Rattle.matching.specs.declared.Choice.TheVariants.{Row, Nothing}
 use Rattle.matching.proofs.FromLaws.{From, table_from, row_from_lem}
 use Rattle.lists.specs.Lists.{Entry}
 use Rattle.lists.specs.WholeTables.{as_written, due_over}
@@ -41,13 +40,13 @@ map_same f g h [] = refl
 map_same f g h (x ∷ xs) = rw (h x, map_same f g h xs)
 
 -- Numbers counted on twice, and not at all.
-pub later_twice : (n k : ℕ) (m : Choice) → later (n + k) m ≡ later n (later k m)
-later_twice n k (Row i) = let q : n + k + i ≡ n + (k + i) = omega arith in rw q
-later_twice n k Nothing = refl
+pub later_twice : (n k : ℕ) (m : Option ℕ) → later (n + k) m ≡ later n (later k m)
+later_twice n k (Some i) = let q : n + k + i ≡ n + (k + i) = omega arith in rw q
+later_twice n k None = refl
 
-pub later_zero : (m : Choice) → later 0 m ≡ m
-later_zero (Row i) = let q : 0 + i ≡ i = omega arith in rw q
-later_zero Nothing = refl
+pub later_zero : (m : Option ℕ) → later 0 m ≡ m
+later_zero (Some i) = let q : 0 + i ≡ i = omega arith in rw q
+later_zero None = refl
 
 module _ (o : Options) where
   -- No match is null in its first column, however many there are, and stays as it is.
@@ -56,10 +55,10 @@ module _ (o : Options) where
   later_none n false = refl
 
   -- A row of the answer as it is written, counted on: the row of the counted choice, over rows whose first has the number n.
-  later_row : (x : List Cell) (n : ℕ) (R : Rows) (m : Choice) → later_entry n (as_written (answer_row o 0 R x m)) ≡ as_written (answer_row o n R x (later n m))
+  later_row : (x : List Cell) (n : ℕ) (R : Rows) (m : Option ℕ) → later_entry n (as_written (answer_row o 0 R x m)) ≡ as_written (answer_row o n R x (later n m))
   unfolding answer_row
-  later_row x n R (Row k) = let z : n + k - n ≡ k - 0 = omega arith in rw z
-  later_row x n R Nothing = later_none n o.with_distance
+  later_row x n R (Some k) = let z : n + k - n ≡ k - 0 = omega arith in rw z
+  later_row x n R None = later_none n o.with_distance
 
   -- What is due for x over the right rows R, which stand behind the rows A of a table and before the rows B.
   abbrev pub due_within : Rows → Rows → Rows → List Cell → Entry

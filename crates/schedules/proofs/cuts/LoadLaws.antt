@@ -1,4 +1,5 @@
 -- A pair's frames, cut from the tables' values and marks, are the frames of its rows; where the call is not refused, they fit. Assumes nothing.
+use Rattle.std.specs.Prelude.{Result, Ok, Err}
 use mathlib.Core.Path.{◌≡◌, refl, ap, ◌∙◌}
 use mathlib.Core.Bool.{Bool, true, false, cond, not, ◌&&◌, ◌||◌}
 use mathlib.Core.List.{List, [], ◌∷◌}
@@ -38,10 +39,6 @@ use Rattle.cutting.specs.cutpairs.Driver.{words_for, too_short, any_short, table
 use Rattle.schedules.specs.cuts.Loads.{Stretch, rows_within, whole_of, first_of, others_of, frames_of, Lent, load_of, loads, LentWell, DriverFits, DriverWrites}
 use Rattle.frames.specs.declared.refusals.Refusal.{Refusal}
 use Rattle.frames.specs.declared.refusals.Refusal.TheVariants.{BadOptions, TooManyCarried, BadRanks, BadFrame, UnknownCode, NoRoom, Unsorted, BadBoundaries}
-use Rattle.frames.specs.declared.outcomes.Took.{Took}
-use Rattle.frames.specs.declared.outcomes.Took.TheVariants.{Accepted, Refused as NotTaken}
-use Rattle.tables.specs.declared.Written.{Written}
-use Rattle.tables.specs.declared.Written.TheVariants.{Rows as Wrote, Refused}
 use Rattle.schedules.proofs.cuts.Uncut.{uncut_scheduled}
 use Rattle.cutting.proofs.boundaries.PlaceLaws.{cut_within}
 
@@ -186,17 +183,17 @@ whole_fine : (c : ℕ) (f : Words) → is_table c f ≡ true → Fine c (whole_o
 whole_fine c f t = record { values = omega (arith, table_values_lem c f t); marks = omega (arith, table_marks c f t); fits = (table_parts c f t).fine }
 
 -- The chain of refusals, passed, of both parts.
-accepts : (t : Bool) (r : Refusal) (k : Took) → cond t (NotTaken r) k ≡ Accepted → (t ≡ false) × (k ≡ Accepted)
+accepts : (t : Bool) (r : Refusal) (k : Result Unit Refusal) → cond t (Err r) k ≡ Ok tt → (t ≡ false) × (k ≡ Ok tt)
 accepts true r k e = (cc, cc)
 accepts false r k e = (refl, e)
 
-writes : (t : Bool) (r : Refusal) (k : Written) (n : ℕ) → cond t (Refused r) k ≡ Wrote n → (t ≡ false) × (k ≡ Wrote n)
+writes : (t : Bool) (r : Refusal) (k : Result ℕ Refusal) (n : ℕ) → cond t (Err r) k ≡ Ok n → (t ≡ false) × (k ≡ Ok n)
 writes true r k n e = (cc, cc)
 writes false r k n e = (refl, e)
 
-both_judged : (t : Took) (k : Written) (n : ℕ) → then_judged t k ≡ Wrote n → (t ≡ Accepted) × (k ≡ Wrote n)
-both_judged Accepted k n e = (refl, e)
-both_judged (NotTaken r) k n e = (cc, cc)
+both_judged : (t : Result Unit Refusal) (k : Result ℕ Refusal) (n : ℕ) → then_judged t k ≡ Ok n → (t ≡ Ok tt) × (k ≡ Ok n)
+both_judged (Ok tt) k n e = (refl, e)
+both_judged (Err r) k n e = (cc, cc)
 
 -- What is known where the call is not refused.
 record Passed (o : Options) (left right : Words) (l r : ℕ) (gs : Rows) : Type 0 where
@@ -207,7 +204,7 @@ record Passed (o : Options) (left right : Words) (l r : ℕ) (gs : Rows) : Type 
   right_sound : Sound o (tables_in o left right).right
   room : any_short o l r (cut_by o gs (tables_in o left right)) ≡ false
 
-passed : (o : Options) (left right boundaries : Words) (l r n rows : ℕ) → join_answer o left right boundaries l r n ≡ Wrote rows → Passed o left right l r (groups_in o boundaries)
+passed : (o : Options) (left right boundaries : Words) (l r n rows : ℕ) → join_answer o left right boundaries l r n ≡ Ok rows → Passed o left right l r (groups_in o boundaries)
 unfolding join_answer input_judged pairs_judged
 passed o left right boundaries l r n rows e =
     let c = columns o in

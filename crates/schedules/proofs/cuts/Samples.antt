@@ -1,4 +1,5 @@
 -- A programme cut in parts, by computation: an absent boundary group, empty halves, null groups, a list of ranks, and numbers counted on. Assumes nothing.
+use Rattle.std.specs.Prelude.{Some, None}
 use mathlib.Core.Path.{◌≡◌, refl}
 use mathlib.Core.Bool.{true, false}
 use mathlib.Core.List.{List, [], ◌∷◌, map}
@@ -11,7 +12,6 @@ use Rattle.order.proofs.Samples.{options, ranks_by, ranking, row}
 use Rattle.order.specs.ranks.Ranks.{below, placed}
 use Rattle.order.specs.declared.options.Options.{Options}
 use Rattle.matching.specs.Match.{choose, takes_over, fits, tolerate, match_table, whole_table}
-use Rattle.matching.specs.declared.Choice.TheVariants.{Row, Nothing}
 use Rattle.lists.specs.Lists.{Entry}
 use Rattle.cutting.specs.boundaries.Boundaries.{cut_at}
 use Rattle.schedules.specs.cuts.Apart.{later_entry}
@@ -83,17 +83,17 @@ pub cut_ranked : (sizes (cut_by (ranked up) (map row ((3 ∷ []) ∷ (5 ∷ []) 
 unfolding cut_by cut_at house house_down cmp_first placed below
 cut_ranked = (refl, refl)
 
-pub parts_ranked : (joined (ranked up) house ≡ Row 0 ∷ Row 2 ∷ Row 3 ∷ Row 4 ∷ [])
-    × (appended (ranked up) 0 (cut_by (ranked up) (map row ((3 ∷ []) ∷ (5 ∷ []) ∷ [])) house) ≡ Row 0 ∷ Row 2 ∷ Row 3 ∷ Row 4 ∷ [])
+pub parts_ranked : (joined (ranked up) house ≡ Some 0 ∷ Some 2 ∷ Some 3 ∷ Some 4 ∷ [])
+    × (appended (ranked up) 0 (cut_by (ranked up) (map row ((3 ∷ []) ∷ (5 ∷ []) ∷ [])) house) ≡ Some 0 ∷ Some 2 ∷ Some 3 ∷ Some 4 ∷ [])
 unfolding appended cut_by cut_at joined house whole_table match_table choose takes_over fits tolerate cmp_first null_in placed below
 parts_ranked = (refl, refl)
 
 -- The uncut join, and the answers of three pairs appended.
-pub whole : joined up season ≡ Nothing ∷ Row 1 ∷ Row 1 ∷ Nothing ∷ Row 3 ∷ Row 4 ∷ []
+pub whole : joined up season ≡ None ∷ Some 1 ∷ Some 1 ∷ None ∷ Some 3 ∷ Some 4 ∷ []
 unfolding joined season whole_table match_table choose takes_over fits tolerate cmp_first null_in
 whole = refl
 
-pub parts : appended up 0 (cut_by up (map row ((2 ∷ []) ∷ (3 ∷ []) ∷ [])) season) ≡ Nothing ∷ Row 1 ∷ Row 1 ∷ Nothing ∷ Row 3 ∷ Row 4 ∷ []
+pub parts : appended up 0 (cut_by up (map row ((2 ∷ []) ∷ (3 ∷ []) ∷ [])) season) ≡ None ∷ Some 1 ∷ Some 1 ∷ None ∷ Some 3 ∷ Some 4 ∷ []
 unfolding appended cut_by cut_at joined season whole_table match_table choose takes_over fits tolerate cmp_first null_in
 parts = refl
 

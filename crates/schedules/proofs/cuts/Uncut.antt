@@ -1,4 +1,5 @@
 -- Tables cut by any list of boundaries, each pair joined apart: the join of the uncut tables, as tables and as lists of calls. Assumes nothing.
+use Rattle.std.specs.Prelude.{Option}
 use mathlib.Core.Path.{◌≡◌, refl, sym, ap, ◌∙◌}
 use mathlib.Core.Bool.{false}
 use mathlib.Core.List.{List, [], ◌∷◌, ◌++◌, append-nil, map, map-append, map-map}
@@ -10,7 +11,6 @@ use Rattle.order.specs.options.Options.{columns, refused_options}
 use Rattle.order.specs.declared.options.Options.{Options}
 use Rattle.order.proofs.SortedLaws.{ordered, sorted_drop}
 use Rattle.matching.specs.Match.{whole_table}
-use Rattle.matching.specs.declared.Choice.{Choice}
 use Rattle.lists.specs.WholeTables.{due_over, Each, ends, pairs, turned_rows}
 use Rattle.lists.specs.Lists.{rows_in}
 use Rattle.lists.proofs.WholeTableTheorem.{whole_table_theorem}
@@ -25,11 +25,11 @@ use Rattle.schedules.proofs.cuts.DueLaws.{map_agree, all_to, later_twice, later_
 use Rattle.cutting.proofs.boundaries.PlaceLaws.{cut_within}
 use Rattle.schedules.proofs.cuts.CutLaws.{cut_before, cut_behind, match_before, match_behind}
 
-later_later : (n k : ℕ) (ms : List Choice) → map (later (n + k)) ms ≡ map (later n) (map (later k) ms)
+later_later : (n k : ℕ) (ms : List (Option ℕ)) → map (later (n + k)) ms ≡ map (later n) (map (later k) ms)
 later_later n k [] = refl
 later_later n k (m ∷ ms) = rw (later_twice n k m, later_later n k ms)
 
-later_none : (ms : List Choice) → map (later 0) ms ≡ ms
+later_none : (ms : List (Option ℕ)) → map (later 0) ms ≡ ms
 later_none [] = refl
 later_none (m ∷ ms) = rw (later_zero m, later_none ms)
 
@@ -63,7 +63,7 @@ cuts : (o : Options) (gs : Rows) (n : ℕ) (p : Pair) → BothSorted o p → app
 unfolding appended cut_by
 cuts o [] n p s = append-nil (map (later n) (joined o p))
 cuts o (g ∷ gs) n p s =
-    ap (λ (ms : List Choice). map (later n) (joined o (before o g p)) ++ ms)
+    ap (λ (ms : List (Option ℕ)). map (later n) (joined o (before o g p)) ++ ms)
     (ap (λ (k : ℕ). appended o (n + k) (cut_by o gs (behind o g p))) (before_count o g p s) ∙ cuts o gs (n + b o g p s) (behind o g p) (behind_sorted o g p s) ∙ later_later n (b o g p s) (joined o (behind o g p)))
     ∙ sym (map-append (later n) (joined o (before o g p)) (map (later (b o g p s)) (joined o (behind o g p))))
     ∙ ap (map (later n)) (sym (one_cut o g p s))

@@ -1,4 +1,6 @@
 -- Where the schedule ends: every left frame is written, over the right frames that it took; so it writes the whole-table matches. Assumes nothing.
+use Rattle.frames.specs.declared.outcomes.Turn.TheVariants.{Wrote, WantsRight}
+use Rattle.std.specs.Prelude.{Ok}
 use mathlib.Core.Path.{◌≡◌, refl, sym, ap, ◌∙◌}
 use mathlib.Core.Bool.{Bool, true, false}
 use mathlib.Core.List.{List, [], ◌∷◌, ◌++◌, append-nil, append_assoc, map}
@@ -13,8 +15,6 @@ use Rattle.order.specs.declared.options.Options.{Options}
 use Rattle.order.specs.Order.{sorted}
 use Rattle.frames.proofs.FrameLaws.{frame_rows_lem}
 use Rattle.searching.specs.Reach.{need_more}
-use Rattle.frames.specs.declared.outcomes.Answer.TheVariants.{Wrote, WantsRight}
-use Rattle.frames.specs.declared.outcomes.Took.TheVariants.{Accepted}
 use Rattle.node.specs.Calls.{right_answer, turn_answer}
 use Rattle.lists.specs.Lists.{Call, left, right, end, turn, Event, on_end, World, start, step, events, final, left_frames, right_frames, is_right_ended, rows_in, outputs, matches_in}
 use Rattle.lists.specs.WholeTables.{due_over}
@@ -61,7 +61,7 @@ module _ (o : Options) (l r : Words) (allowed : refused_options o ≡ false) whe
       → (plan_from fuel o (held_now o l r allowed es w) (map (G o l r allowed) fs) (map (F o l r allowed) ls)).rows ≤ cap o l r allowed → Ended es w fs (rounds fuel w fs outs)
 
   writes : (fuel : ℕ) → Hope fuel → (es : List Event) (w : World) (e : Bool) (fs : List Words) (f : Words) (ls : List Words) (out : Words) (outs : List Words) (a : At o l r allowed es w e fs (f ∷ ls) (out ∷ outs))
-      → e ≡ is_nil fs → suc (length ls) + length fs ≤ suc fuel → turn_answer w.join w.left w.right out ≡ Wrote w.join.sequence
+      → e ≡ is_nil fs → suc (length ls) + length fs ≤ suc fuel → turn_answer w.join w.left w.right out ≡ Ok (Wrote w.join.sequence)
       → (plan_from fuel o (kept_after o (frame_rows (columns o) f) (held_now o l r allowed es w)) (map (G o l r allowed) fs) (map (F o l r allowed) ls)).rows ≤ cap o l r allowed
       → Ended es w fs (rounds (suc fuel) w fs (out ∷ outs))
   writes fuel ih es w e fs f ls out outs a n b q k =
@@ -71,7 +71,7 @@ module _ (o : Options) (l r : Words) (allowed : refused_options o ≡ false) whe
 
   -- A turn that wants right, and the frame that it gets.
   module _ (fuel : ℕ) (es : List Event) (w : World) (g : Words) (gs : List Words) (f : Words) (ls : List Words) (out : Words) (outs : List Words) (a : At o l r allowed es w false (g ∷ gs) (f ∷ ls) (out ∷ outs))
-      (q : turn_answer w.join w.left w.right out ≡ WantsRight)
+      (q : turn_answer w.join w.left w.right out ≡ Ok WantsRight)
       (k : (plan_from fuel o (held_now o l r allowed es w ++ frame_rows (right_columns o) g) (map (G o l r allowed) gs) (frame_rows (columns o) f ∷ map (F o l r allowed) ls)).rows ≤ cap o l r allowed) where
     abbrev es₁ : List Event
     es₁ = es ++ ((step w (turn out)).event ∷ [])
@@ -94,7 +94,7 @@ module _ (o : Options) (l r : Words) (allowed : refused_options o ≡ false) whe
         let h₁ : u₁.join.held ≡ w.join.held = ap (λ (z : World). z.join.held) (wants_world o l r allowed es w false (g ∷ gs) f ls out outs a q) in
         omega (arith, k, plan_least fuel o (hs ++ frame_rows (right_columns o) g) (map (G o l r allowed) gs) (frame_rows (columns o) f ∷ map (F o l r allowed) ls), length-append hs (frame_rows (right_columns o) g), held_count o l r allowed es w false (g ∷ gs) (f ∷ ls) (out ∷ outs) a, frame_rows_lem (right_columns o) g a.frames.0, h₁)
 
-    taken : right_answer u₁.join u₁.left u₁.right g ≡ Accepted
+    taken : right_answer u₁.join u₁.left u₁.right g ≡ Ok tt
     taken = right_answers o l r allowed es₁ u₁ g gs (f ∷ ls) (out ∷ outs) a₁ ∙ rw (le-ltb (cap o l r allowed) (u₁.join.held + row_count g) fits) refl
 
     a₂ : At o l r allowed es₂ u₂ false gs (f ∷ ls) (out ∷ outs)
@@ -110,7 +110,7 @@ module _ (o : Options) (l r : Words) (allowed : refused_options o ≡ false) whe
         (ap (λ (z : List Words). z ++ gs) (took_rights o l r allowed es₁ u₁ g gs (f ∷ ls) (out ∷ outs) a₁ taken) ∙ append_assoc (right_frames es₁) (g ∷ []) gs) d)
 
   takes : (fuel : ℕ) → Hope fuel → (es : List Event) (w : World) (g : Words) (gs : List Words) (f : Words) (ls : List Words) (out : Words) (outs : List Words) (a : At o l r allowed es w false (g ∷ gs) (f ∷ ls) (out ∷ outs))
-      → suc (length ls) + suc (length gs) ≤ suc fuel → (q : turn_answer w.join w.left w.right out ≡ WantsRight)
+      → suc (length ls) + suc (length gs) ≤ suc fuel → (q : turn_answer w.join w.left w.right out ≡ Ok WantsRight)
       → (plan_from fuel o (held_now o l r allowed es w ++ frame_rows (right_columns o) g) (map (G o l r allowed) gs) (frame_rows (columns o) f ∷ map (F o l r allowed) ls)).rows ≤ cap o l r allowed
       → Ended es w (g ∷ gs) ((turn out ∷ right g ∷ end_if gs) ++ rounds fuel (final w (turn out ∷ right g ∷ end_if gs)) gs (out ∷ outs))
   unfolding final
@@ -137,11 +137,11 @@ module _ (o : Options) (l r : Words) (allowed : refused_options o ≡ false) whe
     where
       by : (t : Bool) → need_more o (frame_rows (columns o) f) (held_now o l r allowed es w) ≡ t → Ended es w (g ∷ gs) (rounds (suc fuel) w (g ∷ gs) (out ∷ outs))
       by true t =
-          let q : turn_answer w.join w.left w.right out ≡ WantsRight = turn_answers o l r allowed es w false (g ∷ gs) f ls out outs a ∙ rw t refl in
+          let q : turn_answer w.join w.left w.right out ≡ Ok WantsRight = turn_answers o l r allowed es w false (g ∷ gs) f ls out outs a ∙ rw t refl in
           let p = ap (λ (z : Figures). z.rows) (plan_takes fuel o (held_now o l r allowed es w) (frame_rows (right_columns o) g) (map (G o l r allowed) gs) (frame_rows (columns o) f) (map (F o l r allowed) ls) t) in
           rw (rounds_wants fuel w g gs out outs q) (takes fuel ih es w g gs f ls out outs a b q (omega (arith, p, k)))
       by false t =
-          let q : turn_answer w.join w.left w.right out ≡ Wrote w.join.sequence = turn_answers o l r allowed es w false (g ∷ gs) f ls out outs a ∙ rw t refl in
+          let q : turn_answer w.join w.left w.right out ≡ Ok (Wrote w.join.sequence) = turn_answers o l r allowed es w false (g ∷ gs) f ls out outs a ∙ rw t refl in
           let p = ap (λ (z : Figures). z.rows) (plan_turns fuel o (held_now o l r allowed es w) (frame_rows (right_columns o) g) (map (G o l r allowed) gs) (frame_rows (columns o) f) (map (F o l r allowed) ls) t) in
           writes fuel ih es w false (g ∷ gs) f ls out outs a refl b q (omega (arith, p, k))
 
@@ -149,7 +149,7 @@ module _ (o : Options) (l r : Words) (allowed : refused_options o ≡ false) whe
       → suc (length ls) + 0 ≤ suc fuel → (plan_from (suc fuel) o (held_now o l r allowed es w) [] (frame_rows (columns o) f ∷ map (F o l r allowed) ls)).rows ≤ cap o l r allowed
       → Ended es w [] (rounds (suc fuel) w [] (out ∷ outs))
   none_more fuel ih es w f ls out outs a b k =
-      let q : turn_answer w.join w.left w.right out ≡ Wrote w.join.sequence = turn_answers o l r allowed es w true [] f ls out outs a in
+      let q : turn_answer w.join w.left w.right out ≡ Ok (Wrote w.join.sequence) = turn_answers o l r allowed es w true [] f ls out outs a in
       let p = ap (λ (z : Figures). z.rows) (plan_last fuel o (held_now o l r allowed es w) (frame_rows (columns o) f) (map (F o l r allowed) ls)) in
       writes fuel ih es w true [] f ls out outs a refl b q (omega (arith, p, k))
 
@@ -185,7 +185,7 @@ module _ (o : Options) (l r : Words) (allowed : refused_options o ≡ false) whe
       let e = es₀ o l r allowed lefts [] outs h in
       let w = w₀ o l r allowed lefts [] outs h in
       let ev = end_event o l r allowed e w lefts outs a in
-      let er : right_frames (e ++ ((step w end).event ∷ [])) ≡ [] = rw ev (snoc_right e (on_end Accepted) ∙ rw (q₀ o l r allowed lefts [] outs h).rights refl) in
+      let er : right_frames (e ++ ((step w end).event ∷ [])) ≡ [] = rw ev (snoc_right e (on_end (Ok tt)) ∙ rw (q₀ o l r allowed lefts [] outs h).rights refl) in
       let n = none_yet o l r allowed lefts [] outs h (e ++ ((step w end).event ∷ [])) (step w end).world er in
       ended_before e w [] end (rounds (length lefts + 0) (step w end).world [] outs) [] (end_left o l r allowed e w lefts outs a) (ap (λ (z : List Words). z ++ []) (end_rights o l r allowed e w lefts outs a))
       (all_end (length lefts + 0) (e ++ ((step w end).event ∷ [])) (step w end).world true [] lefts outs (end_at o l r allowed e w lefts outs a) refl (omega arith) (rw n k))

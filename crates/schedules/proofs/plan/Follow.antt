@@ -1,4 +1,6 @@
 -- The schedule's rounds and the plan, step by step. Assumes nothing.
+use Rattle.frames.specs.declared.outcomes.Turn.TheVariants.{Wrote, WantsRight}
+use Rattle.std.specs.Prelude.{Ok, Err}
 use mathlib.Core.Path.{◌≡◌, refl, sym, ap, ◌∙◌}
 use mathlib.Core.Bool.{Bool, true, false, cond, not, ◌&&◌, or-false}
 use mathlib.Core.List.{List, [], ◌∷◌, ◌++◌, append-nil, append_assoc}
@@ -22,8 +24,6 @@ use Rattle.buffer.specs.area.Area.{capacity}
 use Rattle.searching.specs.Reach.{need_more}
 use Rattle.node.specs.declared.Join.{Join}
 use Rattle.frames.specs.declared.refusals.Refusal.TheVariants.{NoRoom}
-use Rattle.frames.specs.declared.outcomes.Answer.TheVariants.{Wrote, WantsRight}
-use Rattle.frames.specs.declared.outcomes.Took.TheVariants.{Accepted, Refused}
 use Rattle.node.specs.State.{ended_right}
 use Rattle.frames.specs.outcomes.Answers.{is_done, last_sequence, most_rows}
 use Rattle.node.specs.Calls.{right_answer, right_call, pushed_right, end_answer, end_call, turn_answer, turn_call, turned, dropped, dequeued}
@@ -42,7 +42,7 @@ use Rattle.schedules.proofs.plan.EventLaws.{snoc_left, snoc_right, snoc_out, sno
 -- ---- a turn over a waiting frame, where nothing is refused
 judged_is : (o : Options) (j : Join) (rows held : Rows) (out : Words) → j.failed ≡ false → is_done j.state ≡ false
     → ltb (length out) (frame_words (length rows) (answer_columns o)) ≡ false → eqb j.sequence last_sequence ≡ false → bad_left o j.last_left rows ≡ false → bad_right o j.last_right rows held ≡ false
-    → judged o j rows held out ≡ cond (not j.right_ended && need_more o rows held) WantsRight (Wrote j.sequence)
+    → judged o j rows held out ≡ cond (not j.right_ended && need_more o rows held) (Ok WantsRight) (Ok (Wrote j.sequence))
 unfolding judged
 judged_is o j rows held out e₁ e₂ e₄ e₅ e₆ e₇ = rw (e₁, e₂, e₄, e₅, e₆, e₇)
 
@@ -114,7 +114,7 @@ module _ (o : Options) (l r : Words) (allowed : refused_options o ≡ false) whe
 
   -- ---- a turn
   module _ (es : List Event) (w : World) (e : Bool) (fs : List Words) (f : Words) (ls : List Words) (out : Words) (outs : List Words) (a : At es w e fs (f ∷ ls) (out ∷ outs)) where
-    pub turn_answers : turn_answer w.join w.left w.right out ≡ cond (not e && need_more o (frame_rows (columns o) f) (held_now es w)) WantsRight (Wrote w.join.sequence)
+    pub turn_answers : turn_answer w.join w.left w.right out ≡ cond (not e && need_more o (frame_rows (columns o) f) (held_now es w)) (Ok WantsRight) (Ok (Wrote w.join.sequence))
     unfolding rows held
     turn_answers =
         let i = a.inv in
@@ -133,27 +133,27 @@ module _ (o : Options) (l r : Words) (allowed : refused_options o ≡ false) whe
         ∙ rw en refl
 
     -- It wants right: nothing changes.
-    module _ (q : turn_answer w.join w.left w.right out ≡ WantsRight) where
-      pub wants_step : step w (turn out) ≡ record { event = on_turn WantsRight out; world = record { join = w.join; left = w.left; right = w.right } }
+    module _ (q : turn_answer w.join w.left w.right out ≡ Ok WantsRight) where
+      pub wants_step : step w (turn out) ≡ record { event = on_turn (Ok WantsRight) out; world = record { join = w.join; left = w.left; right = w.right } }
       unfolding step turn_call
       wants_step = rw (q, turn_call)
 
-      pub wants_event : (step w (turn out)).event ≡ on_turn WantsRight out
+      pub wants_event : (step w (turn out)).event ≡ on_turn (Ok WantsRight) out
       wants_event = ap (λ s. s.event) wants_step
 
       pub wants_world : (step w (turn out)).world ≡ record { join = w.join; left = w.left; right = w.right }
       wants_world = ap (λ s. s.world) wants_step
 
       pub wants_rights : right_frames (es ++ ((step w (turn out)).event ∷ [])) ≡ right_frames es
-      wants_rights = rw wants_event (snoc_right es (on_turn WantsRight out) ∙ append-nil (right_frames es))
+      wants_rights = rw wants_event (snoc_right es (on_turn (Ok WantsRight) out) ∙ append-nil (right_frames es))
 
       pub wants_left : left_frames (es ++ ((step w (turn out)).event ∷ [])) ≡ left_frames es
-      wants_left = rw wants_event (snoc_left es (on_turn WantsRight out) ∙ append-nil (left_frames es))
+      wants_left = rw wants_event (snoc_left es (on_turn (Ok WantsRight) out) ∙ append-nil (left_frames es))
 
       pub wants_at : At (es ++ ((step w (turn out)).event ∷ [])) (step w (turn out)).world e fs (f ∷ ls) (out ∷ outs)
       unfolding done_by
       wants_at =
-          let ev = on_turn WantsRight out in
+          let ev = on_turn (Ok WantsRight) out in
           let eo : outputs (es ++ ((step w (turn out)).event ∷ [])) ≡ outputs es = rw wants_event (snoc_out es ev ∙ append-nil (outputs es)) in
           moved_on es w e fs (f ∷ ls) (out ∷ outs) a (turn out) e fs (f ∷ ls) (out ∷ outs) wants_left (ap (λ (z : List Words). z ++ fs) wants_rights) (rw (eo, wants_left) a.waits) a.room
           (rw wants_event (snoc_ended es ev ∙ or-false (is_right_ended es) ∙ a.ended)) (rw wants_event (snoc_done es ev ∙ or-false (node_done es) ∙ a.undone)) a.frames a.codes
@@ -162,31 +162,31 @@ module _ (o : Options) (l r : Words) (allowed : refused_options o ≡ false) whe
       wants_held = rw (wants_world, wants_rights) refl
 
     -- It writes: the frame leaves, and what is pruned is dropped.
-    module _ (q : turn_answer w.join w.left w.right out ≡ Wrote w.join.sequence) where
+    module _ (q : turn_answer w.join w.left w.right out ≡ Ok (Wrote w.join.sequence)) where
       abbrev x : Rows
       x = frame_rows (columns o) f
 
-      wrote_step : step w (turn out) ≡ record { event = on_turn (Wrote w.join.sequence) (turned w.join w.left w.right out).out; world = record { join = (turned w.join w.left w.right out).join; left = (turned w.join w.left w.right out).left; right = (turned w.join w.left w.right out).right } }
+      wrote_step : step w (turn out) ≡ record { event = on_turn (Ok (Wrote w.join.sequence)) (turned w.join w.left w.right out).out; world = record { join = (turned w.join w.left w.right out).join; left = (turned w.join w.left w.right out).left; right = (turned w.join w.left w.right out).right } }
       unfolding step turn_call turned
       wrote_step = rw (q, turn_call)
 
-      pub wrote_event : (step w (turn out)).event ≡ on_turn (Wrote w.join.sequence) (turned w.join w.left w.right out).out
+      pub wrote_event : (step w (turn out)).event ≡ on_turn (Ok (Wrote w.join.sequence)) (turned w.join w.left w.right out).out
       wrote_event = ap (λ s. s.event) wrote_step
 
       pub wrote_rights : right_frames (es ++ ((step w (turn out)).event ∷ [])) ≡ right_frames es
-      wrote_rights = rw wrote_event (snoc_right es (on_turn (Wrote w.join.sequence) (turned w.join w.left w.right out).out) ∙ append-nil (right_frames es))
+      wrote_rights = rw wrote_event (snoc_right es (on_turn (Ok (Wrote w.join.sequence)) (turned w.join w.left w.right out).out) ∙ append-nil (right_frames es))
 
       wrote_pruned : (step w (turn out)).world.join.pruned ≡ w.join.pruned + (first_prune o x (held_now es w) + last_prune o x (held_now es w))
       unfolding rows held left_by dequeued dropped
       wrote_pruned = ap (λ s. s.world.join.pruned) wrote_step ∙ ap (λ s. s.join.pruned) (turned_is o l r allowed es w a.inv f ls a.waits out)
 
       pub wrote_left : left_frames (es ++ ((step w (turn out)).event ∷ [])) ≡ left_frames es
-      wrote_left = rw wrote_event (snoc_left es (on_turn (Wrote w.join.sequence) (turned w.join w.left w.right out).out) ∙ append-nil (left_frames es))
+      wrote_left = rw wrote_event (snoc_left es (on_turn (Ok (Wrote w.join.sequence)) (turned w.join w.left w.right out).out) ∙ append-nil (left_frames es))
 
       pub wrote_at : At (es ++ ((step w (turn out)).event ∷ [])) (step w (turn out)).world e fs ls outs
       unfolding done_by
       wrote_at =
-          let ev = on_turn (Wrote w.join.sequence) (turned w.join w.left w.right out).out in
+          let ev = on_turn (Ok (Wrote w.join.sequence)) (turned w.join w.left w.right out).out in
           let eo : length (outputs (es ++ ((step w (turn out)).event ∷ []))) ≡ suc (length (outputs es)) = rw wrote_event (ap length (snoc_out es ev) ∙ length-append (outputs es) ((turned w.join w.left w.right out).out ∷ []) ∙ omega arith) in
           moved_on es w e fs (f ∷ ls) (out ∷ outs) a (turn out) e fs ls outs wrote_left (ap (λ (z : List Words). z ++ fs) wrote_rights) (rw (eo, wrote_left) (drop_next (length (outputs es)) (left_frames es) f ls a.waits)) (tail_room o a.room)
           (rw wrote_event (snoc_ended es ev ∙ or-false (is_right_ended es) ∙ a.ended)) (rw wrote_event (snoc_done es ev ∙ or-false (node_done es) ∙ a.undone)) a.frames a.codes
@@ -215,7 +215,7 @@ module _ (o : Options) (l r : Words) (allowed : refused_options o ≡ false) whe
     codes_parts = lacks_parts o (frame_rows (right_columns o) f) (rows_in (right_columns o) fs) a.codes
 
     -- It is judged by its room alone.
-    pub right_answers : right_answer w.join w.left w.right f ≡ cond (ltb (capacity (right_columns o) r) (w.join.held + row_count f)) (Refused NoRoom) Accepted
+    pub right_answers : right_answer w.join w.left w.right f ≡ cond (ltb (capacity (right_columns o) r) (w.join.held + row_count f)) (Err NoRoom) (Ok tt)
     unfolding right_judged
     right_answers =
         let i = a.inv in
@@ -224,30 +224,30 @@ module _ (o : Options) (l r : Words) (allowed : refused_options o ≡ false) whe
         refl
 
     -- Refused.
-    module _ (q : right_answer w.join w.left w.right f ≡ Refused NoRoom) where
-      pub refused_event : (step w (right f)).event ≡ on_right f (Refused NoRoom)
+    module _ (q : right_answer w.join w.left w.right f ≡ Err NoRoom) where
+      pub refused_event : (step w (right f)).event ≡ on_right f (Err NoRoom)
       unfolding step right_call
       refused_event = rw (q, right_call)
 
     -- Accepted.
-    module _ (q : right_answer w.join w.left w.right f ≡ Accepted) where
-      pub took_step : step w (right f) ≡ record { event = on_right f Accepted; world = record { join = (pushed_right w.join w.left w.right f).join; left = (pushed_right w.join w.left w.right f).left; right = (pushed_right w.join w.left w.right f).right } }
+    module _ (q : right_answer w.join w.left w.right f ≡ Ok tt) where
+      pub took_step : step w (right f) ≡ record { event = on_right f (Ok tt); world = record { join = (pushed_right w.join w.left w.right f).join; left = (pushed_right w.join w.left w.right f).left; right = (pushed_right w.join w.left w.right f).right } }
       unfolding step right_call pushed_right
       took_step = rw (q, right_call)
 
-      pub took_event : (step w (right f)).event ≡ on_right f Accepted
+      pub took_event : (step w (right f)).event ≡ on_right f (Ok tt)
       took_event = ap (λ s. s.event) took_step
 
       pub took_rights : right_frames (es ++ ((step w (right f)).event ∷ [])) ≡ right_frames es ++ (f ∷ [])
-      took_rights = rw took_event (snoc_right es (on_right f Accepted))
+      took_rights = rw took_event (snoc_right es (on_right f (Ok tt)))
 
       pub took_left : left_frames (es ++ ((step w (right f)).event ∷ [])) ≡ left_frames es
-      took_left = rw took_event (snoc_left es (on_right f Accepted) ∙ append-nil (left_frames es))
+      took_left = rw took_event (snoc_left es (on_right f (Ok tt)) ∙ append-nil (left_frames es))
 
       pub took_at : At (es ++ ((step w (right f)).event ∷ [])) (step w (right f)).world false fs ls outs
       unfolding done_by
       took_at =
-          let ev = on_right f Accepted in
+          let ev = on_right f (Ok tt) in
           let eo : outputs (es ++ ((step w (right f)).event ∷ [])) ≡ outputs es = rw took_event (snoc_out es ev ∙ append-nil (outputs es)) in
           moved_on es w false (f ∷ fs) ls outs a (right f) false fs ls outs took_left (rw took_rights (append_assoc (right_frames es) (f ∷ []) fs)) (rw (eo, took_left) a.waits) a.room
           (rw took_event (snoc_ended es ev ∙ or-false (is_right_ended es) ∙ a.ended)) (rw took_event (snoc_done es ev ∙ or-false (node_done es) ∙ a.undone)) a.frames.1 codes_parts.1
@@ -261,30 +261,30 @@ module _ (o : Options) (l r : Words) (allowed : refused_options o ≡ false) whe
 
   -- ---- the end of right
   module _ (es : List Event) (w : World) (ls outs : List Words) (a : At es w false [] ls outs) where
-    end_answers : end_answer w.join w.left w.right ≡ Accepted
+    end_answers : end_answer w.join w.left w.right ≡ Ok tt
     unfolding end_judged
     end_answers =
         let i = a.inv in
         let en : w.join.right_ended ≡ false = i.flags.ended ∙ a.ended in
         rw (good o l r allowed es w i, unfailed es w false [] ls outs a, en, not_done es w false [] ls outs a) refl
 
-    pub end_step : step w end ≡ record { event = on_end Accepted; world = record { join = ended_right w.join; left = w.left; right = w.right } }
+    pub end_step : step w end ≡ record { event = on_end (Ok tt); world = record { join = ended_right w.join; left = w.left; right = w.right } }
     unfolding step end_call
     end_step = rw (end_answers, end_call)
 
-    pub end_event : (step w end).event ≡ on_end Accepted
+    pub end_event : (step w end).event ≡ on_end (Ok tt)
     end_event = ap (λ s. s.event) end_step
 
     pub end_rights : right_frames (es ++ ((step w end).event ∷ [])) ≡ right_frames es
-    end_rights = rw end_event (snoc_right es (on_end Accepted) ∙ append-nil (right_frames es))
+    end_rights = rw end_event (snoc_right es (on_end (Ok tt)) ∙ append-nil (right_frames es))
 
     pub end_left : left_frames (es ++ ((step w end).event ∷ [])) ≡ left_frames es
-    end_left = rw end_event (snoc_left es (on_end Accepted) ∙ append-nil (left_frames es))
+    end_left = rw end_event (snoc_left es (on_end (Ok tt)) ∙ append-nil (left_frames es))
 
     pub end_at : At (es ++ ((step w end).event ∷ [])) (step w end).world true [] ls outs
     unfolding done_by
     end_at =
-        let ev = on_end Accepted in
+        let ev = on_end (Ok tt) in
         let eo : outputs (es ++ ((step w end).event ∷ [])) ≡ outputs es = rw end_event (snoc_out es ev ∙ append-nil (outputs es)) in
         moved_on es w false [] ls outs a end true [] ls outs end_left (ap (λ (z : List Words). z ++ []) end_rights) (rw (eo, end_left) a.waits) a.room
         (rw end_event (snoc_ended es ev ∙ rw a.ended refl)) (rw end_event (snoc_done es ev ∙ or-false (node_done es) ∙ a.undone)) tt a.codes

@@ -1,4 +1,5 @@
 -- From a fresh join: all left frames waiting, right ended where there is no right frame, and then the rounds. Assumes nothing.
+use Rattle.std.specs.Prelude.{Ok}
 use mathlib.Core.Path.{◌≡◌, refl, sym, ap, ◌∙◌}
 use mathlib.Core.Bool.{true, false}
 use mathlib.Core.List.{List, [], ◌∷◌, ◌++◌, append-nil, append_assoc, map}
@@ -16,7 +17,6 @@ use Rattle.order.specs.declared.options.Options.{Options}
 use Rattle.order.proofs.SortedLaws.{sorted_cut}
 use Rattle.order.proofs.ListedLaws.{lacks_parts}
 use Rattle.buffer.specs.area.Area.{capacity}
-use Rattle.frames.specs.declared.outcomes.Took.TheVariants.{Accepted}
 use Rattle.frames.specs.outcomes.Answers.{is_running}
 use Rattle.node.specs.Calls.{left_answer, left_call, queued}
 use Rattle.lists.specs.Lists.{Call, left, end, Event, on_left, on_end, World, start, step, events, final, right_in, left_frames, right_frames, rows_in, output_in, outputs, back_to_back, is_right_ended, left_ended, node_done, done_after, done_by, turn_in}
@@ -31,7 +31,7 @@ use Rattle.planning.specs.Plan.{plan_from, plan}
 use Rattle.schedules.specs.plan.Plan.{AllFrames, Planned, figures, Holds, Plans}
 use Rattle.schedules.proofs.plan.EventLaws.{snoc_left, snoc_right, snoc_out, snoc_ended, snoc_done}
 use Rattle.schedules.proofs.plan.Follow.{At, held_now, end_event, end_at}
-use Rattle.schedules.proofs.plan.Rounds.{each_length, same_figures, adding, before, meets_later, Result, all_rounds}
+use Rattle.schedules.proofs.plan.Rounds.{each_length, same_figures, adding, before, meets_later, ResultOf, all_rounds}
 
 all_frames : (c : ℕ) (fs : List Words) → AllFrames c fs → Frames c fs
 all_frames c [] h = tt
@@ -55,7 +55,7 @@ module _ (o : Options) (l r : Words) (allowed : refused_options o ≡ false) whe
 
   -- A call that is no turn and no right frame, where no row is held.
   quiet_on : (w : World) (cl : Call) (cs : List Call) (e : Event) (p : Figures) (n : ℕ) → (step w cl).event ≡ e → no_room_right e ≡ false → turn_in e ≡ [] → right_in e ≡ [] → output_in e ≡ [] → w.join.held ≡ 0
-      → Result o l r allowed (step w cl).world cs p n → Result o l r allowed w (cl ∷ cs) p n
+      → ResultOf o l r allowed (step w cl).world cs p n → ResultOf o l r allowed w (cl ∷ cs) p n
   quiet_on w cl cs e p n q u t g i h ih = record {
     fit = λ b. same_figures w (cl ∷ cs) (adding w e p) p (length (output_in e) + n) n (before w cl cs e p n q u (ih.fit b)) (omega arith) (rw t (omega arith)) (rw g (omega arith)) (rw i (omega arith));
     short = λ b. meets_later w cl cs (ih.short b);
@@ -82,19 +82,19 @@ module _ (o : Options) (l r : Words) (allowed : refused_options o ≡ false) whe
           ∙ ap length a.inv.stock.waits
           ∙ rw (a.outs, a.lefts) refl
 
-      left_answers : left_answer w.join w.left w.right f ≡ Accepted
+      left_answers : left_answer w.join w.left w.right f ≡ Ok tt
       unfolding left_judged
       left_answers =
           rw (good o l r allowed es w a.inv, unfailed, running, a.inv.stock.options, frame, codes, le-ltb (length w.left) (w.join.queue_words + length f) (omega (arith, a.inv.stock.left_length, waiting_words))) refl
 
-      left_event : (step w (left f)).event ≡ on_left f Accepted
+      left_event : (step w (left f)).event ≡ on_left f (Ok tt)
       unfolding step left_call queued
       left_event = rw (left_answers, left_call) refl
 
       queued_next : Queued (es ++ ((step w (left f)).event ∷ [])) (step w (left f)).world (done ++ (f ∷ []))
       unfolding done_by left_ended
       queued_next =
-          let ev = on_left f Accepted in
+          let ev = on_left f (Ok tt) in
           record {
             inv = inv_step o l r allowed es w a.inv (left f);
             sound = sound_step o l r allowed es w a.inv a.sound (left f);
@@ -116,7 +116,7 @@ module _ (o : Options) (l r : Words) (allowed : refused_options o ≡ false) whe
   -- All left frames, one after the other: they wait, and what comes behind them has the same figures.
   pub record AllQueued (es : List Event) (w : World) (done todo : List Words) : Type 0 where
     pub wait : Queued (es ++ events w (map left todo)) (final w (map left todo)) (done ++ todo)
-    pub same : (cs : List Call) (p : Figures) (n : ℕ) → Result o l r allowed (final w (map left todo)) cs p n → Result o l r allowed w (map left todo ++ cs) p n
+    pub same : (cs : List Call) (p : Figures) (n : ℕ) → ResultOf o l r allowed (final w (map left todo)) cs p n → ResultOf o l r allowed w (map left todo ++ cs) p n
 
   queue_all : (todo : List Words) (es : List Event) (w : World) (done : List Words) → Queued es w done → Frames (columns o) todo → lacks_code o (rows_in (columns o) todo) ≡ false → sorted o (rows_in (columns o) (done ++ todo)) ≡ true
       → length (back_to_back (done ++ todo)) ≤ length l → AllQueued es w done todo
@@ -130,7 +130,7 @@ module _ (o : Options) (l r : Words) (allowed : refused_options o ≡ false) whe
       let q = queue_all todo (es ++ ((step w (left f)).event ∷ [])) (step w (left f)).world (done ++ (f ∷ [])) (queued_next es w done a f fr.0 k.0 sn rn) fr.1 k.1 (rw e s) (rw e room) in
       record {
         wait = rw (← e) (rw (append_assoc es ((step w (left f)).event ∷ []) (events (step w (left f)).world (map left todo))) at q.wait);
-        same = λ cs p n h. quiet_on w (left f) (map left todo ++ cs) (on_left f Accepted) p n (left_event es w done a f fr.0 k.0 sn rn) refl refl refl refl (none_held es w done a) (q.same cs p n h);
+        same = λ cs p n h. quiet_on w (left f) (map left todo ++ cs) (on_left f (Ok tt)) p n (left_event es w done a f fr.0 k.0 sn rn) refl refl refl refl (none_held es w done a) (q.same cs p n h);
       }
 
   queued_start : Queued [] (start o l r) []
@@ -173,7 +173,7 @@ module _ (o : Options) (l r : Words) (allowed : refused_options o ≡ false) whe
 
   -- Where there are right frames, and where there is none.
   first_rounds : (lefts : List Words) (rights outs : List Words) (h : Planned o l lefts rights outs)
-      → Result o l r allowed (final (start o l r) (map left lefts)) (end_if rights ++ rounds (length lefts + length rights) (final (final (start o l r) (map left lefts)) (end_if rights)) rights outs)
+      → ResultOf o l r allowed (final (start o l r) (map left lefts)) (end_if rights ++ rounds (length lefts + length rights) (final (final (start o l r) (map left lefts)) (end_if rights)) rights outs)
       (plan_from (length lefts + length rights) o [] (map (frame_rows (right_columns o)) rights) (map (frame_rows (columns o)) lefts)) (length outs)
   unfolding final
   first_rounds lefts [] outs h =
@@ -182,10 +182,10 @@ module _ (o : Options) (l r : Words) (allowed : refused_options o ≡ false) whe
       let w = w₀ lefts [] outs h in
       let q = q₀ lefts [] outs h in
       let ev = end_event o l r allowed e w lefts outs a in
-      let er : right_frames (e ++ ((step w end).event ∷ [])) ≡ [] = rw ev (snoc_right e (on_end Accepted) ∙ rw q.rights refl) in
+      let er : right_frames (e ++ ((step w end).event ∷ [])) ≡ [] = rw ev (snoc_right e (on_end (Ok tt)) ∙ rw q.rights refl) in
       let i = all_rounds o l r allowed (length lefts + 0) (e ++ ((step w end).event ∷ [])) (step w end).world true [] lefts outs (end_at o l r allowed e w lefts outs a) refl (omega arith) in
       let k = rw (none_yet lefts [] outs h (e ++ ((step w end).event ∷ [])) (step w end).world er) at i in
-      quiet_on w end (rounds (length lefts + 0) (step w end).world [] outs) (on_end Accepted) (plan_from (length lefts + 0) o [] [] (map (frame_rows (columns o)) lefts)) (length outs) ev refl refl refl refl (none_held e w lefts q) k
+      quiet_on w end (rounds (length lefts + 0) (step w end).world [] outs) (on_end (Ok tt)) (plan_from (length lefts + 0) o [] [] (map (frame_rows (columns o)) lefts)) (length outs) ev refl refl refl refl (none_held e w lefts q) k
   first_rounds lefts (f ∷ fs) outs h =
       let a = at_first lefts (f ∷ fs) outs h in
       let e = es₀ lefts (f ∷ fs) outs h in
@@ -193,7 +193,7 @@ module _ (o : Options) (l r : Words) (allowed : refused_options o ≡ false) whe
       let i = all_rounds o l r allowed (length lefts + suc (length fs)) e w false (f ∷ fs) lefts outs a refl (omega arith) in
       rw (none_yet lefts (f ∷ fs) outs h e w (q₀ lefts (f ∷ fs) outs h).rights) at i
 
-  whole : (lefts rights outs : List Words) (h : Planned o l lefts rights outs) → Result o l r allowed (start o l r) (schedule o l r lefts rights outs) (figures o lefts rights) (length outs)
+  whole : (lefts rights outs : List Words) (h : Planned o l lefts rights outs) → ResultOf o l r allowed (start o l r) (schedule o l r lefts rights outs) (figures o lefts rights) (length outs)
   unfolding schedule plan
   whole lefts rights outs h =
       rw (append_assoc (map left lefts) (end_if rights) (rounds (length lefts + length rights) (final (start o l r) (map left lefts ++ end_if rights)) rights outs), final_append (start o l r) (map left lefts) (end_if rights), length-map lefts (frame_rows (columns o)), length-map rights (frame_rows (right_columns o)))

@@ -1,4 +1,5 @@
 -- The plan of two tables is the plan of the frames that their heights cut. Assumes nothing.
+use Rattle.std.specs.Prelude.{Result, Ok, Err}
 use mathlib.Core.Path.{◌≡◌, refl, ap, ◌∙◌}
 use mathlib.Core.Bool.{Bool, true, false, cond, not, ◌&&◌, ◌||◌}
 use mathlib.Core.List.{List, [], ◌∷◌, map}
@@ -20,8 +21,6 @@ use Rattle.frames.specs.declared.refusals.Refusal.{Refusal}
 use Rattle.frames.specs.declared.refusals.Refusal.TheVariants.{BadOptions, TooManyCarried, BadRanks, BadFrame, UnknownCode, Unsorted, BadHeights}
 use Rattle.lists.specs.Lists.{rows_in}
 use Rattle.planning.specs.declared.Figures.{Figures}
-use Rattle.planning.specs.declared.Planned.{Planned as Answer}
-use Rattle.planning.specs.declared.Planned.TheVariants.{Needs, Refused}
 use Rattle.planning.specs.Heights.{total, heights_of, bad_heights, in_frames}
 use Rattle.planning.specs.Call.{plan_call}
 use Rattle.planning.proofs.HeightLaws.{few_heights, heights_fine, heights_count, table_values_lem, table_marks}
@@ -33,14 +32,14 @@ use Rattle.schedules.proofs.plan.Planned.{plans}
 use Rattle.schedules.proofs.plan.Ends.{writes_all}
 
 -- ---- the chain of refusals, passed
-passes : (t : Bool) (n : Refusal) (k : Answer) (p : Figures) → cond t (Refused n) k ≡ Needs p → (t ≡ false) × (k ≡ Needs p)
+passes : (t : Bool) (n : Refusal) (k : Result Figures Refusal) (p : Figures) → cond t (Err n) k ≡ Ok p → (t ≡ false) × (k ≡ Ok p)
 passes true n k p e = let z : ◌≡◌ {A = ℕ} 0 1 = cc in absurd (omega arith)
 passes false n k p e = (refl, e)
 
 -- The figures of an answer that has some.
-abbrev figures_in : Figures → Answer → Figures
-figures_in d (Needs p) = p
-figures_in d (Refused n) = d
+abbrev figures_in : Figures → Result Figures Refusal → Figures
+figures_in d (Ok p) = p
+figures_in d (Err n) = d
 
 -- ---- one side
 record Side (c : ℕ) (f hs : Words) : Type 0 where

@@ -1,5 +1,5 @@
 -- The frames in which a driver hands each pair over: parts of the tables' values and marks. The statement; its proof stands in proofs/. Assumes nothing.
-use Rattle.std.specs.Prelude.{◌≡◌, List, [], ◌∷◌, map, ℕ, ◌-◌, ◌*◌, ◌^◌, ◌≤◌, ◌<◌, length, drop}
+use Rattle.std.specs.Prelude.{◌≡◌, List, [], ◌∷◌, map, ℕ, ◌-◌, ◌*◌, ◌^◌, ◌≤◌, ◌<◌, length, drop, Ok}
 use Rattle.frames.specs.Cells.{Rows, Words, rows_of}
 use Rattle.frames.specs.Frame.{row_count, frame_words, values_in, marks_in}
 use Rattle.order.specs.options.Options.{columns, right_columns, answer_columns}
@@ -13,7 +13,6 @@ use Rattle.cutting.specs.cutpairs.Cut.{cut_by}
 use Rattle.schedules.specs.cuts.Scheduled.{Load, Fits, all_scheduled}
 use Rattle.cutting.specs.cutcall.Calls.{groups_in}
 use Rattle.cutting.specs.cutpairs.Driver.{tables_in, join_answer}
-use Rattle.tables.specs.declared.Written.TheVariants.{Rows as Wrote}
 
 -- A stretch of a table: n rows, from the front of these values and marks.
 pub record Stretch : Type 0 where
@@ -69,14 +68,14 @@ LentWell o l r (g ∷ gs) x (e ∷ es) =
 -- Where the call is not refused, every pair's frames fit: so `UncutScheduled` tells what is written.
 abbrev pub DriverFits : Type 0
 DriverFits =
-    (o : Options) (left right boundaries : Words) (l r n rows : ℕ) → join_answer o left right boundaries l r n ≡ Wrote rows → row_count left < 2 ^ 63 → row_count right ≤ most_rows → (es : List Lent)
+    (o : Options) (left right boundaries : Words) (l r n rows : ℕ) → join_answer o left right boundaries l r n ≡ Ok rows → row_count left < 2 ^ 63 → row_count right ≤ most_rows → (es : List Lent)
     → LentWell o l r (groups_in o boundaries) (whole_of (columns o) left) es
     → Each (Fits o) (cut_by o (groups_in o boundaries) (tables_in o left right)) (loads o (groups_in o boundaries) (whole_of (columns o) left) (whole_of (right_columns o) right) es)
 
 -- SCOPE 19.34: so the pairs, each by its schedule in these frames over these areas, write the answer of the uncut tables.
 abbrev pub DriverWrites : Type 0
 DriverWrites =
-    (o : Options) (left right boundaries : Words) (l r n rows : ℕ) → join_answer o left right boundaries l r n ≡ Wrote rows → row_count left < 2 ^ 63 → row_count right ≤ most_rows → (es : List Lent)
+    (o : Options) (left right boundaries : Words) (l r n rows : ℕ) → join_answer o left right boundaries l r n ≡ Ok rows → row_count left < 2 ^ 63 → row_count right ≤ most_rows → (es : List Lent)
     → LentWell o l r (groups_in o boundaries) (whole_of (columns o) left) es
     → all_scheduled o 0 (cut_by o (groups_in o boundaries) (tables_in o left right)) (loads o (groups_in o boundaries) (whole_of (columns o) left) (whole_of (right_columns o) right) es)
     ≡ map (due_over o (tables_in o left right).right) (tables_in o left right).left

@@ -1,9 +1,9 @@
 -- The schedule by which areas are planned, as a list of calls; and the figures read off it. Assumes nothing.
-use Rattle.std.specs.Prelude.{Bool, false, ◌||◌, List, [], ◌∷◌, ◌++◌, map, ℕ, zero, suc, ◌+◌, max, eqb, length}
+use Rattle.frames.specs.declared.outcomes.Turn.TheVariants.{Wrote, WantsRight, Idle}
+use Rattle.std.specs.Prelude.{Bool, false, ◌||◌, List, [], ◌∷◌, ◌++◌, map, ℕ, zero, suc, ◌+◌, max, eqb, length, Ok, Err}
 use Rattle.frames.specs.Cells.{Words}
 use Rattle.order.specs.declared.options.Options.{Options}
 use Rattle.node.specs.Calls.{turn_answer}
-use Rattle.frames.specs.declared.outcomes.Answer.TheVariants.{Wrote, WantsRight, Idle, Refused}
 use Rattle.lists.specs.Lists.{Call, left, right, end, turn, Event, on_left, on_right, on_end, on_ports, on_turn, World, start, step, final, right_frames, took_refusal, turns_in}
 use Rattle.frames.specs.refusals.Refusals.{number}
 use Rattle.frames.specs.declared.refusals.Refusal.TheVariants.{NoRoom}
@@ -19,19 +19,19 @@ rounds zero w rights outs = []
 rounds (suc fuel) w rights [] = []
 rounds (suc fuel) w [] (out ∷ outs) =
     elim (turn_answer w.join w.left w.right out) [
-      | Wrote s ↦ turn out ∷ rounds fuel (step w (turn out)).world [] outs
-      | WantsRight ↦ turn out ∷ []
-      | Idle ↦ turn out ∷ []
-      | Refused n ↦ turn out ∷ []
+      | Ok (Wrote s) ↦ turn out ∷ rounds fuel (step w (turn out)).world [] outs
+      | Ok WantsRight ↦ turn out ∷ []
+      | Ok Idle ↦ turn out ∷ []
+      | Err n ↦ turn out ∷ []
     ]
 rounds (suc fuel) w (f ∷ fs) (out ∷ outs) =
     elim (turn_answer w.join w.left w.right out) [
-      | Wrote s ↦ turn out ∷ rounds fuel (step w (turn out)).world (f ∷ fs) outs
-      | WantsRight ↦
+      | Ok (Wrote s) ↦ turn out ∷ rounds fuel (step w (turn out)).world (f ∷ fs) outs
+      | Ok WantsRight ↦
           let handed = turn out ∷ right f ∷ end_if fs in
           handed ++ rounds fuel (final w handed) fs (out ∷ outs)
-      | Idle ↦ turn out ∷ []
-      | Refused n ↦ turn out ∷ []
+      | Ok Idle ↦ turn out ∷ []
+      | Err n ↦ turn out ∷ []
     ]
 
 -- SCOPE 19.24: all left frames waiting; then the rounds.

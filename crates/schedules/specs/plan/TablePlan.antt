@@ -1,5 +1,5 @@
 -- The plan of two tables, told by the schedule over the frames that their heights cut. The statement; its proof stands in proofs/. Assumes nothing.
-use Rattle.std.specs.Prelude.{◌≡◌, List, map, ℕ, ◌^◌, ◌≤◌, ◌<◌, length}
+use Rattle.std.specs.Prelude.{◌≡◌, List, map, ℕ, ◌^◌, ◌≤◌, ◌<◌, length, Ok}
 use Rattle.frames.specs.Cells.{Words}
 use Rattle.frames.specs.Frame.{row_count, frame_words, values_in, marks_in, frame_rows}
 use Rattle.order.specs.options.Options.{columns, right_columns, answer_columns}
@@ -11,7 +11,6 @@ use Rattle.lists.specs.WholeTables.{due_over, Each}
 use Rattle.planning.specs.Heights.{heights_of}
 use Rattle.planning.specs.Call.{plan_call}
 use Rattle.planning.specs.declared.Figures.{Figures}
-use Rattle.planning.specs.declared.Planned.TheVariants.{Needs}
 use Rattle.schedules.specs.plan.Schedule.{schedule}
 use Rattle.schedules.specs.plan.Plan.{Holds, Short}
 use Rattle.schedules.specs.plan.Table.{frames_by}
@@ -45,5 +44,5 @@ module _ (o : Options) (left right hl hr l r : Words) (outs : List Words) where
 -- SCOPE 19.25: whatever figures the call answers are told so.
 abbrev pub TablePlans : Type 0
 TablePlans =
-    (o : Options) (left right hl hr l r : Words) (outs : List Words) (p : Figures) → plan_call o left right hl hr ≡ Needs p → Lent o left right hl hr l r outs
+    (o : Options) (left right hl hr l r : Words) (outs : List Words) (p : Figures) → plan_call o left right hl hr ≡ Ok p → Lent o left right hl hr l r outs
     → Told o left right hl hr l r outs p

@@ -1,4 +1,5 @@
 -- What the join of two accounts answers and leaves, from what its parts do. Assumes nothing.
+use Rattle.std.specs.Prelude.{Result, Ok, Err}
 use mathlib.Core.Path.{◌≡◌, refl, sym, ap, ◌∙◌}
 use mathlib.Core.Bool.{Bool, true, false, cond, not, ◌&&◌, ◌||◌}
 use mathlib.Core.List.{List, [], ◌∷◌, map}
@@ -17,7 +18,6 @@ use Rattle.frames.proofs.BoolLaws.{and-true}
 use Rattle.order.specs.declared.options.Options.{Options}
 use Rattle.frames.specs.declared.refusals.Refusal.{Refusal}
 use Rattle.frames.specs.declared.refusals.Refusal.TheVariants.{Unsorted, Beyond, NoRoom}
-use Rattle.frames.specs.declared.outcomes.Took.TheVariants.{Accepted, Refused as NotAccepted}
 use Rattle.tables.specs.Table.{laid, table_of}
 use Rattle.tables.specs.Lay.{flat, lay_cells}
 use Rattle.tables.proofs.LayLaws.{lay_table}
@@ -27,7 +27,7 @@ use Rattle.rows.specs.nulls.Nulls.{any_null}
 use Rattle.takings.specs.Subtotals.{Subtotal, add_all, ascending, row_of, subtotals_of, beyond_rows, beyond_number, sales_in, most_sales}
 use Rattle.takings.specs.Calls.{table_width, rows_in, fine_subtotals, result, leave, join_answer, join_call}
 use Rattle.takings.specs.declared.Taken.{Taken}
-use Rattle.takings.specs.declared.Taken.TheVariants.{Table, Refused}
+use Rattle.takings.specs.Calls.{taken_of}
 use Rattle.takings.proofs.SubtotalLaws.{Every, rising, all_sales_lem, every_all}
 use Rattle.subtotals.specs.takejudge.Judge.{Sheet, fine_rows, beyond_accounts}
 use Rattle.subtotals.proofs.takejudge.JudgeLaws.{beyond_words_lem, sales_words}
@@ -47,31 +47,31 @@ or_parts true b e = (cc, cc)
 or_parts false b e = (refl, e)
 
 -- Two refusals by one number.
-twice : (x y : Bool) (r : Refusal) (z : Taken) → (x || y) ≡ true → cond x (Refused r) (cond y (Refused r) z) ≡ Refused r
+twice : (x y : Bool) (r : Refusal) (z : Result Taken Refusal) → (x || y) ≡ true → cond x (Err r) (cond y (Err r) z) ≡ Err r
 twice true y r z e = refl
 twice false y r z e = rw e
 
-pub leave_answer : (o : Options) (ts : List Subtotal) (w : Taken) (out : Words) → w ≡ (leave o ts w out).answer
-leave_answer o ts (Table n k) out = refl
-leave_answer o ts (Refused r) out = refl
+pub leave_answer : (o : Options) (ts : List Subtotal) (w : Result Taken Refusal) (out : Words) → w ≡ (leave o ts w out).answer
+leave_answer o ts (Ok t) out = refl
+leave_answer o ts (Err r) out = refl
 
 -- ---- by rows
 module _ (o : Options) (w : ℕ) (A : Rows) (k : ℤ) (B : Rows) (l : ℤ) (out : Words) where
   abbrev ts : List Subtotal
   ts = add_all o (subtotals_of o A) (subtotals_of o B)
 
-  leaves : (r : Taken) → rows_answer o w A k B l out ≡ r → RowsContract o w A k B l out r (leave o ts r out).out
-  leaves r e = record { answer = sym e; words = ap (λ (z : Taken). (leave o ts z out).out) (sym e) }
+  leaves : (r : Result Taken Refusal) → rows_answer o w A k B l out ≡ r → RowsContract o w A k B l out r (leave o ts r out).out
+  leaves r e = record { answer = sym e; words = ap (λ (z : Result Taken Refusal). (leave o ts z out).out) (sym e) }
 
-  answer_unsorted : (fine_rows o w A && fine_rows o w B) ≡ false → rows_answer o w A k B l out ≡ Refused Unsorted
+  answer_unsorted : (fine_rows o w A && fine_rows o w B) ≡ false → rows_answer o w A k B l out ≡ Err Unsorted
   unfolding rows_answer
   answer_unsorted e = rw e
 
-  pub unsorted_first : fine_rows o w A ≡ false → RowsContract o w A k B l out (Refused Unsorted) out
-  unsorted_first e = leaves (Refused Unsorted) (answer_unsorted (rw e))
+  pub unsorted_first : fine_rows o w A ≡ false → RowsContract o w A k B l out (Err Unsorted) out
+  unsorted_first e = leaves (Err Unsorted) (answer_unsorted (rw e))
 
-  pub unsorted_second : fine_rows o w B ≡ false → RowsContract o w A k B l out (Refused Unsorted) out
-  unsorted_second e = leaves (Refused Unsorted) (answer_unsorted (and_no (fine_rows o w A) (fine_rows o w B) e))
+  pub unsorted_second : fine_rows o w B ≡ false → RowsContract o w A k B l out (Err Unsorted) out
+  unsorted_second e = leaves (Err Unsorted) (answer_unsorted (and_no (fine_rows o w A) (fine_rows o w B) e))
 
   abbrev rows_beyond : Bool
   rows_beyond = beyond_rows o A || beyond_rows o B || beyond_number k || beyond_number l
@@ -83,33 +83,33 @@ module _ (o : Options) (w : ℕ) (A : Rows) (k : ℤ) (B : Rows) (l : ℤ) (out 
     sums : sales_in ts ≡ sales_in (subtotals_of o A) + sales_in (subtotals_of o B)
     sums = all_sales_lem o (subtotals_of o A) (subtotals_of o B)
 
-    answer_beyond : beyond_accounts o A k B l ≡ true → rows_answer o w A k B l out ≡ Refused Beyond
+    answer_beyond : beyond_accounts o A k B l ≡ true → rows_answer o w A k B l out ≡ Err Beyond
     unfolding rows_answer result beyond_accounts
     answer_beyond e = rw (d, f, sums) (twice rows_beyond sums_beyond Beyond _ e)
 
-    pub beyond : beyond_accounts o A k B l ≡ true → RowsContract o w A k B l out (Refused Beyond) out
-    beyond e = leaves (Refused Beyond) (answer_beyond e)
+    pub beyond : beyond_accounts o A k B l ≡ true → RowsContract o w A k B l out (Err Beyond) out
+    beyond e = leaves (Err Beyond) (answer_beyond e)
 
     module _ (b : beyond_accounts o A k B l ≡ false) (n : ℕ) (c : n ≡ length ts) where
       within : (rows_beyond ≡ false) × (sums_beyond ≡ false)
       unfolding beyond_accounts
       within = or_parts rows_beyond sums_beyond b
 
-      answer_short : ltb (length out) (frame_words n (table_width o)) ≡ true → rows_answer o w A k B l out ≡ Refused NoRoom
+      answer_short : ltb (length out) (frame_words n (table_width o)) ≡ true → rows_answer o w A k B l out ≡ Err NoRoom
       unfolding rows_answer result
       answer_short e = rw (d, f, within.0, sums, within.1, ← c, e)
 
-      answer_wrote : ltb (length out) (frame_words n (table_width o)) ≡ false → rows_answer o w A k B l out ≡ Table n (pos (nat_abs k + nat_abs l))
+      answer_wrote : ltb (length out) (frame_words n (table_width o)) ≡ false → rows_answer o w A k B l out ≡ Ok (taken_of n (pos (nat_abs k + nat_abs l)))
       unfolding rows_answer result
       answer_wrote e = rw (d, f, within.0, sums, within.1, ← c, e)
 
       module _ (width : w ≡ table_width o) where
-        pub no_room_lem : leb (frame_words n w) (length out) ≡ false → RowsContract o w A k B l out (Refused NoRoom) out
-        no_room_lem e = leaves (Refused NoRoom) (answer_short (rw (← width) (lt-ltb (length out) (frame_words n w) (leb-false (frame_words n w) (length out) e))))
+        pub no_room_lem : leb (frame_words n w) (length out) ≡ false → RowsContract o w A k B l out (Err NoRoom) out
+        no_room_lem e = leaves (Err NoRoom) (answer_short (rw (← width) (lt-ltb (length out) (frame_words n w) (leb-false (frame_words n w) (length out) e))))
 
-        pub wrote : frame_words n w ≤ length out → (out' : Words) → out' ≡ laid (table_of w (map row_of ts)) out → RowsContract o w A k B l out (Table n (pos (nat_abs k + nat_abs l))) out'
+        pub wrote : frame_words n w ≤ length out → (out' : Words) → out' ≡ laid (table_of w (map row_of ts)) out → RowsContract o w A k B l out (Ok (taken_of n (pos (nat_abs k + nat_abs l)))) out'
         wrote h out' e =
-            let r = leaves (Table n (pos (nat_abs k + nat_abs l))) (answer_wrote (rw (← width) (le-ltb (length out) (frame_words n w) h))) in
+            let r = leaves (Ok (taken_of n (pos (nat_abs k + nat_abs l)))) (answer_wrote (rw (← width) (le-ltb (length out) (frame_words n w) h))) in
             record { answer = r.answer; words = rw width at e ∙ r.words }
 
 -- ---- the joined table
@@ -229,17 +229,17 @@ module _ (o : Options) (table : Words) (k : ℤ) (other : Words) (l : ℤ) (out 
   abbrev all : List Subtotal
   all = add_all o (subtotals_of o (rows_in o table)) (subtotals_of o (rows_in o other))
 
-  call_leaves : (r : Taken) → join_answer o table k other l out ≡ r → JoinContract o table k other l out r (leave o all r out).out
+  call_leaves : (r : Result Taken Refusal) → join_answer o table k other l out ≡ r → JoinContract o table k other l out r (leave o all r out).out
   unfolding join_call
   call_leaves r e = record {
     answer = sym e ∙ leave_answer o all (join_answer o table k other l out) out;
-    words = ap (λ (z : Taken). (leave o all z out).out) (sym e);
+    words = ap (λ (z : Result Taken Refusal). (leave o all z out).out) (sym e);
   }
 
-  pub join_refused : (r : Refusal) → tables_judged o table other ≡ NotAccepted r → JoinContract o table k other l out (Refused r) out
-  join_refused r e = call_leaves (Refused r) (tables_refused o table other k l out r e)
+  pub join_refused : (r : Refusal) → tables_judged o table other ≡ Err r → JoinContract o table k other l out (Err r) out
+  join_refused r e = call_leaves (Err r) (tables_refused o table other k l out r e)
 
-  module _ (v : tables_judged o table other ≡ Accepted) (w : ℕ) (e : w ≡ table_width o) where
+  module _ (v : tables_judged o table other ≡ Ok tt) (w : ℕ) (e : w ≡ table_width o) where
     answer_rows_lem : join_answer o table k other l out ≡ rows_answer o (table_width o) (rows_in o table) k (rows_in o other) l out
     unfolding join_answer rows_answer fine_subtotals fine_rows
     answer_rows_lem = (tables_fine o table other v).past _
@@ -248,13 +248,13 @@ module _ (o : Options) (table : Words) (k : ℤ) (other : Words) (l : ℤ) (out 
     unfolding frame_rows
     rows_are f = rw e
 
-    contract : (r : Taken) (out' : Words) → RowsContract o (table_width o) (rows_in o table) k (rows_in o other) l out r out' → JoinContract o table k other l out r out'
+    contract : (r : Result Taken Refusal) (out' : Words) → RowsContract o (table_width o) (rows_in o table) k (rows_in o other) l out r out' → JoinContract o table k other l out r out'
     contract r out' c =
         let a : join_answer o table k other l out ≡ r = answer_rows_lem ∙ sym c.answer in
         let z = call_leaves r a in
-        record { answer = z.answer; words = c.words ∙ ap (λ (z : Taken). (leave o all z out).out) (sym c.answer) ∙ z.words }
+        record { answer = z.answer; words = c.words ∙ ap (λ (z : Result Taken Refusal). (leave o all z out).out) (sym c.answer) ∙ z.words }
 
-    pub rows_joined : (r : Taken) (out' : Words)
+    pub rows_joined : (r : Result Taken Refusal) (out' : Words)
         → RowsContract o w (rows_of w (row_count table) (values_in w table) (marks_in w table)) k (rows_of w (row_count other) (values_in w other) (marks_in w other)) l out r out'
         → JoinContract o table k other l out r out'
     rows_joined r out' c = contract r out' (rw (← rows_are table, ← rows_are other, ← e) c)

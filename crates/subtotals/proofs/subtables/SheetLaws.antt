@@ -2,11 +2,10 @@
 use mathlib.Core.Path.{◌≡◌, refl, sym, ap, ◌∙◌}
 use mathlib.Core.Bool.{Bool, true, false, ◌&&◌, ◌||◌}
 use mathlib.Core.List.{List}
-use mathlib.Core.Logic.{◌⊎◌, inl, inr, ⊎_elim}
+use mathlib.Core.Logic.{◌⊎◌, inl, inr}
 use Prim.Native.Nat.{ℕ, zero, suc, ◌+◌, ◌-◌, ◌*◌, ◌≤◌, ◌<◌}
 use native.Mathlib.Omega.{arith}
 use borrow.Author.Tests.{lt-ltb, le-ltb, ltb-true, ltb-false}
-use denote.Enum.Declared.{tag_of}
 use lib.Dec.{T}
 use lib.IntN.{ℤ, pos, negsuc, nat_abs, ◌-ℤ◌, +ℤ_idr}
 use lib.Signed.{lt_z, non_neg}
@@ -15,9 +14,9 @@ use lib.Seq.{drop-drop, get_or-take, get_or-drop}
 use Rattle.frames.specs.Cells.{Cell, null, Words, rows_of, row_from}
 use Rattle.order.specs.Order.{cmp_first, cmp_group, is_less}
 use Rattle.order.specs.declared.options.Options.{Options}
-use Rattle.order.specs.declared.Order.{Order}
-use Rattle.order.specs.declared.Order.TheVariants.{Less, Equal, Greater}
-use Rattle.order.specs.contracts.Order.{the_type}
+use Rattle.std.specs.declared.cmp.Ordering.{Ordering}
+use Rattle.std.specs.declared.cmp.Ordering.TheVariants.{Less, Equal, Greater}
+use Rattle.std.specs.Ordering.{is_lt}
 use Rattle.order.proofs.RowLaws.{rest, rest_more}
 use Rattle.takings.specs.Subtotals.{subtotals_of, ascending, most_amount, most_sales}
 use Rattle.subtotals.specs.subtables.Sheet.{beyond_pair, beyond_words, count_words, Summed, Counted}
@@ -42,10 +41,11 @@ module _ (o : Options) (w : ℕ) (vs ms : Words) where
   rising_few p (suc zero) h = refl
   rising_few p (suc (suc n)) h = absurd (omega arith)
 
-pub not_less_arm : (x : Order) → (tag_of the_type x ≡ 1) ⊎ (tag_of the_type x ≡ 2) → is_less x ≡ false
-not_less_arm Less t = absurd (⊎_elim (λ l. omega arith) (λ l. omega arith) t)
-not_less_arm Equal t = refl
-not_less_arm Greater t = refl
+-- The test for lesser groups, as std has it.
+pub less_by : (x : Ordering) → is_less x ≡ is_lt x
+less_by Less = refl
+less_by Equal = refl
+less_by Greater = refl
 
 -- ---- a row's total and count
 pub pair_low : (total count : ℤ) (sum r : ℕ) → lt_z count (pos 1) ≡ true → r ≡ most_sales + 1 → Summed sum total count r
@@ -108,9 +108,6 @@ module _ (b w : ℕ) (vs : Words) where
     pub few : s ≤ most_sales
     pub beyond : beyond_from 0 n ≡ beyond_from i n
     pub counted : sum + count_from 0 n ≡ s + count_from i n
-
-  pub walk_starts : (n sum : ℕ) → sum ≤ most_sales → Walked n sum 0 sum
-  walk_starts n sum h = record { few = h; beyond = refl; counted = refl }
 
   pub walk_on_lem : (n sum i s r : ℕ) → i < n → Walked n sum i s → Summed s (get_or vs (i * w + b) (pos 0)) (get_or vs (i * w + b + 1) (pos 0)) r → r ≤ most_sales → Walked n sum (i + 1) r
   walk_on_lem n sum i s r l k q h =

@@ -6,8 +6,8 @@ use native.Mathlib.Omega.{arith}
 use Rattle.frames.specs.Cells.{Cell}
 use Rattle.order.specs.Order.{cmp_group}
 use Rattle.order.specs.declared.options.Options.{Options}
-use Rattle.order.specs.declared.Order.{Order}
-use Rattle.order.specs.declared.Order.TheVariants.{Less, Equal, Greater}
+use Rattle.std.specs.declared.cmp.Ordering.{Ordering}
+use Rattle.std.specs.declared.cmp.Ordering.TheVariants.{Less, Equal, Greater}
 use Rattle.order.proofs.OrderLaws.{cmp_group_is, greater_less, less_greater, equal_flip}
 use Rattle.takings.specs.Subtotals.{Subtotal, cmp_sub, plus, insert, add_all}
 use Rattle.takings.proofs.SubtotalLaws.{every_map, Above, Rising}
@@ -15,17 +15,17 @@ use Rattle.subtotals.specs.takejoin.Join.{side, joined}
 
 -- ---- an arm that is known
 module _ (x y v : List Subtotal) where
-  arm_less : (z : Order) → z ≡ Less → ◌≡◌ {A = List Subtotal} (elim z [ Less ↦ x | Equal ↦ y | Greater ↦ v ]) x
+  arm_less : (z : Ordering) → z ≡ Less → ◌≡◌ {A = List Subtotal} (elim z [ Less ↦ x | Equal ↦ y | Greater ↦ v ]) x
   arm_less Less e = refl
   arm_less Equal e = let n : ◌≡◌ {A = ℕ} 0 1 = cc in absurd (omega arith)
   arm_less Greater e = let n : ◌≡◌ {A = ℕ} 0 1 = cc in absurd (omega arith)
 
-  arm_equal : (z : Order) → z ≡ Equal → ◌≡◌ {A = List Subtotal} (elim z [ Less ↦ x | Equal ↦ y | Greater ↦ v ]) y
+  arm_equal : (z : Ordering) → z ≡ Equal → ◌≡◌ {A = List Subtotal} (elim z [ Less ↦ x | Equal ↦ y | Greater ↦ v ]) y
   arm_equal Less e = let n : ◌≡◌ {A = ℕ} 0 1 = cc in absurd (omega arith)
   arm_equal Equal e = refl
   arm_equal Greater e = let n : ◌≡◌ {A = ℕ} 0 1 = cc in absurd (omega arith)
 
-  arm_greater : (z : Order) → z ≡ Greater → ◌≡◌ {A = List Subtotal} (elim z [ Less ↦ x | Equal ↦ y | Greater ↦ v ]) v
+  arm_greater : (z : Ordering) → z ≡ Greater → ◌≡◌ {A = List Subtotal} (elim z [ Less ↦ x | Equal ↦ y | Greater ↦ v ]) v
   arm_greater Less e = let n : ◌≡◌ {A = ℕ} 0 1 = cc in absurd (omega arith)
   arm_greater Equal e = let n : ◌≡◌ {A = ℕ} 0 1 = cc in absurd (omega arith)
   arm_greater Greater e = refl
@@ -115,7 +115,7 @@ module _ (o : Options) where
   added_joined (t ∷ ts) (u ∷ us) r =
       by (cmp_sub o t u) refl (added_joined ts (u ∷ us) r) (added_joined ts us r.1) (added_joined (t ∷ ts) us r.1)
     where
-      by : (z : Order) → cmp_sub o t u ≡ z → add_all o ts (u ∷ us) ≡ joined o ts (u ∷ us) → add_all o ts us ≡ joined o ts us → add_all o (t ∷ ts) us ≡ joined o (t ∷ ts) us
+      by : (z : Ordering) → cmp_sub o t u ≡ z → add_all o ts (u ∷ us) ≡ joined o ts (u ∷ us) → add_all o ts us ≡ joined o ts us → add_all o (t ∷ ts) us ≡ joined o (t ∷ ts) us
           → add_all o (t ∷ ts) (u ∷ us) ≡ joined o (t ∷ ts) (u ∷ us)
       by Less e a b c = stays t ts (u ∷ us) (e, above_then t.group u.group us e r.0) ∙ ap (λ (z : List Subtotal). t ∷ z) a ∙ sym (joined_less t ts (u ∷ us) e)
       by Equal e a b c =

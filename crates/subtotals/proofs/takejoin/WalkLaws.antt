@@ -19,8 +19,8 @@ use Rattle.tables.specs.Lay.{flat, lay_cells}
 use Rattle.tables.proofs.LayLaws.{lay_append}
 use Rattle.order.specs.Order.{cmp_group}
 use Rattle.order.specs.declared.options.Options.{Options}
-use Rattle.order.specs.declared.Order.{Order}
-use Rattle.order.specs.declared.Order.TheVariants.{Less, Equal, Greater}
+use Rattle.std.specs.declared.cmp.Ordering.{Ordering}
+use Rattle.std.specs.declared.cmp.Ordering.TheVariants.{Less, Equal, Greater}
 use Rattle.tables.specs.Requires.{rest}
 use Rattle.tables.proofs.CellLaws.{rest_more, rest_none, fine_at}
 use Rattle.takings.specs.Subtotals.{Subtotal, plus, row_of, number_in, subtotal_of, subtotals_of, most_amount, most_sales}
@@ -262,7 +262,7 @@ module _ (o : Options) (w na : ℕ) (av am : Words) (nb : ℕ) (bv bm : Words) w
   abbrev J : ℕ → ℕ → List Subtotal
   J i j = joined o (subs_from o w i na av am) (subs_from o w j nb bv bm)
 
-  abbrev S : ℕ → ℕ → Order
+  abbrev S : ℕ → ℕ → Ordering
   S i j = side o (subs_from o w i na av am) (subs_from o w j nb bv bm)
 
   pub told_less : (i j : ℕ) → Account o.by w na av am → i < na → S i j ≡ Less → J i j ≡ told o.by w i av am ∷ J (i + 1) j

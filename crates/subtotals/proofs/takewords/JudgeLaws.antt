@@ -1,4 +1,5 @@
 -- What the judges of words answer, test by test; and what their answer says of the calls. Assumes nothing.
+use Rattle.std.specs.Prelude.{Result, Ok, Err}
 use mathlib.Core.Path.{◌≡◌, refl, sym, ap, ◌∙◌}
 use mathlib.Core.Bool.{Bool, true, false, cond, not, ◌&&◌, ◌||◌}
 use Prim.Native.Nat.{ℕ, suc, ◌+◌, ◌^◌, ◌≤◌, ◌<◌}
@@ -8,6 +9,7 @@ use lib.Dec.{T, eqb}
 use lib.IntN.{ℤ, pos, negsuc, nat_abs}
 use lib.Signed.{lt_z, non_neg, mag}
 use lib.ListN.{length, get_or}
+use Rattle.takings.specs.declared.Taken.{Taken}
 use Rattle.frames.specs.Cells.{Words}
 use Rattle.frames.specs.Frame.{is_table, is_frame, row_count, frame_rows, same_z}
 use Rattle.frames.proofs.FrameLaws.{table_parts}
@@ -19,13 +21,9 @@ use Rattle.order.proofs.options.OptionLaws.{Allowed, allowed_parts, good_allowed
 use Rattle.order.specs.Listed.{lacks_code}
 use Rattle.tables.specs.Options.{unless}
 use Rattle.takings.specs.Calls.{table_width, rows_in, any_frame, columns_in, known_columns, join_answer, add_answer}
-use Rattle.takings.specs.declared.Taken.{Taken}
-use Rattle.takings.specs.declared.Taken.TheVariants.{Refused as NotTaken}
 use Rattle.callrules.specs.Judged.{open_answer}
 use Rattle.frames.specs.declared.refusals.Refusal.{Refusal}
 use Rattle.frames.specs.declared.refusals.Refusal.TheVariants.{BadOptions, TooManyCarried, BadRanks, BadFrame, UnknownCode, BadColumns}
-use Rattle.frames.specs.declared.outcomes.Took.{Took}
-use Rattle.frames.specs.declared.outcomes.Took.TheVariants.{Accepted, Refused}
 use Rattle.subtotals.specs.takewords.Judged.{tables_judged, sales_judged}
 
 -- ---- the tests in their order: of the options x, y, z; then a, b, d
@@ -35,26 +33,26 @@ chain f x y z a = cond x (f BadOptions) (cond y (f TooManyCarried) (cond z (f Ba
 abbrev pub three : {A : Type 0} → (Refusal → A) → Bool → Bool → Bool → A → A
 three f a b d t = cond a (f BadFrame) (cond b (f UnknownCode) (cond d (f BadColumns) t))
 
-chain_shut : {A : Type 0} (f : Refusal → A) (a : A) (x y z : Bool) (r : Refusal) → chain (λ n. Refused n) x y z Accepted ≡ Refused r → chain f x y z a ≡ f r
+chain_shut : {A : Type 0} (f : Refusal → A) (a : A) (x y z : Bool) (r : Refusal) → ◌≡◌ {A = Result Unit Refusal} (chain (λ n. Err n) x y z (Ok tt)) (Err r) → chain f x y z a ≡ f r
 chain_shut f a true y z r e = cc
 chain_shut f a false true z r e = cc
 chain_shut f a false false true r e = cc
 chain_shut f a false false false r e = let n : ◌≡◌ {A = ℕ} 0 1 = cc in absurd (omega arith)
 
-chain_open : (x y z : Bool) (t : Took) → chain (λ n. Refused n) x y z t ≡ Accepted → (x ≡ false) × (y ≡ false) × (z ≡ false) × (t ≡ Accepted)
+chain_open : (x y z : Bool) (t : Result Unit Refusal) → chain (λ n. Err n) x y z t ≡ Ok tt → (x ≡ false) × (y ≡ false) × (z ≡ false) × (t ≡ Ok tt)
 chain_open true y z t e = let n : ◌≡◌ {A = ℕ} 0 1 = cc in absurd (omega arith)
 chain_open false true z t e = let n : ◌≡◌ {A = ℕ} 0 1 = cc in absurd (omega arith)
 chain_open false false true t e = let n : ◌≡◌ {A = ℕ} 0 1 = cc in absurd (omega arith)
 chain_open false false false t e = (refl, refl, refl, e)
 
-three_open : (a b d : Bool) → three (λ n. Refused n) a b d Accepted ≡ Accepted → (a ≡ false) × (b ≡ false) × (d ≡ false)
+three_open : (a b d : Bool) → ◌≡◌ {A = Result Unit Refusal} (three (λ n. Err n) a b d (Ok tt)) (Ok tt) → (a ≡ false) × (b ≡ false) × (d ≡ false)
 three_open true b d e = let n : ◌≡◌ {A = ℕ} 0 1 = cc in absurd (omega arith)
 three_open false true d e = let n : ◌≡◌ {A = ℕ} 0 1 = cc in absurd (omega arith)
 three_open false false true e = let n : ◌≡◌ {A = ℕ} 0 1 = cc in absurd (omega arith)
 three_open false false false e = (refl, refl, refl)
 
 all_shut : {A : Type 0} (f : Refusal → A) (x y z a b d : Bool) (w : A) (r : Refusal)
-    → chain (λ n. Refused n) x y z (three (λ n. Refused n) a b d Accepted) ≡ Refused r → chain f x y z (three f a b d w) ≡ f r
+    → ◌≡◌ {A = Result Unit Refusal} (chain (λ n. Err n) x y z (three (λ n. Err n) a b d (Ok tt))) (Err r) → chain f x y z (three f a b d w) ≡ f r
 all_shut f true y z a b d w r e = cc
 all_shut f false true z a b d w r e = cc
 all_shut f false false true a b d w r e = cc
@@ -64,18 +62,18 @@ all_shut f false false false false false true w r e = cc
 all_shut f false false false false false false w r e = let n : ◌≡◌ {A = ℕ} 0 1 = cc in absurd (omega arith)
 
 module _ (o : Options) where
-  open_shut : (a : Took) (r : Refusal) → open_answer o ≡ Refused r → unless (λ n. Refused n) o a ≡ Refused r
+  open_shut : (a : Result Unit Refusal) (r : Refusal) → open_answer o ≡ Err r → unless (λ n. Err n) o a ≡ Err r
   unfolding open_answer
-  open_shut a r e = chain_shut (λ n. Refused n) a (bad_options o) (many_carried o) (bad_ranked o) r e
+  open_shut a r e = chain_shut (λ n. Err n) a (bad_options o) (many_carried o) (bad_ranked o) r e
 
-  open_past : (a : Took) → open_answer o ≡ Accepted → unless (λ n. Refused n) o a ≡ a
+  open_past : (a : Result Unit Refusal) → open_answer o ≡ Ok tt → unless (λ n. Err n) o a ≡ a
   unfolding open_answer
-  open_past a e = let p = chain_open (bad_options o) (many_carried o) (bad_ranked o) Accepted e in rw (p.0, p.1, p.2)
+  open_past a e = let p = chain_open (bad_options o) (many_carried o) (bad_ranked o) (Ok tt) e in rw (p.0, p.1, p.2)
 
-  pub open_allowed : open_answer o ≡ Accepted → Allowed o
+  pub open_allowed : open_answer o ≡ Ok tt → Allowed o
   unfolding open_answer
   open_allowed e =
-      let p = chain_open (bad_options o) (many_carried o) (bad_ranked o) Accepted e in
+      let p = chain_open (bad_options o) (many_carried o) (bad_ranked o) (Ok tt) e in
       allowed_parts o (good_allowed o p.0 p.1 p.2)
 
 -- ---- two tables
@@ -86,14 +84,14 @@ module _ (o : Options) (table other : Words) where
   abbrev lacking : Bool
   lacking = lacks_code o (rows_in o table) || lacks_code o (rows_in o other)
 
-  abbrev pub tables_rest : Took
-  tables_rest = three (λ n. Refused n) no_tables lacking (eqb o.carried 0) Accepted
+  abbrev pub tables_rest : Result Unit Refusal
+  tables_rest = three (λ n. Err n) no_tables lacking (eqb o.carried 0) (Ok tt)
 
-  pub tables_shut : (r : Refusal) → open_answer o ≡ Refused r → tables_judged o table other ≡ Refused r
+  pub tables_shut : (r : Refusal) → open_answer o ≡ Err r → tables_judged o table other ≡ Err r
   unfolding tables_judged
   tables_shut r e = open_shut o _ r e
 
-  pub tables_open : open_answer o ≡ Accepted → tables_judged o table other ≡ tables_rest
+  pub tables_open : open_answer o ≡ Ok tt → tables_judged o table other ≡ tables_rest
   unfolding tables_judged
   tables_open e = open_past o _ e
 
@@ -102,9 +100,9 @@ module _ (o : Options) (table other : Words) where
     pub allowed : Allowed o
     pub table_is : is_table (table_width o) table ≡ true
     pub other_is : is_table (table_width o) other ≡ true
-    pub past : (w : Taken) → unless (λ n. NotTaken n) o (three (λ n. NotTaken n) no_tables lacking (eqb o.carried 0) w) ≡ w
+    pub past : (w : Result Taken Refusal) → unless (λ n. Err n) o (three (λ n. Err n) no_tables lacking (eqb o.carried 0) w) ≡ w
 
-  pub tables_fine : tables_judged o table other ≡ Accepted → TablesFine
+  pub tables_fine : tables_judged o table other ≡ Ok tt → TablesFine
   unfolding tables_judged
   tables_fine e =
       let p = chain_open (bad_options o) (many_carried o) (bad_ranked o) _ e in
@@ -117,9 +115,9 @@ module _ (o : Options) (table other : Words) where
         past = λ w. rw (p.0, p.1, p.2, q.0, q.1, q.2);
       }
 
-  pub tables_refused : (k l : ℤ) (out : Words) (r : Refusal) → tables_judged o table other ≡ Refused r → join_answer o table k other l out ≡ NotTaken r
+  pub tables_refused : (k l : ℤ) (out : Words) (r : Refusal) → tables_judged o table other ≡ Err r → join_answer o table k other l out ≡ Err r
   unfolding tables_judged join_answer
-  tables_refused k l out r e = all_shut (λ n. NotTaken n) (bad_options o) (many_carried o) (bad_ranked o) no_tables lacking (eqb o.carried 0) _ r e
+  tables_refused k l out r e = all_shut (λ n. Err n) (bad_options o) (many_carried o) (bad_ranked o) no_tables lacking (eqb o.carried 0) _ r e
 
 -- ---- a frame of the columns that it says
 no_table : (c : ℕ) (f : Words) → is_table c f ≡ false → is_frame c f ≡ false
@@ -163,19 +161,19 @@ module _ (o : Options) (table left answer : Words) where
   abbrev wanting : Bool
   wanting = lacks_code o (rows_in o table) || lacks_code o (frame_rows (columns o) left)
 
-  abbrev pub sales_rest : Took
-  sales_rest = three (λ n. Refused n) not_all wanting (not (known_columns o (columns_in answer))) Accepted
+  abbrev pub sales_rest : Result Unit Refusal
+  sales_rest = three (λ n. Err n) not_all wanting (not (known_columns o (columns_in answer))) (Ok tt)
 
-  pub sales_shut : (r : Refusal) → open_answer o ≡ Refused r → sales_judged o table left answer ≡ Refused r
+  pub sales_shut : (r : Refusal) → open_answer o ≡ Err r → sales_judged o table left answer ≡ Err r
   unfolding sales_judged
   sales_shut r e = open_shut o _ r e
 
   grouped : not (is_table (table_width o) table && is_frame (columns o) left && any_frame answer && eqb (row_count left) (row_count answer)) ≡ not_all
   grouped = ap not (and_left (is_table (table_width o) table) (is_frame (columns o) left) (any_frame answer) (eqb (row_count left) (row_count answer)))
 
-  pub sales_open : open_answer o ≡ Accepted → sales_judged o table left answer ≡ sales_rest
+  pub sales_open : open_answer o ≡ Ok tt → sales_judged o table left answer ≡ sales_rest
   unfolding sales_judged
-  sales_open e = open_past o _ e ∙ ap (λ (z : Bool). three (λ n. Refused n) z wanting (not (known_columns o (columns_in answer))) Accepted) grouped
+  sales_open e = open_past o _ e ∙ ap (λ (z : Bool). three (λ n. Err n) z wanting (not (known_columns o (columns_in answer))) (Ok tt)) grouped
 
   -- What was accepted: the options are allowed, all three are what they are to be, and the answer is that of their rows.
   pub record SalesFine : Type 0 where
@@ -185,9 +183,9 @@ module _ (o : Options) (table left answer : Words) where
     pub answer_is : any_frame answer ≡ true
     pub height : eqb (row_count left) (row_count answer) ≡ true
     pub known : known_columns o (columns_in answer) ≡ true
-    pub past : (w : Taken) → unless (λ n. NotTaken n) o (three (λ n. NotTaken n) (not (is_table (table_width o) table && is_frame (columns o) left && any_frame answer && eqb (row_count left) (row_count answer))) wanting (not (known_columns o (columns_in answer))) w) ≡ w
+    pub past : (w : Result Taken Refusal) → unless (λ n. Err n) o (three (λ n. Err n) (not (is_table (table_width o) table && is_frame (columns o) left && any_frame answer && eqb (row_count left) (row_count answer))) wanting (not (known_columns o (columns_in answer))) w) ≡ w
 
-  pub sales_fine : sales_judged o table left answer ≡ Accepted → SalesFine
+  pub sales_fine : sales_judged o table left answer ≡ Ok tt → SalesFine
   unfolding sales_judged
   sales_fine e =
       let p = chain_open (bad_options o) (many_carried o) (bad_ranked o) _ e in
@@ -206,10 +204,10 @@ module _ (o : Options) (table left answer : Words) where
         past = λ w. rw (p.0, p.1, p.2, q.0, q.1, q.2);
       }
 
-  pub sales_refused : (k : ℤ) (out : Words) (r : Refusal) → sales_judged o table left answer ≡ Refused r → add_answer o table k left answer out ≡ NotTaken r
+  pub sales_refused : (k : ℤ) (out : Words) (r : Refusal) → sales_judged o table left answer ≡ Err r → add_answer o table k left answer out ≡ Err r
   unfolding sales_judged add_answer
   sales_refused k out r e =
-      all_shut (λ n. NotTaken n) (bad_options o) (many_carried o) (bad_ranked o) (not (is_table (table_width o) table && is_frame (columns o) left && any_frame answer && eqb (row_count left) (row_count answer))) wanting (not (known_columns o (columns_in answer))) _ r e
+      all_shut (λ n. Err n) (bad_options o) (many_carried o) (bad_ranked o) (not (is_table (table_width o) table && is_frame (columns o) left && any_frame answer && eqb (row_count left) (row_count answer))) wanting (not (known_columns o (columns_in answer))) _ r e
 
 -- ---- the columns
 pub word_count : (z : ℤ) (c : ℕ) → same_z z (pos c) ≡ true → T (non_neg z)

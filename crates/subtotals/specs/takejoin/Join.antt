@@ -6,14 +6,14 @@ use Rattle.frames.specs.Frame.{pairs_fine}
 use Rattle.order.specs.Requires.{RowsIn}
 use Rattle.order.specs.options.Options.{Few}
 use Rattle.order.specs.declared.options.Options.{Options}
-use Rattle.order.specs.declared.Order.{Order}
-use Rattle.order.specs.declared.Order.TheVariants.{Less, Equal, Greater}
+use Rattle.std.specs.declared.cmp.Ordering.{Ordering}
+use Rattle.std.specs.declared.cmp.Ordering.TheVariants.{Less, Equal, Greater}
 use Rattle.tables.specs.Requires.{rest}
 use Rattle.takings.specs.Subtotals.{Subtotal, cmp_sub, plus, subtotals_of, most_sales}
 use Rattle.subtotals.specs.subtables.Sheet.{beyond_words, count_words}
 
 -- Which subtotal is next.
-abbrev pub side : Options → List Subtotal → List Subtotal → Order
+abbrev pub side : Options → List Subtotal → List Subtotal → Ordering
 side o [] us = Greater
 side o (t ∷ ts) [] = Less
 side o (t ∷ ts) (u ∷ us) = cmp_sub o t u

@@ -1,70 +1,54 @@
 // Two tables of subtotals, side by side: the row of the lesser group is next, both where they are of one group.
 ghost use Rattle.std.specs.Prelude.{◌≡◌, ◌+◌, ◌≤◌, length};
-ghost use Rattle.order.specs.options.Options.{with_list};
+ghost use Rattle.order.specs.options.Options.{options_of};
 ghost use Rattle.subtotals.specs.takejoin.Join.{side, joined, subs_from, NextRow, Both};
 
-use order::Order;
-use order::options::Terms;
+use frames::RowSlice;
+use order::options::Rules;
 use rows::compare::cmp_group;
+use std::cmp::Ordering;
 
 // Which row is next: the one table's where it is less or the other has none left, the other's where it is greater, both where they are equal.
 pub fn next_side(
-    av: &[i64],
-    am: &[i64],
-    na: usize,
+    table: RowSlice<'_>,
     i: usize,
-    bv: &[i64],
-    bm: &[i64],
-    nb: usize,
+    added: RowSlice<'_>,
     j: usize,
-    w: usize,
-    o: Terms,
-    codes: &[i64],
-    rising: &[u8],
-) -> Order
-    requires { NextRow (with_list o codes.now rising.now) w na i av.now am.now × NextRow (with_list o codes.now rising.now) w nb j bv.now bm.now }
-    ensures { result ≡ side (with_list o codes.now rising.now) (subs_from (with_list o codes.now rising.now) w i na av.now am.now) (subs_from (with_list o codes.now rising.now) w j nb bv.now bm.now) }
+    rules: Rules<'_>,
+) -> Ordering
+    requires { NextRow (options_of rules) table.width table.count i table.values.now table.marks.now × NextRow (options_of rules) table.width added.count j added.values.now added.marks.now }
+    ensures { result ≡ side (options_of rules.entry) (subs_from (options_of rules.entry) table.entry.width i table.entry.count table.entry.values.now table.entry.marks.now) (subs_from (options_of rules.entry) table.entry.width j added.entry.count added.entry.values.now added.entry.marks.now) }
 {
-    if i == na {
-        return Order::Greater;
+    if i == table.count {
+        return Ordering::Greater;
     }
-    if j == nb {
-        return Order::Less;
+    if j == added.count {
+        return Ordering::Less;
     }
-    cmp_group(av, am, i * w, bv, bm, j * w, o, codes, rising)
+    cmp_group(table, i * table.width, added, j * table.width, rules)
 }
 
 // How many rows the joined table has.
-pub fn count_joined(
-    av: &[i64],
-    am: &[i64],
-    na: usize,
-    bv: &[i64],
-    bm: &[i64],
-    nb: usize,
-    w: usize,
-    o: Terms,
-    codes: &[i64],
-    rising: &[u8],
-) -> usize
-    requires { Both (with_list o codes.now rising.now) w na av.now am.now nb bv.now bm.now }
-    ensures { (result ≡ length (joined (with_list o codes.now rising.now) (subs_from (with_list o codes.now rising.now) w 0 na av.now am.now) (subs_from (with_list o codes.now rising.now) w 0 nb bv.now bm.now))) × (result ≤ na + nb) }
+pub fn count_joined(table: RowSlice<'_>, added: RowSlice<'_>, rules: Rules<'_>) -> usize
+    requires { Both (options_of rules) table.width table.count table.values.now table.marks.now added.count added.values.now added.marks.now }
+    ensures { (result ≡ length (joined (options_of rules.entry) (subs_from (options_of rules.entry) table.entry.width 0 table.entry.count table.entry.values.now table.entry.marks.now) (subs_from (options_of rules.entry) table.entry.width 0 added.entry.count added.entry.values.now added.entry.marks.now))) × (result ≤ table.entry.count + added.entry.count) }
 {
     let mut n = 0;
     let mut i = 0;
     let mut j = 0;
-    while i + j < na + nb {
-        match next_side(av, am, na, i, bv, bm, nb, j, w, o, codes, rising) {
-            Order::Less => {
+    // A while: each turn takes the next row of one table, or of both.
+    while i + j < table.count + added.count {
+        match next_side(table, i, added, j, rules) {
+            Ordering::Less => {
                 i += 1;
                 n += 1;
             }
-            Order::Equal => {
+            Ordering::Equal => {
                 i += 1;
                 j += 1;
                 n += 1;
             }
-            Order::Greater => {
+            Ordering::Greater => {
                 j += 1;
                 n += 1;
             }

@@ -4,8 +4,8 @@ import os
 import tempfile
 
 from ..folding import fold
-from ..mir import Program
 from ..names import Names
+from ..program import Program
 from ..statements import Body
 from ..types import Types
 
@@ -28,9 +28,14 @@ def array(kind, count):
     return {'Array': [kind, {'Lit': count}]}
 
 
-def named(symbol):
-    """A struct or an enumeration."""
-    return {'Named': [{'name': symbol, 'lifetimes': []}, []]}
+def named(symbol, *kinds):
+    """A struct or an enumeration, at types."""
+    return {'Named': [{'name': symbol, 'lifetimes': []}, list(kinds)]}
+
+
+def param(place):
+    """A type parameter."""
+    return {'Param': place}
 
 
 def at(local, *steps):
@@ -63,14 +68,19 @@ def put(place, value):
     return [{'Assign': [place, value if whole else {'Opd': value}]}]
 
 
-def callee(symbol):
-    """A function without type parameters."""
-    return {'Fn': [symbol, {'types': [], 'dicts': []}]}
+def callee(symbol, kinds=(), dicts=()):
+    """A function, at types and dictionaries."""
+    return {'Fn': [symbol, {'types': list(kinds), 'dicts': list(dicts)}]}
+
+
+def method(dictionary, place, kinds=(), dicts=()):
+    """A method of a dictionary."""
+    return {'Method': [dictionary, place, {'types': list(kinds), 'dicts': list(dicts)}]}
 
 
 def call(symbol, given, goal):
-    """A call."""
-    return [{'Call': [callee(symbol), given, at(goal)]}]
+    """A call of a symbol or of another callee."""
+    return [{'Call': [callee(symbol) if isinstance(symbol, str) else symbol, given, at(goal)]}]
 
 
 def when(condition, then, other):
@@ -95,6 +105,13 @@ def function(params, kinds, body, shapes=()):
             'body': body, 'types': [{'name': name, 'shape': shape} for name, shape in shapes]}
 
 
+def generic(types, bounds, raw, **impls):
+    """A function with this many parameters for types and for dictionaries, and the methods of the impls
+    that it names."""
+    tables = [{'name': name, 'methods': methods} for name, methods in impls.items()]
+    return {**raw, 'generics': {'types': [{}] * types, 'bounds': [{}] * bounds, 'impls': tables}}
+
+
 def program(functions, crate='one'):
     """A program of functions by symbol, as if the kit had proved their crates."""
     with tempfile.TemporaryDirectory() as folder:
@@ -110,7 +127,7 @@ def program(functions, crate='one'):
 
 
 def c_of(functions, symbol='one::f', crate='one'):
-    """The C of a function, and the types that it needs, as lines."""
+    """The C of a function, whose key has the symbol at its start, and the types that it needs, as lines."""
     made, names = program(functions, crate), Names([])
     for each in made.functions.values():
         fold(each)

@@ -8,11 +8,15 @@ import tempfile
 import unittest
 
 from ..exports import calls_of
-from ..mir import KITS, Unknown
+from ..instances import Unknown
+from ..mir import KITS
 from ..names import Names
 from ..whole import comment, file_text, translated
 from .build import (BOOL, PTR, RETURN, U8, U64, UNIT, array, at, c_of, call, callee, copy, function, loop,
-                    named, number, op2, program, put, ref, seq, when, words)
+                    method, named, number, op2, param, program, put, ref, seq, when, words)
+from .generic import (Arguments, Leaving, Lent, Running, Sizes, SourceNames,
+                      # noqa: F401 (run with those below)
+                      Widths)
 
 ROW = ('one::Row', {'Fields': [U64, U8]})
 TAG = ('one::Order', {'Variants': [[], [], []]})
@@ -110,7 +114,8 @@ class Values(unittest.TestCase):
     def test_arrays(self):
         """Zeros, other elements, and an element of a local array."""
         kinds = (array(U64, 3), U64, U64)
-        self.assertEqual(self.returned({'Repeat': [number(0), {'Lit': 3}]}, kinds), 'return (u64_3){ { 0 } };')
+        self.assertEqual(self.returned({'Repeat': [number(0), {'Lit': 3}]}, kinds),
+                         'return (u64_3){ { 0 } };')
         self.assertEqual(self.returned({'Aggregate': [copy(1), number(0), copy(2)]}, kinds),
                          'return (u64_3){ { p0, 0u, p1 } };')
         kinds = (U64, array(U64, 3), U64, U64, ref(array(U64, 3)), PTR)
@@ -295,14 +300,15 @@ class Whole(unittest.TestCase):
         return c_of({'one::f': function(0, [result, U64, ref(kind), ref(U64), words()], body), **more})[0]
 
     def test_lent_constants(self):
-        """An array without elements that is lent is a local; another constant, one that may leave the function and a pointer to one that
-        is kept are refused."""
+        """An array without elements that is lent is a local. Another constant, and one that may leave the
+        function, is a constant of C."""
         self.assertEqual(self.lent([])[2:-1], ['    u64_0 t2 = (u64_0){ { 0 } };',
-                                               '    uint64_t t1 = one__g((slice_u64){ t2.at, 0u });', '    return t1;'])
-        for said, words_of in (('a constant', ([7],)), ('whose result has a reference', ([], words())), ('is kept', ([], U64, ()))):
-            with self.assertRaises(Unknown) as caught:
-                self.lent(*words_of)
-            self.assertIn(said, str(caught.exception))
+                                               '    uint64_t t1 = one__g((slice_u64){ t2.at, 0u });',
+                                               '    return t1;'])
+        for values, initial, more in (([7, 8], '{ { 7u, 8u } }', ()), ([], '{ { 0 } }', (words(),))):
+            lines = '\n'.join(self.lent(values, *more))
+            self.assertIn(f'    static const u64_{len(values)} lent_1 = {initial};\n', lines)
+            self.assertIn(f'(u64_{len(values)} *)&lent_1', lines)
 
     HEADER = 'rowkeeper_row rowkeeper_f(const int64_t *at, size_t len, int64_t n, rowkeeper_row row);\n'
 
@@ -323,7 +329,8 @@ class Whole(unittest.TestCase):
     @unittest.skipUnless(shutil.which('cc'), 'there is no C compiler')
     def test_compiles(self):
         """What is written compiles without a warning."""
-        header = '#include <stdint.h>\n#include <stddef.h>\nuint64_t rowkeeper_f(const int64_t *at, size_t len);\n'
+        header = ('#include <stdint.h>\n#include <stddef.h>\n'
+                  'uint64_t rowkeeper_f(const int64_t *at, size_t len);\n')
         body = seq(put(3, op2('Mul', 'Unsigned', copy(1, 1), number(8))), put(0, copy(3)), RETURN)
         made = program({'one::rowkeeper_f': function(1, [U64, words(), U64, U64], body)})
         with tempfile.TemporaryDirectory() as folder:
@@ -359,20 +366,25 @@ class Refused(unittest.TestCase):
         self.refused('a statement', [U64, U64], 1, seq([{'Drop': 1}], RETURN))
         self.refused('a statement', [U64, U64], 1, ['Unreachable'])
         self.refused('a callee', [U64, U64], 1, seq([{'Call': [{'Indirect': 1}, [], at(0)]}], RETURN))
-        generic = {'Fn': ['one::f', {'types': [U64], 'dicts': []}]}
-        self.refused('a callee', [U64, U64], 1, seq([{'Call': [generic, [copy(1)], at(0)]}], RETURN))
-        self.refused('a type', [{'Named': [{'name': 'one::Row', 'lifetimes': []}, [U64]]}, U64], 1, give)
+        self.refused('other arguments', [U64, U64], 1, seq(call(callee('one::f', [U64]), [copy(1)], 0),
+                                                           RETURN))
+        self.refused('a type', [param(0), param(0)], 1, give)
+        unknown = method({'Impl': ['one::Numbers', [], []]}, 0)
+        self.refused('a dictionary', [U64, U64], 1, seq(call(unknown, [copy(1)], 0), RETURN))
+        self.refused('another form', [U64, U64], 1, seq([{'Exit': 0}], RETURN))
         self.refused('behind its end', [U64, U64], 1, [*give, 'Return'])
         self.refused('another form', [U64, U64], 1, seq([{'Assign': [at(0)]}], RETURN))
 
     def test_operations(self):
         """Operations that the library has not."""
-        for name, sign in (('Div', 'Signed'), ('Shl', 'Unsigned'), ('And', 'Unsigned')):
+        for name, sign in (('Shr', 'Signed'), ('Shl', 'Unsigned'), ('PtrEq', None)):
             body = seq(put(0, op2(name, sign, copy(1), copy(1))), RETURN)
             self.refused(f'an operation {name}', [U64, U64], 1, body)
-        self.refused('an operation Add', [U8, U8], 1, seq(put(0, op2('Add', 'Signed', copy(1), copy(1))), RETURN))
-        widened = {'Op1': [{'Cast': ['Signed', 'Signed', 64]}, copy(1)]}
-        self.refused('an operation Cast', [U64, U8], 1, seq(put(0, widened), RETURN))
+        self.refused('an operation Add', [BOOL, BOOL], 1, seq(put(0, op2('Add', 'Signed', copy(1), copy(1))),
+                                                              RETURN))
+        number_of = {'Op1': [{'Cast': ['Unsigned', 'Unsigned', 64]}, copy(1)]}
+        self.refused('an operation Cast', [U64, words()], 1, seq(put(0, number_of), RETURN))
+        self.refused('a type', [{'Int': 128}, {'Int': 128}], 1, seq(put(0, copy(1)), RETURN))
         self.refused('Add of', [U64, U64, U8], 2, seq(put(0, op2('Add', 'Signed', copy(1), copy(2))), RETURN))
         self.refused('for a place of type', [U8, U64], 1, seq(put(0, copy(1)), RETURN))
 
@@ -384,15 +396,8 @@ class Refused(unittest.TestCase):
         self.refused('an address', [U8, words(), PTR], 1, other)
 
     def test_control(self):
-        """Loops, blocks and exits of another form."""
-        self.refused('a loop', [U64, U64], 1, seq(['Loop', 'Return'], RETURN))
-        self.refused('no while', [U64, U64], 1, seq(['Block', *put(0, copy(1))], RETURN))
-        self.refused('no while', [U64, U64], 1, seq(['Block', 'Loop', *put(0, copy(1))], RETURN))
-        keys = {'Switch': [copy(1), [[0]], True]}
-        inside = seq(loop(copy(2), [keys, {'Exit': 1}, 'Skip']), put(0, copy(1)), RETURN)
-        self.refused('no break', [U64, U64, BOOL], 2, inside)
-        twice = seq(loop(copy(2), [{'Exit': 0}]), put(0, copy(1)), RETURN)
-        self.refused('no break', [U64, U64, BOOL], 2, twice)
+        """An end that the proof excludes, where nothing else is left."""
+        self.refused('a statement unreachable', [U64, U64], 1, seq(put(0, copy(1)), ['Unreachable']))
 
     def test_programs(self):
         """A function that calls itself, types of two shapes, a crate that is not proved."""

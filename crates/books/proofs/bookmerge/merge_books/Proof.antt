@@ -19,10 +19,10 @@ use Rattle.books.proofs.bookmerge.merge_books.Tie as tie
 
 -- The two books' rows.
 abbrev house : (s : tie.Start) → Rows
-house s = rows_of s.args.w s.args.nh s.args.hv.now s.args.hm.now
+house s = rows_of s.args.house.width s.args.house.count s.args.house.values.now s.args.house.marks.now
 
 abbrev festival : (s : tie.Start) → Rows
-festival s = rows_of s.args.w s.args.nf s.args.fv.now s.args.fm.now
+festival s = rows_of s.args.house.width s.args.festival.count s.args.festival.values.now s.args.festival.marks.now
 
 is-sorted-requires : tie.Need-is_sorted-requires
 is-sorted-requires c κs = search rules
@@ -30,7 +30,7 @@ is-sorted-requires c κs = search rules
 returns : tie.Need-returns-then-not-is_sorted
 returns c =
     let s = c in
-    unsorted_house (with_list s.args.o s.args.codes.now s.args.rising.now) s.args.w (house s.before.before.before) (festival s.before.before.before) s.args.out.now (sym c.is_sorted.ensures ∙ not-true c.is_sorted.result c.if-not-is_sorted.true-raw)
+    unsorted_house (with_list s.args.rules.terms s.args.rules.codes.now s.args.rules.rising.now) s.args.house.width (house s.before.before) (festival s.before.before) s.args.out.now (sym c.is_sorted.ensures ∙ not-true c.is_sorted.result c.if-not-is_sorted.true-raw)
 
 is-sorted-requires-2 : tie.Need-is_sorted-requires-2
 is-sorted-requires-2 c κs = search rules
@@ -38,32 +38,30 @@ is-sorted-requires-2 c κs = search rules
 returns-2 : tie.Need-returns-then-not-is_sorted-2
 returns-2 c =
     let s = c in
-    unsorted_festival (with_list s.args.o s.args.codes.now s.args.rising.now) s.args.w (house s.before.before.before.before.before) (festival s.before.before.before.before.before) s.args.out.now (sym c.is_sorted-2.ensures ∙ not-true c.is_sorted-2.result c.if-not-is_sorted-2.true-raw)
+    unsorted_festival (with_list s.args.rules.terms s.args.rules.codes.now s.args.rules.rising.now) s.args.house.width (house s.before.before.before.before.before.before) (festival s.before.before.before.before.before.before) s.args.out.now (sym c.is_sorted-2.ensures ∙ not-true c.is_sorted-2.result c.if-not-is_sorted-2.true-raw)
 
 -- Both are sorted.
-house_sorted : (c : tie.Else-not-is_sorted-2) → let s = c in sorted (with_list s.args.o s.args.codes.now s.args.rising.now) (house s.before.before.before.before.before) ≡ true
+house_sorted : (c : tie.Else-not-is_sorted-2) → let s = c in sorted (with_list s.args.rules.terms s.args.rules.codes.now s.args.rules.rising.now) (house s.before.before.before.before.before.before) ≡ true
 house_sorted c = sym c.is_sorted.ensures ∙ not-false c.is_sorted.result c.if-not-is_sorted.false-raw
 
-festival_sorted : (c : tie.Else-not-is_sorted-2) → let s = c in sorted (with_list s.args.o s.args.codes.now s.args.rising.now) (festival s.before.before.before.before.before) ≡ true
+festival_sorted : (c : tie.Else-not-is_sorted-2) → let s = c in sorted (with_list s.args.rules.terms s.args.rules.codes.now s.args.rules.rising.now) (festival s.before.before.before.before.before.before) ≡ true
 festival_sorted c = sym c.is_sorted-2.ensures ∙ not-false c.is_sorted-2.result c.if-not-is_sorted-2.false-raw
 
-counted : (s : tie.Start) → s.args.nh + s.args.nf ≡ length (house s) + length (festival s)
+counted : (s : tie.Start) → s.args.house.count + s.args.festival.count ≡ length (house s) + length (festival s)
 counted s =
     let a = s.args in
-    omega (arith, rows_length a.w a.nh a.hv.now a.hm.now, rows_length a.w a.nf a.fv.now a.fm.now)
+    omega (arith, rows_length a.house.width a.house.count a.house.values.now a.house.marks.now, rows_length a.house.width a.festival.count a.festival.values.now a.festival.marks.now)
 
 -- The books' words bound their rows.
-few : (s : tie.Start) → s.args.nh + s.args.nf < 2 ^ 64
+few : (s : tie.Start) → s.args.house.count + s.args.festival.count < 2 ^ 64
 few s =
     let a = s.args in
-    let g = s.well_formed.0 in
-    let f = s.well_formed.1.1.1.0 in
     let h = s.requires.house.rows in
     let k = s.requires.festival.rows in
-    omega (arith, g.0, g.1, f.0, f.1, at_least a.nh a.w (omega (arith, h.wide)), at_least a.nf a.w (omega (arith, h.wide)), h.values, k.values)
+    omega (arith, at_least a.house.count a.house.width (omega (arith, h.wide)), at_least a.festival.count a.house.width (omega (arith, h.wide)), h.values, k.values)
 
 add-n : tie.Need-overflow_add-n
-add-n c = omega (arith, few c.before.before.before.before.before)
+add-n c = omega (arith, few c.before.before.before.before.before.before)
 
 has-room-requires : tie.Need-has_room-requires
 has-room-requires c κs = search rules
@@ -72,14 +70,14 @@ returns-3 : tie.Need-returns-then-not-has_room
 returns-3 c =
     let e = c in
     let s = e in
-    no_room_lem (with_list s.args.o s.args.codes.now s.args.rising.now) s.args.w (house s.before.before.before.before.before.before.before) (festival s.before.before.before.before.before.before.before) s.args.out.now (house_sorted e.before.before) (festival_sorted e.before.before) (s.args.nh + s.args.nf) (counted s.before.before.before.before.before.before.before)
+    no_room_lem (with_list s.args.rules.terms s.args.rules.codes.now s.args.rules.rising.now) s.args.house.width (house s.before.before.before.before.before.before.before.before) (festival s.before.before.before.before.before.before.before.before) s.args.out.now (house_sorted e.before.before) (festival_sorted e.before.before) (s.args.house.count + s.args.festival.count) (counted s.before.before.before.before.before.before.before.before)
     (sym c.has_room.ensures ∙ not-true c.has_room.result c.if-not-has_room.true-raw)
 
 -- There is room.
-room : (c : tie.Else-not-has_room) → let a = c.args in frame_words (a.nh + a.nf) a.w ≤ length a.out.now
+room : (c : tie.Else-not-has_room) → let a = c.args in frame_words (a.house.count + a.festival.count) a.house.width ≤ length a.out.now
 room c =
     let a = c.args in
-    room_there (a.nh + a.nf) a.w (length a.out.now) (sym c.has_room.ensures ∙ not-false c.has_room.result c.if-not-has_room.false-raw)
+    room_there (a.house.count + a.festival.count) a.house.width (length a.out.now) (sym c.has_room.ensures ∙ not-false c.has_room.result c.if-not-has_room.false-raw)
 
 merge-rows-requires : tie.Need-merge_rows-requires
 merge-rows-requires c κs =
@@ -95,7 +93,7 @@ returns-4 c =
     let e = r in
     let s = e in
     let a = s.args in
-    wrote (with_list a.o a.codes.now a.rising.now) a.w (house s.before.before.before.before.before.before.before.before.before.before) (festival s.before.before.before.before.before.before.before.before.before.before) a.out.now (house_sorted e.before.before.before.before.before) (festival_sorted e.before.before.before.before.before) (a.nh + a.nf) (counted s.before.before.before.before.before.before.before.before.before.before) (room r.before.before.before) _ c.merge_rows.ensures
+    wrote (with_list a.rules.terms a.rules.codes.now a.rules.rising.now) a.house.width (house s.before.before.before.before.before.before.before.before.before.before.before) (festival s.before.before.before.before.before.before.before.before.before.before.before) a.out.now (house_sorted e.before.before.before.before.before) (festival_sorted e.before.before.before.before.before) (a.house.count + a.festival.count) (counted s.before.before.before.before.before.before.before.before.before.before.before) (room r.before.before.before) _ c.merge_rows.ensures
 
 pub merge_books_spec : {M : Type 1} → statement M
 merge_books_spec =

@@ -17,13 +17,13 @@ use Rattle.books.proofs.noticecall.list_notices.Statement.{statement}
 use Rattle.books.proofs.noticecall.list_notices.Tie as tie
 
 abbrev rows : tie.Start → Rows
-rows s = rows_of s.args.w s.args.n s.args.values.now s.args.marks.now
+rows s = rows_of s.args.rows.width s.args.rows.count s.args.rows.values.now s.args.rows.marks.now
 
-counted : (s : tie.Start) → s.args.n ≡ length (rows s)
-counted s = sym (rows_length s.args.w s.args.n s.args.values.now s.args.marks.now)
+counted : (s : tie.Start) → s.args.rows.count ≡ length (rows s)
+counted s = sym (rows_length s.args.rows.width s.args.rows.count s.args.rows.values.now s.args.rows.marks.now)
 
-returns : tie.Need-returns-then-o-column
-returns c = let s = c in no_column (with_list s.args.o s.args.codes.now s.args.rising.now) s.args.column (rows s.before.before.before) s.args.out.now c.if-o-column.true
+returns : tie.Need-returns-then-rules-column
+returns c = let s = c in no_column (with_list s.args.rules.terms s.args.rules.codes.now s.args.rules.rising.now) s.args.column (rows s.before) s.args.out.now c.if-rules-column.true
 
 is-sorted-requires : tie.Need-is_sorted-requires
 is-sorted-requires c κs = search rules
@@ -32,9 +32,9 @@ returns-2 : tie.Need-returns-then-not-is_sorted
 returns-2 c =
     let e = c in
     let s = e in
-    unsorted (with_list s.args.o s.args.codes.now s.args.rising.now) s.args.column (rows s.before.before.before.before.before) s.args.out.now e.if-o-column.false (sym c.is_sorted.ensures ∙ not-true c.is_sorted.result c.if-not-is_sorted.true-raw)
+    unsorted (with_list s.args.rules.terms s.args.rules.codes.now s.args.rules.rising.now) s.args.column (rows s.before.before.before) s.args.out.now e.if-rules-column.false (sym c.is_sorted.ensures ∙ not-true c.is_sorted.result c.if-not-is_sorted.true-raw)
 
-in_order : (c : tie.Else-not-is_sorted) → let s = c in sorted (with_list s.args.o s.args.codes.now s.args.rising.now) (rows s.before.before.before.before.before) ≡ true
+in_order : (c : tie.Else-not-is_sorted) → let s = c in sorted (with_list s.args.rules.terms s.args.rules.codes.now s.args.rules.rising.now) (rows s.before.before.before) ≡ true
 in_order c = sym c.is_sorted.ensures ∙ not-false c.is_sorted.result c.if-not-is_sorted.false-raw
 
 has-room-requires : tie.Need-has_room-requires
@@ -45,18 +45,18 @@ returns-3 c =
     let d = c in
     let e = d in
     let s = e in
-    no_room_lem (with_list s.args.o s.args.codes.now s.args.rising.now) s.args.column (rows s.before.before.before.before.before.before.before) s.args.out.now e.if-o-column.false (in_order d.before.before) s.args.n (counted s.before.before.before.before.before.before.before)
+    no_room_lem (with_list s.args.rules.terms s.args.rules.codes.now s.args.rules.rising.now) s.args.column (rows s.before.before.before.before.before) s.args.out.now e.if-rules-column.false (in_order d.before.before) s.args.rows.count (counted s.before.before.before.before.before)
     (sym c.has_room.ensures ∙ not-true c.has_room.result c.if-not-has_room.true-raw)
 
-room : (c : tie.Else-not-has_room) → let a = c.args in frame_words a.n 2 ≤ length a.out.now
+room : (c : tie.Else-not-has_room) → let a = c.args in frame_words a.rows.count 2 ≤ length a.out.now
 room c =
     let a = c.args in
-    room_there a.n 2 (length a.out.now) (sym c.has_room.ensures ∙ not-false c.has_room.result c.if-not-has_room.false-raw)
+    room_there a.rows.count 2 (length a.out.now) (sym c.has_room.ensures ∙ not-false c.has_room.result c.if-not-has_room.false-raw)
 
-few : (c : tie.Else-not-has_room) → c.args.n < 2 ^ 60
-few c = let g = c.well_formed.1.1.1.1.1.1.1.1.0 in omega (arith, g.0, g.1, room c)
+few : (c : tie.Else-not-has_room) → c.args.rows.count < 2 ^ 60
+few c = let g = c.well_formed.1.1.1.0 in omega (arith, g.0, g.1, room c)
 
-mul-put-notices : tie.Need-overflow_mul-n
+mul-put-notices : tie.Need-overflow_mul-rows
 mul-put-notices c = omega (arith, few c)
 
 put-notices-requires : tie.Need-put_notices-requires
@@ -65,7 +65,7 @@ put-notices-requires c κs =
     let d = r in
     let e = d in
     let s = e in
-    record { rows = s.requires.rows; wide = omega (arith, s.requires.width, e.if-o-column.false); in_order = in_order d.before.before.before; counted = omega arith; room = omega (arith, room r.before) }
+    record { rows = s.requires.rows; wide = omega (arith, s.requires.width, e.if-rules-column.false); in_order = in_order d.before.before.before; counted = omega arith; room = omega (arith, room r.before) }
 
 put-head-requires : tie.Need-put_head-requires
 put-head-requires c κs =
@@ -81,7 +81,7 @@ returns-4 c =
     let d = r in
     let e = d in
     let s = e in
-    wrote (with_list s.args.o s.args.codes.now s.args.rising.now) s.args.column (rows s.before.before.before.before.before.before.before.before.before.before.before.before.before) s.args.out.now e.if-o-column.false (in_order d.before.before.before.before.before.before.before.before) s.args.n (counted s.before.before.before.before.before.before.before.before.before.before.before.before.before) (room r.before.before.before.before.before.before) _ _ c.put_notices.ensures c.put_head.ensures
+    wrote (with_list s.args.rules.terms s.args.rules.codes.now s.args.rules.rising.now) s.args.column (rows s.before.before.before.before.before.before.before.before.before.before.before) s.args.out.now e.if-rules-column.false (in_order d.before.before.before.before.before.before.before.before) s.args.rows.count (counted s.before.before.before.before.before.before.before.before.before.before.before) (room r.before.before.before.before.before.before) _ _ c.put_notices.ensures c.put_head.ensures
 
 pub list_notices_spec : {M : Type 1} → statement M
 list_notices_spec =

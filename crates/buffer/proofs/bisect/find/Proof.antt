@@ -15,29 +15,29 @@ use Rattle.buffer.proofs.bisect.find.Statement.{statement}
 use Rattle.buffer.proofs.bisect.find.Tie as tie
 
 abbrev invariant-loop : tie.invariant-loop-low
-invariant-loop seek descending nulls-last codes rising j value mark values marks w lower upper low₀ high₀ low high =
+invariant-loop seek descending nulls-last codes rising j value mark rows lower upper low₀ high₀ low high =
     let rule : Rule = record { descending = descending; nulls_last = nulls-last; codes = codes } in
     let v : Cell = cell_of (to_z w64 value) (to_z w64 mark) in
-    (high ≤ upper) × ((n : ℕ) → upper ≤ n → find seek rule j v (rows_of w n values marks) lower upper ≡ find seek rule j v (rows_of w n values marks) low high)
+    (high ≤ upper) × ((n : ℕ) → upper ≤ n → find seek rule j v (rows_of rows.width n rows.values.now rows.marks.now) lower upper ≡ find seek rule j v (rows_of rows.width n rows.values.now rows.marks.now) low high)
 
 abbrev decreases-loop : tie.decreases-loop-low
-decreases-loop seek descending nulls-last codes rising j value mark values marks w lower upper low₀ high₀ low high = high - low
+decreases-loop seek descending nulls-last codes rising j value mark rows lower upper low₀ high₀ low high = high - low
 
 loop-holds : tie.Need-loop-low-init invariant-loop decreases-loop
 loop-holds c = (omega arith, λ n h. refl)
 
 -- the probe's row is among those that are there
-place : (c : tie.In-loop-low invariant-loop decreases-loop) → let l = c.loop-low in let a = c.args in (l.low + l.high) / 2 * a.w + a.w ≤ a.upper * a.w
+place : (c : tie.In-loop-low invariant-loop decreases-loop) → let l = c.loop-low in let a = c.args in (l.low + l.high) / 2 * a.rows.width + a.rows.width ≤ a.upper * a.rows.width
 place c =
     let l = c.loop-low in
     let a = c.args in
-    row_room ((l.low + l.high) / 2) a.upper a.w (omega (arith, l.invariant.0))
+    row_room ((l.low + l.high) / 2) a.upper a.rows.width (omega (arith, l.invariant.0))
 
 add-mid : tie.Need-overflow_add-mid invariant-loop decreases-loop
 add-mid c =
     let a = c.args in
     let p = c.requires.1 in
-    let n = rows_words a.upper a.w (omega (arith, p.wide)) in
+    let n = rows_words a.upper a.rows.width (omega (arith, p.wide)) in
     omega arith
 
 mul-probe : tie.Need-overflow_mul-mid invariant-loop decreases-loop
@@ -55,13 +55,13 @@ probe-requires c κs =
 told : (c : tie.After-probe invariant-loop decreases-loop) (t : Bool) → c.probe.result ≡ t → (n : ℕ) →
     let l = c.loop-low in
     let a = c.args in
-    a.upper ≤ n → Met a.seek (record { descending = a.descending; nulls_last = a.nulls_last; codes = a.codes.now }) a.j (cell_of (to_z w64 (of_z w64 a.value)) (to_z w64 (of_z w64 a.mark))) (rows_of a.w n a.values.now a.marks.now) l.low l.high t
+    a.upper ≤ n → Met a.seek (record { descending = a.descending; nulls_last = a.nulls_last; codes = a.codes.now }) a.j (cell_of (to_z w64 (of_z w64 a.value)) (to_z w64 (of_z w64 a.mark))) (rows_of a.rows.width n a.rows.values.now a.rows.marks.now) l.low l.high t
 told c t e n h =
     let l = c.loop-low in
     let s = c in
     let a = s.args in
     let p = place c.before in
-    rw (held_cell a.w n ((l.low + l.high) / 2) a.j a.values.now a.marks.now (omega (arith, c.loop-low-test.true, l.invariant.0)) s.requires.1.wide (omega (arith, s.requires.1.values, s.requires.1.wide))) (rw c.probe.ensures at e)
+    rw (held_cell a.rows.width n ((l.low + l.high) / 2) a.j a.rows.values.now a.rows.marks.now (omega (arith, c.loop-low-test.true, l.invariant.0)) s.requires.1.wide (omega (arith, s.requires.1.values, s.requires.1.wide))) (rw c.probe.ensures at e)
 
 loop-less : tie.Need-loop-low-smaller-then-probe invariant-loop decreases-loop
 loop-less c = omega arith

@@ -26,14 +26,14 @@ find-key-requires c κs =
     (s.requires.0, column_in s.requires.1 _ _ s.requires.1.wide s.requires.2)
 
 -- the rows are n, and what was found among them
-many : (c : tie.After-find_key-g) → let a = c.args in length (rows_of a.w a.n a.rv.now a.rm.now) ≡ a.n
-many c = let a = c.args in rows_length a.w a.n a.rv.now a.rm.now
+many : (c : tie.After-find_key-g) → let a = c.args in length (rows_of a.right.width a.right.count a.right.values.now a.right.marks.now) ≡ a.right.count
+many c = let a = c.args in rows_length a.right.width a.right.count a.right.values.now a.right.marks.now
 
-first : (c : tie.After-find_key-g) → let a = c.args in c.find_key-g.result ≡ find_key (without_list a.o) (seek_of c.strategy_of-strategy.result a.o.allow_eq) (cell_at a.k a.lv.now a.lm.now) (rows_of a.w a.n a.rv.now a.rm.now) a.s.start a.s.end
-first c = let s = c in rw (← c.seek_of-seek.ensures) (c.find_key-g.ensures s.args.n s.requires.2)
+first : (c : tie.After-find_key-g) → let a = c.args in c.find_key-g.result ≡ find_key (without_list a.o) (seek_of c.strategy_of-strategy.result a.o.allow_eq) (cell_at a.k a.left.values.now a.left.marks.now) (rows_of a.right.width a.right.count a.right.values.now a.right.marks.now) a.s.start a.s.end
+first c = let s = c in rw (← c.seek_of-seek.ensures) (c.find_key-g.ensures s.args.right.count s.requires.2)
 
-returns : tie.Need-returns-then-n-g
-returns c = rw (← c.strategy_of-strategy.ensures) (key_past _ _ _ _ _ _ (many c.before) _ (first c.before) c.if-n-g.true)
+returns : tie.Need-returns-then-right-g
+returns c = rw (← c.strategy_of-strategy.ensures) (key_past _ _ _ _ _ _ (many c.before) _ (first c.before) c.if-right-g.true)
 
 enum_told : tie.Need-enum_told-1
 enum_told c = search rules
@@ -45,8 +45,8 @@ enum-told-3 : tie.Need-enum_told-in-Nearest
 enum-told-3 c = search rules
 
 -- the row that was found is one of them
-place : (c : tie.Else-n-g) → let a = c.args in c.find_key-g.result * a.w + a.w ≤ a.n * a.w
-place c = let a = c.args in row_room c.find_key-g.result a.n a.w c.if-n-g.false
+place : (c : tie.Else-right-g) → let a = c.args in c.find_key-g.result * a.right.width + a.right.width ≤ a.right.count * a.right.width
+place c = let a = c.args in row_room c.find_key-g.result a.right.count a.right.width c.if-right-g.false
 
 mul-find-key : tie.Need-overflow_mul-g
 mul-find-key c = let z = place c.before in omega arith
@@ -66,13 +66,13 @@ returns-2 : tie.Need-returns-in-Backward
 returns-2 c =
     let f = c in
     let e = c.in-Backward.is in
-    rw (← f.strategy_of-strategy.ensures, e) (key_backward _ _ _ _ _ _ (many f.before.before) (rw e at (first f.before.before)) c.if-n-g.false)
+    rw (← f.strategy_of-strategy.ensures, e) (key_backward _ _ _ _ _ _ (many f.before.before) (rw e at (first f.before.before)) c.if-right-g.false)
 
 returns-3 : tie.Need-returns-in-Forward
 returns-3 c =
     let f = c in
     let e = c.in-Forward.is in
-    rw (← f.strategy_of-strategy.ensures, e) (key_forward _ _ _ _ _ _ (many f.before.before) (rw e at (first f.before.before)) c.if-n-g.false)
+    rw (← f.strategy_of-strategy.ensures, e) (key_forward _ _ _ _ _ _ (many f.before.before) (rw e at (first f.before.before)) c.if-right-g.false)
 
 returns-4 : tie.Need-returns-in-Nearest
 returns-4 c =
@@ -80,10 +80,10 @@ returns-4 c =
     let s = f in
     let a = s.args in
     let e = c.in-Nearest.is in
-    let h = c.if-n-g.false in
+    let h = c.if-right-g.false in
     let z = place c.before.before.before in
-    let k = held_cell a.w a.n f.find_key-g.result a.o.by a.rv.now a.rm.now h s.requires.1.wide (omega (arith, s.requires.1.values, s.requires.1.wide)) in
-    rw (← f.strategy_of-strategy.ensures, e) (key_nearest _ _ _ _ _ _ (many f.before.before.before.before) _ (rw e at (first f.before.before.before.before)) h (rw k (c.find_key.ensures a.n s.requires.2)))
+    let k = held_cell a.right.width a.right.count f.find_key-g.result a.o.by a.right.values.now a.right.marks.now h s.requires.1.wide (omega (arith, s.requires.1.values, s.requires.1.wide)) in
+    rw (← f.strategy_of-strategy.ensures, e) (key_nearest _ _ _ _ _ _ (many f.before.before.before.before) _ (rw e at (first f.before.before.before.before)) h (rw k (c.find_key.ensures a.right.count s.requires.2)))
 
 pub key_needs_more_spec : {M : Type 1} → statement M
 key_needs_more_spec =

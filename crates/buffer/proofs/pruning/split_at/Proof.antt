@@ -19,15 +19,15 @@ find-key-requires c κs = search rules
 step-back-requires : tie.Need-step_back-requires
 step-back-requires c κs = search rules
 
-returns : tie.Need-returns-then-o-eq0
+returns : tie.Need-returns-then-rules-eq0
 returns c = λ wl h.
     let i = c in
     let s = i in
     let a = s.args in
-    let o = with_list a.o a.codes.now a.rising.now in
-    let z : a.p + a.o.by ≡ a.p = omega (arith, i.if-o-eq0.true) in
+    let o = with_list a.rules.terms a.rules.codes.now a.rules.rising.now in
+    let z : a.p + a.rules.terms.by ≡ a.p = omega (arith, i.if-rules-eq0.true) in
     rw (c.step_back.ensures, i.strategy_of-strategy.ensures)
-    (split_is o (row_from wl a.p a.lv.now a.lm.now) (rows_of a.w a.n a.rv.now a.rm.now) _ _ _ (narrowed_all o (row_from wl a.p a.lv.now a.lm.now) (rows_of a.w a.n a.rv.now a.rm.now) a.n i.if-o-eq0.true (rows_length a.w a.n a.rv.now a.rm.now)) (rw z at (row_cell wl a.p a.o.by a.lv.now a.lm.now h s.requires.0.values)) (c.find_key-key.ensures a.n (omega arith)))
+    (split_is o (row_from wl a.p a.left.values.now a.left.marks.now) (rows_of a.right.width a.right.count a.right.values.now a.right.marks.now) _ _ _ (narrowed_all o (row_from wl a.p a.left.values.now a.left.marks.now) (rows_of a.right.width a.right.count a.right.values.now a.right.marks.now) a.right.count i.if-rules-eq0.true (rows_length a.right.width a.right.count a.right.values.now a.right.marks.now)) (rw z at (row_cell wl a.p a.rules.terms.by a.left.values.now a.left.marks.now h s.requires.0.values)) (c.find_key-key.ensures a.right.count (omega arith)))
 
 narrow-requires : tie.Need-narrow-s-requires
 narrow-requires c κs = search rules
@@ -36,8 +36,8 @@ add-find-key : tie.Need-overflow_add-p
 add-find-key c = search rules
 
 -- the stretch ends at or before the last row
-within : (c : tie.After-narrow-s) → c.narrow-s.result.end ≤ c.args.n
-within c = let a = c.args in narrow_end _ _ _ _ _ _ (rows_length a.w a.n a.rv.now a.rm.now) (c.narrow-s.ensures (suc a.o.by) (omega arith))
+within : (c : tie.After-narrow-s) → c.narrow-s.result.end ≤ c.args.right.count
+within c = let a = c.args in narrow_end _ _ _ _ _ _ (rows_length a.right.width a.right.count a.right.values.now a.right.marks.now) (c.narrow-s.ensures (suc a.rules.terms.by) (omega arith))
 
 find-key-requires-2 : tie.Need-find_key-at-requires
 find-key-requires-2 c κs =
@@ -53,7 +53,7 @@ returns-2 c = λ wl h.
     let s = f in
     let a = s.args in
     rw (c.step_back-2.ensures, f.strategy_of-strategy.ensures)
-    (split_is (with_list a.o a.codes.now a.rising.now) _ _ _ _ _ (f.narrow-s.ensures wl h) (row_cell wl a.p a.o.by a.lv.now a.lm.now h s.requires.0.values) (c.find_key-at.ensures a.n (within f.before.before.before)))
+    (split_is (with_list a.rules.terms a.rules.codes.now a.rules.rising.now) _ _ _ _ _ (f.narrow-s.ensures wl h) (row_cell wl a.p a.rules.terms.by a.left.values.now a.left.marks.now h s.requires.0.values) (c.find_key-at.ensures a.right.count (within f.before.before.before)))
 
 pub split_at_spec : {M : Type 1} → statement M
 split_at_spec =

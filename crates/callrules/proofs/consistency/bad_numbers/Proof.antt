@@ -20,21 +20,21 @@ unfolding bad_numbers
 returns c = simp (← c.refused_options.ensures, c.if-refused_options.true)
 
 -- The options are not refused, so they have few columns.
-fine : (c : tie.Else-refused_options) → let a = c.args in refused_options (with_list a.o a.codes.now a.rising.now) ≡ false
+fine : (c : tie.Else-refused_options) → let a = c.args in refused_options (with_list a.rules.terms a.rules.codes.now a.rules.rising.now) ≡ false
 fine c = sym c.refused_options.ensures ∙ c.if-refused_options.false
 
-allowed : (c : tie.Else-refused_options) → let a = c.args in Allowed (with_list a.o a.codes.now a.rising.now)
+allowed : (c : tie.Else-refused_options) → let a = c.args in Allowed (with_list a.rules.terms a.rules.codes.now a.rules.rising.now)
 allowed c = allowed_parts _ (fine c)
 
 -- The first sum that is tested is that of the held rows.
-rows : (c : tie.After-above) → let a = c.args in c.above.result ≡ ltb (capacity (right_columns (with_list a.o a.codes.now a.rising.now)) a.right.now) (a.base + a.held)
+rows : (c : tie.After-above) → let a = c.args in c.above.result ≡ ltb (capacity (right_columns (with_list a.rules.terms a.rules.codes.now a.rules.rising.now)) a.right.now) (a.base + a.held)
 rows c = rw c.right_columns-c.ensures at c.above.ensures
 
 right-columns-requires : tie.Need-right_columns-c-requires
-right-columns-requires c κs = ((allowed c).by, (allowed c).carried)
+right-columns-requires c κs = ((allowed c.before).by, (allowed c.before).carried)
 
 mul-above : tie.Need-overflow_mul-c
-mul-above c = omega (arith, c.right_columns-c.ensures, (allowed c.before).by, (allowed c.before).carried)
+mul-above c = omega (arith, c.right_columns-c.ensures, (allowed c.before.before).by, (allowed c.before.before).carried)
 
 div-above : tie.Need-nonzero_div-right
 div-above c = search rules
@@ -44,7 +44,7 @@ above-requires c κs = search rules
 
 returns-2 : tie.Need-returns-then-above
 unfolding bad_numbers
-returns-2 c = simp (fine c.before.before.before, ← rows c.before, c.if-above.true)
+returns-2 c = simp (fine c.before.before.before.before, ← rows c.before, c.if-above.true)
 
 above-requires-2 : tie.Need-above-requires-2
 above-requires-2 c κs = search rules
@@ -53,7 +53,7 @@ returns-3 : tie.Need-returns-then-above-2
 unfolding bad_numbers
 returns-3 c =
     let a = c in
-    simp (fine a.before.before.before.before.before, ← rows a.before.before.before, c.if-above.false, ← c.above-2.ensures, c.if-above-2.true)
+    simp (fine a.before.before.before.before.before.before, ← rows a.before.before.before, c.if-above.false, ← c.above-2.ensures, c.if-above-2.true)
 
 above-requires-3 : tie.Need-above-requires-3
 above-requires-3 c κs = search rules
@@ -63,7 +63,7 @@ unfolding bad_numbers
 returns-4 c =
     let b = c in
     let a = b in
-    simp (fine a.before.before.before.before.before.before.before, ← rows a.before.before.before.before.before, b.if-above.false, ← b.above-2.ensures, c.if-above-2.false, ← c.above-3.ensures, c.if-above-3.true)
+    simp (fine a.before.before.before.before.before.before.before.before, ← rows a.before.before.before.before.before, b.if-above.false, ← b.above-2.ensures, c.if-above-2.false, ← c.above-3.ensures, c.if-above-3.true)
 
 returns-5 : tie.Need-returns
 unfolding bad_numbers
@@ -71,7 +71,7 @@ returns-5 c =
     let d = c in
     let b = d in
     let a = b in
-    simp (fine a.before.before.before.before.before.before.before, ← rows a.before.before.before.before.before, b.if-above.false, ← b.above-2.ensures, d.if-above-2.false, ← d.above-3.ensures, c.if-above-3.false)
+    simp (fine a.before.before.before.before.before.before.before.before, ← rows a.before.before.before.before.before, b.if-above.false, ← b.above-2.ensures, d.if-above-2.false, ← d.above-3.ensures, c.if-above-3.false)
 
 pub bad_numbers_spec : {M : Type 1} → statement M
 bad_numbers_spec =

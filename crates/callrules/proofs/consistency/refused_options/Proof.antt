@@ -10,7 +10,7 @@ bad-options-requires c κs = search rules
 
 returns : tie.Need-returns-then-bad_options
 unfolding refused_options
-returns c = let a = c.args in simp (← bad_terms a.o a.codes.now a.rising.now, ← c.bad_options.ensures, c.if-bad_options.true)
+returns c = let a = c.args in simp (← bad_terms a.rules.terms a.rules.codes.now a.rules.rising.now, ← c.bad_options.ensures, c.if-bad_options.true)
 
 many-carried-requires : tie.Need-many_carried-requires
 many-carried-requires c κs = search rules
@@ -20,7 +20,7 @@ unfolding refused_options
 returns-2 c =
     let b = c in
     let a = b.args in
-    simp (← bad_terms a.o a.codes.now a.rising.now, ← b.bad_options.ensures, c.if-bad_options.false, ← c.many_carried.ensures, c.if-many_carried.true)
+    simp (← bad_terms a.rules.terms a.rules.codes.now a.rules.rising.now, ← b.bad_options.ensures, c.if-bad_options.false, ← c.many_carried.ensures, c.if-many_carried.true)
 
 bad-ranks-requires : tie.Need-bad_ranks-requires
 bad-ranks-requires c κs = search rules
@@ -30,7 +30,7 @@ unfolding refused_options
 returns-3 c =
     let m = c in
     let a = m.args in
-    simp (← bad_terms a.o a.codes.now a.rising.now, ← m.bad_options.ensures, m.if-bad_options.false, ← m.many_carried.ensures, c.if-many_carried.false) c.bad_ranks.ensures
+    simp (← bad_terms a.rules.terms a.rules.codes.now a.rules.rising.now, ← m.bad_options.ensures, m.if-bad_options.false, ← m.many_carried.ensures, c.if-many_carried.false) c.bad_ranks.ensures
 
 pub refused_options_spec : {M : Type 1} → statement M
 refused_options_spec =

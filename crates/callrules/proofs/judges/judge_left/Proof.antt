@@ -29,17 +29,17 @@ returns-3 c =
     simp (e.if-bad.false, e.if-failed.false, ← c.is_running.ensures, c.if-not-is_running.true-raw)
 
 -- A join that is not bad compares rows.
-few : (c : tie.Else-not-is_running) → let a = c.args in Few (with_list a.o a.codes.now a.rising.now)
+few : (c : tie.Else-not-is_running) → let a = c.args in Few (with_list a.rules.terms a.rules.codes.now a.rules.rising.now)
 few c = let e = c in e.requires e.if-bad.false
 
 left-columns-requires : tie.Need-left_columns-c-requires
-left-columns-requires c κs = (few c).by
+left-columns-requires c κs = (few c.before).by
 
 is-frame-requires : tie.Need-is_frame-requires
 is-frame-requires c κs = search rules
 
 -- What the calls say, by the definitions' names.
-frame : (c : tie.After-is_frame) → let a = c.args in c.is_frame.result ≡ is_frame (columns (with_list a.o a.codes.now a.rising.now)) a.frame.now
+frame : (c : tie.After-is_frame) → let a = c.args in c.is_frame.result ≡ is_frame (columns (with_list a.rules.terms a.rules.codes.now a.rules.rising.now)) a.frame.now
 frame c = rw c.left_columns-c.ensures at c.is_frame.ensures
 
 returns-4 : tie.Need-returns-then-not-is_frame
@@ -54,10 +54,10 @@ lacks-code-requires : tie.Need-lacks_code-requires
 lacks-code-requires c κs =
     let f = c in
     let n = f.left_columns-c.ensures in
-    (few f.before.before.before, omega arith, frame_table _ _ (sym f.is_frame.ensures ∙ not-false f.is_frame.result c.if-not-is_frame.false-raw))
+    (few f.before.before.before.before, omega arith, frame_table _ _ (sym f.is_frame.ensures ∙ not-false f.is_frame.result c.if-not-is_frame.false-raw))
 
 codes : (c : tie.After-lacks_code) →
-    let a = c.args in c.lacks_code.result ≡ lacks_code (with_list a.o a.codes.now a.rising.now) (frame_rows (columns (with_list a.o a.codes.now a.rising.now)) a.frame.now)
+    let a = c.args in c.lacks_code.result ≡ lacks_code (with_list a.rules.terms a.rules.codes.now a.rules.rising.now) (frame_rows (columns (with_list a.rules.terms a.rules.codes.now a.rules.rising.now)) a.frame.now)
 codes c = rw c.left_columns-c.ensures at c.lacks_code.ensures
 
 returns-5 : tie.Need-returns-then-lacks_code

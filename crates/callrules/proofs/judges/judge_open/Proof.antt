@@ -10,7 +10,7 @@ bad-options-requires c κs = search rules
 
 returns : tie.Need-returns-then-bad_options
 unfolding open_answer
-returns c = let a = c.args in simp (← bad_terms a.o a.codes.now a.rising.now, ← c.bad_options.ensures, c.if-bad_options.true)
+returns c = let a = c.args in simp (← bad_terms a.rules.terms a.rules.codes.now a.rules.rising.now, ← c.bad_options.ensures, c.if-bad_options.true)
 
 many-carried-requires : tie.Need-many_carried-requires
 many-carried-requires c κs = search rules
@@ -19,7 +19,7 @@ returns-2 : tie.Need-returns-then-many_carried
 unfolding open_answer
 returns-2 c =
     let a = c.args in
-    simp (← bad_terms a.o a.codes.now a.rising.now, ← c.bad_options.ensures, c.if-bad_options.false, ← c.many_carried.ensures, c.if-many_carried.true)
+    simp (← bad_terms a.rules.terms a.rules.codes.now a.rules.rising.now, ← c.bad_options.ensures, c.if-bad_options.false, ← c.many_carried.ensures, c.if-many_carried.true)
 
 bad-ranks-requires : tie.Need-bad_ranks-requires
 bad-ranks-requires c κs = search rules
@@ -30,7 +30,7 @@ returns-3 c =
     let m = c in
     let a = m.args in
     simp (
-      ← bad_terms a.o a.codes.now a.rising.now,
+      ← bad_terms a.rules.terms a.rules.codes.now a.rules.rising.now,
       ← m.bad_options.ensures,
       m.if-bad_options.false,
       ← m.many_carried.ensures,
@@ -45,7 +45,7 @@ returns-4 c =
     let m = c in
     let a = m.args in
     simp (
-      ← bad_terms a.o a.codes.now a.rising.now,
+      ← bad_terms a.rules.terms a.rules.codes.now a.rules.rising.now,
       ← m.bad_options.ensures,
       m.if-bad_options.false,
       ← m.many_carried.ensures,

@@ -3,7 +3,6 @@ use mathlib.Core.Path.{◌≡◌, refl, sym}
 use Prim.Native.Nat.{◌+◌, ◌*◌}
 use native.Mathlib.Omega.{arith}
 use borrow.Author.Rules.{rules}
-use borrow.Author.Tests.{not-true, not-false}
 use lib.ListN.{length}
 use lib.Seq.{length-take-le}
 use Rattle.frames.proofs.FrontLaws.{table_count}
@@ -17,12 +16,12 @@ use Rattle.callrules.proofs.listed.lacks_code.Tie as tie
 
 -- The options with their list.
 abbrev whole : tie.Start → Options
-whole s = with_list s.args.o s.args.codes.now s.args.rising.now
+whole s = with_list s.args.rules.terms s.args.rules.codes.now s.args.rules.rising.now
 
-returns : tie.Need-returns-then-not-o
+returns : tie.Need-returns-then-not-rules
 returns c =
     let s = c in
-    sym (unranked_lacks (whole s.before.before.before) s.args.c s.args.table.now (not-true s.args.o.given c.if-not-o.true))
+    sym (unranked_lacks (whole s.before) s.args.c s.args.table.now c.if-not-rules.true)
 
 row-count-requires : tie.Need-row_count-n-requires
 row-count-requires c κs = let s = c in table_count s.args.c s.args.table.now s.requires.2
@@ -59,38 +58,38 @@ part-any-unlisted-end-2 : tie.Need-slice_bounds-any_unlisted-end-2
 part-any-unlisted-end-2 c = search rules
 
 -- The list is given: it is a good one, and all its words are there.
-good : (c : tie.After-row_count-n) → let s = c in Good s.args.o.by (whole s.before.before.before.before).ranks
-good c = let s = c in list_good (whole s.before.before.before.before) s.requires.0 (not-false s.args.o.given c.if-not-o.false)
+good : (c : tie.After-row_count-n) → let s = c in Good s.args.rules.terms.by (whole s.before.before).ranks
+good c = let s = c in list_good (whole s.before.before) s.requires.0 c.if-not-rules.false
 
-list : (c : tie.After-row_count-n) → Kept (whole c.before.before.before.before).ranks
-list c = let s = c in list_kept (whole s.before.before.before.before) s.requires.0 (not-false s.args.o.given c.if-not-o.false)
+list : (c : tie.After-row_count-n) → Kept (whole c.before.before).ranks
+list c = let s = c in list_kept (whole s.before.before) s.requires.0 c.if-not-rules.false
 
 slice-aggregate-any-unlisted : tie.Need-slice_bounds-any_unlisted-end-3
 slice-aggregate-any-unlisted c =
     let r = c in
     let s = r in
-    sym (length-take-le s.args.o.count s.args.codes.now (list r.before.before).codes)
+    sym (length-take-le s.args.rules.terms.count s.args.rules.codes.now (list r.before.before.before).codes)
 
 slice-aggregate-any-unlisted-2 : tie.Need-slice_bounds-any_unlisted-end-4
 slice-aggregate-any-unlisted-2 c =
     let r = c in
     let s = r in
-    sym (length-take-le s.args.o.count s.args.rising.now (list r.before.before).places)
+    sym (length-take-le s.args.rules.terms.count s.args.rules.rising.now (list r.before.before.before.before).places)
 
 any-unlisted-requires : tie.Need-any_unlisted-requires
 any-unlisted-requires c κs =
     let r = c in
     let s = r in (
-      column_there (whole s.before.before.before.before.before.before) s.args.c s.args.table.now s.requires.1 s.requires.2 (good r.before.before) r.row_count-n.result _ r.row_count-n.ensures refl,
-      (list r.before.before).indexed,
-      rw (length-take-le s.args.o.count s.args.codes.now (list r.before.before).codes) (good r.before.before).some,
+      column_there (whole s.before.before.before.before.before.before) s.args.c s.args.table.now s.requires.1 s.requires.2 (good r.before.before.before.before) r.row_count-n.result _ r.row_count-n.ensures refl,
+      (list r.before.before.before.before).indexed,
+      rw (length-take-le s.args.rules.terms.count s.args.rules.codes.now (list r.before.before.before.before).codes) (good r.before.before.before.before).some,
     )
 
 returns-2 : tie.Need-returns
 returns-2 c =
     let r = c in
     let s = r in
-    rw (ranked_lacks (whole s.before.before.before.before.before.before.before) s.args.c s.args.table.now (not-false s.args.o.given r.if-not-o.false) r.row_count-n.result _ r.row_count-n.ensures refl) c.any_unlisted.ensures
+    rw (ranked_lacks (whole s.before.before.before.before.before.before.before) s.args.c s.args.table.now r.if-not-rules.false r.row_count-n.result _ r.row_count-n.ensures refl) c.any_unlisted.ensures
 
 pub lacks_code_spec : {M : Type 1} → statement M
 lacks_code_spec =

@@ -20,16 +20,16 @@ use Rattle.cutting.proofs.cutcall.cut_rows.Tie as tie
 
 -- The options with their list; the rows; the boundaries.
 abbrev whole : tie.Start → Options
-whole s = with_list s.args.o s.args.codes.now s.args.rising.now
+whole s = with_list s.args.rules.terms s.args.rules.codes.now s.args.rules.rising.now
 
 abbrev rows : tie.Start → Rows
-rows s = rows_of s.args.w s.args.n s.args.values.now s.args.marks.now
+rows s = rows_of s.args.rows.width s.args.rows.count s.args.rows.values.now s.args.rows.marks.now
 
 abbrev groups : tie.Start → Rows
-groups s = rows_of s.args.o.by s.args.k s.args.gv.now s.args.gm.now
+groups s = rows_of s.args.rules.terms.by s.args.bounds.count s.args.bounds.values.now s.args.bounds.marks.now
 
-counted : (s : tie.Start) → s.args.k ≡ length (groups s)
-counted s = sym (rows_length s.args.o.by s.args.k s.args.gv.now s.args.gm.now)
+counted : (s : tie.Start) → s.args.bounds.count ≡ length (groups s)
+counted s = sym (rows_length s.args.rules.terms.by s.args.bounds.count s.args.bounds.values.now s.args.bounds.marks.now)
 
 is-sorted-requires : tie.Need-is_sorted-requires
 is-sorted-requires c κs = search rules
@@ -37,9 +37,9 @@ is-sorted-requires c κs = search rules
 returns : tie.Need-returns-then-not-is_sorted
 returns c =
     let s = c in
-    unsorted (whole s.before.before.before) (rows s.before.before.before) (groups s.before.before.before) s.args.out.now (sym c.is_sorted.ensures ∙ not-true c.is_sorted.result c.if-not-is_sorted.true-raw)
+    unsorted (whole s.before.before) (rows s.before.before) (groups s.before.before) s.args.out.now (sym c.is_sorted.ensures ∙ not-true c.is_sorted.result c.if-not-is_sorted.true-raw)
 
-in_order : (c : tie.Else-not-is_sorted) → let s = c in sorted (whole s.before.before.before) (rows s.before.before.before) ≡ true
+in_order : (c : tie.Else-not-is_sorted) → let s = c in sorted (whole s.before.before) (rows s.before.before) ≡ true
 in_order c = sym c.is_sorted.ensures ∙ not-false c.is_sorted.result c.if-not-is_sorted.false-raw
 
 bad-boundaries-requires : tie.Need-bad_boundaries-requires
@@ -49,9 +49,9 @@ returns-2 : tie.Need-returns-then-bad_boundaries
 returns-2 c =
     let e = c in
     let s = e in
-    bad (whole s.before.before.before.before.before) (rows s.before.before.before.before.before) (groups s.before.before.before.before.before) s.args.out.now (in_order e.before.before) (sym c.bad_boundaries.ensures ∙ c.if-bad_boundaries.true)
+    bad (whole s.before.before.before.before) (rows s.before.before.before.before) (groups s.before.before.before.before) s.args.out.now (in_order e.before.before) (sym c.bad_boundaries.ensures ∙ c.if-bad_boundaries.true)
 
-good-list : (c : tie.Else-bad_boundaries) → let s = c in bad_boundaries (whole s.before.before.before.before.before) (groups s.before.before.before.before.before) ≡ false
+good-list : (c : tie.Else-bad_boundaries) → let s = c in bad_boundaries (whole s.before.before.before.before) (groups s.before.before.before.before) ≡ false
 good-list c = sym c.bad_boundaries.ensures ∙ c.if-bad_boundaries.false
 
 has-room-requires : tie.Need-has_room-requires
@@ -62,16 +62,16 @@ returns-3 c =
     let d = c in
     let e = d in
     let s = e in
-    no_room_lem (whole s.before.before.before.before.before.before.before) (rows s.before.before.before.before.before.before.before) (groups s.before.before.before.before.before.before.before) s.args.out.now (in_order e.before.before.before.before) (good-list d.before.before) s.args.k (counted s.before.before.before.before.before.before.before)
+    no_room_lem (whole s.before.before.before.before.before.before) (rows s.before.before.before.before.before.before) (groups s.before.before.before.before.before.before) s.args.out.now (in_order e.before.before.before.before) (good-list d.before.before) s.args.bounds.count (counted s.before.before.before.before.before.before)
     (sym c.has_room.ensures ∙ not-true c.has_room.result c.if-not-has_room.true-raw)
 
-room : (c : tie.Else-not-has_room) → let a = c.args in frame_words a.k 1 ≤ length a.out.now
+room : (c : tie.Else-not-has_room) → let a = c.args in frame_words a.bounds.count 1 ≤ length a.out.now
 room c =
     let a = c.args in
-    room_there a.k 1 (length a.out.now) (sym c.has_room.ensures ∙ not-false c.has_room.result c.if-not-has_room.false-raw)
+    room_there a.bounds.count 1 (length a.out.now) (sym c.has_room.ensures ∙ not-false c.has_room.result c.if-not-has_room.false-raw)
 
-few : (c : tie.Else-not-has_room) → c.args.k < 2 ^ 60
-few c = let g = c.well_formed.1.1.1.1.1.1.1.1.1.1.0 in omega (arith, g.0, g.1, room c)
+few : (c : tie.Else-not-has_room) → c.args.bounds.count < 2 ^ 60
+few c = let g = c.well_formed.1.1.1.0 in omega (arith, g.0, g.1, room c)
 
 put-places-requires : tie.Need-put_places-requires
 put-places-requires c κs =
@@ -95,7 +95,7 @@ returns-4 c =
     let d = r in
     let e = d in
     let s = e in
-    wrote (whole s.before.before.before.before.before.before.before.before.before.before.before.before.before) (rows s.before.before.before.before.before.before.before.before.before.before.before.before.before) (groups s.before.before.before.before.before.before.before.before.before.before.before.before.before) s.args.out.now (in_order e.before.before.before.before.before.before.before.before.before.before) (good-list d.before.before.before.before.before.before.before.before) s.args.k (counted s.before.before.before.before.before.before.before.before.before.before.before.before.before) (room r.before.before.before.before.before.before) _ _ c.put_places.ensures c.put_head.ensures
+    wrote (whole s.before.before.before.before.before.before.before.before.before.before.before.before) (rows s.before.before.before.before.before.before.before.before.before.before.before.before) (groups s.before.before.before.before.before.before.before.before.before.before.before.before) s.args.out.now (in_order e.before.before.before.before.before.before.before.before.before.before) (good-list d.before.before.before.before.before.before.before.before) s.args.bounds.count (counted s.before.before.before.before.before.before.before.before.before.before.before.before) (room r.before.before.before.before.before.before) _ _ c.put_places.ensures c.put_head.ensures
 
 pub cut_rows_spec : {M : Type 1} → statement M
 cut_rows_spec =

@@ -29,7 +29,7 @@ from-row-requires-4 : tie.Need-from_row-ym-requires
 from-row-requires-4 c κs = c.requires.right_from.1
 
 -- A right row is narrow.
-narrow : (c : tie.After-from_row-ym) → c.args.w ≤ 13
+narrow : (c : tie.After-from_row-ym) → c.args.right.width ≤ 13
 narrow c = let p = c.requires in omega (arith, p.right_wide, p.carried, p.left.rows.few.by)
 
 mul-result : tie.Need-overflow_mul-result

@@ -8,11 +8,11 @@ steps-up-requires : tie.Need-steps_up-requires
 steps-up-requires c κs =
     let s = c in
     let a = s.args in
-    let plain = row_terms a.o a.codes.now a.rising.now in
-    (plain a.p a.values.now a.marks.now s.requires.0, plain a.q a.values.now a.marks.now s.requires.1, s.requires.2)
+    let plain = row_terms a.rules.terms a.rules.codes.now a.rules.rising.now in
+    (plain a.p a.rows.values.now a.rows.marks.now s.requires.0, plain a.q a.rows.values.now a.rows.marks.now s.requires.1, s.requires.2)
 
 returns : tie.Need-returns-then-steps_up
-returns c = λ w h. let a = c.args in rw (c.steps_up.ensures c.if-steps_up.true a.codes.now a.rising.now w h)
+returns c = λ w h. let a = c.args in rw (c.steps_up.ensures c.if-steps_up.true a.rules.codes.now a.rules.rising.now w h)
 
 cmp-row-requires : tie.Need-cmp_row-requires
 cmp-row-requires c κs = search rules

@@ -11,7 +11,7 @@ returns : tie.Need-returns
 returns c = λ e codes rising w h.
     let s = c in
     let a = s.args in
-    same_group_lem (with_list a.o codes rising) w a.p a.q a.values.now a.marks.now h s.requires.0.values s.requires.1.values (c.same_words.ensures e)
+    same_group_lem (with_list a.o codes rising) w a.p a.q a.rows.values.now a.rows.marks.now h s.requires.0.values s.requires.1.values (c.same_words.ensures e)
 
 pub same_values_spec : {M : Type 1} → statement M
 same_values_spec = tie.close (tie.spec same-words-requires returns)

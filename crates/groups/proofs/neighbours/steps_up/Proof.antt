@@ -24,28 +24,28 @@ is-ranked-requires c κs = search rules
 returns : tie.Need-returns-then-is_ranked
 returns c = λ (e : false ≡ true). λ codes rising w h. cc
 
-mul-cmp-cell : tie.Need-offset_bounds-values-p
+mul-cmp-cell : tie.Need-offset_bounds-rows-p
 mul-cmp-cell c = search rules
 
-shared-slice-copy-out-cmp-cell : tie.Need-bounds-values-p
+shared-slice-copy-out-cmp-cell : tie.Need-bounds-rows-p
 shared-slice-copy-out-cmp-cell c = search rules
 
-mul-cmp-cell-2 : tie.Need-offset_bounds-marks-p
+mul-cmp-cell-2 : tie.Need-offset_bounds-rows-p-2
 mul-cmp-cell-2 c = search rules
 
-shared-slice-copy-out-cmp-cell-2 : tie.Need-bounds-marks-p
+shared-slice-copy-out-cmp-cell-2 : tie.Need-bounds-rows-p-2
 shared-slice-copy-out-cmp-cell-2 c = search rules
 
-mul-cmp-cell-3 : tie.Need-offset_bounds-values-q
+mul-cmp-cell-3 : tie.Need-offset_bounds-rows-q
 mul-cmp-cell-3 c = search rules
 
-shared-slice-copy-out-cmp-cell-3 : tie.Need-bounds-values-q
+shared-slice-copy-out-cmp-cell-3 : tie.Need-bounds-rows-q
 shared-slice-copy-out-cmp-cell-3 c = search rules
 
-mul-cmp-cell-4 : tie.Need-offset_bounds-marks-q
+mul-cmp-cell-4 : tie.Need-offset_bounds-rows-q-2
 mul-cmp-cell-4 c = search rules
 
-shared-slice-copy-out-cmp-cell-4 : tie.Need-bounds-marks-q
+shared-slice-copy-out-cmp-cell-4 : tie.Need-bounds-rows-q-2
 shared-slice-copy-out-cmp-cell-4 c = search rules
 
 array-read-cmp-cell : tie.Need-bounds-descending-0
@@ -63,16 +63,16 @@ enum_told c = search rules
 -- the cells of the first by-column, by its own rule
 told : (c : tie.After-cmp_cell) (codes : Words) (rising : List ℕ) →
     let a = c.args in
-    c.cmp_cell.result ≡ cmp_cell (by_rule (with_list a.o codes rising) 0) (cell_at a.p a.values.now a.marks.now) (cell_at a.q a.values.now a.marks.now)
+    c.cmp_cell.result ≡ cmp_cell (by_rule (with_list a.o codes rising) 0) (cell_at a.p a.rows.values.now a.rows.marks.now) (cell_at a.q a.rows.values.now a.rows.marks.now)
 told c codes rising =
     let i = c in
     let a = i.args in
     rw (
       plain_rule (with_list a.o codes rising) 0 (sym i.is_ranked.ensures ∙ i.if-is_ranked.false),
-      back (get_or a.values.now a.p (pos 0)) c.cmp_cell-arg-1.given,
-      back (get_or a.marks.now a.p (pos 0)) c.cmp_cell-arg-2-1.given,
-      back (get_or a.values.now a.q (pos 0)) c.cmp_cell-arg-3-1.given,
-      back (get_or a.marks.now a.q (pos 0)) c.cmp_cell-arg-4-1.given,
+      back (get_or a.rows.values.now a.p (pos 0)) c.cmp_cell-arg-1.given,
+      back (get_or a.rows.marks.now a.p (pos 0)) c.cmp_cell-arg-2-1.given,
+      back (get_or a.rows.values.now a.q (pos 0)) c.cmp_cell-arg-3-1.given,
+      back (get_or a.rows.marks.now a.q (pos 0)) c.cmp_cell-arg-4-1.given,
     )
     at c.cmp_cell.ensures
 
@@ -81,8 +81,8 @@ returns-2 c = λ e codes rising w h.
     let k = c in
     let s = k in
     let a = s.args in
-    let vs = a.values.now in
-    let ms = a.marks.now in
+    let vs = a.rows.values.now in
+    let ms = a.rows.marks.now in
     let x = a.p in
     let y = a.q in
     let f : x + 0 ≡ x = omega arith in

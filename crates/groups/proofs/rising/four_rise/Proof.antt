@@ -47,7 +47,7 @@ returns-4 c = λ t.
     let one = c in
     let two = c in
     let three = c in
-    four_places (λ k. key_falls k (k + a.w) a.values.now a.marks.now ≡ false) a.p a.w
+    four_places (λ k. key_falls k (k + a.rows.width) a.rows.values.now a.rows.marks.now ≡ false) a.p a.rows.width
     (one.key_rises.ensures (not-false one.key_rises.result c.if-not-key_rises.false-raw))
     (two.key_rises-2.ensures (not-false two.key_rises-2.result c.if-not-key_rises-2.false-raw))
     (three.key_rises-3.ensures (not-false three.key_rises-3.result c.if-not-key_rises-3.false-raw))

@@ -11,11 +11,11 @@ use Rattle.groups.proofs.rising.fours_rise.Statement.{statement}
 use Rattle.groups.proofs.rising.fours_rise.Tie as tie
 
 abbrev invariant-loop : tie.invariant-loop-left
-invariant-loop values marks n w left₀ p₀ left p =
-    (left ≤ n - 1) × (p + left * w ≡ (n - 1) * w) × ((k : ℕ) → 0 ≤ k → k + left < n - 1 → key_falls (k * w) (k * w + w) values marks ≡ false)
+invariant-loop rows left₀ p₀ left p =
+    (left ≤ rows.count - 1) × (p + left * rows.width ≡ (rows.count - 1) * rows.width) × ((k : ℕ) → 0 ≤ k → k + left < rows.count - 1 → key_falls (k * rows.width) (k * rows.width + rows.width) rows.values.now rows.marks.now ≡ false)
 
 abbrev decreases-loop : tie.decreases-loop-left
-decreases-loop values marks n w left₀ p₀ left p = left
+decreases-loop rows left₀ p₀ left p = left
 
 sub-left : tie.Need-overflow_sub-left invariant-loop decreases-loop
 sub-left c = omega (arith, c.requires.1)
@@ -27,8 +27,8 @@ four-rise-requires : tie.Need-four_rise-requires invariant-loop decreases-loop
 four-rise-requires c κs =
     let l = c.loop-left in
     let s = c in
-    let r = left_room l.left s.args.w 4 c.loop-left-test.true in
-    let o = one_row s.args.n s.args.w s.requires.1 in
+    let r = left_room l.left s.args.rows.width 4 c.loop-left-test.true in
+    let o = one_row s.args.rows.count s.args.rows.width s.requires.1 in
     let p = s.requires.0 in
     record { values = omega arith; marks = omega arith }
 
@@ -42,14 +42,14 @@ returns c =
     let a = s.args in
     let h = s.requires.1 in
     let k = l.invariant.0 in
-    (omega arith, omega arith, rises_passed a.w a.values.now a.marks.now a.n l.left (omega arith) l.invariant.2)
+    (omega arith, omega arith, rises_passed a.rows.width a.rows.values.now a.rows.marks.now a.rows.count l.left (omega arith) l.invariant.2)
 
 mul-p : tie.Need-overflow_mul-p invariant-loop decreases-loop
 mul-p c =
     let l = c.loop-left in
     let s = c in
-    let r = left_room l.left s.args.w 4 c.loop-left-test.true in
-    let o = one_row s.args.n s.args.w s.requires.1 in
+    let r = left_room l.left s.args.rows.width 4 c.loop-left-test.true in
+    let o = one_row s.args.rows.count s.args.rows.width s.requires.1 in
     let p = s.requires.0 in
     omega arith
 
@@ -57,8 +57,8 @@ add-p : tie.Need-overflow_add-p invariant-loop decreases-loop
 add-p c =
     let l = c.loop-left in
     let s = c in
-    let r = left_room l.left s.args.w 4 c.loop-left-test.true in
-    let o = one_row s.args.n s.args.w s.requires.1 in
+    let r = left_room l.left s.args.rows.width 4 c.loop-left-test.true in
+    let o = one_row s.args.rows.count s.args.rows.width s.requires.1 in
     let p = s.requires.0 in
     omega arith
 
@@ -74,8 +74,8 @@ loop-again c =
     let a = c.args in
     let t = c.loop-left-test.true in (
       omega arith,
-      left_less (a.n - 1) a.w l.left l.p 4 t l.invariant.1,
-      pass_more (λ k. key_falls k (k + a.w) a.values.now a.marks.now ≡ false) 0 (a.n - 1) a.w l.left l.p 4 l.invariant.0 t l.invariant.1 l.invariant.2
+      left_less (a.rows.count - 1) a.rows.width l.left l.p 4 t l.invariant.1,
+      pass_more (λ k. key_falls k (k + a.rows.width) a.rows.values.now a.rows.marks.now ≡ false) 0 (a.rows.count - 1) a.rows.width l.left l.p 4 l.invariant.0 t l.invariant.1 l.invariant.2
           (c.four_rise.ensures (not-false c.four_rise.result c.if-not-four_rise.false-raw)),
     )
 
@@ -89,7 +89,7 @@ returns-2 c =
     let a = s.args in
     let h = s.requires.1 in
     let k = l.invariant.0 in
-    (omega arith, omega arith, rises_passed a.w a.values.now a.marks.now a.n l.left (omega arith) l.invariant.2)
+    (omega arith, omega arith, rises_passed a.rows.width a.rows.values.now a.rows.marks.now a.rows.count l.left (omega arith) l.invariant.2)
 
 pub fours_rise_spec : {M : Type 1} → statement M
 fours_rise_spec =

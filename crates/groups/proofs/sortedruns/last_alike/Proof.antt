@@ -5,7 +5,7 @@ use native.Mathlib.Omega.{arith}
 use Rattle.frames.specs.Cells.{row_from, Words}
 use Rattle.order.specs.options.Options.{with_list}
 use Rattle.order.specs.Order.{cmp_group}
-use Rattle.order.specs.declared.Order.TheVariants.{Equal}
+use Rattle.std.specs.declared.cmp.Ordering.TheVariants.{Equal}
 use Rattle.order.proofs.OrderLaws.{cmp_group_is}
 use Rattle.order.proofs.RowLaws.{row_room}
 use Rattle.tables.proofs.CellLaws.{at_least}
@@ -14,11 +14,11 @@ use Rattle.groups.proofs.sortedruns.last_alike.Statement.{statement}
 use Rattle.groups.proofs.sortedruns.last_alike.Tie as tie
 
 abbrev invariant-loop : tie.invariant-loop-low
-invariant-loop values marks high w i o low₀ end₀ low end =
-    (i ≤ low) × (low < end) × (end ≤ high) × ((codes : Words) (rising : List ℕ) → cmp_group (with_list o codes rising) (row_from w (i * w) values marks) (row_from w (low * w) values marks) ≡ Equal)
+invariant-loop rows high i o low₀ end₀ low end =
+    (i ≤ low) × (low < end) × (end ≤ high) × ((codes : Words) (rising : List ℕ) → cmp_group (with_list o codes rising) (row_from rows.width (i * rows.width) rows.values.now rows.marks.now) (row_from rows.width (low * rows.width) rows.values.now rows.marks.now) ≡ Equal)
 
 abbrev decreases-loop : tie.decreases-loop-low
-decreases-loop values marks high w i o low₀ end₀ low end = end - low
+decreases-loop rows high i o low₀ end₀ low end = end - low
 
 -- the row in the middle is one of them
 halved : (low end : ℕ) → low + 1 < end → (low < low + (end - low) / 2) × (low + (end - low) / 2 < end)
@@ -28,10 +28,10 @@ middle : (c : tie.In-loop-low invariant-loop decreases-loop) → c.loop-low.low 
 middle c = let l = c.loop-low in let m = halved l.low l.end c.loop-low-test.true in omega (arith, m.1, l.invariant.2)
 
 loop-holds : tie.Need-loop-low-init invariant-loop decreases-loop
-loop-holds c = let s = c in (omega arith, s.requires.1, omega arith, λ codes rising. (cmp_group_is (with_list s.args.o codes rising)).equal (row_from s.args.w (s.args.i * s.args.w) s.args.values.now s.args.marks.now))
+loop-holds c = let s = c in (omega arith, s.requires.1, omega arith, λ codes rising. (cmp_group_is (with_list s.args.o codes rising)).equal (row_from s.args.rows.width (s.args.i * s.args.rows.width) s.args.rows.values.now s.args.rows.marks.now))
 
 add-loop : tie.Need-overflow_add-low invariant-loop decreases-loop
-add-loop c = let s = c in omega (arith, c.loop-low.invariant.1, c.loop-low.invariant.2, at_least s.args.high s.args.w (omega (arith, s.requires.0.wide)), s.requires.0.values)
+add-loop c = let s = c in omega (arith, c.loop-low.invariant.1, c.loop-low.invariant.2, at_least s.args.high s.args.rows.width (omega (arith, s.requires.0.wide)), s.requires.0.values)
 
 sub-middle : tie.Need-overflow_sub-middle invariant-loop decreases-loop
 sub-middle c = omega (arith, c.loop-low-test.true)
@@ -40,13 +40,13 @@ add-middle : tie.Need-overflow_add-middle invariant-loop decreases-loop
 add-middle c = omega (arith, c.loop-low-test.true)
 
 mul-same-values : tie.Need-overflow_mul-i invariant-loop decreases-loop
-mul-same-values c = let s = c in omega (arith, row_room s.args.i s.args.high s.args.w s.requires.1, s.requires.0.values)
+mul-same-values c = let s = c in omega (arith, row_room s.args.i s.args.high s.args.rows.width s.requires.1, s.requires.0.values)
 
 mul-same-values-2 : tie.Need-overflow_mul-middle invariant-loop decreases-loop
 mul-same-values-2 c =
     let s = c in
     let l = c.loop-low in
-    omega (arith, row_room (l.low + (l.end - l.low) / 2) s.args.high s.args.w (middle c), s.requires.0.values)
+    omega (arith, row_room (l.low + (l.end - l.low) / 2) s.args.high s.args.rows.width (middle c), s.requires.0.values)
 
 same-values-requires : tie.Need-same_values-requires invariant-loop decreases-loop
 same-values-requires c κs = let s = c in (row_at s.requires.0 s.args.i s.requires.1, row_at s.requires.0 _ (middle c))
@@ -59,7 +59,7 @@ loop-again c =
     let l = c.loop-low in
     let s = c in
     let m = halved l.low l.end c.loop-low-test.true in
-    (omega (arith, m.0, l.invariant.0), m.1, l.invariant.2, λ codes rising. c.same_values.ensures c.if-same_values.true codes rising s.args.w s.requires.0.wide)
+    (omega (arith, m.0, l.invariant.0), m.1, l.invariant.2, λ codes rising. c.same_values.ensures c.if-same_values.true codes rising s.args.rows.width s.requires.0.wide)
 
 loop-less-2 : tie.Need-loop-low-smaller invariant-loop decreases-loop
 loop-less-2 c = let l = c.loop-low in let m = halved l.low l.end c.loop-low-test.true in omega (arith, m.0, m.1)

@@ -7,29 +7,29 @@ use Rattle.groups.proofs.sortedruns.reach.Statement.{statement}
 use Rattle.groups.proofs.sortedruns.reach.Tie as tie
 
 abbrev invariant-loop : tie.invariant-loop-step
-invariant-loop values marks n w i o step₀ step = 0 < step
+invariant-loop rows i o step₀ step = 0 < step
 
 abbrev decreases-loop : tie.decreases-loop-step
-decreases-loop values marks n w i o step₀ step = n - step
+decreases-loop rows i o step₀ step = rows.count - step
 
 -- the row at that distance is one of them
-there : (c : tie.In-loop-step invariant-loop decreases-loop) → c.args.i + c.loop-step.step < c.args.n
+there : (c : tie.In-loop-step invariant-loop decreases-loop) → c.args.i + c.loop-step.step < c.args.rows.count
 there c = omega (arith, c.loop-step-test.true)
 
 loop-holds : tie.Need-loop-step-init invariant-loop decreases-loop
 loop-holds c = omega arith
 
-sub-loop : tie.Need-overflow_sub-n invariant-loop decreases-loop
+sub-loop : tie.Need-overflow_sub-rows invariant-loop decreases-loop
 sub-loop c = omega arith
 
 mul-same-values : tie.Need-overflow_mul-i invariant-loop decreases-loop
-mul-same-values c = let s = c in omega (arith, row_room s.args.i s.args.n s.args.w s.requires.1, s.requires.0.values)
+mul-same-values c = let s = c in omega (arith, row_room s.args.i s.args.rows.count s.args.rows.width s.requires.1, s.requires.0.values)
 
 add-same-values : tie.Need-overflow_add-i invariant-loop decreases-loop
 add-same-values c = omega (arith, c.loop-step-test.true)
 
 mul-same-values-2 : tie.Need-overflow_mul-i-in-loop-step invariant-loop decreases-loop
-mul-same-values-2 c = let s = c in omega (arith, row_room (s.args.i + c.loop-step.step) s.args.n s.args.w (there c), s.requires.0.values)
+mul-same-values-2 c = let s = c in omega (arith, row_room (s.args.i + c.loop-step.step) s.args.rows.count s.args.rows.width (there c), s.requires.0.values)
 
 same-values-requires : tie.Need-same_values-requires invariant-loop decreases-loop
 same-values-requires c κs =
@@ -46,7 +46,7 @@ add_step : tie.Need-overflow_add-step invariant-loop decreases-loop
 add_step c =
     let i = c in
     let s = i in
-    omega (arith, there i.before.before, at_least s.args.n s.args.w (omega (arith, s.requires.0.wide)), s.requires.0.values)
+    omega (arith, there i.before.before, at_least s.args.rows.count s.args.rows.width (omega (arith, s.requires.0.wide)), s.requires.0.values)
 
 loop-less : tie.Need-loop-step-smaller invariant-loop decreases-loop
 loop-less c = omega arith

@@ -7,24 +7,24 @@ use borrow.Author.Rules.{rules}
 use Rattle.groups.proofs.sortedruns.skip_alike.Statement.{statement}
 use Rattle.groups.proofs.sortedruns.skip_alike.Tie as tie
 
-sub-if1 : tie.Need-overflow_sub-n
+sub-if1 : tie.Need-overflow_sub-rows
 sub-if1 c = search rules
 
-returns : tie.Need-returns-then-n-i-le16
+returns : tie.Need-returns-then-rows-i-le16
 returns c = (omega arith, c.requires.1, λ l. absurd (omega arith))
 
 -- the row that is asked is one of them
-there : (c : tie.Else-n-i-le16) → c.args.i + 16 < c.args.n
-there c = omega (arith, c.if-n-i-le16.false)
+there : (c : tie.Else-rows-i-le16) → c.args.i + 16 < c.args.rows.count
+there c = omega (arith, c.if-rows-i-le16.false)
 
 mul-same-values : tie.Need-overflow_mul-i
-mul-same-values c = let s = c in omega (arith, row_room s.args.i s.args.n s.args.w (omega (arith, there c)), s.requires.0.values)
+mul-same-values c = let s = c in omega (arith, row_room s.args.i s.args.rows.count s.args.rows.width (omega (arith, there c)), s.requires.0.values)
 
 add-same-values : tie.Need-overflow_add-i
 add-same-values c = search rules
 
 mul-same-values-2 : tie.Need-overflow_mul-i-2
-mul-same-values-2 c = let s = c in omega (arith, row_room (s.args.i + 16) s.args.n s.args.w (there c), s.requires.0.values)
+mul-same-values-2 c = let s = c in omega (arith, row_room (s.args.i + 16) s.args.rows.count s.args.rows.width (there c), s.requires.0.values)
 
 same-values-requires : tie.Need-same_values-requires
 same-values-requires c κs = let s = c in (row_at s.requires.0 s.args.i (omega (arith, there c)), row_at s.requires.0 (s.args.i + 16) (there c))
@@ -38,7 +38,7 @@ reach-requires c κs = search rules
 last-alike-requires : tie.Need-last_alike-requires
 last-alike-requires c κs =
     let s = c in
-    (rows_less _ _ _ _ _ s.args.n c.reach-high.ensures.1 s.requires.0, c.reach-high.ensures.0)
+    (rows_less _ _ _ _ _ s.args.rows.count c.reach-high.ensures.1 s.requires.0, c.reach-high.ensures.0)
 
 returns-3 : tie.Need-returns
 returns-3 c =

@@ -9,7 +9,7 @@ skip-alike-requires : tie.Need-skip_alike-last-requires
 skip-alike-requires c κs =
     let s = c in
     let a = s.args in
-    (rows_terms a.o a.codes.now a.rising.now a.w a.n a.values.now a.marks.now s.requires.0.rows, s.requires.1)
+    (rows_terms a.rules.terms a.rules.codes.now a.rules.rising.now a.rows.width a.rows.count a.rows.values.now a.rows.marks.now s.requires.0.rows, s.requires.1)
 
 run-end-requires : tie.Need-run_end-requires
 run-end-requires c κs = record { rows = c.requires.0.rows; within = c.skip_alike-last.ensures.1 }
@@ -19,7 +19,7 @@ returns c =
     let s = c in
     let a = s.args in
     let k = c.skip_alike-last in
-    c.run_end.ensures ∙ end_later (with_list a.o a.codes.now a.rising.now) a.w a.n a.values.now a.marks.now s.requires.0.in_order a.i k.result k.ensures.0 (λ l. ((k.ensures.2 l).0, (k.ensures.2 l).1 a.codes.now a.rising.now))
+    c.run_end.ensures ∙ end_later (with_list a.rules.terms a.rules.codes.now a.rules.rising.now) a.rows.width a.rows.count a.rows.values.now a.rows.marks.now s.requires.0.in_order a.i k.result k.ensures.0 (λ l. ((k.ensures.2 l).0, (k.ensures.2 l).1 a.rules.codes.now a.rules.rising.now))
 
 pub sorted_end_spec : {M : Type 1} → statement M
 sorted_end_spec = tie.close (tie.spec skip-alike-requires run-end-requires returns)

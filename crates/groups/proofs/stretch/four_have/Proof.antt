@@ -48,7 +48,7 @@ returns-4 c = λ t.
     let three = c in
     let v = to_z-of_z s.ranges.v in
     let m = to_z-of_z s.ranges.m in
-    four_places (λ k. cell_at k a.values.now a.marks.now ≡ cell_of a.v a.m) a.q a.w
+    four_places (λ k. cell_at k a.rows.values.now a.rows.marks.now ≡ cell_of a.v a.m) a.q a.rows.width
     (rw (v, m) at (one.has_words.ensures (not-false one.has_words.result c.if-not-has_words.false-raw)))
     (rw (v, m) at (two.has_words-2.ensures (not-false two.has_words-2.result c.if-not-has_words-2.false-raw)))
     (rw (v, m) at (three.has_words-3.ensures (not-false three.has_words-3.result c.if-not-has_words-3.false-raw)))

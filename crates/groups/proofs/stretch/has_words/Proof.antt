@@ -11,22 +11,22 @@ use borrow.Author.Rules.{rules}
 use Rattle.groups.proofs.stretch.has_words.Statement.{statement}
 use Rattle.groups.proofs.stretch.has_words.Tie as tie
 
-mul-if1 : tie.Need-offset_bounds-values-q
+mul-if1 : tie.Need-offset_bounds-rows-q
 mul-if1 c = search rules
 
-shared-slice-copy-out-if1 : tie.Need-bounds-values-q
+shared-slice-copy-out-if1 : tie.Need-bounds-rows-q
 shared-slice-copy-out-if1 c = search rules
 
-returns : tie.Need-returns-then-values-q
+returns : tie.Need-returns-then-rows-q
 returns c = λ (e : false ≡ true). cc
 
-mul-if2 : tie.Need-offset_bounds-marks-q
+mul-if2 : tie.Need-offset_bounds-rows-q-2
 mul-if2 c = search rules
 
-shared-slice-copy-out-if2 : tie.Need-bounds-marks-q
+shared-slice-copy-out-if2 : tie.Need-bounds-rows-q-2
 shared-slice-copy-out-if2 c = search rules
 
-returns-2 : tie.Need-returns-then-marks-q
+returns-2 : tie.Need-returns-then-rows-q-2
 returns-2 c = λ (e : false ≡ true). cc
 
 returns-3 : tie.Need-returns
@@ -34,8 +34,8 @@ returns-3 c = λ e.
     let s = c in
     let a = s.args in
     same_cell
-    (sym (back (get_or a.values.now a.q (pos 0)) c.t8-1.given) ∙ ap (to_z w64) c.if-values-q.false ∙ to_z-of_z s.ranges.v)
-    (sym (back (get_or a.marks.now a.q (pos 0)) c.t8-2-1.given) ∙ ap (to_z w64) c.if-marks-q.false ∙ to_z-of_z s.ranges.m)
+    (sym (back (get_or a.rows.values.now a.q (pos 0)) c.t7-1.given) ∙ ap (to_z w64) c.if-rows-q.false ∙ to_z-of_z s.ranges.v)
+    (sym (back (get_or a.rows.marks.now a.q (pos 0)) c.t7-2-1.given) ∙ ap (to_z w64) c.if-rows-q-2.false ∙ to_z-of_z s.ranges.m)
 
 pub has_words_spec : {M : Type 1} → statement M
 has_words_spec =

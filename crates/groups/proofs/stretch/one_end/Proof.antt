@@ -16,32 +16,32 @@ use Rattle.groups.proofs.stretch.one_end.Statement.{statement}
 use Rattle.groups.proofs.stretch.one_end.Tie as tie
 
 -- row i ends within the rows
-room : (c : tie.Start) → c.args.i * c.args.w + c.args.w ≤ c.args.n * c.args.w
-room c = row_room c.args.i c.args.n c.args.w c.requires.1
+room : (c : tie.Start) → c.args.i * c.args.rows.width + c.args.rows.width ≤ c.args.rows.count * c.args.rows.width
+room c = row_room c.args.i c.args.rows.count c.args.rows.width c.requires.1
 
 -- the words that are kept are those of its first cell
 kept : (c : tie.After-m-1) → let a = c.args in
-    cell_at (a.i * a.w) a.values.now a.marks.now ≡ cell_of (to_z w64 (of_z w64 (get_or a.values.now (a.i * a.w) (pos 0)))) (to_z w64 (of_z w64 (get_or a.marks.now (a.i * a.w) (pos 0))))
+    cell_at (a.i * a.rows.width) a.rows.values.now a.rows.marks.now ≡ cell_of (to_z w64 (of_z w64 (get_or a.rows.values.now (a.i * a.rows.width) (pos 0)))) (to_z w64 (of_z w64 (get_or a.rows.marks.now (a.i * a.rows.width) (pos 0))))
 kept c =
     let a = c.args in
-    same_cell (sym (back (get_or a.values.now (a.i * a.w) (pos 0)) c.v-1.given)) (sym (back (get_or a.marks.now (a.i * a.w) (pos 0)) c.m-1.given))
+    same_cell (sym (back (get_or a.rows.values.now (a.i * a.rows.width) (pos 0)) c.v-1.given)) (sym (back (get_or a.rows.marks.now (a.i * a.rows.width) (pos 0)) c.m-1.given))
 
 mul-p : tie.Need-overflow_mul-p
 mul-p c = let r = room c in omega (arith, c.requires.0.values)
 
-mul-v : tie.Need-offset_bounds-values-p
+mul-v : tie.Need-offset_bounds-rows-p
 mul-v c = let r = room c in omega (arith, c.requires.0.wide, c.requires.0.values)
 
-shared-slice-copy-out-v : tie.Need-bounds-values-p
+shared-slice-copy-out-v : tie.Need-bounds-rows-p
 shared-slice-copy-out-v c = let r = room c in omega (arith, c.requires.0.wide, c.requires.0.values)
 
-mul-m : tie.Need-offset_bounds-marks-p
+mul-m : tie.Need-offset_bounds-rows-p-2
 mul-m c = let r = room c.before in omega (arith, c.requires.0.wide, c.requires.0.values)
 
-shared-slice-copy-out-m : tie.Need-bounds-marks-p
+shared-slice-copy-out-m : tie.Need-bounds-rows-p-2
 shared-slice-copy-out-m c = let r = room c.before in omega (arith, c.requires.0.wide, c.requires.0.marks)
 
-sub-if1 : tie.Need-overflow_sub-n
+sub-if1 : tie.Need-overflow_sub-rows
 sub-if1 c = search rules
 
 add-words-end : tie.Need-overflow_add-i
@@ -50,10 +50,10 @@ add-words-end c = search rules
 words-end-requires : tie.Need-words_end-requires
 words-end-requires c κs = search rules
 
-returns : tie.Need-returns-then-n-i-le9
+returns : tie.Need-returns-then-rows-i-le9
 returns c =
     let a = c.args in
-    one_same a.w a.n a.n a.values.now a.marks.now a.i c.words_end.result _ (omega arith) (kept c.before.before) c.words_end.ensures
+    one_same a.rows.width a.rows.count a.rows.count a.rows.values.now a.rows.marks.now a.i c.words_end.result _ (omega arith) (kept c.before.before) c.words_end.ensures
 
 add-words-end-2 : tie.Need-overflow_add-i-2
 add-words-end-2 c = search rules
@@ -65,8 +65,8 @@ words-end-requires-2 : tie.Need-words_end-e-requires
 words-end-requires-2 c κs =
     let s = c in
     let a = s.args in
-    let h : a.i + 9 ≤ a.n = omega (arith, c.if-n-i-le9.false) in
-    let m = mul-le-mul_right {m = a.i + 9} {n = a.n} a.w h in
+    let h : a.i + 9 ≤ a.rows.count = omega (arith, c.if-rows-i-le9.false) in
+    let m = mul-le-mul_right {m = a.i + 9} {n = a.rows.count} a.rows.width h in
     record { wide = s.requires.0.wide; within = omega arith; values = omega (arith, m, s.requires.0.values); marks = omega (arith, m, s.requires.0.marks) }
 
 add-if2 : tie.Need-overflow_add-i-4
@@ -76,8 +76,8 @@ returns-2 : tie.Need-returns-then-e-i
 returns-2 c =
     let e = c in
     let a = e.args in
-    let h : a.i + 9 ≤ a.n = omega (arith, e.if-n-i-le9.false) in
-    one_same a.w a.n (a.i + 9) a.values.now a.marks.now a.i c.words_end-e.result _ h (kept e.before.before.before) c.words_end-e.ensures
+    let h : a.i + 9 ≤ a.rows.count = omega (arith, e.if-rows-i-le9.false) in
+    one_same a.rows.width a.rows.count (a.i + 9) a.rows.values.now a.rows.marks.now a.i c.words_end-e.result _ h (kept e.before.before.before.before.before) c.words_end-e.ensures
 
 fours-end-requires : tie.Need-fours_end-requires
 fours-end-requires c κs = search rules
@@ -86,7 +86,7 @@ returns-3 : tie.Need-returns
 returns-3 c =
     let e = c in
     let a = e.args in
-    one_same a.w a.n a.n a.values.now a.marks.now a.i c.fours_end.result _ (omega arith) (kept e.before.before.before.before) (have_join c.words_end-e.ensures c.fours_end.ensures)
+    one_same a.rows.width a.rows.count a.rows.count a.rows.values.now a.rows.marks.now a.i c.fours_end.result _ (omega arith) (kept e.before.before.before.before.before.before) (have_join c.words_end-e.ensures c.fours_end.ensures)
 
 pub one_end_spec : {M : Type 1} → statement M
 one_end_spec =

@@ -7,7 +7,7 @@ returns : tie.Need-returns-then-by-eq0
 returns c =
     let s = c in
     let a = s.args in
-    rw c.if-by-eq0.true (same_none a.w a.n a.values.now a.marks.now a.i s.requires.1)
+    rw c.if-by-eq0.true (same_none a.rows.width a.rows.count a.rows.values.now a.rows.marks.now a.i s.requires.1)
 
 one-end-requires : tie.Need-one_end-requires
 one-end-requires c κs = search rules

@@ -16,10 +16,10 @@ codes-long s = search rules
 rising_long : (s : tie.Start) → length s.args.h.rising ≡ 64
 rising_long s = search rules
 
-terms-from-requires : tie.Need-terms_from-terms-requires
+terms-from-requires : tie.Need-terms_from-requires
 terms-from-requires c κs = (join_parts _ c.requires).options
 
-slice-aggregate-bad-numbers : tie.Need-slice_bounds-bad_numbers-end-2
+slice-aggregate-bad-numbers : tie.Need-slice_bounds-rules-end-2
 slice-aggregate-bad-numbers c = search rules
 
 bad-numbers-requires : tie.Need-bad_numbers-bad-requires
@@ -31,15 +31,12 @@ flag-of-requires c κs = search rules
 state-of-requires : tie.Need-state_of-requires
 state-of-requires c κs = search rules
 
-slice-aggregate-feed-left : tie.Need-slice_bounds-feed_left-end-2
-slice-aggregate-feed-left c = sym (rising_long c.before.before.before.before.before.before.before.before.before.before.before.before)
-
 feed-left-requires : tie.Need-feed_left-requires
 feed-left-requires c κs =
     let k = c in
     let s = k in
-    let told = k.terms_from-terms.ensures s.args.h.rising in
-    left_holds s.args.h s.args.left.now s.args.right.now _ told _ (bad_is s.args.h s.args.left.now s.args.right.now _ _ told c.bad_numbers-bad.ensures) (codes-long s.before.before.before.before.before.before.before.before.before.before.before.before.before) (rising_long s.before.before.before.before.before.before.before.before.before.before.before.before.before)
+    let told = k.terms_from.ensures s.args.h.rising in
+    left_holds s.args.h s.args.left.now s.args.right.now _ told _ (bad_is s.args.h s.args.left.now s.args.right.now _ _ told c.bad_numbers-bad.ensures) (codes-long s.before.before.before.before.before.before.before.before.before.before) (rising_long s.before.before.before.before.before.before.before.before.before.before)
 
 same_length : tie.Need-shape_of-left
 same_length c = search rules
@@ -48,10 +45,10 @@ returns : tie.Need-returns
 returns c =
     let k = c in
     let s = k in
-    let told = k.terms_from-terms.ensures s.args.h.rising in
+    let told = k.terms_from.ensures s.args.h.rising in
     left_numbers s.args.h s.args.left.now s.args.right.now _ told _ (bad_is s.args.h s.args.left.now s.args.right.now _ _ told c.bad_numbers-bad.ensures) s.requires _ _ _ (rw (c.flag_of.ensures, c.state_of.ensures) at c.feed_left.ensures)
 
 pub left_fed_spec : {M : Type 1} → statement M
 left_fed_spec =
     tie.close
-    (tie.spec terms-from-requires slice-aggregate-bad-numbers bad-numbers-requires flag-of-requires state-of-requires slice-aggregate-feed-left feed-left-requires same_length returns)
+    (tie.spec terms-from-requires slice-aggregate-bad-numbers bad-numbers-requires flag-of-requires state-of-requires feed-left-requires same_length returns)

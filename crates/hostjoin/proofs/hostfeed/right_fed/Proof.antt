@@ -16,10 +16,10 @@ codes-long s = search rules
 rising_long : (s : tie.Start) → length s.args.h.rising ≡ 64
 rising_long s = search rules
 
-terms-from-requires : tie.Need-terms_from-terms-requires
+terms-from-requires : tie.Need-terms_from-requires
 terms-from-requires c κs = (join_parts _ c.requires).options
 
-slice-aggregate-bad-numbers : tie.Need-slice_bounds-bad_numbers-end-2
+slice-aggregate-bad-numbers : tie.Need-slice_bounds-rules-end-2
 slice-aggregate-bad-numbers c = search rules
 
 bad-numbers-requires : tie.Need-bad_numbers-bad-requires
@@ -34,15 +34,12 @@ flag-of-requires-2 c κs = search rules
 state-of-requires : tie.Need-state_of-requires
 state-of-requires c κs = search rules
 
-slice-aggregate-feed-right : tie.Need-slice_bounds-feed_right-end-2
-slice-aggregate-feed-right c = sym (rising_long c.before.before.before.before.before.before.before.before.before.before.before.before.before)
-
 feed-right-requires : tie.Need-feed_right-requires
 feed-right-requires c κs =
     let k = c in
     let s = k in
-    let told = k.terms_from-terms.ensures s.args.h.rising in
-    right_holds s.args.h s.args.left.now s.args.right.now _ told _ (bad_is s.args.h s.args.left.now s.args.right.now _ _ told c.bad_numbers-bad.ensures) (codes-long s.before.before.before.before.before.before.before.before.before.before.before.before.before.before) (rising_long s.before.before.before.before.before.before.before.before.before.before.before.before.before.before)
+    let told = k.terms_from.ensures s.args.h.rising in
+    right_holds s.args.h s.args.left.now s.args.right.now _ told _ (bad_is s.args.h s.args.left.now s.args.right.now _ _ told c.bad_numbers-bad.ensures) (codes-long s.before.before.before.before.before.before.before.before.before.before.before) (rising_long s.before.before.before.before.before.before.before.before.before.before.before)
 
 same_length : tie.Need-shape_of-right
 same_length c = search rules
@@ -51,10 +48,10 @@ returns : tie.Need-returns
 returns c =
     let k = c in
     let s = k in
-    let told = k.terms_from-terms.ensures s.args.h.rising in
+    let told = k.terms_from.ensures s.args.h.rising in
     right_numbers s.args.h s.args.left.now s.args.right.now _ told _ (bad_is s.args.h s.args.left.now s.args.right.now _ _ told c.bad_numbers-bad.ensures) s.requires _ _ _ (rw (c.flag_of.ensures, c.flag_of-2.ensures, c.state_of.ensures) at c.feed_right.ensures)
 
 pub right_fed_spec : {M : Type 1} → statement M
 right_fed_spec =
     tie.close
-    (tie.spec terms-from-requires slice-aggregate-bad-numbers bad-numbers-requires flag-of-requires flag-of-requires-2 state-of-requires slice-aggregate-feed-right feed-right-requires same_length returns)
+    (tie.spec terms-from-requires slice-aggregate-bad-numbers bad-numbers-requires flag-of-requires flag-of-requires-2 state-of-requires feed-right-requires same_length returns)

@@ -15,10 +15,10 @@ null-at-requires c κs = search rules
 put-cell-requires : tie.Need-put_cell-requires
 put-cell-requires c κs = search rules
 
-mul-put-cell : tie.Need-offset_bounds-rv-q
+mul-put-cell : tie.Need-offset_bounds-right-q
 mul-put-cell c = search rules
 
-shared-slice-copy-out-put-cell : tie.Need-bounds-rv-q
+shared-slice-copy-out-put-cell : tie.Need-bounds-right-q
 shared-slice-copy-out-put-cell c = search rules
 
 put-cell-requires-2 : tie.Need-put_cell-requires-else-null_at
@@ -30,9 +30,9 @@ same_length c = search rules
 returns : tie.Need-returns-then-null_at
 returns c =
     let a = c.args in
-    let v = get_or a.rv.now a.q (pos 0) in
-    let m = get_or a.rm.now a.q (pos 0) in
-    let z : is_zero m ≡ true = sym (null_mark v m) ∙ sym (c.null_at.ensures a.rv.now) ∙ c.if-null_at.true in
+    let v = get_or a.right.values.now a.q (pos 0) in
+    let m = get_or a.right.marks.now a.q (pos 0) in
+    let z : is_zero m ≡ true = sym (null_mark v m) ∙ sym (c.null_at.ensures a.right.values.now) ∙ c.if-null_at.true in
     c.put_cell.ensures ∙ rw z
 
 same-length-2 : tie.Need-shape_of-out-else-null_at
@@ -41,9 +41,9 @@ same-length-2 c = search rules
 returns-2 : tie.Need-returns-else-null_at
 returns-2 c =
     let a = c.args in
-    let v = get_or a.rv.now a.q (pos 0) in
-    let m = get_or a.rm.now a.q (pos 0) in
-    let z : is_zero m ≡ false = sym (null_mark v m) ∙ sym (c.null_at.ensures a.rv.now) ∙ c.if-null_at.false in
+    let v = get_or a.right.values.now a.q (pos 0) in
+    let m = get_or a.right.marks.now a.q (pos 0) in
+    let z : is_zero m ≡ false = sym (null_mark v m) ∙ sym (c.null_at.ensures a.right.values.now) ∙ c.if-null_at.false in
     c.put_cell-else-null_at.ensures ∙ rw (z, back v c.put_cell-arg-else-null_at-2-1.given)
 
 pub carry_cell_spec : {M : Type 1} → statement M

@@ -15,24 +15,24 @@ null-at-requires : tie.Need-null_at-requires
 null-at-requires c κs = search rules
 
 returns : tie.Need-returns-then-null_at
-returns c = let a = c.args in first_null (cell_at a.b a.rv.now a.rm.now) (cell_at a.a a.lv.now a.lm.now) (sym (c.null_at.ensures a.rv.now) ∙ c.if-null_at.true)
+returns c = let a = c.args in first_null (cell_at a.b a.right.values.now a.right.marks.now) (cell_at a.a a.left.values.now a.left.marks.now) (sym (c.null_at.ensures a.right.values.now) ∙ c.if-null_at.true)
 
 null-at-requires-2 : tie.Need-null_at-requires-2
 null-at-requires-2 c κs = search rules
 
 returns-2 : tie.Need-returns-then-null_at-2
-returns-2 c = let a = c.args in second_null (cell_at a.b a.rv.now a.rm.now) (cell_at a.a a.lv.now a.lm.now) (sym (c.null_at-2.ensures a.lv.now) ∙ c.if-null_at-2.true)
+returns-2 c = let a = c.args in second_null (cell_at a.b a.right.values.now a.right.marks.now) (cell_at a.a a.left.values.now a.left.marks.now) (sym (c.null_at-2.ensures a.left.values.now) ∙ c.if-null_at-2.true)
 
-mul-distance : tie.Need-offset_bounds-rv-b
+mul-distance : tie.Need-offset_bounds-right-b
 mul-distance c = search rules
 
-shared-slice-copy-out-distance : tie.Need-bounds-rv-b
+shared-slice-copy-out-distance : tie.Need-bounds-right-b
 shared-slice-copy-out-distance c = search rules
 
-mul-distance-2 : tie.Need-offset_bounds-lv-a
+mul-distance-2 : tie.Need-offset_bounds-left-a
 mul-distance-2 c = search rules
 
-shared-slice-copy-out-distance-2 : tie.Need-bounds-lv-a
+shared-slice-copy-out-distance-2 : tie.Need-bounds-left-a
 shared-slice-copy-out-distance-2 c = search rules
 
 distance-requires : tie.Need-distance-requires
@@ -42,12 +42,12 @@ returns-3 : tie.Need-returns
 returns-3 c =
     let x = c in
     let a = x.args in
-    let v = get_or a.rv.now a.b (pos 0) in
-    let m = get_or a.rm.now a.b (pos 0) in
-    let u = get_or a.lv.now a.a (pos 0) in
-    let n = get_or a.lm.now a.a (pos 0) in
-    let e : is_null (cell_of v m) ≡ false = sym (x.null_at.ensures a.rv.now) ∙ c.if-null_at.false in
-    let f : is_null (cell_of u n) ≡ false = sym (c.null_at-2.ensures a.lv.now) ∙ c.if-null_at-2.false in
+    let v = get_or a.right.values.now a.b (pos 0) in
+    let m = get_or a.right.marks.now a.b (pos 0) in
+    let u = get_or a.left.values.now a.a (pos 0) in
+    let n = get_or a.left.marks.now a.a (pos 0) in
+    let e : is_null (cell_of v m) ≡ false = sym (x.null_at.ensures a.right.values.now) ∙ c.if-null_at.false in
+    let f : is_null (cell_of u n) ≡ false = sym (c.null_at-2.ensures a.left.values.now) ∙ c.if-null_at-2.false in
     c.distance.ensures ∙ rw (back v c.distance-arg-1.given, back u c.distance-arg-2-1.given) (both_values v m u n e f)
 
 pub key_distance_spec : {M : Type 1} → statement M

@@ -22,12 +22,12 @@ returns : tie.Need-returns-then-o
 returns c =
     let s = c in
     let a = s.args in
-    last_put (without_list a.o) (cell_at a.a a.lv.now a.lm.now) a.q a.rv.now a.rm.now a.m a.k a.out.now _ _ c.if-o.true c.key_distance-d.ensures c.put_distance.ensures
+    last_put (without_list a.o) (cell_at a.a a.left.values.now a.left.marks.now) a.q a.right.values.now a.right.marks.now a.m a.k a.out.now _ _ c.if-o.true c.key_distance-d.ensures c.put_distance.ensures
 
 returns-2 : tie.Need-returns-else-o
 returns-2 c =
     let a = c.args in
-    last_left (without_list a.o) (cell_at a.a a.lv.now a.lm.now) a.q a.rv.now a.rm.now a.m a.k a.out.now c.if-o.false
+    last_left (without_list a.o) (cell_at a.a a.left.values.now a.left.marks.now) a.q a.right.values.now a.right.marks.now a.m a.k a.out.now c.if-o.false
 
 pub put_last_spec : {M : Type 1} → statement M
 put_last_spec =

@@ -1,4 +1,5 @@
 -- `carrying::spread_row` meets its contract. Assumes nothing.
+use Rattle.std.specs.Prelude.{Some}
 use mathlib.Core.Path.{◌≡◌, refl, sym, ap, subst, ◌∙◌}
 use mathlib.Core.Bool.{true}
 use Prim.Native.Nat.{ℕ, suc, ◌+◌, ◌-◌, ◌*◌, ◌^◌, ◌≤◌, ◌<◌}
@@ -9,7 +10,6 @@ use Rattle.order.specs.options.Options.{without_list, answer_columns}
 use Rattle.order.specs.Requires.{cell_at}
 use Rattle.matchframe.specs.carrying.Loops.{RightIn}
 use Rattle.matchframe.specs.carrying.Spread.{choice_at}
-use Rattle.matching.specs.declared.Choice.TheVariants.{Row}
 use Rattle.order.proofs.options.ColumnLaws.{shared_within, last_within}
 use Rattle.matchframe.proofs.carrying.SpreadLaws.{row_chosen, row_none}
 use borrow.Author.Rules.{rules}
@@ -40,19 +40,19 @@ last c e =
     omega arith
 
 -- the place of the left key is that of a word
-key_fits : (c : tie.After-answer_columns-c) → let a = c.args in a.i * a.wl + a.o.by < 2 ^ 64
+key_fits : (c : tie.After-answer_columns-c) → let a = c.args in a.i * a.left.width + a.o.by < 2 ^ 64
 key_fits c = let l = c.requires.left.values in omega arith
 
 -- the choice is a number
-chosen : (c : tie.In-Row) → let a = c.args in choice_at a.m a.out.now a.i ≡ Row c.in-Row.right
-chosen c = sym c.choice_at-choice.ensures ∙ c.in-Row.is
+chosen : (c : tie.In-Some) → let a = c.args in choice_at a.m a.out.now a.i ≡ Some c.in-Some.chosen
+chosen c = sym c.choice_at-choice.ensures ∙ c.in-Some.is
 
 -- its right row is there
-held : (c : tie.In-Row) → let a = c.args in RightIn (without_list a.o) a.wr a.rv.now a.rm.now a.number (Row c.in-Row.right)
+held : (c : tie.In-Some) → let a = c.args in RightIn (without_list a.o) a.right.width a.right.values.now a.right.marks.now a.number (Some c.in-Some.chosen)
 held c =
     let s = c in
     let a = s.args in
-    subst (RightIn (without_list a.o) a.wr a.rv.now a.rm.now a.number) (chosen c) s.requires.chosen
+    subst (RightIn (without_list a.o) a.right.width a.right.values.now a.right.marks.now a.number) (chosen c) s.requires.chosen
 
 mul-k : tie.Need-overflow_mul-k
 mul-k c = let t = there c in omega arith
@@ -63,7 +63,7 @@ choice-at-requires c κs = search rules
 enum-known-choice : tie.Need-enum_known-choice
 enum-known-choice c = search rules
 
-cast-put-cell : tie.Need-overflow_cast-right
+cast-put-cell : tie.Need-overflow_cast-chosen
 cast-put-cell c = record { sfits = (held c.before).1 }
 
 put-cell-requires : tie.Need-put_cell-requires
@@ -81,7 +81,7 @@ mul-q c = let h = (held c.before.before.before).2.values in omega arith
 add-carry-cells : tie.Need-overflow_add-q
 add-carry-cells c = let h = (held c.before.before.before.before).2.values in omega arith
 
-add-carry-cells-2 : tie.Need-overflow_add-q-in-Row
+add-carry-cells-2 : tie.Need-overflow_add-q-in-Some
 add-carry-cells-2 c = let h = (held c.before.before.before.before).2.values in omega arith
 
 add-carry-cells-3 : tie.Need-overflow_add-k
@@ -102,13 +102,13 @@ mul-a c = let l = c.requires.left.values in omega arith
 add_a : tie.Need-overflow_add-a
 add_a c = record { fits = key_fits c.before.before.before.before.before.before.before.before.before.before }
 
-add-put-last : tie.Need-overflow_add-k-in-Row
+add-put-last : tie.Need-overflow_add-k-in-Some
 add-put-last c =
     let e = c in
     let t = shared e.before.before.before.before.before.before.before.before.before.before in
     omega (arith, t, e.ranges)
 
-add-put-last-2 : tie.Need-overflow_add-k-in-Row-2
+add-put-last-2 : tie.Need-overflow_add-k-in-Some-2
 add-put-last-2 c =
     let e = c in
     let a = e.args in
@@ -132,30 +132,30 @@ null-cells-requires c κs =
     let e = c in
     record { within = there e.before.before.before; room = e.requires.choice.room }
 
-same_length : tie.Need-shape_of-out-in-Row
+same_length : tie.Need-shape_of-out-in-Some
 same_length c = search rules
 
-returns : tie.Need-returns-in-Row
+returns : tie.Need-returns-in-Some
 returns c =
     let e = c in
     let a = e.args in
     let k = c in
-    let r = k.in-Row.right in
+    let r = k.in-Some.chosen in
     let n : a.i * e.answer_columns-c.result ≡ a.i * answer_columns (without_list a.o) = ap (λ (z : ℕ). a.i * z) e.answer_columns-c.ensures in
-    let p = row_chosen (without_list a.o) a.number a.wr a.rv.now a.rm.now (cell_at (a.i * a.wl + a.o.by) a.lv.now a.lm.now) a.m (a.i * e.answer_columns-c.result) a.out.now (choice_at a.m a.out.now a.i) r
-    ((r - a.number) * a.wr) _ _ _ (chosen k.before.before.before.before.before.before.before.before.before.before.before.before) refl (c.put_cell.ensures ∙ rw (to_z_pos w64 r (held k.before.before.before.before.before.before.before.before.before.before.before.before).1)) c.carry_cells.ensures c.put_last.ensures in
+    let p = row_chosen (without_list a.o) a.number a.right.width a.right.values.now a.right.marks.now (cell_at (a.i * a.left.width + a.o.by) a.left.values.now a.left.marks.now) a.m (a.i * e.answer_columns-c.result) a.out.now (choice_at a.m a.out.now a.i) r
+    ((r - a.number) * a.right.width) _ _ _ (chosen k.before.before.before.before.before.before.before.before.before.before.before.before) refl (c.put_cell.ensures ∙ rw (to_z_pos w64 r (held k.before.before.before.before.before.before.before.before.before.before.before.before).1)) c.carry_cells.ensures c.put_last.ensures in
     rw n at p
 
-same-length-2 : tie.Need-shape_of-out-in-Nothing
+same-length-2 : tie.Need-shape_of-out-in-None
 same-length-2 c = search rules
 
-returns-2 : tie.Need-returns-in-Nothing
+returns-2 : tie.Need-returns-in-None
 returns-2 c =
     let e = c in
     let a = e.args in
     let n : a.i * e.answer_columns-c.result ≡ a.i * answer_columns (without_list a.o) = ap (λ (z : ℕ). a.i * z) e.answer_columns-c.ensures in
-    let p = row_none (without_list a.o) a.number a.wr a.rv.now a.rm.now (cell_at (a.i * a.wl + a.o.by) a.lv.now a.lm.now) a.m (a.i * e.answer_columns-c.result) a.out.now (choice_at a.m a.out.now a.i)
-    e.answer_columns-c.result _ (sym c.choice_at-choice.ensures ∙ c.in-Nothing.is) e.answer_columns-c.ensures c.null_cells.ensures in
+    let p = row_none (without_list a.o) a.number a.right.width a.right.values.now a.right.marks.now (cell_at (a.i * a.left.width + a.o.by) a.left.values.now a.left.marks.now) a.m (a.i * e.answer_columns-c.result) a.out.now (choice_at a.m a.out.now a.i)
+    e.answer_columns-c.result _ (sym c.choice_at-choice.ensures ∙ c.in-None.is) e.answer_columns-c.ensures c.null_cells.ensures in
     rw n at p
 
 pub spread_row_spec : {M : Type 1} → statement M

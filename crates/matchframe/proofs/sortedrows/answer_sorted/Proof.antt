@@ -11,7 +11,7 @@ match-rows-requires : tie.Need-match_rows-requires
 match-rows-requires c κs =
     let s = c in
     let a = s.args in
-    (frame_room (with_list a.o a.codes.now a.rising.now) a.wl a.nl a.lv.now a.lm.now a.wr a.nr a.rv.now a.rm.now a.number a.m a.out.now s.requires.0, s.requires.1)
+    (frame_room (with_list a.rules.terms a.rules.codes.now a.rules.rising.now) a.left.width a.left.count a.left.values.now a.left.marks.now a.right.width a.right.count a.right.values.now a.right.marks.now a.number a.m a.out.now s.requires.0, s.requires.1)
 
 same_length : tie.Need-shape_of-out-then-answer_columns-eq1
 same_length c = search rules
@@ -23,15 +23,15 @@ returns : tie.Need-returns-then-answer_columns-eq1
 returns c =
     let s = c in
     let a = s.args in
-    answer_plain (with_list a.o a.codes.now a.rising.now) a.wl a.nl a.lv.now a.lm.now a.wr a.nr a.rv.now a.rm.now a.number a.m a.out.now s.requires.0 _ (sym c.answer_columns.ensures ∙ c.if-answer_columns-eq1.true) c.match_rows.ensures
+    answer_plain (with_list a.rules.terms a.rules.codes.now a.rules.rising.now) a.left.width a.left.count a.left.values.now a.left.marks.now a.right.width a.right.count a.right.values.now a.right.marks.now a.number a.m a.out.now s.requires.0 _ (sym c.answer_columns.ensures ∙ c.if-answer_columns-eq1.true) c.match_rows.ensures
 
 spread-rows-requires : tie.Need-spread_rows-requires
 spread-rows-requires c κs =
     let f = c in
     let s = f in
     let a = s.args in
-    spread_in_terms a.o a.codes.now a.rising.now a.nl a.wl a.lv.now a.lm.now a.wr a.nr a.rv.now a.rm.now a.number a.m _
-    (spread_in (with_list a.o a.codes.now a.rising.now) a.wl a.nl a.lv.now a.lm.now a.wr a.nr a.rv.now a.rm.now a.number a.m a.out.now s.requires.0 _ f.match_rows.auto.out f.match_rows.ensures)
+    spread_in_terms a.rules.terms a.rules.codes.now a.rules.rising.now a.left.count a.left.width a.left.values.now a.left.marks.now a.right.width a.right.count a.right.values.now a.right.marks.now a.number a.m _
+    (spread_in (with_list a.rules.terms a.rules.codes.now a.rules.rising.now) a.left.width a.left.count a.left.values.now a.left.marks.now a.right.width a.right.count a.right.values.now a.right.marks.now a.number a.m a.out.now s.requires.0 _ f.match_rows.auto.out f.match_rows.ensures)
 
 same-length-2 : tie.Need-shape_of-out
 same-length-2 c = search rules
@@ -41,7 +41,7 @@ returns-2 c =
     let f = c in
     let s = f in
     let a = s.args in
-    answer_spread (with_list a.o a.codes.now a.rising.now) a.wl a.nl a.lv.now a.lm.now a.wr a.nr a.rv.now a.rm.now a.number a.m a.out.now s.requires.0 _ _ f.match_rows.ensures (c.spread_rows.ensures ∙ spread_terms a.o a.codes.now a.rising.now a.number (rows_of a.wr a.nr a.rv.now a.rm.now) (rows_of a.wl a.nl a.lv.now a.lm.now) a.m _)
+    answer_spread (with_list a.rules.terms a.rules.codes.now a.rules.rising.now) a.left.width a.left.count a.left.values.now a.left.marks.now a.right.width a.right.count a.right.values.now a.right.marks.now a.number a.m a.out.now s.requires.0 _ _ f.match_rows.ensures (c.spread_rows.ensures ∙ spread_terms a.rules.terms a.rules.codes.now a.rules.rising.now a.number (rows_of a.right.width a.right.count a.right.values.now a.right.marks.now) (rows_of a.left.width a.left.count a.left.values.now a.left.marks.now) a.m _)
 
 pub answer_sorted_spec : {M : Type 1} → statement M
 answer_sorted_spec =

@@ -18,10 +18,10 @@ returns : tie.Need-returns-then-is_short
 returns c = c.scan_run.ensures
 
 mul-null-group : tie.Need-overflow_mul-from
-mul-null-group c = let s = c in omega (arith, row_room s.args.from s.args.to s.args.wl s.requires.1, s.requires.0.left.marks)
+mul-null-group c = let s = c in omega (arith, row_room s.args.from s.args.to s.args.left.width s.requires.1, s.requires.0.left.marks)
 
 null-group-requires : tie.Need-null_group-requires
-null-group-requires c κs = let s = c in record { marks = omega (arith, row_room s.args.from s.args.to s.args.wl s.requires.1, s.requires.0.left.marks, s.requires.0.left.wide) }
+null-group-requires c κs = let s = c in record { marks = omega (arith, row_room s.args.from s.args.to s.args.left.width s.requires.1, s.requires.0.left.marks, s.requires.0.left.wide) }
 
 scan-run-requires-2 : tie.Need-scan_run-requires-then-null_group
 scan-run-requires-2 c κs = c.requires.0
@@ -31,7 +31,7 @@ walk-run-requires c κs =
     let s = c in
     let p = s.requires in
     let a = s.args in
-    let n = c.null_group.ensures a.wl a.lv.now p.0.left.wide (omega (arith, row_room a.from a.to a.wl p.1, p.0.left.values, p.0.left.wide)) in
+    let n = c.null_group.ensures a.left.width a.left.values.now p.0.left.wide (omega (arith, row_room a.from a.to a.left.width p.1, p.0.left.values, p.0.left.wide)) in
     record { room = p.0; left = p.2 (sym n ∙ c.if-null_group.false); right = p.3 }
 
 same-length-2 : tie.Need-shape_of-out-then-null_group

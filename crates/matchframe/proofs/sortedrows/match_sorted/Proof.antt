@@ -15,21 +15,21 @@ answer-columns-requires c κs = search rules
 -- there is room for the cells that the code counts
 room : (c : tie.After-answer_columns-c) →
     let a = c.args in
-    AnswerRoom (with_list a.o a.codes.now a.rising.now) a.wl a.nl a.lv.now a.lm.now a.wr a.nr a.rv.now a.rm.now a.number (a.nl * c.answer_columns-c.result) a.out.now
+    AnswerRoom (with_list a.rules.terms a.rules.codes.now a.rules.rising.now) a.left.width a.left.count a.left.values.now a.left.marks.now a.right.width a.right.count a.right.values.now a.right.marks.now a.number (a.left.count * c.answer_columns-c.result) a.out.now
 room c =
     let a = c.args in
-    subst (λ (z : ℕ). AnswerRoom (with_list a.o a.codes.now a.rising.now) a.wl a.nl a.lv.now a.lm.now a.wr a.nr a.rv.now a.rm.now a.number (a.nl * z) a.out.now) (sym c.answer_columns-c.ensures) c.requires.0
+    subst (λ (z : ℕ). AnswerRoom (with_list a.rules.terms a.rules.codes.now a.rules.rising.now) a.left.width a.left.count a.left.values.now a.left.marks.now a.right.width a.right.count a.right.values.now a.right.marks.now a.number (a.left.count * z) a.out.now) (sym c.answer_columns-c.ensures) c.requires.0
 
 -- and the number of rows is that of a word
-rows_fit : (c : tie.After-answer_columns-c) → c.args.nl < 2 ^ 63
+rows_fit : (c : tie.After-answer_columns-c) → c.args.left.count < 2 ^ 63
 rows_fit c =
     let a = c.args in
-    let f = frame_room (with_list a.o a.codes.now a.rising.now) a.wl a.nl a.lv.now a.lm.now a.wr a.nr a.rv.now a.rm.now a.number (a.nl * c.answer_columns-c.result) a.out.now (room c) in
+    let f = frame_room (with_list a.rules.terms a.rules.codes.now a.rules.rising.now) a.left.width a.left.count a.left.values.now a.left.marks.now a.right.width a.right.count a.right.values.now a.right.marks.now a.number (a.left.count * c.answer_columns-c.result) a.out.now (room c) in
     let n = f.within in
     let r = f.room in
     omega arith
 
-mul-answer-sorted : tie.Need-overflow_mul-nl
+mul-answer-sorted : tie.Need-overflow_mul-left
 mul-answer-sorted c = let r = (room c).room in omega arith
 
 answer-sorted-requires : tie.Need-answer_sorted-requires
@@ -39,11 +39,11 @@ put-head-requires : tie.Need-put_head-requires
 put-head-requires c κs =
     let e = c in
     let a = e.args in
-    let o = with_list a.o a.codes.now a.rising.now in
+    let o = with_list a.rules.terms a.rules.codes.now a.rules.rising.now in
     let r = room e.before.before.before.before in
     let w = columns_few o in
-    let k : e.answer_columns-c.result ≤ a.o.carried + 2 = subst (λ (z : ℕ). z ≤ a.o.carried + 2) (sym e.answer_columns-c.ensures) w in
-    let p : a.o.carried ≤ 8 = r.carried in
+    let k : e.answer_columns-c.result ≤ a.rules.terms.carried + 2 = subst (λ (z : ℕ). z ≤ a.rules.terms.carried + 2) (sym e.answer_columns-c.ensures) w in
+    let p : a.rules.terms.carried ≤ 8 = r.carried in
     record { rows = rows_fit e.before.before.before.before; columns = omega (arith, k, p); room = omega (arith, r.room, c.answer_sorted.auto.out) }
 
 same_length : tie.Need-shape_of-out
@@ -54,7 +54,7 @@ returns c =
     let e = c in
     let a = e.args in
     let k = e.answer_columns-c.result in
-    answer_whole (with_list a.o a.codes.now a.rising.now) a.wl a.nl a.lv.now a.lm.now a.wr a.nr a.rv.now a.rm.now a.number (a.nl * k) a.out.now (room e.before.before.before.before.before.before) k _ _ refl e.answer_columns-c.ensures c.answer_sorted.ensures c.put_head.ensures
+    answer_whole (with_list a.rules.terms a.rules.codes.now a.rules.rising.now) a.left.width a.left.count a.left.values.now a.left.marks.now a.right.width a.right.count a.right.values.now a.right.marks.now a.number (a.left.count * k) a.out.now (room e.before.before.before.before.before.before) k _ _ refl e.answer_columns-c.ensures c.answer_sorted.ensures c.put_head.ensures
 
 pub match_sorted_spec : {M : Type 1} → statement M
 match_sorted_spec =

@@ -24,29 +24,29 @@ first-left-requires c κs =
     let s = c in
     let a = s.args in
     let p = s.requires in
-    keys_terms a.o a.codes.now a.rising.now a.c a.n a.lm.now (record { few = p.few; wide = p.wide; marks = p.marks })
+    keys_terms a.rules.terms a.rules.codes.now a.rules.rising.now a.left.width a.left.count a.left.marks.now (record { few = p.few; wide = p.wide; marks = p.marks })
 
 -- the row that is compared is one of the frame's
-first : (c : tie.After-first_left-first) → let a = c.args in c.first_left-first.result ≡ first_left (with_list a.o a.codes.now a.rising.now) (rows_of a.c a.n a.lv.now a.lm.now)
+first : (c : tie.After-first_left-first) → let a = c.args in c.first_left-first.result ≡ first_left (with_list a.rules.terms a.rules.codes.now a.rules.rising.now) (rows_of a.left.width a.left.count a.left.values.now a.left.marks.now)
 first c =
     let s = c in
     let a = s.args in
-    c.first_left-first.ensures a.lv.now s.requires.values ∙ first_left_terms a.o a.codes.now a.rising.now (rows_of a.c a.n a.lv.now a.lm.now)
+    c.first_left-first.ensures a.left.values.now s.requires.values ∙ first_left_terms a.rules.terms a.rules.codes.now a.rules.rising.now (rows_of a.left.width a.left.count a.left.values.now a.left.marks.now)
 
-among : (c : tie.After-first_left-first) → FoundAmong c.first_left-first.result c.args.n
-among c = let a = c.args in first_left_among (with_list a.o a.codes.now a.rising.now) a.c a.n a.lv.now a.lm.now c.first_left-first.result (first c)
+among : (c : tie.After-first_left-first) → FoundAmong c.first_left-first.result c.args.left.count
+among c = let a = c.args in first_left_among (with_list a.rules.terms a.rules.codes.now a.rules.rising.now) a.left.width a.left.count a.left.values.now a.left.marks.now c.first_left-first.result (first c)
 
 out-of-order-requires : tie.Need-out_of_order-requires
 out-of-order-requires c κs =
     let s = c in
     let a = s.args in
-    found_in_lem (with_list a.o a.codes.now a.rising.now) a.c a.n c.first_left-first.result a.lv.now a.lm.now s.requires (among c)
+    found_in_lem (with_list a.rules.terms a.rules.codes.now a.rules.rising.now) a.left.width a.left.count c.first_left-first.result a.left.values.now a.left.marks.now s.requires (among c)
 
 -- whether it comes before the remembered row
 fault : (c : tie.After-out_of_order) → let a = c.args in
-    let rows = rows_of a.c a.n a.lv.now a.lm.now in
-    c.out_of_order.result ≡ out_of_order (with_list a.o a.codes.now a.rising.now) (recall (columns (with_list a.o a.codes.now a.rising.now)) a.m) (row_at rows (first_left (with_list a.o a.codes.now a.rising.now) rows))
-fault c = let k = c in rw (← (first k.before)) (c.out_of_order.ensures k.args.n (among k.before))
+    let rows = rows_of a.left.width a.left.count a.left.values.now a.left.marks.now in
+    c.out_of_order.result ≡ out_of_order (with_list a.rules.terms a.rules.codes.now a.rules.rising.now) (recall (columns (with_list a.rules.terms a.rules.codes.now a.rules.rising.now)) a.m) (row_at rows (first_left (with_list a.rules.terms a.rules.codes.now a.rules.rising.now) rows))
+fault c = let k = c in rw (← (first k.before)) (c.out_of_order.ensures k.args.left.count (among k.before))
 
 returns-2 : tie.Need-returns-then-out_of_order
 unfolding bad_left

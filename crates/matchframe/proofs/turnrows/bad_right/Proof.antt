@@ -23,16 +23,16 @@ returns-3 : tie.Need-returns-then-n-eq0
 unfolding bad_right_at
 returns-3 c = let d = c in let e = d in simp (← e.checks.ensures, not-false e.checks.result e.if-not-checks.false-raw, ← d.is_sorted.ensures, d.if-not-is_sorted.false-raw, eq-eqb _ _ c.if-n-eq0.true)
 
-returns-4 : tie.Need-returns-then-held-eq0
+returns-4 : tie.Need-returns-then-right-eq0
 unfolding bad_right_at
-returns-4 c = let f = c in let d = f in let e = d in simp (← e.checks.ensures, not-false e.checks.result e.if-not-checks.false-raw, ← d.is_sorted.ensures, d.if-not-is_sorted.false-raw, ne_eqb _ _ f.if-n-eq0.false, rows_length, eq-eqb _ _ c.if-held-eq0.true)
+returns-4 c = let f = c in let d = f in let e = d in simp (← e.checks.ensures, not-false e.checks.result e.if-not-checks.false-raw, ← d.is_sorted.ensures, d.if-not-is_sorted.false-raw, ne_eqb _ _ f.if-n-eq0.false, rows_length, eq-eqb _ _ c.if-right-eq0.true)
 
 bad-split-requires : tie.Need-bad_split-requires
 bad-split-requires c κs = search rules
 
 returns-5 : tie.Need-returns
 unfolding bad_right_at
-returns-5 c = let g = c in let f = g in let d = f in let e = d in simp (← e.checks.ensures, not-false e.checks.result e.if-not-checks.false-raw, ← d.is_sorted.ensures, d.if-not-is_sorted.false-raw, ne_eqb _ _ f.if-n-eq0.false, rows_length, ne_eqb _ _ g.if-held-eq0.false, ← c.bad_split.ensures)
+returns-5 c = let g = c in let f = g in let d = f in let e = d in simp (← e.checks.ensures, not-false e.checks.result e.if-not-checks.false-raw, ← d.is_sorted.ensures, d.if-not-is_sorted.false-raw, ne_eqb _ _ f.if-n-eq0.false, rows_length, ne_eqb _ _ g.if-right-eq0.false, ← c.bad_split.ensures)
 
 pub bad_right_spec : {M : Type 1} → statement M
 bad_right_spec =

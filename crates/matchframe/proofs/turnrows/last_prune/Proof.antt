@@ -5,11 +5,11 @@ use borrow.Author.Rules.{rules}
 use Rattle.matchframe.proofs.turnrows.last_prune.Statement.{statement}
 use Rattle.matchframe.proofs.turnrows.last_prune.Tie as tie
 
-returns : tie.Need-returns-then-n-eq0
+returns : tie.Need-returns-then-left-eq0
 unfolding prune_by
-returns c = simp (rows_length, eq-eqb _ _ c.if-n-eq0.true)
+returns c = simp (rows_length, eq-eqb _ _ c.if-left-eq0.true)
 
-sub-prune-by : tie.Need-overflow_sub-n
+sub-prune-by : tie.Need-overflow_sub-left
 sub-prune-by c = search rules
 
 prune-by-requires : tie.Need-prune_by-requires

@@ -21,23 +21,23 @@ last-keyed-requires : tie.Need-last_keyed-last-requires
 last-keyed-requires c κs = search rules
 
 -- the row that is remembered is one of them
-last : (c : tie.After-last_keyed-last) → let a = c.args in c.last_keyed-last.result ≡ last_keyed (without_list a.o) (rows_of a.w a.n a.values.now a.marks.now)
-last c = let s = c in c.last_keyed-last.ensures s.args.values.now s.requires.values
+last : (c : tie.After-last_keyed-last) → let a = c.args in c.last_keyed-last.result ≡ last_keyed (without_list a.o) (rows_of a.rows.width a.rows.count a.rows.values.now a.rows.marks.now)
+last c = let s = c in c.last_keyed-last.ensures s.args.rows.values.now s.requires.values
 
-among : (c : tie.After-last_keyed-last) → FoundAmong c.last_keyed-last.result c.args.n
-among c = let a = c.args in last_among (without_list a.o) a.w a.n c.last_keyed-last.result a.values.now a.marks.now (last c)
+among : (c : tie.After-last_keyed-last) → FoundAmong c.last_keyed-last.result c.args.rows.count
+among c = let a = c.args in last_among (without_list a.o) a.rows.width a.rows.count c.last_keyed-last.result a.rows.values.now a.rows.marks.now (last c)
 
 remember-found-requires : tie.Need-remember_found-requires
 remember-found-requires c κs =
     let s = c in
     let a = s.args in
-    found_in_lem (without_list a.o) a.w a.n c.last_keyed-last.result a.values.now a.marks.now s.requires (among c)
+    found_in_lem (without_list a.o) a.rows.width a.rows.count c.last_keyed-last.result a.rows.values.now a.rows.marks.now s.requires (among c)
 
 -- what is remembered by it
 by-it : (c : tie.After-remember_found) → let a = c.args in
-    let rows = rows_of a.w a.n a.values.now a.marks.now in
+    let rows = rows_of a.rows.width a.rows.count a.rows.values.now a.rows.marks.now in
     c.remember_found.result ≡ remember_at (without_list a.o) a.m rows (last_keyed (without_list a.o) rows)
-by-it c = let k = c in rw (← (last k.before)) (c.remember_found.ensures k.args.n (among k.before))
+by-it c = let k = c in rw (← (last k.before)) (c.remember_found.ensures k.args.rows.count (among k.before))
 
 returns-2 : tie.Need-returns
 unfolding remembered remember_last

@@ -22,23 +22,23 @@ last-left-requires : tie.Need-last_left-last-requires
 last-left-requires c κs = search rules
 
 -- the row that is remembered is one of them
-last : (c : tie.After-last_left-last) → let a = c.args in c.last_left-last.result ≡ last_left_at (without_list a.o) (rows_of a.c a.n a.lv.now a.lm.now)
-last c = let s = c in c.last_left-last.ensures s.args.lv.now s.requires.values
+last : (c : tie.After-last_left-last) → let a = c.args in c.last_left-last.result ≡ last_left_at (without_list a.o) (rows_of a.left.width a.left.count a.left.values.now a.left.marks.now)
+last c = let s = c in c.last_left-last.ensures s.args.left.values.now s.requires.values
 
-among : (c : tie.After-last_left-last) → FoundAmong c.last_left-last.result c.args.n
-among c = let a = c.args in last_left_among (without_list a.o) a.c a.n a.lv.now a.lm.now c.last_left-last.result (last c)
+among : (c : tie.After-last_left-last) → FoundAmong c.last_left-last.result c.args.left.count
+among c = let a = c.args in last_left_among (without_list a.o) a.left.width a.left.count a.left.values.now a.left.marks.now c.last_left-last.result (last c)
 
 remember-found-requires : tie.Need-remember_found-requires
 remember-found-requires c κs =
     let s = c in
     let a = s.args in
-    found_in_lem (without_list a.o) a.c a.n c.last_left-last.result a.lv.now a.lm.now s.requires (among c)
+    found_in_lem (without_list a.o) a.left.width a.left.count c.last_left-last.result a.left.values.now a.left.marks.now s.requires (among c)
 
 -- what is remembered by it
 by-it : (c : tie.After-remember_found) → let a = c.args in
-    let rows = rows_of a.c a.n a.lv.now a.lm.now in
+    let rows = rows_of a.left.width a.left.count a.left.values.now a.left.marks.now in
     c.remember_found.result ≡ remember_at (without_list a.o) a.m rows (last_left_at (without_list a.o) rows)
-by-it c = let k = c in rw (← (last k.before)) (c.remember_found.ensures k.args.n (among k.before))
+by-it c = let k = c in rw (← (last k.before)) (c.remember_found.ensures k.args.left.count (among k.before))
 
 returns-2 : tie.Need-returns
 unfolding remembered_left

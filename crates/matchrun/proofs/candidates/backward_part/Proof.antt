@@ -18,24 +18,24 @@ last-fit-requires-2 : tie.Need-last_fit-from-requires
 last-fit-requires-2 c κs =
     let a = c.args in
     let e = c.last_fit-to.ensures in
-    (rows_less (without_list a.o) a.w a.rv.now a.rm.now c.last_fit-to.result a.end e.within c.requires.0, e.start)
+    (rows_less (without_list a.o) a.right.width a.right.values.now a.right.marks.now c.last_fit-to.result a.end e.within c.requires.0, e.start)
 
 -- what the two searches found
 first : (c : tie.After-last_fit-from) →
     let a = c.args in
-    LastFit a.o.allow_eq (key_at (without_list a.o) a.w a.rv.now a.rm.now) a.at a.end (value a.l) c.last_fit-to.result
+    LastFit a.o.allow_eq (key_at (without_list a.o) a.right.width a.right.values.now a.right.marks.now) a.at a.end (value a.l) c.last_fit-to.result
 first c = rw (to_z-of_z c.ranges.l) at c.last_fit-to.ensures
 
 second : (c : tie.After-last_fit-from) →
     let a = c.args in
-    LastFit a.o.allow_eq (key_at (without_list a.o) a.w a.rv.now a.rm.now) a.at c.last_fit-to.result (value a.f) c.last_fit-from.result
+    LastFit a.o.allow_eq (key_at (without_list a.o) a.right.width a.right.values.now a.right.marks.now) a.at c.last_fit-to.result (value a.f) c.last_fit-from.result
 second c = rw (to_z-of_z c.ranges.f) at c.last_fit-from.ensures
 
 returns : tie.Need-returns-then-from-at
 returns c =
     let s = c in
     let a = s.args in
-    back_all (without_list a.o) a.w a.at a.end a.rv.now a.rm.now s.requires.0 s.requires.1 s.requires.2 a.f a.l c.last_fit-to.result (first c.before) c.last_fit-from.result (second c.before) c.if-from-at.true
+    back_all (without_list a.o) a.right.width a.at a.end a.right.values.now a.right.marks.now s.requires.0 s.requires.1 s.requires.2 a.f a.l c.last_fit-to.result (first c.before) c.last_fit-from.result (second c.before) c.if-from-at.true
 
 sub-t12 : tie.Need-overflow_sub-result
 sub-t12 c = search rules
@@ -46,7 +46,7 @@ returns-2 c =
     let a = s.args in
     let b = second c.before in
     let h : a.at < c.last_fit-from.result = omega (arith, b.start, c.if-from-at.false) in
-    back_from (without_list a.o) a.w a.at a.end a.rv.now a.rm.now s.requires.0 s.requires.1 s.requires.2 a.f a.l c.last_fit-to.result (first c.before) c.last_fit-from.result b h
+    back_from (without_list a.o) a.right.width a.at a.end a.right.values.now a.right.marks.now s.requires.0 s.requires.1 s.requires.2 a.f a.l c.last_fit-to.result (first c.before) c.last_fit-from.result b h
 
 pub backward_part_spec : {M : Type 1} → statement M
 backward_part_spec = tie.close (tie.spec last-fit-requires last-fit-requires-2 returns sub-t12 returns-2)

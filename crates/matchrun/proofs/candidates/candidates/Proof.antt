@@ -10,17 +10,17 @@ use Rattle.matchrun.proofs.candidates.candidates.Statement.{statement}
 use Rattle.matchrun.proofs.candidates.candidates.Tie as tie
 
 -- the first row with a key, and the last row, end within the rows
-room : (c : tie.Else-i-to) → let a = c.args in c.first_key-i.result * a.wl + a.wl ≤ a.to * a.wl
+room : (c : tie.Else-i-to) → let a = c.args in c.first_key-i.result * a.left.width + a.left.width ≤ a.to * a.left.width
 room c =
     let a = c.args in
     let e = c.first_key-i.ensures in
-    row_room c.first_key-i.result a.to a.wl (omega (arith, e.within, c.if-i-to.false))
+    row_room c.first_key-i.result a.to a.left.width (omega (arith, e.within, c.if-i-to.false))
 
-room_last : (c : tie.Else-i-to) → let a = c.args in (a.to - 1) * a.wl + a.wl ≤ a.to * a.wl
+room_last : (c : tie.Else-i-to) → let a = c.args in (a.to - 1) * a.left.width + a.left.width ≤ a.to * a.left.width
 room_last c =
     let a = c.args in
     let e = c.first_key-i.ensures in
-    row_room (a.to - 1) a.to a.wl (omega (arith, e.within, c.if-i-to.false))
+    row_room (a.to - 1) a.to a.left.width (omega (arith, e.within, c.if-i-to.false))
 
 first-key-requires : tie.Need-first_key-i-requires
 first-key-requires c κs =
@@ -31,7 +31,7 @@ returns : tie.Need-returns-then-i-to
 returns c =
     let s = c in
     let a = s.args in
-    no_keys (without_list a.o) a.wl a.from a.to a.lv.now a.lm.now s.requires.0 a.wr a.at a.end a.rv.now a.rm.now s.requires.2 c.first_key-i.result c.first_key-i.ensures c.if-i-to.true
+    no_keys (without_list a.o) a.left.width a.from a.to a.left.values.now a.left.marks.now s.requires.0 a.right.width a.at a.end a.right.values.now a.right.marks.now s.requires.2 c.first_key-i.result c.first_key-i.ensures c.if-i-to.true
 
 mul-p : tie.Need-overflow_mul-p
 mul-p c = let r = room c in let p = c.requires.0.rows in omega arith
@@ -48,16 +48,16 @@ mul-q c = let r = room_last c in let p = c.requires.0.rows in omega arith
 add-q : tie.Need-overflow_add-q
 add-q c = let r = room_last c in let p = c.requires.0.rows in omega arith
 
-mul-part-of : tie.Need-offset_bounds-lv-p
+mul-part-of : tie.Need-offset_bounds-left-p
 mul-part-of c = let r = room c in let p = c.requires.0.rows in omega arith
 
-shared-slice-copy-out-part-of : tie.Need-bounds-lv-p
+shared-slice-copy-out-part-of : tie.Need-bounds-left-p
 shared-slice-copy-out-part-of c = let r = room c in let p = c.requires.0.rows in omega arith
 
-mul-part-of-2 : tie.Need-offset_bounds-lv-q
+mul-part-of-2 : tie.Need-offset_bounds-left-q
 mul-part-of-2 c = let r = room_last c.before in let p = c.requires.0.rows in omega arith
 
-shared-slice-copy-out-part-of-2 : tie.Need-bounds-lv-q
+shared-slice-copy-out-part-of-2 : tie.Need-bounds-left-q
 shared-slice-copy-out-part-of-2 c = let r = room_last c.before in let p = c.requires.0.rows in omega arith
 
 part-of-requires : tie.Need-part_of-requires
@@ -70,8 +70,8 @@ returns-2 c =
     let k = c.first_key-i in
     let i = k.result in
     let h : i < a.to = omega (arith, k.ensures.within, c.if-i-to.false) in
-    let e = rw (back (get_or a.lv.now (i * a.wl + a.o.by) (pos 0)) c.part_of-arg-1.given, back (get_or a.lv.now ((a.to - 1) * a.wl + a.o.by) (pos 0)) c.part_of-arg-2-1.given) at c.part_of.ensures in
-    from_keys (without_list a.o) a.wl a.from a.to a.lv.now a.lm.now s.requires.0 a.wr a.at a.end a.rv.now a.rm.now s.requires.2 i k.ensures c.part_of.result h e
+    let e = rw (back (get_or a.left.values.now (i * a.left.width + a.o.by) (pos 0)) c.part_of-arg-1.given, back (get_or a.left.values.now ((a.to - 1) * a.left.width + a.o.by) (pos 0)) c.part_of-arg-2-1.given) at c.part_of.ensures in
+    from_keys (without_list a.o) a.left.width a.from a.to a.left.values.now a.left.marks.now s.requires.0 a.right.width a.at a.end a.right.values.now a.right.marks.now s.requires.2 i k.ensures c.part_of.result h e
 
 pub candidates_spec : {M : Type 1} → statement M
 candidates_spec =

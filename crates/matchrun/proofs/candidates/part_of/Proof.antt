@@ -33,7 +33,7 @@ returns : tie.Need-returns-then-f-l
 returns c =
     let s = c in
     let a = s.args in
-    whole (without_list a.o) a.w a.at a.end a.rv.now a.rm.now s.requires.0 s.requires.1 a.f a.l
+    whole (without_list a.o) a.right.width a.at a.end a.right.values.now a.right.marks.now s.requires.0 s.requires.1 a.f a.l
 
 nearest-part-requires : tie.Need-nearest_part-requires
 nearest-part-requires c κs =
@@ -51,7 +51,7 @@ returns-4 c =
     let s = c in
     let a = s.args in
     let f = s.ranges in
-    one_key (without_list a.o) a.w a.at a.end a.rv.now a.rm.now a.f a.l c.nearest_part.result (lt_flag f.f f.l c.if-f-l.false) (rw (to_z-of_z f.f) at c.nearest_part.ensures)
+    one_key (without_list a.o) a.right.width a.at a.end a.right.values.now a.right.marks.now a.f a.l c.nearest_part.result (lt_flag f.f f.l c.if-f-l.false) (rw (to_z-of_z f.f) at c.nearest_part.ensures)
 
 pub part_of_spec : {M : Type 1} → statement M
 part_of_spec = tie.close (tie.spec strategy-of-requires enum_told backward-part-requires enum-told-2 forward-part-requires enum-told-3 returns nearest-part-requires returns-2 returns-3 returns-4)

@@ -16,14 +16,14 @@ returns c =
     let s = c in
     let a = s.args in
     let e = c.first_key-start.ensures in
-    sym (keys_none (without_list a.o) a.w a.values.now a.marks.now a.from a.to s.requires.0 c.first_key-start.result e.start (e.before a.values.now) c.if-start-to.true)
+    sym (keys_none (without_list a.o) a.rows.width a.rows.values.now a.rows.marks.now a.from a.to s.requires.0 c.first_key-start.result e.start (e.before a.rows.values.now) c.if-start-to.true)
 
 -- there is a row with a key
 there : (c : tie.Else-start-to) → c.first_key-start.result < c.args.to
 there c = omega (arith, c.first_key-start.ensures.within, c.if-start-to.false)
 
 keys-rise-requires : tie.Need-keys_rise-requires
-keys-rise-requires c κs = (c.requires.0, there c, c.first_key-start.ensures.keyed c.args.values.now (there c))
+keys-rise-requires c κs = (c.requires.0, there c, c.first_key-start.ensures.keyed c.args.rows.values.now (there c))
 
 returns-2 : tie.Need-returns
 returns-2 c =
@@ -31,7 +31,7 @@ returns-2 c =
     let s = c in
     let a = s.args in
     let e = k.ensures in
-    c.keys_rise.ensures ∙ sym (keys_nulls (without_list a.o) a.w a.values.now a.marks.now a.from a.to s.requires.0 k.result e.start (e.before a.values.now) (there c.before))
+    c.keys_rise.ensures ∙ sym (keys_nulls (without_list a.o) a.rows.width a.rows.values.now a.rows.marks.now a.from a.to s.requires.0 k.result e.start (e.before a.rows.values.now) (there c.before))
 
 pub keys_sorted_spec : {M : Type 1} → statement M
 keys_sorted_spec = tie.close (tie.spec first-key-requires returns keys-rise-requires returns-2)

@@ -16,23 +16,23 @@ abbrev last : (c : tie.Start) → ℕ
 last c = c.args.from + (c.args.to - c.args.from - 1) / 4 * 4
 
 -- what is asked of rows that are w wide
-asked : (c : tie.Else-rows-lt9) →
+asked : (c : tie.Else-count-lt9) →
     let s = c in
     let a = s.args in
-    let vs = a.values.now in
-    let ms = a.marks.now in
-    (a.o.by < a.w) × (a.from ≤ last s.before) × ((last s.before - a.from) % 4 ≡ 0) × ((last s.before + 1) * a.w ≤ length vs) × ((last s.before + 1) * a.w ≤ length ms) × (is_null (cell_at (a.from * a.w + a.o.by) vs ms) ≡ false)
+    let vs = a.rows.values.now in
+    let ms = a.rows.marks.now in
+    (a.o.by < a.rows.width) × (a.from ≤ last s.before) × ((last s.before - a.from) % 4 ≡ 0) × ((last s.before + 1) * a.rows.width ≤ length vs) × ((last s.before + 1) * a.rows.width ≤ length ms) × (is_null (cell_at (a.from * a.rows.width + a.o.by) vs ms) ≡ false)
 asked c =
     let s = c in
     let p = s.requires.0 in
-    let m = mul-le-mul_right {m = last s.before + 1} {n = s.args.to} s.args.w (omega (arith, c.if-rows-lt9.false)) in
+    let m = mul-le-mul_right {m = last s.before + 1} {n = s.args.to} s.args.rows.width (omega (arith, c.if-count-lt9.false)) in
     (p.wide, omega arith, omega arith, omega (arith, m, p.values), omega (arith, m, p.marks), s.requires.2)
 
-sub-rows : tie.Need-overflow_sub-rows
+sub-rows : tie.Need-overflow_sub-count
 sub-rows c = search rules
 
-returns : tie.Need-returns-then-rows-lt9
-returns c = let s = c in let a = s.args in (s.requires.1, risen_none a.w a.o.by a.values.now a.marks.now a.from s.requires.2)
+returns : tie.Need-returns-then-count-lt9
+returns c = let s = c in let a = s.args in (s.requires.1, risen_none a.rows.width a.o.by a.rows.values.now a.rows.marks.now a.from s.requires.2)
 
 sub-end : tie.Need-overflow_sub-end
 sub-end c = search rules
@@ -44,19 +44,19 @@ add-end : tie.Need-overflow_add-end
 add-end c = search rules
 
 skip-four-requires : tie.Need-skip_four-requires
-skip-four-requires c κs = rw c.if-w-eq1.true at (asked c.before)
+skip-four-requires c κs = rw c.if-rows-eq1.true at (asked c.before.before.before)
 
-returns-2 : tie.Need-returns-then-w-eq1
-returns-2 c = let r = c.skip_four.ensures in (omega (arith, r.0, c.if-rows-lt9.false), rw c.if-w-eq1.true r.1)
+returns-2 : tie.Need-returns-then-rows-eq1
+returns-2 c = let r = c.skip_four.ensures in (omega (arith, r.0, c.if-count-lt9.false), rw c.if-rows-eq1.true r.1)
 
-skip-four-requires-2 : tie.Need-skip_four-requires-then-w-eq2
-skip-four-requires-2 c κs = rw c.if-w-eq2.true at (asked c.before.before)
+skip-four-requires-2 : tie.Need-skip_four-requires-then-rows-eq2
+skip-four-requires-2 c κs = rw c.if-rows-eq2.true at (asked c.before.before.before.before)
 
-returns-3 : tie.Need-returns-then-w-eq2
-returns-3 c = let r = c.skip_four-then-w-eq2.ensures in (omega (arith, r.0, c.if-rows-lt9.false), rw c.if-w-eq2.true r.1)
+returns-3 : tie.Need-returns-then-rows-eq2
+returns-3 c = let r = c.skip_four-then-rows-eq2.ensures in (omega (arith, r.0, c.if-count-lt9.false), rw c.if-rows-eq2.true r.1)
 
 returns-4 : tie.Need-returns
-returns-4 c = let s = c in let a = s.args in (s.requires.1, risen_none a.w a.o.by a.values.now a.marks.now a.from s.requires.2)
+returns-4 c = let s = c in let a = s.args in (s.requires.1, risen_none a.rows.width a.o.by a.rows.values.now a.rows.marks.now a.from s.requires.2)
 
 pub skip_risen_spec : {M : Type 1} → statement M
 skip_risen_spec =

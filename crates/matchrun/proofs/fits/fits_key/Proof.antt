@@ -12,12 +12,12 @@ null-at-requires : tie.Need-null_at-requires
 null-at-requires c κs = search rules
 
 returns : tie.Need-returns-then-null_at
-returns c = let a = c.args in rw (sym (c.null_at.ensures a.rv.now) ∙ c.if-null_at.true)
+returns c = let a = c.args in rw (sym (c.null_at.ensures a.right.values.now) ∙ c.if-null_at.true)
 
-mul-cmp-cell : tie.Need-offset_bounds-rv-k
+mul-cmp-cell : tie.Need-offset_bounds-right-k
 mul-cmp-cell c = search rules
 
-shared-slice-copy-out-cmp-cell : tie.Need-bounds-rv-k
+shared-slice-copy-out-cmp-cell : tie.Need-bounds-right-k
 shared-slice-copy-out-cmp-cell c = search rules
 
 cmp-cell-requires : tie.Need-cmp_cell-requires
@@ -30,10 +30,10 @@ returns-2 : tie.Need-returns
 returns-2 c =
     let s = c in
     let a = s.args in
-    let v = get_or a.rv.now a.k (pos 0) in
-    let e = sym (c.null_at.ensures a.rv.now) ∙ c.if-null_at.false in
+    let v = get_or a.right.values.now a.k (pos 0) in
+    let e = sym (c.null_at.ensures a.right.values.now) ∙ c.if-null_at.false in
     let g = rw (back v c.cmp_cell-arg-1.given, to_z-of_z s.ranges.v) at c.cmp_cell.ensures in
-    rw (present v (get_or a.rm.now a.k (pos 0)) e, ← g) c.on_side.ensures
+    rw (present v (get_or a.right.marks.now a.k (pos 0)) e, ← g) c.on_side.ensures
 
 pub fits_key_spec : {M : Type 1} → statement M
 fits_key_spec =

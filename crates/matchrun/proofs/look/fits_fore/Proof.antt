@@ -8,17 +8,17 @@ use Rattle.matchrun.proofs.look.FitLaws.{below_fits}
 use Rattle.matchrun.proofs.look.fits_fore.Statement.{statement}
 use Rattle.matchrun.proofs.look.fits_fore.Tie as tie
 
-mul-if1 : tie.Need-offset_bounds-rv-k
+mul-if1 : tie.Need-offset_bounds-right-k
 mul-if1 c = search rules
 
-shared-slice-copy-out-if1 : tie.Need-bounds-rv-k
+shared-slice-copy-out-if1 : tie.Need-bounds-right-k
 shared-slice-copy-out-if1 c = search rules
 
-returns : tie.Need-returns-then-rv-k
+returns : tie.Need-returns-then-right-k
 returns c =
     let s = c in
     let a = s.args in
-    sym (below_fits a.eq a.v (get_or a.rv.now a.k (pos 0)) (get_or a.rm.now a.k (pos 0)) (lt_flag {a = get_or a.rv.now a.k (pos 0)} (record { sfits = c.t8-1.given }) s.ranges.v c.if-rv-k.true))
+    sym (below_fits a.eq a.v (get_or a.right.values.now a.k (pos 0)) (get_or a.right.marks.now a.k (pos 0)) (lt_flag {a = get_or a.right.values.now a.k (pos 0)} (record { sfits = c.t7-1.given }) s.ranges.v c.if-right-k.true))
 
 fits-key-requires : tie.Need-fits_key-requires
 fits-key-requires c κs = search rules

@@ -20,32 +20,32 @@ use Rattle.matchrun.proofs.scan.meet_row.Statement.{statement}
 use Rattle.matchrun.proofs.scan.meet_row.Tie as tie
 
 -- row j ends within the rows; so does the best row, where there is one
-room : (c : tie.Start) → c.args.j * c.args.w + c.args.w ≤ c.args.to * c.args.w
-room c = row_room c.args.j c.args.to c.args.w c.requires.there
+room : (c : tie.Start) → c.args.j * c.args.right.width + c.args.right.width ≤ c.args.to * c.args.right.width
+room c = row_room c.args.j c.args.to c.args.right.width c.requires.there
 
 low : (c : tie.Else-best-to) → c.args.best < c.args.to
 low c = let s = c in let l = c.if-best-to.false in let k = s.requires.kept.within in omega arith
 
-best-room : (c : tie.Else-best-to) → let a = c.args in a.best * a.w + a.w ≤ a.to * a.w
-best-room c = let a = c.args in row_room a.best a.to a.w (low c)
+best-room : (c : tie.Else-best-to) → let a = c.args in a.best * a.right.width + a.right.width ≤ a.to * a.right.width
+best-room c = let a = c.args in row_room a.best a.to a.right.width (low c)
 
 -- what `fits_key` says of row j
 fit : (c : tie.After-fits_key) →
     let a = c.args in
-    c.fits_key.result ≡ (not (is_null (cell_at (a.j * a.w + a.o.by) a.rv.now a.rm.now)) && on_side a.s a.o.allow_eq (cmp_cell key_rule (cell_at (a.j * a.w + a.o.by) a.rv.now a.rm.now) (value a.v)))
+    c.fits_key.result ≡ (not (is_null (cell_at (a.j * a.right.width + a.o.by) a.right.values.now a.right.marks.now)) && on_side a.s a.o.allow_eq (cmp_cell key_rule (cell_at (a.j * a.right.width + a.o.by) a.right.values.now a.right.marks.now) (value a.v)))
 fit c = rw (to_z-of_z c.ranges.v) at c.fits_key.ensures
 
 -- what `takes_over` says of row j and the best row
 over : (c : tie.After-takes_over) →
     let a = c.args in
-    TakesOver a.s a.v (get_or a.rv.now (a.j * a.w + a.o.by) (pos 0)) (get_or a.rv.now (a.best * a.w + a.o.by) (pos 0)) c.takes_over.result
+    TakesOver a.s a.v (get_or a.right.values.now (a.j * a.right.width + a.o.by) (pos 0)) (get_or a.right.values.now (a.best * a.right.width + a.o.by) (pos 0)) c.takes_over.result
 over c =
     let s = c in
     let a = s.args in
     rw (
       to_z-of_z s.ranges.v,
-      back (get_or a.rv.now (a.j * a.w + a.o.by) (pos 0)) c.takes_over-arg-1.given,
-      back (get_or a.rv.now (a.best * a.w + a.o.by) (pos 0)) c.takes_over-arg-2-1.given,
+      back (get_or a.right.values.now (a.j * a.right.width + a.o.by) (pos 0)) c.takes_over-arg-1.given,
+      back (get_or a.right.values.now (a.best * a.right.width + a.o.by) (pos 0)) c.takes_over-arg-2-1.given,
     ) at c.takes_over.ensures
 
 mul-k : tie.Need-overflow_mul-k
@@ -69,16 +69,16 @@ mul-b c = omega (arith, best-room c, c.requires.rows)
 add-b : tie.Need-overflow_add-b
 add-b c = omega (arith, best-room c, c.requires.rows)
 
-mul-takes-over : tie.Need-offset_bounds-rv-k
+mul-takes-over : tie.Need-offset_bounds-right-k
 mul-takes-over c = omega (arith, room c.before.before.before, c.requires.rows)
 
-shared-slice-copy-out-takes-over : tie.Need-bounds-rv-k
+shared-slice-copy-out-takes-over : tie.Need-bounds-right-k
 shared-slice-copy-out-takes-over c = omega (arith, room c.before.before.before, c.requires.rows)
 
-mul-takes-over-2 : tie.Need-offset_bounds-rv-b
+mul-takes-over-2 : tie.Need-offset_bounds-right-b
 mul-takes-over-2 c = omega (arith, best-room c.before, c.requires.rows)
 
-shared-slice-copy-out-takes-over-2 : tie.Need-bounds-rv-b
+shared-slice-copy-out-takes-over-2 : tie.Need-bounds-right-b
 shared-slice-copy-out-takes-over-2 c = omega (arith, best-room c.before, c.requires.rows)
 
 takes-over-requires : tie.Need-takes_over-requires

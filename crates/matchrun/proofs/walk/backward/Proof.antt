@@ -1,3 +1,4 @@
+use Rattle.std.specs.Prelude.{None}
 use mathlib.Core.Path.{◌≡◌, refl, sym, ◌∙◌}
 use mathlib.Core.Bool.{true}
 use mathlib.Core.List.{map}
@@ -16,7 +17,6 @@ use Rattle.matching.specs.Match.{match_in}
 use Rattle.matching.specs.Loops.{Small}
 use Rattle.matching.specs.Moves.{walk_on}
 use Rattle.matching.specs.Stretches.{between, lay}
-use Rattle.matching.specs.declared.Choice.TheVariants.{Nothing}
 use Rattle.matching.proofs.BestLaws.{key_at_lem}
 use Rattle.matching.proofs.MoveLaws.{lefts_done}
 use Rattle.matching.proofs.LayLaws.{lay_more, lay_done}
@@ -28,77 +28,77 @@ use Rattle.matchrun.proofs.walk.backward.Statement.{statement}
 use Rattle.matchrun.proofs.walk.backward.Tie as tie
 
 abbrev invariant-loop : tie.invariant-loop-i
-invariant-loop lv m wl from to rv wr at end number o out₀ by stop start row₀ place₀ i₀ p₀ moves₀ out row place i p moves =
-    (from ≤ i) × (i ≤ to) × (length out ≡ length out₀) × (at ≤ row) × (row ≤ end) × (place ≡ row * wr + o.by) × (p ≡ i * wl + o.by)
-    × ((u : ℤ) → Reached (keyed wl o.by lv) from i u → (k : ℕ) → at ≤ k → k < row → below o.allow_eq u (value_at wr o.by rv k) ≡ true)
-    × ((lm rm : Words) → Marked (without_list o) wl from to lv lm → Marked (without_list o) wr at end rv rm
-    → lay m from (map (match_in (without_list o) (number + at) (between wr at end rv rm)) (between wl from to lv lm)) out₀
-    ≡ lay m i (map (match_in (without_list o) (number + at) (between wr at end rv rm)) (between wl i to lv lm)) out)
+invariant-loop left m from to right at end number o out₀ by stop start row₀ place₀ p₀ moves₀ i₀ out row place p moves i =
+    (from ≤ i) × (i ≤ to) × (length out ≡ length out₀) × (at ≤ row) × (row ≤ end) × (place ≡ row * right.width + o.by) × (p ≡ i * left.width + o.by)
+    × ((u : ℤ) → Reached (keyed left.width o.by left.values.now) from i u → (k : ℕ) → at ≤ k → k < row → below o.allow_eq u (value_at right.width o.by right.values.now k) ≡ true)
+    × ((lm rm : Words) → Marked (without_list o) left.width from to left.values.now lm → Marked (without_list o) right.width at end right.values.now rm
+    → lay m from (map (match_in (without_list o) (number + at) (between right.width at end right.values.now rm)) (between left.width from to left.values.now lm)) out₀
+    ≡ lay m i (map (match_in (without_list o) (number + at) (between right.width at end right.values.now rm)) (between left.width i to left.values.now lm)) out)
     × (moves ≡ (i - from) + (row - at))
-    × ((lm rm : Words) → Marked (without_list o) wl from to lv lm → Marked (without_list o) wr at end rv rm
-    → length (walk_on (without_list o) (between wl from to lv lm) (between wr at end rv rm)) ≡ moves + length (walk_on (without_list o) (between wl i to lv lm) (between wr row end rv rm)))
+    × ((lm rm : Words) → Marked (without_list o) left.width from to left.values.now lm → Marked (without_list o) right.width at end right.values.now rm
+    → length (walk_on (without_list o) (between left.width from to left.values.now lm) (between right.width at end right.values.now rm)) ≡ moves + length (walk_on (without_list o) (between left.width i to left.values.now lm) (between right.width row end right.values.now rm)))
 
 abbrev decreases-loop : tie.decreases-loop-i
-decreases-loop lv m wl from to rv wr at end number o out₀ by stop start row₀ place₀ i₀ p₀ moves₀ out row place i p moves = to - i
+decreases-loop left m from to right at end number o out₀ by stop start row₀ place₀ p₀ moves₀ i₀ out row place p moves i = to - i
 
 -- row i ends within the left rows
-room : (c : tie.In-loop-i invariant-loop decreases-loop) → let a = c.args in c.loop-i.i * a.wl + a.wl ≤ a.to * a.wl
-room c = let a = c.args in row_room c.loop-i.i a.to a.wl c.loop-i-test.true
+room : (c : tie.In-loop-i invariant-loop decreases-loop) → let a = c.args in c.loop-i.i * a.left.width + a.left.width ≤ a.to * a.left.width
+room c = let a = c.args in row_room c.loop-i.i a.to a.left.width c.loop-i-test.true
 
 -- the key of row i
 abbrev left : tie.In-loop-i invariant-loop decreases-loop → ℤ
-left c = let a = c.args in value_at a.wl a.o.by a.lv.now c.loop-i.i
+left c = let a = c.args in value_at a.left.width a.o.by a.left.values.now c.loop-i.i
 
 -- where the cursor has come to
 came : (c : tie.After-advance-c invariant-loop decreases-loop) →
     let a = c.args in
     let l = c.loop-i in
-    Skipped a.wr a.o.by l.row a.end a.rv.now (below a.o.allow_eq (left c.before.before)) l.moves c.advance-c.result
+    Skipped a.right.width a.o.by l.row a.end a.right.values.now (below a.o.allow_eq (left c.before.before.before)) l.moves c.advance-c.result
 came c =
     let a = c.args in
     let l = c.loop-i in
-    let e : l.place - l.row * a.wr ≡ a.o.by = omega (arith, l.invariant.5) in
-    rw (e, back (get_or a.lv.now l.p (pos 0)) c.v-1.given, l.invariant.6) at c.advance-c.ensures
+    let e : l.place - l.row * a.right.width ≡ a.o.by = omega (arith, l.invariant.5) in
+    rw (e, back (get_or a.left.values.now l.p (pos 0)) c.v-1.given, l.invariant.6) at c.advance-c.ensures
 
 -- all that it has passed is below the key of row i
 passed : (c : tie.After-advance-c invariant-loop decreases-loop) →
     let a = c.args in
-    (k : ℕ) → a.at ≤ k → k < c.advance-c.result.row → below a.o.allow_eq (left c.before.before) (value_at a.wr a.o.by a.rv.now k) ≡ true
+    (k : ℕ) → a.at ≤ k → k < c.advance-c.result.row → below a.o.allow_eq (left c.before.before.before) (value_at a.right.width a.o.by a.right.values.now k) ≡ true
 passed c =
     let s = c in
     let a = s.args in
     let l = c.loop-i in
-    let v = left c.before.before in
-    let here = reached_here (keyed a.wl a.o.by a.lv.now) a.from a.to s.requires.0.left_rising l.i c.loop-i-test.true v refl in
-    below_on a.o.allow_eq (value_at a.wr a.o.by a.rv.now) a.at v l.row c.advance-c.result.row (l.invariant.7 v here) (came c).before
+    let v = left c.before.before.before in
+    let here = reached_here (keyed a.left.width a.o.by a.left.values.now) a.from a.to s.requires.0.left_rising l.i c.loop-i-test.true v refl in
+    below_on a.o.allow_eq (value_at a.right.width a.o.by a.right.values.now) a.at v l.row c.advance-c.result.row (l.invariant.7 v here) (came c).before
 
 -- the place of the key of the row before it
 before-place : (c : tie.After-advance-c invariant-loop decreases-loop) →
     let a = c.args in
     let n = c.advance-c.result.row in
-    a.at < n → c.advance-c.result.place - a.wr ≡ (n - 1) * a.wr + a.o.by
+    a.at < n → c.advance-c.result.place - a.right.width ≡ (n - 1) * a.right.width + a.o.by
 before-place c h =
     let a = c.args in
-    omega (arith, (came c).place, row_before_lem c.advance-c.result.row a.wr (omega (arith, h)))
+    omega (arith, (came c).place, row_before_lem c.advance-c.result.row a.right.width (omega (arith, h)))
 
 -- what `choice_back` says of it
 told : (c : tie.After-choice_back-choice invariant-loop decreases-loop) →
     let d = c in
     let a = d.args in
     let n = d.advance-c.result.row in
-    Small c.choice_back-choice.result × (n ≡ a.at → c.choice_back-choice.result ≡ Nothing)
-    × (a.at < n → c.choice_back-choice.result ≡ unless_far a.o.tolerance (left d.before.before.before.before) (get_or a.rv.now (d.advance-c.result.place - a.wr) (pos 0)) (a.number + (n - 1)))
+    Small c.choice_back-choice.result × (n ≡ a.at → c.choice_back-choice.result ≡ None)
+    × (a.at < n → c.choice_back-choice.result ≡ unless_far a.o.tolerance (left d.before.before.before.before.before.before) (get_or a.right.values.now (d.advance-c.result.place - a.right.width) (pos 0)) (a.number + (n - 1)))
 told c =
     let d = c in
     let a = d.args in
     let l = d.loop-i in
-    rw (back (get_or a.lv.now l.p (pos 0)) d.v-1.given, back a.o.tolerance c.struct_told-1.given.1.0.1, l.invariant.6) at c.choice_back-choice.ensures
+    rw (back (get_or a.left.values.now l.p (pos 0)) d.v-1.given, back a.o.tolerance c.struct_told-1.given.1.0.1, l.invariant.6) at c.choice_back-choice.ensures
 
 -- the choice of row i
 choice : (c : tie.After-choice_back-choice invariant-loop decreases-loop) →
     let a = c.args in
-    (lm rm : Words) → Marked (without_list a.o) a.wl a.from a.to a.lv.now lm → Marked (without_list a.o) a.wr a.at a.end a.rv.now rm
-    → c.choice_back-choice.result ≡ match_in (without_list a.o) (a.number + a.at) (between a.wr a.at a.end a.rv.now rm) (row_from a.wl (c.loop-i.i * a.wl) a.lv.now lm)
+    (lm rm : Words) → Marked (without_list a.o) a.left.width a.from a.to a.left.values.now lm → Marked (without_list a.o) a.right.width a.at a.end a.right.values.now rm
+    → c.choice_back-choice.result ≡ match_in (without_list a.o) (a.number + a.at) (between a.right.width a.at a.end a.right.values.now rm) (row_from a.left.width (c.loop-i.i * a.left.width) a.left.values.now lm)
 choice c lm rm ml mr =
     let d = c in
     let i = d in
@@ -106,58 +106,58 @@ choice c lm rm ml mr =
     let a = s.args in
     let l = i.loop-i in
     let n = d.advance-c.result.row in
-    let g = came d.before.before in
+    let g = came d.before.before.before in
     let h : a.at ≤ n = omega (arith, l.invariant.3, g.upward) in
-    let ex = key_at_lem (without_list a.o) a.wl a.to a.lv.now lm ml.rows l.i i.loop-i-test.true ∙ ml.keys l.i l.invariant.0 i.loop-i-test.true in
-    back_choice (without_list a.o) a.wr a.at a.end a.rv.now rm mr s.requires.0.right_rising a.number (row_from a.wl (l.i * a.wl) a.lv.now lm) (left i.before.before.before.before) ex
-    a.o.allow_eq n h (passed d.before.before) g.stop s.requires.1 refl g.within c.choice_back-choice.result (told c).1 (λ t. (told c).2 t ∙ rw (before-place d.before.before t))
+    let ex = key_at_lem (without_list a.o) a.left.width a.to a.left.values.now lm ml.rows l.i i.loop-i-test.true ∙ ml.keys l.i l.invariant.0 i.loop-i-test.true in
+    back_choice (without_list a.o) a.right.width a.at a.end a.right.values.now rm mr s.requires.0.right_rising a.number (row_from a.left.width (l.i * a.left.width) a.left.values.now lm) (left i.before.before.before.before.before.before) ex
+    a.o.allow_eq n h (passed d.before.before.before) g.stop s.requires.1 refl g.within c.choice_back-choice.result (told c).1 (λ t. (told c).2 t ∙ rw (before-place d.before.before.before t))
 
 -- both runs begin within their rows
-starts : (s : tie.Start invariant-loop decreases-loop) → let a = s.args in (a.from * a.wl ≤ a.to * a.wl) × (a.at * a.wr ≤ a.end * a.wr)
+starts : (s : tie.Start invariant-loop decreases-loop) → let a = s.args in (a.from * a.left.width ≤ a.to * a.left.width) × (a.at * a.right.width ≤ a.end * a.right.width)
 starts s =
     let a = s.args in
-    (mul-le-mul_right {m = a.from} {n = a.to} a.wl s.requires.0.upward, mul-le-mul_right {m = a.at} {n = a.end} a.wr s.requires.0.run)
+    (mul-le-mul_right {m = a.from} {n = a.to} a.left.width s.requires.0.upward, mul-le-mul_right {m = a.at} {n = a.end} a.right.width s.requires.0.run)
 
 -- as many moves as both runs have rows are a word
 few-moves : (s : tie.Start invariant-loop decreases-loop) → s.args.to + s.args.end < 2 ^ 63 + 2 ^ 63
 few-moves s =
     let a = s.args in
     let p = s.requires.0 in
-    let m = mul-le-mul_right {m = 1} {n = a.wl} a.to (omega (arith, p.left_wide)) in
+    let m = mul-le-mul_right {m = 1} {n = a.left.width} a.to (omega (arith, p.left_wide)) in
     omega (arith, m, p.left_values, p.numbers, s.well_formed.0)
 
 fours-to-requires : tie.Need-fours_to-stop-requires invariant-loop decreases-loop
 fours-to-requires c κs = let p = c.requires.0 in (p.left_wide, p.left_values, p.upward, p.run, p.left_rising)
 
 mul-start : tie.Need-overflow_mul-start invariant-loop decreases-loop
-mul-start c = let p = c.requires.0 in omega (arith, (starts c.before).1, p.right_values)
+mul-start c = let p = c.requires.0 in omega (arith, (starts c.before.before).1, p.right_values)
 
 add_start : tie.Need-overflow_add-start invariant-loop decreases-loop
-add_start c = let p = c.requires.0 in omega (arith, (starts c.before).1, p.right_values, p.few)
+add_start c = let p = c.requires.0 in omega (arith, (starts c.before.before).1, p.right_values, p.few)
 
 mul-p : tie.Need-overflow_mul-p invariant-loop decreases-loop
-mul-p c = let p = c.requires.0 in omega (arith, (starts c.before).0, p.left_values)
+mul-p c = let p = c.requires.0 in omega (arith, (starts c.before.before).0, p.left_values)
 
 add-p : tie.Need-overflow_add-p invariant-loop decreases-loop
-add-p c = let p = c.requires.0 in omega (arith, (starts c.before).0, p.left_values, p.few)
+add-p c = let p = c.requires.0 in omega (arith, (starts c.before.before).0, p.left_values, p.few)
 
 loop-holds : tie.Need-loop-i-init invariant-loop decreases-loop
 loop-holds c =
     let p = c.requires.0 in
     (omega arith, p.upward, refl, omega arith, p.run, refl, refl, λ u r k l h. absurd (omega (arith, l, h)), λ lm rm ml mr. refl, omega arith, λ lm rm ml mr. omega arith)
 
-mul-v : tie.Need-offset_bounds-lv-p invariant-loop decreases-loop
+mul-v : tie.Need-offset_bounds-left-p invariant-loop decreases-loop
 mul-v c = let r = room c in let p = c.requires.0 in omega (arith, p.left_wide, p.left_values, c.loop-i.invariant.6)
 
-shared-slice-copy-out-v : tie.Need-bounds-lv-p invariant-loop decreases-loop
+shared-slice-copy-out-v : tie.Need-bounds-left-p invariant-loop decreases-loop
 shared-slice-copy-out-v c = let r = room c in let p = c.requires.0 in omega (arith, p.left_wide, p.left_values, c.loop-i.invariant.6)
 
 -- where four rows are taken at a time, the key of row i has a next
-has-next : (c : tie.After-v-1 invariant-loop decreases-loop) → let a = c.args in a.at + 3 < c.fours_to-stop.result → HasNext (to_z w64 (of_z w64 (get_or a.lv.now c.loop-i.p (pos 0))))
+has-next : (c : tie.After-v-1 invariant-loop decreases-loop) → let a = c.args in a.at + 3 < c.fours_to-stop.result → HasNext (to_z w64 (of_z w64 (get_or a.left.values.now c.loop-i.p (pos 0))))
 has-next c h =
     let a = c.args in
     let l = c.loop-i in
-    rw (back (get_or a.lv.now l.p (pos 0)) c.v-1.given, l.invariant.6) (c.fours_to-stop.ensures.1 h l.i l.invariant.0 c.loop-i-test.true)
+    rw (back (get_or a.left.values.now l.p (pos 0)) c.v-1.given, l.invariant.6) (c.fours_to-stop.ensures.1 h l.i l.invariant.0 c.loop-i-test.true)
 
 advance-requires : tie.Need-advance-c-requires invariant-loop decreases-loop
 advance-requires c κs =
@@ -165,15 +165,15 @@ advance-requires c κs =
     let a = s.args in
     let p = s.requires.0 in
     let l = c.loop-i in
-    let e : l.place - l.row * a.wr ≡ a.o.by = omega (arith, l.invariant.5) in (
+    let e : l.place - l.row * a.right.width ≡ a.o.by = omega (arith, l.invariant.5) in (
       record { within = l.invariant.4; values = p.right_values; start = omega (arith, l.invariant.5); wide = omega (arith, l.invariant.5, p.right_wide) },
       (
         c.fours_to-stop.ensures.0,
         (
           rw e (λ i k g t h. p.right_rising i k (omega (arith, g, l.invariant.3)) t h),
           (
-            λ h. has-next c (omega (arith, h, l.invariant.3)),
-            omega (arith, few-moves s.before.before.before.before, c.loop-i-test.true, l.invariant.0, l.invariant.3, l.invariant.4, l.invariant.9),
+            λ h. has-next c.before (omega (arith, h, l.invariant.3)),
+            omega (arith, few-moves s.before.before.before.before.before.before, c.loop-i-test.true, l.invariant.0, l.invariant.3, l.invariant.4, l.invariant.9),
           ),
         ),
       ),
@@ -185,11 +185,11 @@ choice-back-requires c κs =
     let s = d in
     let a = s.args in
     let n = d.advance-c.result.row in
-    let g = came d.before in
+    let g = came d.before.before in
     let p = s.requires.0 in (
       omega (arith, d.loop-i.invariant.3, g.upward),
-      λ h. omega (arith, g.place, row_before_lem n a.wr (omega (arith, h))),
-      λ h. rw (before-place d.before h) (omega (arith, row_room (n - 1) a.end a.wr (omega (arith, h, g.within)), p.right_values, p.right_wide)),
+      λ h. omega (arith, g.place, row_before_lem n a.right.width (omega (arith, h))),
+      λ h. rw (before-place d.before.before h) (omega (arith, row_room (n - 1) a.end a.right.width (omega (arith, h, g.within)), p.right_values, p.right_wide)),
       omega (arith, g.within, p.numbers),
     )
 
@@ -199,13 +199,13 @@ put-requires c κs =
     let p = c.requires.0 in
     (record { there = omega (arith, c.loop-i-test.true, p.within); room = omega (arith, p.room, l.invariant.2) }, c.choice_back-choice.ensures.0)
 
-add-i : tie.Need-overflow_add-i invariant-loop decreases-loop
-add-i c = omega (arith, c.loop-i-test.true)
+step-i : tie.Need-overflow_step-i invariant-loop decreases-loop
+step-i c = omega (arith, c.loop-i-test.true)
 
 add-p-2 : tie.Need-overflow_add-p-in-loop-i invariant-loop decreases-loop
 add-p-2 c =
     let i = c in
-    let r = room i.before.before.before.before.before.before.before in
+    let r = room i.before.before.before.before.before.before.before.before.before in
     let p = i.requires.0 in
     omega (arith, p.left_wide, p.left_values, i.loop-i.invariant.6)
 
@@ -214,8 +214,8 @@ add-moves c =
     let d = c in
     let i = d in
     let l = i.loop-i in
-    let g = came d.before.before.before.before.before in
-    omega (arith, few-moves i.before.before.before.before.before.before.before.before.before.before, i.loop-i-test.true, g.counted, g.upward, g.within, l.invariant.0, l.invariant.3, l.invariant.9)
+    let g = came d.before.before.before.before.before.before in
+    omega (arith, few-moves i.before.before.before.before.before.before.before.before.before.before.before.before.before, i.loop-i-test.true, g.counted, g.upward, g.within, l.invariant.0, l.invariant.3, l.invariant.9)
 
 loop-less : tie.Need-loop-i-smaller invariant-loop decreases-loop
 loop-less c = omega (arith, c.loop-i-test.true)
@@ -229,9 +229,9 @@ loop-again c =
     let a = s.args in
     let l = i.loop-i in
     let t = i.loop-i-test.true in
-    let g = came d.before.before.before.before.before in
+    let g = came d.before.before.before.before.before.before in
     let n = d.advance-c.result.row in
-    let z : (l.i + 1) * a.wl ≡ l.i * a.wl + a.wl = omega arith in (
+    let z : (l.i + 1) * a.left.width ≡ l.i * a.left.width + a.left.width = omega arith in (
       omega (arith, l.invariant.0),
       omega (arith, t),
       c.put.auto.out ∙ l.invariant.2,
@@ -239,13 +239,13 @@ loop-again c =
       g.within,
       g.place,
       omega (arith, z, l.invariant.6),
-      λ u r. below_later a.o.allow_eq (value_at a.wr a.o.by a.rv.now) a.at (left i.before.before.before.before.before.before.before) u n (r l.i l.invariant.0 (omega arith)) (passed d.before.before.before.before.before),
+      λ u r. below_later a.o.allow_eq (value_at a.right.width a.o.by a.right.values.now) a.at (left i.before.before.before.before.before.before.before.before.before) u n (r l.i l.invariant.0 (omega arith)) (passed d.before.before.before.before.before.before),
       λ lm rm ml mr.
-          let f = match_in (without_list a.o) (a.number + a.at) (between a.wr a.at a.end a.rv.now rm) in
-          l.invariant.8 lm rm ml mr ∙ lay_more a.m f a.wl a.lv.now lm l.i a.to l.out t ∙ rw (c.put.ensures, choice e.before.before.before lm rm ml mr),
+          let f = match_in (without_list a.o) (a.number + a.at) (between a.right.width a.at a.end a.right.values.now rm) in
+          l.invariant.8 lm rm ml mr ∙ lay_more a.m f a.left.width a.left.values.now lm l.i a.to l.out t ∙ rw (c.put.ensures, choice e.before.before.before lm rm ml mr),
       omega (arith, g.counted, g.upward, l.invariant.0, l.invariant.3, l.invariant.9),
       λ lm rm ml mr.
-          let k = row_counted (without_list a.o) a.wl a.from a.to a.lv.now lm ml a.wr a.at a.end a.rv.now rm mr
+          let k = row_counted (without_list a.o) a.left.width a.from a.to a.left.values.now lm ml a.right.width a.at a.end a.right.values.now rm mr
           l.i l.invariant.0 t l.row n l.invariant.3 g.upward g.within (λ k p q. rw s.requires.1 (g.before k p q)) (λ q. rw s.requires.1 (g.stop q)) in
           omega (arith, k, g.counted, l.invariant.10 lm rm ml mr),
     )
@@ -260,14 +260,14 @@ returns c =
     let e : l.i ≡ a.to = omega (arith, c.loop-i-test.false, l.invariant.1) in
     record {
       counted = λ lm rm ml mr.
-          let z = lefts_done (without_list a.o) a.wl a.to a.lv.now lm (between a.wr l.row a.end a.rv.now rm) in
+          let z = lefts_done (without_list a.o) a.left.width a.to a.left.values.now lm (between a.right.width l.row a.end a.right.values.now rm) in
           sym (l.invariant.10 lm rm ml mr ∙ rw (e, z) (omega arith));
       laid = λ lm rm ml mr.
-          let f = match_in (without_list a.o) (a.number + a.at) (between a.wr a.at a.end a.rv.now rm) in
-          sym (l.invariant.8 lm rm ml mr ∙ rw e (lay_done a.m f a.wl a.lv.now lm a.to l.out));
+          let f = match_in (without_list a.o) (a.number + a.at) (between a.right.width a.at a.end a.right.values.now rm) in
+          sym (l.invariant.8 lm rm ml mr ∙ rw e (lay_done a.m f a.left.width a.left.values.now lm a.to l.out));
     }
 
 pub backward_spec : {M : Type 1} → statement M
 backward_spec =
     tie.close
-    (tie.spec invariant-loop decreases-loop fours-to-requires mul-start add_start mul-p add-p loop-holds mul-v shared-slice-copy-out-v advance-requires choice-back-requires put-requires add-i add-p-2 add-moves loop-less loop-again same_length returns)
+    (tie.spec invariant-loop decreases-loop fours-to-requires mul-start add_start mul-p add-p loop-holds mul-v shared-slice-copy-out-v advance-requires choice-back-requires put-requires add-p-2 add-moves step-i loop-less loop-again same_length returns)

@@ -13,10 +13,10 @@ use Rattle.node.proofs.runs.run.Statement.{statement}
 use Rattle.node.proofs.runs.run.Tie as tie
 
 abbrev invariant-loop : tie.invariant-loop-made
-invariant-loop self₀ k left right out₀ made₀ at₀ self out made at = Made k self₀ left right out₀ made at self out
+invariant-loop self₀ k left right out₀ at₀ made₀ self out at made = Made k self₀ left right out₀ made at self out
 
 abbrev decreases-loop : tie.decreases-loop-made
-decreases-loop self₀ k left right out₀ made₀ at₀ self out made at = k - made
+decreases-loop self₀ k left right out₀ at₀ made₀ self out at made = k - made
 
 loop-holds : tie.Need-loop-made-init invariant-loop decreases-loop
 loop-holds c = run_starts _ _ _ _ _
@@ -108,8 +108,8 @@ add_at c =
     let l = u in
     omega (arith, run_within _ _ _ _ _ l.loop-made.invariant (more l.before.before.before.before.before.before.before.before.before.before.before) _ _ u.turn-t.ensures (goes i.before.before.before.before.before) _ _ (rw t.terms_of.ensures at a.answer_columns-c.ensures) c.turn_words-at.ensures, l.loop-made.invariant.same, l.well_formed.1.1.1.1.0.0)
 
-add-made : tie.Need-overflow_add-made invariant-loop decreases-loop
-add-made c = omega arith
+step-made : tie.Need-overflow_step-made invariant-loop decreases-loop
+step-made c = omega arith
 
 loop-less : tie.Need-loop-made-smaller invariant-loop decreases-loop
 loop-less c = omega arith
@@ -127,9 +127,12 @@ same-length-2 : tie.Need-shape_of-out invariant-loop decreases-loop
 same-length-2 c = c.loop-made.invariant.same
 
 returns-2 : tie.Need-returns invariant-loop decreases-loop
-returns-2 c = run_used _ _ _ _ _ c.loop-made.invariant (omega (arith, c.loop-made-test.false))
+returns-2 c =
+    let l = c.loop-made in
+    let e : l.made ≡ c.args.k = omega (arith, l.invariant.few, c.loop-made-test.false) in
+    rw e at (run_used _ _ _ _ _ l.invariant (omega (arith, c.loop-made-test.false)))
 
 pub run_spec : {M : Type 1} → statement M
 run_spec =
     tie.close
-    (tie.spec invariant-loop decreases-loop loop-holds mul-turn sub-turn part-turn-start part-turn-end turn-requires goes-on-requires stop-of-requires same_length returns terms-of-requires answer-columns-requires mul-turn-words sub-turn-words part-turn-words-start part-turn-words-end turn-words-requires add_at add-made loop-less loop-again same-length-2 returns-2)
+    (tie.spec invariant-loop decreases-loop loop-holds mul-turn sub-turn part-turn-start part-turn-end turn-requires goes-on-requires stop-of-requires same_length returns terms-of-requires answer-columns-requires mul-turn-words sub-turn-words part-turn-words-start part-turn-words-end turn-words-requires add_at step-made loop-less loop-again same-length-2 returns-2)

@@ -20,7 +20,7 @@ lacks-code-requires c κs =
     (p.few, omega (arith, e), rw e (frame_table _ _ p.frame))
 
 -- What the call says, by the definition's name.
-told : (c : tie.After-lacks_code) → let a = c.args in c.lacks_code.result ≡ lacks_code (with_list a.o a.codes.now a.rising.now) (frame_rows (columns (with_list a.o a.codes.now a.rising.now)) a.frame.now)
+told : (c : tie.After-lacks_code) → let a = c.args in c.lacks_code.result ≡ lacks_code (with_list a.rules.terms a.rules.codes.now a.rules.rising.now) (frame_rows (columns (with_list a.rules.terms a.rules.codes.now a.rules.rising.now)) a.frame.now)
 told c = rw c.left_columns-c.ensures at c.lacks_code.ensures
 
 unturned-requires : tie.Need-unturned-requires
@@ -30,7 +30,7 @@ returns : tie.Need-returns-then-lacks_code
 returns c =
     let t = c in
     let a = t.args in
-    rw c.unturned.ensures (codes_stop (with_list a.o a.codes.now a.rising.now) a.j a.frame.now a.right.now a.out.now (sym (told t.before.before) ∙ t.if-lacks_code.true))
+    rw c.unturned.ensures (codes_stop (with_list a.rules.terms a.rules.codes.now a.rules.rising.now) a.j a.frame.now a.right.now a.out.now (sym (told t.before.before) ∙ t.if-lacks_code.true))
 
 turn-frame-requires : tie.Need-turn_frame-requires
 turn-frame-requires c κs = search rules
@@ -42,7 +42,7 @@ returns-2 : tie.Need-returns
 returns-2 c =
     let t = c in
     let a = t.args in
-    listed_turns (with_list a.o a.codes.now a.rising.now) a.j a.frame.now a.right.now a.out.now (sym (told t.before.before.before.before) ∙ t.if-lacks_code.false) _ _ c.turn_frame.ensures
+    listed_turns (with_list a.rules.terms a.rules.codes.now a.rules.rising.now) a.j a.frame.now a.right.now a.out.now (sym (told t.before.before.before.before) ∙ t.if-lacks_code.false) _ _ c.turn_frame.ensures
 
 pub turn_listed_spec : {M : Type 1} → statement M
 turn_listed_spec =

@@ -20,35 +20,35 @@ answer-columns-requires : tie.Need-answer_columns-requires
 answer-columns-requires c κs = search rules
 
 -- the answer's cells are few
-few : (c : tie.After-answer_columns) → c.args.n * c.answer_columns.result ≤ 10 * frame_limit
+few : (c : tie.After-answer_columns) → c.args.left.count * c.answer_columns.result ≤ 10 * frame_limit
 few c = rw c.answer_columns.ensures (cells_few c.requires)
 
-mul-if2 : tie.Need-overflow_mul-n
+mul-if2 : tie.Need-overflow_mul-left
 mul-if2 c = omega (arith, few c)
 
-mul-if2-2 : tie.Need-overflow_mul-n-2
+mul-if2-2 : tie.Need-overflow_mul-left-2
 mul-if2-2 c = omega (arith, few c)
 
-add-if2 : tie.Need-overflow_add-n
+add-if2 : tie.Need-overflow_add-left
 add-if2 c = omega (arith, few c)
 
-returns-2 : tie.Need-returns-then-room-n
+returns-2 : tie.Need-returns-then-room-left
 unfolding room_answer
 returns-2 c =
     let d = c in
-    simp (← d.wants_right.ensures, d.if-wants_right.false, rows_length, ← d.answer_columns.ensures, lt-ltb _ _ c.if-room-n.true)
+    simp (← d.wants_right.ensures, d.if-wants_right.false, rows_length, ← d.answer_columns.ensures, lt-ltb _ _ c.if-room-left.true)
 
 returns-3 : tie.Need-returns-then-j-eq-LAST_SEQUENCE
 unfolding room_answer
 returns-3 c =
     let d = c in
-    simp (← d.wants_right.ensures, d.if-wants_right.false, rows_length, ← d.answer_columns.ensures, le-ltb _ _ c.if-room-n.false, eq-eqb _ _ c.if-j-eq-LAST_SEQUENCE.true)
+    simp (← d.wants_right.ensures, d.if-wants_right.false, rows_length, ← d.answer_columns.ensures, le-ltb _ _ c.if-room-left.false, eq-eqb _ _ c.if-j-eq-LAST_SEQUENCE.true)
 
 returns-4 : tie.Need-returns
 unfolding room_answer
 returns-4 c =
     let d = c in
-    simp (← d.wants_right.ensures, d.if-wants_right.false, rows_length, ← d.answer_columns.ensures, le-ltb _ _ c.if-room-n.false, ne_eqb _ _ c.if-j-eq-LAST_SEQUENCE.false)
+    simp (← d.wants_right.ensures, d.if-wants_right.false, rows_length, ← d.answer_columns.ensures, le-ltb _ _ c.if-room-left.false, ne_eqb _ _ c.if-j-eq-LAST_SEQUENCE.false)
 
 pub judge_room_spec : {M : Type 1} → statement M
 judge_room_spec =

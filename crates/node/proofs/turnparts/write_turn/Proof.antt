@@ -7,7 +7,7 @@ use borrow.Author.Rules.{rules}
 use Rattle.node.proofs.turnparts.write_turn.Statement.{statement}
 use Rattle.node.proofs.turnparts.write_turn.Tie as tie
 
-sub-kept : tie.Need-overflow_sub-kept
+sub-kept : tie.Need-overflow_sub-count
 sub-kept c = search rules
 
 add-number : tie.Need-overflow_add-number
@@ -20,24 +20,24 @@ remembered-left-requires : tie.Need-remembered_left-l-requires
 remembered-left-requires c κs =
     let s = c in
     let a = s.args in
-    rows_terms a.o a.codes.now a.rising.now a.c a.n a.lv.now a.lm.now s.requires.left
+    rows_terms a.rules.terms a.rules.codes.now a.rules.rising.now a.left.width a.left.count a.left.values.now a.left.marks.now s.requires.left
 
 remembered-requires : tie.Need-remembered-r-requires
 remembered-requires c κs =
     let s = c in
     let a = s.args in
-    rows_terms a.o a.codes.now a.rising.now a.w a.last a.kv.now a.km.now (kept_last s.requires)
+    rows_terms a.rules.terms a.rules.codes.now a.rules.rising.now a.kept.width a.last a.kept.values.now a.kept.marks.now (kept_last s.requires)
 
 add-leave : tie.Need-overflow_add-first
 add-leave c = search rules
 
-mul-leave : tie.Need-overflow_mul-n
+mul-leave : tie.Need-overflow_mul-left
 mul-leave c = search rules
 
-mul-leave-2 : tie.Need-overflow_mul-n-2
+mul-leave-2 : tie.Need-overflow_mul-left-2
 mul-leave-2 c = search rules
 
-add-leave-2 : tie.Need-overflow_add-n
+add-leave-2 : tie.Need-overflow_add-left
 add-leave-2 c = search rules
 
 leave-requires : tie.Need-leave-requires
@@ -50,8 +50,8 @@ returns : tie.Need-returns
 returns c =
     let s = c in
     let a = s.args in
-    let l = c.remembered_left-l.ensures ∙ remembered_left_terms a.o a.codes.now a.rising.now a.j.last_left (rows_of a.c a.n a.lv.now a.lm.now) in
-    let r = c.remembered-r.ensures ∙ remembered_terms a.o a.codes.now a.rising.now a.j.last_right (rows_of a.w a.last a.kv.now a.km.now) in
+    let l = c.remembered_left-l.ensures ∙ remembered_left_terms a.rules.terms a.rules.codes.now a.rules.rising.now a.j.last_left (rows_of a.left.width a.left.count a.left.values.now a.left.marks.now) in
+    let r = c.remembered-r.ensures ∙ remembered_terms a.rules.terms a.rules.codes.now a.rules.rising.now a.j.last_right (rows_of a.kept.width a.last a.kept.values.now a.kept.marks.now) in
     record { part = left_as s.requires _ _ _ l r c.leave.ensures; words = c.answer_turn.ensures }
 
 pub write_turn_spec : {M : Type 1} → statement M

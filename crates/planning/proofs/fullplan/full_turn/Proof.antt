@@ -8,19 +8,19 @@ use Rattle.planning.proofs.fullplan.full_turn.Statement.{statement}
 use Rattle.planning.proofs.fullplan.full_turn.Tie as tie
 
 -- How many words a slice can have.
-left-size : (s : tie.Start) → length s.args.lv.now + 1 < 2 ^ 64
-left-size s = let g = s.well_formed.1.0 in omega (arith, g.0, g.1)
+left-size : (s : tie.Start) → length s.args.left.values.now + 1 < 2 ^ 64
+left-size s = omega arith
 
-right-size : (s : tie.Start) → length s.args.rv.now + 1 < 2 ^ 64
-right-size s = let g = s.well_formed.1.1.1.1.1.0 in omega (arith, g.0, g.1)
+right-size : (s : tie.Start) → length s.args.right.values.now + 1 < 2 ^ 64
+right-size s = omega arith
 
-sub-full-height : tie.Need-overflow_sub-nl
+sub-full-height : tie.Need-overflow_sub-left
 sub-full-height c = search rules
 
 full-height-requires : tie.Need-full_height-n-requires
 full-height-requires c κs = search rules
 
-sub-full-height-2 : tie.Need-overflow_sub-nr
+sub-full-height-2 : tie.Need-overflow_sub-right
 sub-full-height-2 c = let s = c in to_in s.requires.0 s.requires.1 s.args.s s.requires.2
 
 full-height-requires-2 : tie.Need-full_height-h-requires
@@ -31,7 +31,7 @@ take-turn-requires c κs =
     let s = c in
     let h = c.full_height-h in
     let n = c.full_height-n in
-    full_in s.requires.0 s.requires.1 s.args.s s.requires.2 s.requires.3 n.result h.result n.ensures h.ensures (left-size s.before.before.before.before.before.before) (right-size s.before.before.before.before.before.before)
+    full_in s.requires.0 s.requires.1 s.args.s s.requires.2 s.requires.3 n.result h.result n.ensures h.ensures (left-size s.before.before.before.before.before) (right-size s.before.before.before.before.before)
 
 returns : tie.Need-returns
 returns c =

@@ -11,10 +11,10 @@ use Rattle.planning.proofs.fullplan.most_held.Statement.{statement}
 use Rattle.planning.proofs.fullplan.most_held.Tie as tie
 
 abbrev invariant-loop : tie.invariant-loop-s
-invariant-loop lv lm nl c rv rm nr w o codes rising s₀ s = FullStands (with_list o codes rising) nl nr (rows_of c nl lv lm) (rows_of w nr rv rm) s
+invariant-loop left right rules s₀ s = FullStands (with_list rules.terms rules.codes.now rules.rising.now) left.count right.count (rows_of left.width left.count left.values.now left.marks.now) (rows_of right.width right.count right.values.now right.marks.now) s
 
 abbrev decreases-loop : tie.decreases-loop-s
-decreases-loop lv lm nl c rv rm nr w o codes rising s₀ s = (length (full_heights nl) + length (full_heights nr)) - (s.lefts + s.rights)
+decreases-loop left right rules s₀ s = (length (full_heights left.count) + length (full_heights right.count)) - (s.lefts + s.rights)
 
 loop-holds : tie.Need-loop-s-init invariant-loop decreases-loop
 loop-holds c = full_starts c.requires.0 c.requires.1

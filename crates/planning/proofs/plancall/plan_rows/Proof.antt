@@ -14,10 +14,10 @@ use Rattle.planning.proofs.plancall.plan_rows.Tie as tie
 
 -- The rows of both tables.
 abbrev lefts : (s : tie.Start) → Rows
-lefts s = rows_of s.args.c s.args.nl s.args.lv.now s.args.lm.now
+lefts s = rows_of s.args.left.width s.args.left.count s.args.left.values.now s.args.left.marks.now
 
 abbrev rights : (s : tie.Start) → Rows
-rights s = rows_of s.args.w s.args.nr s.args.rv.now s.args.rm.now
+rights s = rows_of s.args.right.width s.args.right.count s.args.right.values.now s.args.right.marks.now
 
 is-sorted-requires : tie.Need-is_sorted-requires
 is-sorted-requires c κs = search rules
@@ -26,7 +26,7 @@ returns : tie.Need-returns-then-not-is_sorted
 returns c =
     let s = c in
     let a = s.args in
-    unsorted_left (with_list a.o a.codes.now a.rising.now) (lefts s.before.before.before) (rights s.before.before.before) a.hl.now a.hr.now (sym c.is_sorted.ensures ∙ not-true c.is_sorted.result c.if-not-is_sorted.true-raw)
+    unsorted_left (with_list a.rules.terms a.rules.codes.now a.rules.rising.now) (lefts s.before.before) (rights s.before.before) a.hl.now a.hr.now (sym c.is_sorted.ensures ∙ not-true c.is_sorted.result c.if-not-is_sorted.true-raw)
 
 is-sorted-requires-2 : tie.Need-is_sorted-requires-2
 is-sorted-requires-2 c κs = search rules
@@ -35,13 +35,13 @@ returns-2 : tie.Need-returns-then-not-is_sorted-2
 returns-2 c =
     let s = c in
     let a = s.args in
-    unsorted_right (with_list a.o a.codes.now a.rising.now) (lefts s.before.before.before.before.before) (rights s.before.before.before.before.before) a.hl.now a.hr.now (sym c.is_sorted-2.ensures ∙ not-true c.is_sorted-2.result c.if-not-is_sorted-2.true-raw)
+    unsorted_right (with_list a.rules.terms a.rules.codes.now a.rules.rising.now) (lefts s.before.before.before.before) (rights s.before.before.before.before) a.hl.now a.hr.now (sym c.is_sorted-2.ensures ∙ not-true c.is_sorted-2.result c.if-not-is_sorted-2.true-raw)
 
 -- Both are sorted.
-left_sorted : (c : tie.Else-not-is_sorted-2) → let s = c in sorted (with_list s.args.o s.args.codes.now s.args.rising.now) (lefts s.before.before.before.before.before) ≡ true
+left_sorted : (c : tie.Else-not-is_sorted-2) → let s = c in sorted (with_list s.args.rules.terms s.args.rules.codes.now s.args.rules.rising.now) (lefts s.before.before.before.before) ≡ true
 left_sorted c = let e = c in sym e.is_sorted.ensures ∙ not-false e.is_sorted.result e.if-not-is_sorted.false-raw
 
-right_sorted : (c : tie.Else-not-is_sorted-2) → let s = c in sorted (with_list s.args.o s.args.codes.now s.args.rising.now) (rights s.before.before.before.before.before) ≡ true
+right_sorted : (c : tie.Else-not-is_sorted-2) → let s = c in sorted (with_list s.args.rules.terms s.args.rules.codes.now s.args.rules.rising.now) (rights s.before.before.before.before) ≡ true
 right_sorted c = sym c.is_sorted-2.ensures ∙ not-false c.is_sorted-2.result c.if-not-is_sorted-2.false-raw
 
 fit-heights-requires : tie.Need-fit_heights-requires
@@ -52,9 +52,9 @@ returns-3 c =
     let e = c in
     let s = e in
     let a = s.args in
-    bad_left_lem (with_list a.o a.codes.now a.rising.now) (lefts s.before.before.before.before.before.before.before) (rights s.before.before.before.before.before.before.before) a.hl.now a.hr.now (left_sorted e.before.before) (right_sorted e.before.before) a.nl a.nr
-    (rows_length a.c a.nl a.lv.now a.lm.now) (rows_length a.w a.nr a.rv.now a.rm.now)
-    (not-false (bad_heights a.nl a.hl.now) (sym c.fit_heights.ensures ∙ not-true c.fit_heights.result c.if-not-fit_heights.true-raw))
+    bad_left_lem (with_list a.rules.terms a.rules.codes.now a.rules.rising.now) (lefts s.before.before.before.before.before.before) (rights s.before.before.before.before.before.before) a.hl.now a.hr.now (left_sorted e.before.before) (right_sorted e.before.before) a.left.count a.right.count
+    (rows_length a.left.width a.left.count a.left.values.now a.left.marks.now) (rows_length a.right.width a.right.count a.right.values.now a.right.marks.now)
+    (not-false (bad_heights a.left.count a.hl.now) (sym c.fit_heights.ensures ∙ not-true c.fit_heights.result c.if-not-fit_heights.true-raw))
 
 fit-heights-requires-2 : tie.Need-fit_heights-requires-2
 fit-heights-requires-2 c κs = search rules
@@ -64,21 +64,21 @@ returns-4 c =
     let e = c in
     let s = e in
     let a = s.args in
-    bad_right_lem (with_list a.o a.codes.now a.rising.now) (lefts s.before.before.before.before.before.before.before.before.before) (rights s.before.before.before.before.before.before.before.before.before) a.hl.now a.hr.now (left_sorted e.before.before.before.before) (right_sorted e.before.before.before.before) a.nl a.nr
-    (rows_length a.c a.nl a.lv.now a.lm.now) (rows_length a.w a.nr a.rv.now a.rm.now)
-    (not-false (bad_heights a.nr a.hr.now) (sym c.fit_heights-2.ensures ∙ not-true c.fit_heights-2.result c.if-not-fit_heights-2.true-raw))
+    bad_right_lem (with_list a.rules.terms a.rules.codes.now a.rules.rising.now) (lefts s.before.before.before.before.before.before.before.before) (rights s.before.before.before.before.before.before.before.before) a.hl.now a.hr.now (left_sorted e.before.before.before.before) (right_sorted e.before.before.before.before) a.left.count a.right.count
+    (rows_length a.left.width a.left.count a.left.values.now a.left.marks.now) (rows_length a.right.width a.right.count a.right.values.now a.right.marks.now)
+    (not-false (bad_heights a.right.count a.hr.now) (sym c.fit_heights-2.ensures ∙ not-true c.fit_heights-2.result c.if-not-fit_heights-2.true-raw))
 
 -- Both have heights that make them.
-left_fits : (c : tie.Else-not-fit_heights-2) → let s = c in bad_heights s.args.nl s.args.hl.now ≡ false
+left_fits : (c : tie.Else-not-fit_heights-2) → let s = c in bad_heights s.args.left.count s.args.hl.now ≡ false
 left_fits c =
     let e = c in
     let s = e in
-    not-true (bad_heights s.args.nl s.args.hl.now) (sym e.fit_heights.ensures ∙ not-false e.fit_heights.result e.if-not-fit_heights.false-raw)
+    not-true (bad_heights s.args.left.count s.args.hl.now) (sym e.fit_heights.ensures ∙ not-false e.fit_heights.result e.if-not-fit_heights.false-raw)
 
-right_fits : (c : tie.Else-not-fit_heights-2) → let s = c in bad_heights s.args.nr s.args.hr.now ≡ false
+right_fits : (c : tie.Else-not-fit_heights-2) → let s = c in bad_heights s.args.right.count s.args.hr.now ≡ false
 right_fits c =
     let s = c in
-    not-true (bad_heights s.args.nr s.args.hr.now) (sym c.fit_heights-2.ensures ∙ not-false c.fit_heights-2.result c.if-not-fit_heights-2.false-raw)
+    not-true (bad_heights s.args.right.count s.args.hr.now) (sym c.fit_heights-2.ensures ∙ not-false c.fit_heights-2.result c.if-not-fit_heights-2.false-raw)
 
 walk-frames-requires : tie.Need-walk_frames-requires
 walk-frames-requires c κs =

@@ -12,15 +12,14 @@ use Rattle.planning.proofs.planwalk.step.Tie as tie
 -- How many words a slice can have.
 record Sizes (s : tie.Start) : Type 0 where
   left_heights : length (heights_of s.args.hl.now) + 1 < 2 ^ 64
-  right : length s.args.rv.now < 2 ^ 64
+  right : length s.args.right.values.now < 2 ^ 64
   right_heights : length (heights_of s.args.hr.now) + 1 < 2 ^ 64
 
 sizes : (s : tie.Start) → Sizes s
 sizes s =
-    let h = s.well_formed.1.1.1.1.0 in
-    let i = s.well_formed.1.1.1.1.1.0 in
-    let j = s.well_formed.1.1.1.1.1.1.1.1.0 in
-    record { left_heights = omega (arith, heights_count s.args.hl.now, h.0, h.1); right = omega (arith, i.0, i.1); right_heights = omega (arith, heights_count s.args.hr.now, j.0, j.1) }
+    let h = s.well_formed.1.1.0 in
+    let j = s.well_formed.1.1.1.1.0 in
+    record { left_heights = omega (arith, heights_count s.args.hl.now, h.0, h.1); right = omega arith; right_heights = omega (arith, heights_count s.args.hr.now, j.0, j.1) }
 
 height-or-none-requires : tie.Need-height_or_none-n-requires
 height-or-none-requires c κs = c.requires.0.left_heights
@@ -34,7 +33,7 @@ take-turn-requires c κs =
     let h = c.height_or_none-h in
     let s = c in
     let a = s.args in
-    let z = sizes s.before.before.before.before in
+    let z = sizes s.before.before.before in
     turn_in_lem (tables_in_lem s.requires.0) s.requires.1 (heights_here a.hl.now a.s.lefts n.result s.requires.2 n.ensures) (ltb a.s.rights (length a.hr.now)) h.result _ (heights_next a.hr.now a.s.rights h.result h.ensures) z.left_heights z.right_heights z.right
 
 returns : tie.Need-returns

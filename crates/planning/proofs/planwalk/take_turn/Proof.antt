@@ -8,11 +8,11 @@ use Rattle.planning.proofs.planwalk.take_turn.Statement.{statement}
 use Rattle.planning.proofs.planwalk.take_turn.Tie as tie
 
 -- How many words a slice can have.
-left-size : (s : tie.Start) → length s.args.lv.now < 2 ^ 64
-left-size s = let g = s.well_formed.1.1.1.1.0 in omega (arith, g.0, g.1)
+left-size : (s : tie.Start) → length s.args.left.values.now < 2 ^ 64
+left-size s = omega arith
 
-right-size : (s : tie.Start) → length s.args.rv.now < 2 ^ 64
-right-size s = let g = s.well_formed.1.1.1.1.1.1.1.0 in omega (arith, g.0, g.1)
+right-size : (s : tie.Start) → length s.args.right.values.now < 2 ^ 64
+right-size s = omega arith
 
 from-row-requires : tie.Need-from_row-fv-requires
 from-row-requires c κs = (passed_words c.requires).0
@@ -56,7 +56,7 @@ write-left-requires c κs =
     let v = c in
     let f = v in
     let s = f in
-    write_fits s.requires _ _ _ _ f.from_row-fv.ensures f.from_row-fm.ensures f.from_row-kv.ensures f.from_row-km.ensures v.wants.result v.wants.ensures c.last_prune-d.result c.last_prune-d.ensures (left-size s.before.before.before.before.before.before.before.before.before) (right-size s.before.before.before.before.before.before.before.before.before)
+    write_fits s.requires _ _ _ _ f.from_row-fv.ensures f.from_row-fm.ensures f.from_row-kv.ensures f.from_row-km.ensures v.wants.result v.wants.ensures c.last_prune-d.result c.last_prune-d.ensures (left-size s.before.before.before.before.before.before.before.before.before.before.before.before) (right-size s.before.before.before.before.before.before.before.before.before.before.before.before)
 
 returns-2 : tie.Need-returns
 returns-2 c =

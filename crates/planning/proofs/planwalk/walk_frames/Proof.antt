@@ -12,15 +12,15 @@ use Rattle.planning.proofs.planwalk.walk_frames.Statement.{statement}
 use Rattle.planning.proofs.planwalk.walk_frames.Tie as tie
 
 abbrev invariant-loop : tie.invariant-loop-s
-invariant-loop lv lm c hl rv rm w hr o codes rising s₀ s = Stands (with_list o codes rising) (heights_of hl) (heights_of hr) (left_rows c hl lv lm) (right_rows w hr rv rm) s
+invariant-loop left hl right hr rules s₀ s = Stands (with_list rules.terms rules.codes.now rules.rising.now) (heights_of hl) (heights_of hr) (left_rows left.width hl left.values.now left.marks.now) (right_rows right.width hr right.values.now right.marks.now) s
 
 abbrev decreases-loop : tie.decreases-loop-s
-decreases-loop lv lm c hl rv rm w hr o codes rising s₀ s = (length hl + length hr) - (s.lefts + s.rights)
+decreases-loop left hl right hr rules s₀ s = (length hl + length hr) - (s.lefts + s.rights)
 
 loop-holds : tie.Need-loop-s-init invariant-loop decreases-loop
 loop-holds c =
     let a = c.args in
-    starts _ _ _ _ _ (rows_length a.c (total (heights_of a.hl.now)) a.lv.now a.lm.now) (rows_length a.w (total (heights_of a.hr.now)) a.rv.now a.rm.now)
+    starts _ _ _ _ _ (rows_length a.left.width (total (heights_of a.hl.now)) a.left.values.now a.left.marks.now) (rows_length a.right.width (total (heights_of a.hr.now)) a.right.values.now a.right.marks.now)
 
 step-requires : tie.Need-step-s-requires invariant-loop decreases-loop
 step-requires c κs = let l = c in (l.requires, l.loop-s.invariant, c.loop-s-test.true)
@@ -37,10 +37,8 @@ loop-again c = c.step-s.ensures.0
 add-t15 : tie.Need-overflow_add-result invariant-loop decreases-loop
 add-t15 c =
     let l = c in
-    let g = l.well_formed.1.1.1.0 in
-    let h = l.well_formed.1.1.1.1.1.1.1.0 in
     let a = l.args in
-    omega (arith, heights_count a.hl.now, heights_count a.hr.now, l.loop-s.invariant.lefts, l.loop-s.invariant.rights, g.0, g.1, h.0, h.1)
+    omega (arith, heights_count a.hl.now, heights_count a.hr.now, l.loop-s.invariant.lefts, l.loop-s.invariant.rights)
 
 returns : tie.Need-returns invariant-loop decreases-loop
 returns c =

@@ -8,37 +8,37 @@ use Rattle.order.proofs.options.OptionLaws.{ranked_list, ranked_rule, plain_rule
 use Rattle.rows.proofs.compare.cmp_column.Statement.{statement}
 use Rattle.rows.proofs.compare.cmp_column.Tie as tie
 
-add_a : tie.Need-overflow_add-a
+add_a : tie.Need-overflow_add-p
 add_a c = search rules
 
-add-b : tie.Need-overflow_add-b
+add-b : tie.Need-overflow_add-q
 add-b c = search rules
 
 is-ranked-requires : tie.Need-is_ranked-requires
 is-ranked-requires c κs = search rules
 
-mul-cmp-listed : tie.Need-offset_bounds-va-a
+mul-cmp-listed : tie.Need-offset_bounds-a-p
 mul-cmp-listed c = search rules
 
-shared-slice-copy-out-cmp-listed : tie.Need-bounds-va-a
+shared-slice-copy-out-cmp-listed : tie.Need-bounds-a-p
 shared-slice-copy-out-cmp-listed c = search rules
 
-mul-cmp-listed-2 : tie.Need-offset_bounds-ma-a
+mul-cmp-listed-2 : tie.Need-offset_bounds-a-p-then-is_ranked
 mul-cmp-listed-2 c = search rules
 
-shared-slice-copy-out-cmp-listed-2 : tie.Need-bounds-ma-a
+shared-slice-copy-out-cmp-listed-2 : tie.Need-bounds-a-p-then-is_ranked
 shared-slice-copy-out-cmp-listed-2 c = search rules
 
-mul-cmp-listed-3 : tie.Need-offset_bounds-vb-b
+mul-cmp-listed-3 : tie.Need-offset_bounds-b-q
 mul-cmp-listed-3 c = search rules
 
-shared-slice-copy-out-cmp-listed-3 : tie.Need-bounds-vb-b
+shared-slice-copy-out-cmp-listed-3 : tie.Need-bounds-b-q
 shared-slice-copy-out-cmp-listed-3 c = search rules
 
-mul-cmp-listed-4 : tie.Need-offset_bounds-mb-b
+mul-cmp-listed-4 : tie.Need-offset_bounds-b-q-then-is_ranked
 mul-cmp-listed-4 c = search rules
 
-shared-slice-copy-out-cmp-listed-4 : tie.Need-bounds-mb-b
+shared-slice-copy-out-cmp-listed-4 : tie.Need-bounds-b-q-then-is_ranked
 shared-slice-copy-out-cmp-listed-4 c = search rules
 
 array-read-cmp-listed : tie.Need-bounds-descending-j
@@ -49,7 +49,7 @@ array-read-cmp-listed-2 c = search rules
 
 -- The options with their list.
 abbrev whole : tie.Start → Options
-whole s = with_list s.args.o s.args.codes.now s.args.rising.now
+whole s = with_list s.args.rules.terms s.args.rules.codes.now s.args.rules.rising.now
 
 -- The column has the list, which is kept; or it has none.
 ranked : (c : tie.Then-is_ranked) → let s = c in is_ranked (whole s.before.before.before.before.before) s.args.j ≡ true
@@ -65,16 +65,16 @@ slice-aggregate-cmp-listed : tie.Need-slice_bounds-cmp_listed-end
 slice-aggregate-cmp-listed c =
     let t = c in
     let s = t in
-    sym (length-take-le s.args.o.count s.args.codes.now (list t.before.before.before.before).codes)
+    sym (length-take-le s.args.rules.terms.count s.args.rules.codes.now (list t.before.before.before.before.before).codes)
 
 slice-aggregate-cmp-listed-2 : tie.Need-slice_bounds-cmp_listed-end-then-is_ranked
 slice-aggregate-cmp-listed-2 c =
     let t = c in
     let s = t in
-    sym (length-take-le s.args.o.count s.args.rising.now (list t.before.before.before.before).places)
+    sym (length-take-le s.args.rules.terms.count s.args.rules.rising.now (list t.before.before.before.before.before.before).places)
 
 cmp-listed-requires : tie.Need-cmp_listed-requires
-cmp-listed-requires c κs = (list c.before.before.before.before).indexed
+cmp-listed-requires c κs = (list c.before.before.before.before.before.before).indexed
 
 returns : tie.Need-returns-then-is_ranked
 returns c =
@@ -82,11 +82,11 @@ returns c =
     let s = t in
     let a = s.args in
     rw (
-      ranked_rule (whole s.before.before.before.before.before.before.before.before.before.before) a.j (ranked t.before.before.before.before.before),
-      back (get_or a.va.now (a.pa + a.j) (pos 0)) c.cmp_listed-arg-1.given,
-      back (get_or a.ma.now (a.pa + a.j) (pos 0)) c.cmp_listed-arg-then-is_ranked-1.given,
-      back (get_or a.vb.now (a.pb + a.j) (pos 0)) c.cmp_listed-arg-then-is_ranked-2-1.given,
-      back (get_or a.mb.now (a.pb + a.j) (pos 0)) c.cmp_listed-arg-then-is_ranked-3-1.given,
+      ranked_rule (whole s.before.before.before.before.before.before.before.before.before.before.before.before) a.j (ranked t.before.before.before.before.before.before.before),
+      back (get_or a.a.values.now (a.pa + a.j) (pos 0)) c.cmp_listed-arg-1.given,
+      back (get_or a.a.marks.now (a.pa + a.j) (pos 0)) c.cmp_listed-arg-then-is_ranked-1.given,
+      back (get_or a.b.values.now (a.pb + a.j) (pos 0)) c.cmp_listed-arg-then-is_ranked-2-1.given,
+      back (get_or a.b.marks.now (a.pb + a.j) (pos 0)) c.cmp_listed-arg-then-is_ranked-3-1.given,
     )
     at c.cmp_listed.ensures
 

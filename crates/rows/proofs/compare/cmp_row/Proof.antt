@@ -28,8 +28,8 @@ returns c = λ wa wb ha hb.
     rw (
       ← (c.cmp_group-r.ensures wa wb ha hb),
       c.in-Equal.is,
-      row_cell wa a.pa a.o.by a.va.now a.ma.now ha s.requires.0.values,
-      row_cell wb a.pb a.o.by a.vb.now a.mb.now hb s.requires.1.values,
+      row_cell wa a.pa a.rules.terms.by a.a.values.now a.a.marks.now ha s.requires.0.values,
+      row_cell wb a.pb a.rules.terms.by a.b.values.now a.b.marks.now hb s.requires.1.values,
     )
     c.cmp_at.ensures
 

@@ -1,10 +1,10 @@
 -- `framerule::is_table` meets its contract. Assumes nothing.
+use Rattle.std.specs.Prelude.{Some}
 use Rattle.std.proofs.Common.{◌≡◌, true, length, get_or, pos, sym, ◌∙◌, arith, rules}
 use borrow.Author.Tests.{not-true, not-false}
 use lib.Signed.{le_z}
 use Rattle.frames.specs.Frame.{same_z, row_count}
 use Rattle.frames.specs.Front.{fitting}
-use Rattle.frames.specs.declared.Front.TheVariants.{Words as Long}
 use Rattle.frames.proofs.Signed.{back}
 use Rattle.frames.proofs.FrontLaws.{table_short, table_below_zero, table_over, table_other_length, table_other_columns, table_halves, not_below_zero}
 use Rattle.rows.proofs.framerule.is_table.Statement.{statement}
@@ -43,12 +43,12 @@ returns-3 : tie.Need-returns-in_default
 returns-3 c = sym (table_over _ _ (rw (← c.row_count.ensures) (sym c.frame_words.ensures ∙ c.in_default.is)))
 
 -- the length that was found
-found : (c : tie.In-Words) → let a = c.args in fitting (row_count a.words.now) a.c (length a.words.now) ≡ Long c.in-Words.k
-found c = rw (← c.row_count.ensures) (sym c.frame_words.ensures ∙ c.in-Words.is)
+found : (c : tie.In-Some) → let a = c.args in fitting (row_count a.words.now) a.c (length a.words.now) ≡ Some c.in-Some.k
+found c = rw (← c.row_count.ensures) (sym c.frame_words.ensures ∙ c.in-Some.is)
 
 returns-4 : tie.Need-returns-then-k-len
 returns-4 c =
-    let k = c.in-Words.k in
+    let k = c.in-Some.k in
     let t = c.if-k-len.true in
     sym (table_other_length _ _ _ (found c.before) (λ (e : k ≡ length c.args.words.now). omega arith))
 
@@ -96,7 +96,7 @@ pairs-fine-requires c κs = search rules
 
 returns-6 : tie.Need-returns
 returns-6 c =
-    let n : c.in-Words.k ≡ length c.args.words.now = omega (arith, c.if-k-len.false) in
+    let n : c.in-Some.k ≡ length c.args.words.now = omega (arith, c.if-k-len.false) in
     c.pairs_fine.ensures
     ∙ sym (table_halves _ _ _ (counted c.before.before.before.before.before.before.before.before.before.before) (found c.before.before.before.before.before.before.before) n (sym (columns c.before.before.before.before) ∙ not-false c.same_count.result c.if-not-same_count.false-raw))
 

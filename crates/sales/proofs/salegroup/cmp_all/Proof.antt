@@ -35,14 +35,14 @@ cmp-group-requires c κs =
     let a = s.args in
     let p = s.requires in
     let d = length-drop a.p a.body.now in
-    rw (whole s.before.before.before) (record { few = p.compare; values = omega (arith, p.row, d); marks = omega (arith, p.compare.by) }, record { few = p.compare; values = p.values; marks = p.marks })
+    rw (whole s.before.before) (record { few = p.compare; values = omega (arith, p.row, d); marks = omega (arith, p.compare.by) }, record { few = p.compare; values = p.values; marks = p.marks })
 
 returns : tie.Need-returns
 returns c =
     let s = c in
     let a = s.args in
-    rw (whole s.before.before.before.before) at (c.cmp_group.ensures (suc a.o.by) (suc a.o.by) (omega arith) (omega arith))
-    ∙ as_marked (with_list a.o a.codes.now a.rising.now) a.p a.body.now _ _ s.requires.compare.by refl s.requires.row
+    rw (whole s.before.before.before) at (c.cmp_group.ensures (suc a.rules.terms.by) (suc a.rules.terms.by) (omega arith) (omega arith))
+    ∙ as_marked (with_list a.rules.terms a.rules.codes.now a.rules.rising.now) a.p a.body.now _ _ s.requires.compare.by refl s.requires.row
 
 pub cmp_all_spec : {M : Type 1} → statement M
 cmp_all_spec =

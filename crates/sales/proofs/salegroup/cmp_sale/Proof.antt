@@ -16,7 +16,7 @@ returns : tie.Need-returns-then-is_single
 returns c =
     let s = c in
     let a = s.args in
-    single_told (with_list a.o a.codes.now a.rising.now) a.p a.body.now a.q a.values.now a.marks.now c.cmp_first.result s.requires (sym c.is_single.ensures ∙ c.if-is_single.true) c.cmp_first.ensures
+    single_told (with_list a.rules.terms a.rules.codes.now a.rules.rising.now) a.p a.body.now a.q a.left.values.now a.left.marks.now c.cmp_first.result s.requires (sym c.is_single.ensures ∙ c.if-is_single.true) c.cmp_first.ensures
 
 cmp-all-requires : tie.Need-cmp_all-requires
 cmp-all-requires c κs = search rules

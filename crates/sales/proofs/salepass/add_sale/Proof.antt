@@ -4,17 +4,12 @@ use Prim.Native.Nat.{ℕ, suc, ◌+◌, ◌-◌}
 use native.Mathlib.Omega.{arith}
 use mir.Facts.{to_z-of_z}
 use Rattle.frames.specs.Cells.{row_from}
-use Rattle.order.specs.options.Options.{with_list}
-use Rattle.order.specs.declared.options.Options.{Options}
+use Rattle.order.specs.options.Options.{options_of}
 use Rattle.sales.proofs.saleinsert.InsertLaws.{times_least}
 use Rattle.sales.proofs.salepass.PassLaws.{among_added, placed_behind}
 use borrow.Author.Rules.{rules}
 use Rattle.sales.proofs.salepass.add_sale.Statement.{statement}
 use Rattle.sales.proofs.salepass.add_sale.Tie as tie
-
--- The options, and the width as the definitions have it.
-abbrev O : tie.Start → Options
-O s = with_list s.args.o s.args.codes.now s.args.rising.now
 
 width : (b : ℕ) → b + 2 ≡ suc (suc b)
 width b = omega arith
@@ -39,7 +34,7 @@ returns c =
     let s = c in
     let a = s.args in
     let n = c.place_near-p in
-    rw (to_z-of_z s.ranges.amount) at (c.put_behind.ensures (placed_behind (O s.before.before.before.before.before.before.before) a.m a.body.now (row_from (suc a.o.by) a.q a.values.now a.marks.now) n.result.row n.result.here (rw (width a.o.by) at n.ensures) c.if-m-place.true))
+    rw (to_z-of_z s.ranges.amount) at (c.put_behind.ensures (placed_behind (options_of s.args.rules) a.m a.body.now (row_from (suc a.rules.terms.by) a.q a.left.values.now a.left.marks.now) n.result.row n.result.here (rw (width a.rules.terms.by) at n.ensures) c.if-m-place.true))
 
 put-at-requires : tie.Need-put_at-rows-requires
 put-at-requires c κs =
@@ -49,7 +44,7 @@ put-at-requires c κs =
     let l = c.if-m-place.false in
     record {
       few = s.requires.compare.by;
-      room = omega (arith, s.requires.room, times_least a.m (a.m + (a.n - a.taken)) (suc (suc a.o.by)) (omega arith));
+      room = omega (arith, s.requires.room, times_least a.m (a.m + (a.table.count - a.taken)) (suc (suc a.rules.terms.by)) (omega arith));
       there = s.requires.values;
       range = n.ensures.within;
       is = λ t. omega (arith, l);
@@ -65,7 +60,7 @@ returns-2 c =
     let s = c in
     let a = s.args in
     let n = c.place_near-p in
-    among_added (O s.before.before.before.before.before.before.before) a.n a.m a.taken a.q a.table.now a.values.now a.marks.now a.amount a.body.now n.result.row n.result.here (rw (width a.o.by) at n.ensures) (omega (arith, c.if-m-place.false)) _ _ (rw (to_z-of_z s.ranges.amount) at (c.put_at-rows.ensures a.marks.now a.codes.now a.rising.now))
+    among_added (options_of s.args.rules) a.table.count a.m a.taken a.q a.table.values.now a.left.values.now a.left.marks.now a.amount a.body.now n.result.row n.result.here (rw (width a.rules.terms.by) at n.ensures) (omega (arith, c.if-m-place.false)) _ _ (rw (to_z-of_z s.ranges.amount) at (c.put_at-rows.ensures a.left.marks.now a.rules.codes.now a.rules.rising.now))
 
 pub add_sale_spec : {M : Type 1} → statement M
 add_sale_spec =

@@ -5,7 +5,7 @@ use native.Mathlib.Omega.{arith}
 use borrow.Author.Rules.{rules}
 use Rattle.frames.specs.Cells.{row_from}
 use Rattle.order.specs.options.Options.{with_list}
-use Rattle.order.specs.declared.Order.TheVariants.{Less, Greater}
+use Rattle.std.specs.declared.cmp.Ordering.TheVariants.{Less, Greater}
 use Rattle.order.proofs.RowLaws.{row_room}
 use Rattle.sales.specs.saleplace.Place.{cmp_at}
 use Rattle.sales.proofs.saleplace.PlaceLaws.{at_least, found, missing}
@@ -13,12 +13,12 @@ use Rattle.sales.proofs.saleplace.find_all.Statement.{statement}
 use Rattle.sales.proofs.saleplace.find_all.Tie as tie
 
 abbrev invariant-loop : tie.invariant-loop-from
-invariant-loop body low high w values marks q o codes rising from₀ to₀ from to =
-    (low ≤ from) × (from ≤ to) × (to ≤ high) × (low < from → cmp_at (with_list o codes rising) w body (row_from (suc o.by) q values marks) (from - 1) ≡ Less)
-    × (to < high → cmp_at (with_list o codes rising) w body (row_from (suc o.by) q values marks) to ≡ Greater)
+invariant-loop body low high w left q rules from₀ to₀ from to =
+    (low ≤ from) × (from ≤ to) × (to ≤ high) × (low < from → cmp_at (with_list rules.terms rules.codes.now rules.rising.now) w body (row_from (suc rules.terms.by) q left.values.now left.marks.now) (from - 1) ≡ Less)
+    × (to < high → cmp_at (with_list rules.terms rules.codes.now rules.rising.now) w body (row_from (suc rules.terms.by) q left.values.now left.marks.now) to ≡ Greater)
 
 abbrev decreases-loop : tie.decreases-loop-from
-decreases-loop body low high w values marks q o codes rising from₀ to₀ from to = to - from
+decreases-loop body low high w left q rules from₀ to₀ from to = to - from
 
 loop-holds : tie.Need-loop-from-init invariant-loop decreases-loop
 loop-holds c = let s = c in (omega arith, s.requires.range, omega arith, λ l. absurd (omega arith), λ l. absurd (omega arith))
@@ -38,7 +38,7 @@ place c =
     row_room ((l.from + l.to) / 2) a.high a.w (omega (arith, l.invariant.2))
 
 add-mid : tie.Need-overflow_add-mid invariant-loop decreases-loop
-add-mid c = let l = c.loop-from in omega (arith, few c.before.before.before, l.invariant.1, l.invariant.2, c.loop-from-test.true)
+add-mid c = let l = c.loop-from in omega (arith, few c.before.before, l.invariant.1, l.invariant.2, c.loop-from-test.true)
 
 mul-cmp-all : tie.Need-overflow_mul-mid invariant-loop decreases-loop
 mul-cmp-all c = let s = c in omega (arith, place c, s.requires.rows)
@@ -52,7 +52,7 @@ enum_told : tie.Need-enum_told-1 invariant-loop decreases-loop
 enum_told c = search rules
 
 add-from : tie.Need-overflow_add-from invariant-loop decreases-loop
-add-from c = let l = c.loop-from in omega (arith, few c.before.before.before.before.before, l.invariant.1, l.invariant.2, c.loop-from-test.true)
+add-from c = let l = c.loop-from in omega (arith, few c.before.before.before.before, l.invariant.1, l.invariant.2, c.loop-from-test.true)
 
 loop-less : tie.Need-loop-from-smaller-in-Less invariant-loop decreases-loop
 loop-less c = let l = c.loop-from in omega (arith, c.loop-from-test.true)
@@ -64,7 +64,7 @@ loop-again c =
     let m = (l.from + l.to) / 2 in
     let t = c.loop-from-test.true in
     let e : m + 1 - 1 ≡ m = omega arith in
-    let d : cmp_at (with_list a.o a.codes.now a.rising.now) a.w a.body.now (row_from (suc a.o.by) a.q a.values.now a.marks.now) m ≡ Less = sym c.cmp_all.ensures ∙ c.in-Less.is in
+    let d : cmp_at (with_list a.rules.terms a.rules.codes.now a.rules.rising.now) a.w a.body.now (row_from (suc a.rules.terms.by) a.q a.left.values.now a.left.marks.now) m ≡ Less = sym c.cmp_all.ensures ∙ c.in-Less.is in
     (omega (arith, l.invariant.0), omega arith, l.invariant.2, λ k. rw e d, l.invariant.4)
 
 enum-told-2 : tie.Need-enum_told-in-Equal invariant-loop decreases-loop
@@ -75,7 +75,7 @@ returns c =
     let l = c.loop-from in
     let a = c.args in
     let t = c.loop-from-test.true in
-    found (with_list a.o a.codes.now a.rising.now) a.w a.low a.high a.body.now (row_from (suc a.o.by) a.q a.values.now a.marks.now) ((l.from + l.to) / 2) (omega (arith, l.invariant.0)) (omega (arith, l.invariant.2)) (sym c.cmp_all.ensures ∙ c.in-Equal.is)
+    found (with_list a.rules.terms a.rules.codes.now a.rules.rising.now) a.w a.low a.high a.body.now (row_from (suc a.rules.terms.by) a.q a.left.values.now a.left.marks.now) ((l.from + l.to) / 2) (omega (arith, l.invariant.0)) (omega (arith, l.invariant.2)) (sym c.cmp_all.ensures ∙ c.in-Equal.is)
 
 enum-told-3 : tie.Need-enum_told-in-Greater invariant-loop decreases-loop
 enum-told-3 c = search rules
@@ -94,7 +94,7 @@ returns-2 c =
     let l = c.loop-from in
     let a = c.args in
     let e : l.from ≡ l.to = omega (arith, l.invariant.1, c.loop-from-test.false) in
-    missing (with_list a.o a.codes.now a.rising.now) a.w a.low a.high a.body.now (row_from (suc a.o.by) a.q a.values.now a.marks.now) l.from l.invariant.0 (omega (arith, l.invariant.1, l.invariant.2)) l.invariant.3 (rw e l.invariant.4)
+    missing (with_list a.rules.terms a.rules.codes.now a.rules.rising.now) a.w a.low a.high a.body.now (row_from (suc a.rules.terms.by) a.q a.left.values.now a.left.marks.now) l.from l.invariant.0 (omega (arith, l.invariant.1, l.invariant.2)) l.invariant.3 (rw e l.invariant.4)
 
 pub find_all_spec : {M : Type 1} → statement M
 find_all_spec =

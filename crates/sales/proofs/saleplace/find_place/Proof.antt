@@ -23,10 +23,10 @@ returns c =
     let s = c in
     let a = s.args in
     let p = s.requires in
-    let o = with_list a.o a.codes.now a.rising.now in
+    let o = with_list a.rules.terms a.rules.codes.now a.rules.rising.now in
     let t = sym c.is_single.ensures ∙ c.if-is_single.true in
-    placed_alike o a.w a.low a.high a.body.now (row_from (suc a.o.by) a.q a.values.now a.marks.now) (cmp_one a.o a.w a.body.now a.q a.values.now a.marks.now) c.find_single.result.row c.find_single.result.here
-    (λ i l. single_told o (i * a.w) a.body.now a.q a.values.now a.marks.now _ (record { compare = p.compare; row = omega (arith, row_room i a.high a.w l, p.rows, p.wide); values = p.values; marks = p.marks }) t refl) c.find_single.ensures
+    placed_alike o a.w a.low a.high a.body.now (row_from (suc a.rules.terms.by) a.q a.left.values.now a.left.marks.now) (cmp_one a.rules.terms a.w a.body.now a.q a.left.values.now a.left.marks.now) c.find_single.result.row c.find_single.result.here
+    (λ i l. single_told o (i * a.w) a.body.now a.q a.left.values.now a.left.marks.now _ (record { compare = p.compare; row = omega (arith, row_room i a.high a.w l, p.rows, p.wide); values = p.values; marks = p.marks }) t refl) c.find_single.ensures
 
 find-all-requires : tie.Need-find_all-requires
 find-all-requires c κs = search rules

@@ -3,7 +3,7 @@ use mathlib.Core.Path.{◌≡◌, sym, ap, ◌∙◌}
 use Prim.Native.Nat.{ℕ, ◌+◌, ◌-◌, ◌*◌, ◌/◌, ◌^◌, ◌≤◌, ◌<◌}
 use native.Mathlib.Omega.{arith}
 use borrow.Author.Rules.{rules}
-use Rattle.order.specs.declared.Order.TheVariants.{Less, Greater}
+use Rattle.std.specs.declared.cmp.Ordering.TheVariants.{Less, Greater}
 use Rattle.order.proofs.RowLaws.{row_room}
 use Rattle.sales.specs.saleplace.Place.{cmp_one}
 use Rattle.sales.proofs.saleplace.PlaceLaws.{at_least, found_by, missing_by}
@@ -11,12 +11,12 @@ use Rattle.sales.proofs.saleplace.find_single.Statement.{statement}
 use Rattle.sales.proofs.saleplace.find_single.Tie as tie
 
 abbrev invariant-loop : tie.invariant-loop-from
-invariant-loop body low high w values marks q o from₀ to₀ from to =
-    (low ≤ from) × (from ≤ to) × (to ≤ high) × (low < from → cmp_one o w body q values marks (from - 1) ≡ Less)
-    × (to < high → cmp_one o w body q values marks to ≡ Greater)
+invariant-loop body low high w left q o from₀ to₀ from to =
+    (low ≤ from) × (from ≤ to) × (to ≤ high) × (low < from → cmp_one o w body q left.values.now left.marks.now (from - 1) ≡ Less)
+    × (to < high → cmp_one o w body q left.values.now left.marks.now to ≡ Greater)
 
 abbrev decreases-loop : tie.decreases-loop-from
-decreases-loop body low high w values marks q o from₀ to₀ from to = to - from
+decreases-loop body low high w left q o from₀ to₀ from to = to - from
 
 loop-holds : tie.Need-loop-from-init invariant-loop decreases-loop
 loop-holds c = let s = c in (omega arith, s.requires.range, omega arith, λ l. absurd (omega arith), λ l. absurd (omega arith))
@@ -62,8 +62,8 @@ loop-again c =
     let m = (l.from + l.to) / 2 in
     let t = c.loop-from-test.true in
     let e : m + 1 - 1 ≡ m = omega arith in
-    let d : cmp_one a.o a.w a.body.now a.q a.values.now a.marks.now m ≡ Less = sym c.cmp_first.ensures ∙ c.in-Less.is in
-    (omega (arith, l.invariant.0), omega arith, l.invariant.2, λ k. ap (λ (i : ℕ). cmp_one a.o a.w a.body.now a.q a.values.now a.marks.now i) e ∙ d, l.invariant.4)
+    let d : cmp_one a.o a.w a.body.now a.q a.left.values.now a.left.marks.now m ≡ Less = sym c.cmp_first.ensures ∙ c.in-Less.is in
+    (omega (arith, l.invariant.0), omega arith, l.invariant.2, λ k. ap (λ (i : ℕ). cmp_one a.o a.w a.body.now a.q a.left.values.now a.left.marks.now i) e ∙ d, l.invariant.4)
 
 enum-told-2 : tie.Need-enum_told-in-Equal invariant-loop decreases-loop
 enum-told-2 c = search rules
@@ -73,7 +73,7 @@ returns c =
     let l = c.loop-from in
     let a = c.args in
     let t = c.loop-from-test.true in
-    found_by (cmp_one a.o a.w a.body.now a.q a.values.now a.marks.now) a.low a.high ((l.from + l.to) / 2) (omega (arith, l.invariant.0)) (omega (arith, l.invariant.2)) (sym c.cmp_first.ensures ∙ c.in-Equal.is)
+    found_by (cmp_one a.o a.w a.body.now a.q a.left.values.now a.left.marks.now) a.low a.high ((l.from + l.to) / 2) (omega (arith, l.invariant.0)) (omega (arith, l.invariant.2)) (sym c.cmp_first.ensures ∙ c.in-Equal.is)
 
 enum-told-3 : tie.Need-enum_told-in-Greater invariant-loop decreases-loop
 enum-told-3 c = search rules
@@ -92,7 +92,7 @@ returns-2 c =
     let l = c.loop-from in
     let a = c.args in
     let e : l.from ≡ l.to = omega (arith, l.invariant.1, c.loop-from-test.false) in
-    missing_by (cmp_one a.o a.w a.body.now a.q a.values.now a.marks.now) a.low a.high l.from l.invariant.0 (omega (arith, l.invariant.1, l.invariant.2)) l.invariant.3 (rw e l.invariant.4)
+    missing_by (cmp_one a.o a.w a.body.now a.q a.left.values.now a.left.marks.now) a.low a.high l.from l.invariant.0 (omega (arith, l.invariant.1, l.invariant.2)) l.invariant.3 (rw e l.invariant.4)
 
 pub find_single_spec : {M : Type 1} → statement M
 find_single_spec =

@@ -1,25 +1,16 @@
 -- `saleplace::place_near` meets its contract. Assumes nothing.
 use mathlib.Core.Path.{◌≡◌, sym, ◌∙◌}
-use mathlib.Core.List.{List}
 use Prim.Native.Nat.{suc, ◌+◌, ◌-◌, ◌*◌, ◌≤◌}
 use native.Mathlib.Omega.{arith}
 use borrow.Author.Rules.{rules}
-use Rattle.frames.specs.Cells.{Cell, row_from}
-use Rattle.order.specs.options.Options.{with_list}
-use Rattle.order.specs.declared.options.Options.{Options}
-use Rattle.order.specs.declared.Order.TheVariants.{Less}
+use Rattle.frames.specs.Cells.{row_from}
+use Rattle.order.specs.options.Options.{options_of}
+use Rattle.std.specs.declared.cmp.Ordering.TheVariants.{Less}
 use Rattle.order.proofs.RowLaws.{row_room}
 use Rattle.sales.specs.saleplace.Place.{cmp_at}
 use Rattle.sales.proofs.saleplace.PlaceLaws.{found, placed_within}
 use Rattle.sales.proofs.saleplace.place_near.Statement.{statement}
 use Rattle.sales.proofs.saleplace.place_near.Tie as tie
-
--- The options and the left row.
-abbrev O : tie.Start → Options
-O s = with_list s.args.o s.args.codes.now s.args.rising.now
-
-abbrev X : tie.Start → List Cell
-X s = row_from (suc s.args.o.by) s.args.q s.args.values.now s.args.marks.now
 
 find-place-requires : tie.Need-find_place-requires
 find-place-requires c κs = search rules
@@ -67,22 +58,22 @@ returns-2 c =
     let s = e in
     let a = s.args in
     let z : a.near + 1 - 1 ≡ a.near = omega arith in
-    let d : cmp_at (O s.before.before.before.before.before) a.w a.body.now (X s.before.before.before.before.before) a.near ≡ Less = sym c.cmp_sale.ensures ∙ c.in-Less.is in
-    placed_within (O s.before.before.before.before.before) a.w 0 a.n a.body.now (X s.before.before.before.before.before) (a.near + 1) a.n _ _ (omega arith) (omega arith) (λ k. rw z d) (λ k. absurd (omega arith)) c.find_place-in-Less.ensures
+    let d : cmp_at (options_of s.args.rules) a.w a.body.now (row_from (suc s.args.rules.terms.by) s.args.q s.args.left.values.now s.args.left.marks.now) a.near ≡ Less = sym c.cmp_sale.ensures ∙ c.in-Less.is in
+    placed_within (options_of s.args.rules) a.w 0 a.n a.body.now (row_from (suc s.args.rules.terms.by) s.args.q s.args.left.values.now s.args.left.marks.now) (a.near + 1) a.n _ _ (omega arith) (omega arith) (λ k. rw z d) (λ k. absurd (omega arith)) c.find_place-in-Less.ensures
 
 returns-3 : tie.Need-returns-in-Equal
 returns-3 c =
     let e = c in
     let s = e in
     let a = s.args in
-    found (O s.before.before.before.before) a.w 0 a.n a.body.now (X s.before.before.before.before) a.near (omega arith) e.if-n-near.false (sym c.cmp_sale.ensures ∙ c.in-Equal.is)
+    found (options_of s.args.rules) a.w 0 a.n a.body.now (row_from (suc s.args.rules.terms.by) s.args.q s.args.left.values.now s.args.left.marks.now) a.near (omega arith) e.if-n-near.false (sym c.cmp_sale.ensures ∙ c.in-Equal.is)
 
 returns-4 : tie.Need-returns-in-Greater
 returns-4 c =
     let e = c in
     let s = e in
     let a = s.args in
-    placed_within (O s.before.before.before.before.before) a.w 0 a.n a.body.now (X s.before.before.before.before.before) 0 a.near _ _ (omega arith) (omega (arith, e.if-n-near.false)) (λ k. absurd (omega arith)) (λ k. sym c.cmp_sale.ensures ∙ c.in-Greater.is) c.find_place-in-Greater.ensures
+    placed_within (options_of s.args.rules) a.w 0 a.n a.body.now (row_from (suc s.args.rules.terms.by) s.args.q s.args.left.values.now s.args.left.marks.now) 0 a.near _ _ (omega arith) (omega (arith, e.if-n-near.false)) (λ k. absurd (omega arith)) (λ k. sym c.cmp_sale.ensures ∙ c.in-Greater.is) c.find_place-in-Greater.ensures
 
 pub place_near_spec : {M : Type 1} → statement M
 place_near_spec =

@@ -1,13 +1,11 @@
 -- `saleplace::reach` meets its contract. Assumes nothing.
 use mathlib.Core.Path.{◌≡◌, sym, ◌∙◌}
-use mathlib.Core.List.{List}
 use Prim.Native.Nat.{ℕ, suc, ◌+◌, ◌-◌, ◌*◌, ◌^◌, ◌≤◌, ◌<◌}
 use native.Mathlib.Omega.{arith}
 use borrow.Author.Rules.{rules}
-use Rattle.frames.specs.Cells.{Cell, row_from}
-use Rattle.order.specs.options.Options.{with_list}
-use Rattle.order.specs.declared.options.Options.{Options}
-use Rattle.order.specs.declared.Order.TheVariants.{Less}
+use Rattle.frames.specs.Cells.{row_from}
+use Rattle.order.specs.options.Options.{with_list, options_of}
+use Rattle.std.specs.declared.cmp.Ordering.TheVariants.{Less}
 use Rattle.order.proofs.RowLaws.{row_room}
 use Rattle.sales.specs.saleplace.Place.{cmp_at}
 use Rattle.sales.proofs.saleplace.PlaceLaws.{at_least, found, placed_within}
@@ -15,18 +13,11 @@ use Rattle.sales.proofs.saleplace.reach.Statement.{statement}
 use Rattle.sales.proofs.saleplace.reach.Tie as tie
 
 abbrev invariant-loop : tie.invariant-loop-low
-invariant-loop body start n w values marks q o codes rising low₀ low =
-    (start ≤ low) × (low ≤ n) × (start < low → cmp_at (with_list o codes rising) w body (row_from (suc o.by) q values marks) (low - 1) ≡ Less)
+invariant-loop body start n w left q rules low₀ low =
+    (start ≤ low) × (low ≤ n) × (start < low → cmp_at (with_list rules.terms rules.codes.now rules.rising.now) w body (row_from (suc rules.terms.by) q left.values.now left.marks.now) (low - 1) ≡ Less)
 
 abbrev decreases-loop : tie.decreases-loop-low
-decreases-loop body start n w values marks q o codes rising low₀ low = n - low
-
--- The options and the left row.
-abbrev O : tie.Start invariant-loop decreases-loop → Options
-O s = with_list s.args.o s.args.codes.now s.args.rising.now
-
-abbrev X : tie.Start invariant-loop decreases-loop → List Cell
-X s = row_from (suc s.args.o.by) s.args.q s.args.values.now s.args.marks.now
+decreases-loop body start n w left q rules low₀ low = n - low
 
 loop-holds : tie.Need-loop-low-init invariant-loop decreases-loop
 loop-holds c = let s = c in (omega arith, s.requires.range, λ l. absurd (omega arith))
@@ -57,7 +48,7 @@ place : (c : tie.In-loop-low invariant-loop decreases-loop) → let a = c.args i
 place c = let a = c.args in row_room (at c) a.n a.w (there c)
 
 add_at : tie.Need-overflow_add-at invariant-loop decreases-loop
-add_at c = omega (arith, there c, few c.before.before.before)
+add_at c = omega (arith, there c, few c.before.before)
 
 mul-cmp-sale : tie.Need-overflow_mul-at invariant-loop decreases-loop
 mul-cmp-sale c = let s = c in omega (arith, place c, s.requires.rows)
@@ -71,7 +62,7 @@ enum_told : tie.Need-enum_told-1 invariant-loop decreases-loop
 enum_told c = search rules
 
 add_low : tie.Need-overflow_add-low invariant-loop decreases-loop
-add_low c = let t = c in omega (arith, there t.before.before, few t.before.before.before.before.before)
+add_low c = let t = c in omega (arith, there t.before.before, few t.before.before.before.before)
 
 loop-less : tie.Need-loop-low-smaller invariant-loop decreases-loop
 loop-less c = let t = c in omega (arith, there t.before.before)
@@ -82,7 +73,7 @@ loop-again c =
     let s = t in
     let a = s.args in
     let e : at t.before.before + 1 - 1 ≡ at t.before.before = omega arith in
-    let d : cmp_at (O s.before.before.before.before.before) a.w a.body.now (X s.before.before.before.before.before) (at t.before.before) ≡ Less = sym c.cmp_sale.ensures ∙ c.in-Less.is in
+    let d : cmp_at (options_of s.args.rules) a.w a.body.now (row_from (suc s.args.rules.terms.by) s.args.q s.args.left.values.now s.args.left.marks.now) (at t.before.before) ≡ Less = sym c.cmp_sale.ensures ∙ c.in-Less.is in
     (omega (arith, t.loop-low.invariant.0), omega (arith, there t.before.before), λ k. rw e d)
 
 enum-told-2 : tie.Need-enum_told-in-Equal invariant-loop decreases-loop
@@ -93,7 +84,7 @@ returns c =
     let t = c in
     let s = t in
     let a = s.args in
-    found (O s.before.before.before.before.before) a.w a.start a.n a.body.now (X s.before.before.before.before.before) (at t.before.before) (omega (arith, t.loop-low.invariant.0)) (there t.before.before) (sym c.cmp_sale.ensures ∙ c.in-Equal.is)
+    found (options_of s.args.rules) a.w a.start a.n a.body.now (row_from (suc s.args.rules.terms.by) s.args.q s.args.left.values.now s.args.left.marks.now) (at t.before.before) (omega (arith, t.loop-low.invariant.0)) (there t.before.before) (sym c.cmp_sale.ensures ∙ c.in-Equal.is)
 
 enum-told-3 : tie.Need-enum_told-in-Greater invariant-loop decreases-loop
 enum-told-3 c = search rules
@@ -110,7 +101,7 @@ returns-2 c =
     let l = t.loop-low in
     let s = t in
     let a = s.args in
-    placed_within (O s.before.before.before.before.before.before) a.w a.start a.n a.body.now (X s.before.before.before.before.before.before) l.low (at t.before.before.before) _ _ l.invariant.0 (omega (arith, there t.before.before.before)) l.invariant.2 (λ k. sym c.cmp_sale.ensures ∙ c.in-Greater.is) c.find_place.ensures
+    placed_within (options_of s.args.rules) a.w a.start a.n a.body.now (row_from (suc s.args.rules.terms.by) s.args.q s.args.left.values.now s.args.left.marks.now) l.low (at t.before.before.before) _ _ l.invariant.0 (omega (arith, there t.before.before.before)) l.invariant.2 (λ k. sym c.cmp_sale.ensures ∙ c.in-Greater.is) c.find_place.ensures
 
 find-place-requires-2 : tie.Need-find_place-requires-2 invariant-loop decreases-loop
 find-place-requires-2 c κs =
@@ -122,7 +113,7 @@ returns-3 c =
     let l = c.loop-low in
     let s = c in
     let a = s.args in
-    placed_within (O s.before.before.before.before) a.w a.start a.n a.body.now (X s.before.before.before.before) l.low a.n _ _ l.invariant.0 (omega arith) l.invariant.2 (λ k. absurd (omega arith)) c.find_place-2.ensures
+    placed_within (options_of s.args.rules) a.w a.start a.n a.body.now (row_from (suc s.args.rules.terms.by) s.args.q s.args.left.values.now s.args.left.marks.now) l.low a.n _ _ l.invariant.0 (omega arith) l.invariant.2 (λ k. absurd (omega arith)) c.find_place-2.ensures
 
 pub reach_spec : {M : Type 1} → statement M
 reach_spec =

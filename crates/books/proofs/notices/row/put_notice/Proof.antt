@@ -29,10 +29,10 @@ same_length : tie.Need-shape_of-out-then-is_nameless
 same_length c = search rules
 
 -- what was asked of the row
-asked : (c : tie.After-is_nameless) → let a = c.args in c.is_nameless.result ≡ nameless (without_list a.o) (row_from a.w (a.i * a.w) a.values.now a.marks.now)
+asked : (c : tie.After-is_nameless) → let a = c.args in c.is_nameless.result ≡ nameless (without_list a.o) (row_from a.rows.width (a.i * a.rows.width) a.rows.values.now a.rows.marks.now)
 asked c =
     let s = c in
-    c.is_nameless.ensures s.args.w s.args.values.now (omega (arith, s.requires.wide)) (omega (arith, s.requires.wide, s.requires.values))
+    c.is_nameless.ensures s.args.rows.width s.args.rows.values.now (omega (arith, s.requires.wide)) (omega (arith, s.requires.wide, s.requires.values))
 
 returns : tie.Need-returns-then-is_nameless
 returns c =
@@ -62,7 +62,7 @@ returns-2 c =
     let s = c in
     let a = s.args in
     c.put_pair-then-stands.ensures null refl refl
-    ∙ rw (notice_stands (without_list a.o) a.column a.i a.last a.w (a.i * a.w) a.values.now a.marks.now s.requires.wide s.requires.values (sym (asked c.before.before.before.before.before.before.before) ∙ c.if-is_nameless.false) (sym c.stands.ensures ∙ c.if-stands.true))
+    ∙ rw (notice_stands (without_list a.o) a.column a.i a.last a.rows.width (a.i * a.rows.width) a.rows.values.now a.rows.marks.now s.requires.wide s.requires.values (sym (asked c.before.before.before.before.before.before.before) ∙ c.if-is_nameless.false) (sym c.stands.ensures ∙ c.if-stands.true))
 
 cast-put-pair : tie.Need-overflow_cast-last
 cast-put-pair c = search rules
@@ -78,7 +78,7 @@ returns-3 c =
     let s = c in
     let a = s.args in
     c.put_pair-2.ensures (value (pos a.last)) (sym (to_z_pos w64 a.last s.requires.number)) refl
-    ∙ rw (notice_names (without_list a.o) a.column a.i a.last a.w (a.i * a.w) a.values.now a.marks.now s.requires.wide s.requires.values (sym (asked c.before.before.before.before.before.before.before) ∙ c.if-is_nameless.false) (sym c.stands.ensures ∙ c.if-stands.false))
+    ∙ rw (notice_names (without_list a.o) a.column a.i a.last a.rows.width (a.i * a.rows.width) a.rows.values.now a.rows.marks.now s.requires.wide s.requires.values (sym (asked c.before.before.before.before.before.before.before) ∙ c.if-is_nameless.false) (sym c.stands.ensures ∙ c.if-stands.false))
 
 pub put_notice_spec : {M : Type 1} → statement M
 put_notice_spec =

@@ -20,8 +20,8 @@ returns : tie.Need-returns-in_default
 returns c = rw c.in_default.is
 
 -- the row that was found is there
-inside : (c : tie.In-At) → let a = c.args in c.in-At.i * a.w + a.w ≤ length a.held.now
-inside c = c.requires.inside c.in-At.i c.in-At.is
+inside : (c : tie.In-Some) → let a = c.args in c.in-Some.i * a.w + a.w ≤ length a.held.now
+inside c = c.requires.inside c.in-Some.i c.in-Some.is
 
 mul-p : tie.Need-overflow_mul-p
 mul-p c = let r = inside c in omega arith
@@ -45,9 +45,9 @@ returns-2 : tie.Need-returns
 returns-2 c =
     let k = c in
     let a = k.args in
-    let i = k.in-At.i in
+    let i = k.in-Some.i in
     let e : i * a.w + a.w - i * a.w ≡ a.w = omega arith in
-    rw (k.in-At.is, e)
+    rw (k.in-Some.is, e)
 
 pub before_split_spec : {M : Type 1} → statement M
 before_split_spec =

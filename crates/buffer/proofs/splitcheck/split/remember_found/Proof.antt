@@ -17,7 +17,7 @@ enum_told : tie.Need-enum_told-1
 enum_told c = search rules
 
 returns : tie.Need-returns-in_default
-returns c = λ n k. let a = c.args in remember_nothing (without_list a.o) _ (rows_of a.w n a.values.now a.marks.now) a.found c.in_default.is
+returns c = λ n k. let a = c.args in remember_nothing (without_list a.o) _ (rows_of a.rows.width n a.rows.values.now a.rows.marks.now) a.found c.in_default.is
 
 left-columns-requires : tie.Need-left_columns-c-requires
 left-columns-requires c κs = c.requires.few.by
@@ -25,14 +25,14 @@ left-columns-requires c κs = c.requires.few.by
 mul-copy-row : tie.Need-overflow_mul-i
 mul-copy-row c =
     let k = c in
-    omega (arith, k.requires.values k.in-At.i k.in-At.is)
+    omega (arith, k.requires.values k.in-Some.i k.in-Some.is)
 
 copy-row-requires : tie.Need-copy_row-requires
 copy-row-requires c κs =
     let k = c in
     let q = k.requires in
-    let i = k.in-At.i in
-    let e = k.in-At.is in
+    let i = k.in-Some.i in
+    let e = k.in-Some.is in
     let l = c.left_columns-c.ensures in
     record { narrow = omega (arith, q.few); values = omega (arith, q.values i e, q.wide); marks = omega (arith, q.marks i e, q.wide) }
 
@@ -41,11 +41,11 @@ returns-2 c = λ n h.
     let k = c in
     let s = k in
     let a = s.args in
-    let i = k.in-At.i in
-    let e = k.in-At.is in
+    let i = k.in-Some.i in
+    let e = k.in-Some.is in
     rw c.left_columns-c.ensures at c.copy_row.ensures
-    ∙ remember_at_lem (without_list a.o) _ (rows_of a.w n a.values.now a.marks.now) a.found i (row_from (columns (without_list a.o)) (i * a.w) a.values.now a.marks.now) e
-    (ap (compared (without_list a.o)) (rows_from a.w n i a.values.now a.marks.now (h i e)) ∙ compared_from (without_list a.o) a.w (i * a.w) a.values.now a.marks.now s.requires.wide)
+    ∙ remember_at_lem (without_list a.o) _ (rows_of a.rows.width n a.rows.values.now a.rows.marks.now) a.found i (row_from (columns (without_list a.o)) (i * a.rows.width) a.rows.values.now a.rows.marks.now) e
+    (ap (compared (without_list a.o)) (rows_from a.rows.width n i a.rows.values.now a.rows.marks.now (h i e)) ∙ compared_from (without_list a.o) a.rows.width (i * a.rows.width) a.rows.values.now a.rows.marks.now s.requires.wide)
 
 pub remember_found_spec : {M : Type 1} → statement M
 remember_found_spec =

@@ -1,0 +1,13 @@
+-- `hostfeed::host_end_right` meets its contract. Assumes nothing.
+use mathlib.Core.Path.{sym, ◌∙◌}
+use Rattle.hostcalls.proofs.CallLaws.{end_bad, end_through}
+use Rattle.hostjoin.proofs.hostfeed.host_end_right.Goals as goal
+
+pub join_of-requires : goal.join_of-requires
+join_of-requires c = sym c.is_join.ensures ∙ c.if-is_join.true
+
+pub returns-then-is_join : goal.returns-then-is_join
+returns-then-is_join c = end_through _ _ _ _ _ _ (sym c.is_join.ensures ∙ c.if-is_join.true) c.join_of.ensures c.end_right.ensures c.into.ensures
+
+pub returns : goal.returns
+returns c = end_bad _ _ _ _ (sym c.is_join.ensures ∙ c.if-is_join.false) c.bad_took.ensures

@@ -1,0 +1,14 @@
+-- `hostturn::host_run` meets its contract. Assumes nothing.
+use mathlib.Core.Path.{sym, ◌∙◌}
+use Rattle.hostcalls.proofs.CallLaws.{run_bad, run_through}
+use Rattle.hostjoin.proofs.hostturn.host_run.Goals as goal
+
+pub join_of-requires : goal.join_of-requires
+join_of-requires c = sym c.is_join.ensures ∙ c.if-is_join.true
+
+pub returns-then-is_join : goal.returns-then-is_join
+returns-then-is_join c =
+    run_through _ _ _ _ _ _ _ _ _ (sym c.is_join.ensures ∙ c.if-is_join.true) c.join_of.ensures c.run.ensures c.into.ensures
+
+pub returns : goal.returns
+returns c = run_bad _ _ _ _ _ _ (sym c.is_join.ensures ∙ c.if-is_join.false) c.bad_ran.ensures
