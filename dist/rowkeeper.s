@@ -25397,7 +25397,7 @@ rowkeeper_takings_add:                  # @rowkeeper_takings_add
 	movzbl	%al, %eax
 	cmpl	$1, %eax
 	jne	.LBB42_139
-.LBB42_116:                             # %join.10.i.i45.i.i.i.i.i.i
+.LBB42_116:                             # %join.10.i.i44.i.i.i.i.i.i
                                         #   in Loop: Header=BB42_117 Depth=1
 	movq	32(%rsp), %rax                  # 8-byte Reload
 	incq	%rax
@@ -25630,10 +25630,10 @@ rowkeeper_takings_add:                  # @rowkeeper_takings_add
 	movb	$1, %bl
 	movq	%r13, %r12
 	jmp	.LBB42_116
-.LBB42_134:                             # %then.4.i47.i.i.i.i.i.i
+.LBB42_134:                             # %arm.4.i.i.i.i.i.i.i
 	cmpq	$2, 11064(%rsp)
 	jae	.LBB42_136
-.LBB42_135:                             # %"sales::saleweigh::rows_fit.exit.thread242.i.i.i.i.i.i"
+.LBB42_135:                             # %"sales::saleweigh::rows_fit.exit.thread240.i.i.i.i.i.i"
 	movl	$5, %edi
 	jmp	.LBB42_31
 .LBB42_136:                             # %join.3.i.i16.i.i.i.i.i.i.i
@@ -25652,7 +25652,7 @@ rowkeeper_takings_add:                  # @rowkeeper_takings_add
 	xorl	%edx, %edx
 	divq	104(%rsp)                       # 8-byte Folded Reload
 	jmp	.LBB42_141
-.LBB42_139:                             # %join.6.i40.i.i.i.i.i.i
+.LBB42_139:                             # %join.7.i.i56.i.i.i.i.i
 	leaq	1480(%rsp), %rdi
 	movq	$0, 32(%rsp)                    # 8-byte Folded Spill
 	movl	$8192, %edx                     # imm = 0x2000
@@ -25811,7 +25811,7 @@ rowkeeper_takings_add:                  # @rowkeeper_takings_add
                                         #   in Loop: Header=BB42_145 Depth=1
 	cmpq	$0, 24(%rsp)                    # 8-byte Folded Reload
 	je	.LBB42_144
-# %bb.154:                              # %join.5.i.i.i.i41.i.i.i.i.i.i.preheader
+# %bb.154:                              # %join.5.i.i.i.i40.i.i.i.i.i.i.preheader
                                         #   in Loop: Header=BB42_145 Depth=1
 	xorl	%eax, %eax
 	movq	32(%rsp), %rcx                  # 8-byte Reload
@@ -25841,7 +25841,7 @@ rowkeeper_takings_add:                  # @rowkeeper_takings_add
 	movq	%rcx, 64(%rsp)                  # 8-byte Spill
 	cmpq	%rcx, %rax
 	jae	.LBB42_156
-.LBB42_161:                             # %join.5.i.i.i.i41.i.i.i.i.i.i
+.LBB42_161:                             # %join.5.i.i.i.i40.i.i.i.i.i.i
                                         #   Parent Loop BB42_145 Depth=1
                                         # =>  This Loop Header: Depth=2
                                         #       Child Loop BB42_221 Depth 3
@@ -26303,7 +26303,7 @@ rowkeeper_takings_add:                  # @rowkeeper_takings_add
 	movw	%ax, 44(%rsp)
 	cmpq	$0, 56(%rsp)                    # 8-byte Folded Reload
 	je	.LBB42_287
-.LBB42_243:                             # %join.5.lr.ph.i.i67.i.i.i.i.i.i
+.LBB42_243:                             # %join.5.lr.ph.i.i65.i.i.i.i.i.i
 	movq	24(%rsp), %rcx                  # 8-byte Reload
 	leaq	2(%rcx), %rax
 	leaq	(,%rax,8), %rax
@@ -26354,7 +26354,7 @@ rowkeeper_takings_add:                  # @rowkeeper_takings_add
 	addq	152(%rsp), %r14                 # 8-byte Folded Reload
 	cmpq	56(%rsp), %rax                  # 8-byte Folded Reload
 	je	.LBB42_288
-.LBB42_246:                             # %join.5.i.i70.i.i.i.i.i.i
+.LBB42_246:                             # %join.5.i.i68.i.i.i.i.i.i
                                         # =>This Loop Header: Depth=1
                                         #     Child Loop BB42_249 Depth 2
                                         #     Child Loop BB42_264 Depth 2
@@ -26366,24 +26366,24 @@ rowkeeper_takings_add:                  # @rowkeeper_takings_add
 	movq	224(%rsp), %rcx                 # 8-byte Reload
 	cmpq	$0, (%rcx,%rax)
 	je	.LBB42_245
-# %bb.247:                              # %join.3.i.i.i75.i.i.i.i.i.i
+# %bb.247:                              # %join.3.i.i.i73.i.i.i.i.i.i
                                         #   in Loop: Header=BB42_246 Depth=1
 	cmpq	$0, 24(%rsp)                    # 8-byte Folded Reload
 	je	.LBB42_251
-# %bb.248:                              # %join.5.i.i.i.i76.i.i.i.i.i.i.preheader
+# %bb.248:                              # %join.5.i.i.i.i74.i.i.i.i.i.i.preheader
                                         #   in Loop: Header=BB42_246 Depth=1
 	xorl	%ecx, %ecx
-.LBB42_249:                             # %join.5.i.i.i.i76.i.i.i.i.i.i
+.LBB42_249:                             # %join.5.i.i.i.i74.i.i.i.i.i.i
                                         #   Parent Loop BB42_246 Depth=1
                                         # =>  This Inner Loop Header: Depth=2
 	cmpq	$0, (%r14,%rcx,8)
 	je	.LBB42_245
-# %bb.250:                              # %loop.2.i.i.i.i83.i.i.i.i.i.i
+# %bb.250:                              # %loop.2.i.i.i.i81.i.i.i.i.i.i
                                         #   in Loop: Header=BB42_249 Depth=2
 	incq	%rcx
 	cmpq	%rcx, 24(%rsp)                  # 8-byte Folded Reload
 	jne	.LBB42_249
-.LBB42_251:                             # %join.7.i.i.i86.i.i.i.i.i.i
+.LBB42_251:                             # %join.7.i.i.i84.i.i.i.i.i.i
                                         #   in Loop: Header=BB42_246 Depth=1
 	movq	224(%rsp), %rcx                 # 8-byte Reload
 	cmpq	$0, 8(%rcx,%rax)
@@ -26449,7 +26449,7 @@ rowkeeper_takings_add:                  # @rowkeeper_takings_add
 	movq	$64, 1560(%rsp)
 	cmpq	%r12, 32(%rsp)                  # 8-byte Folded Reload
 	jbe	.LBB42_256
-# %bb.253:                              # %join.3.i.i.i.i114.i.i.i.i.i.i
+# %bb.253:                              # %join.3.i.i.i.i112.i.i.i.i.i.i
                                         #   in Loop: Header=BB42_246 Depth=1
 	movq	24(%rsp), %rcx                  # 8-byte Reload
 	movq	%rcx, 424(%rsp)
@@ -26509,16 +26509,16 @@ rowkeeper_takings_add:                  # @rowkeeper_takings_add
 	callq	"sales::salegroup::cmp_sale"
 	cmpb	$2, %al
 	je	.LBB42_257
-# %bb.254:                              # %join.3.i.i.i.i114.i.i.i.i.i.i
+# %bb.254:                              # %join.3.i.i.i.i112.i.i.i.i.i.i
                                         #   in Loop: Header=BB42_246 Depth=1
 	movzbl	%al, %eax
 	cmpl	$1, %eax
 	jne	.LBB42_258
-# %bb.255:                              # %arm.6.i.i.i.i116.i.i.i.i.i.i
+# %bb.255:                              # %arm.6.i.i.i.i114.i.i.i.i.i.i
                                         #   in Loop: Header=BB42_246 Depth=1
 	movb	$1, %dl
 	jmp	.LBB42_261
-.LBB42_256:                             # %then.1.i.i.i.i90.i.i.i.i.i.i
+.LBB42_256:                             # %then.1.i.i.i.i88.i.i.i.i.i.i
                                         #   in Loop: Header=BB42_246 Depth=1
 	movq	24(%rsp), %r8                   # 8-byte Reload
 	movq	%r8, 304(%rsp)
@@ -26614,7 +26614,7 @@ rowkeeper_takings_add:                  # @rowkeeper_takings_add
                                         #   in Loop: Header=BB42_246 Depth=1
 	cmpq	%r12, 32(%rsp)                  # 8-byte Folded Reload
 	ja	.LBB42_244
-# %bb.262:                              # %then.1.i.i.i92.i.i.i.i.i.i
+# %bb.262:                              # %then.1.i.i.i90.i.i.i.i.i.i
                                         #   in Loop: Header=BB42_246 Depth=1
 	movq	120(%rsp), %rax                 # 8-byte Reload
 	movq	%rax, 320(%rsp)
@@ -26667,11 +26667,11 @@ rowkeeper_takings_add:                  # @rowkeeper_takings_add
 	movq	%rax, %r15
 	cmpq	%rbp, %rax
 	je	.LBB42_266
-# %bb.263:                              # %join.5.i.i.i.i.i93.i.i.i.i.i.i.preheader
+# %bb.263:                              # %join.5.i.i.i.i.i91.i.i.i.i.i.i.preheader
                                         #   in Loop: Header=BB42_246 Depth=1
 	xorl	%r12d, %r12d
 	movq	%rbp, %r15
-.LBB42_264:                             # %join.5.i.i.i.i.i93.i.i.i.i.i.i
+.LBB42_264:                             # %join.5.i.i.i.i.i91.i.i.i.i.i.i
                                         #   Parent Loop BB42_246 Depth=1
                                         # =>  This Inner Loop Header: Depth=2
 	addq	%r15, %r12
@@ -26710,7 +26710,7 @@ rowkeeper_takings_add:                  # @rowkeeper_takings_add
 	movq	%r15, %rdx
 	movq	112(%rsp), %rcx                 # 8-byte Reload
 	jmp	.LBB42_270
-.LBB42_267:                             # %join.5.i.i.i.i.i93.i.i.i.i.i.i
+.LBB42_267:                             # %join.5.i.i.i.i.i91.i.i.i.i.i.i
                                         #   in Loop: Header=BB42_246 Depth=1
 	movzbl	%al, %eax
 	cmpl	$1, %eax

@@ -16,6 +16,7 @@ use std::cmp::Ordering;
 fn is_met(seek: Seek, order: Ordering) -> bool
     ensures { result ≡ meets seek order }
 {
+    // A match: the definitions of the searches speak of Seek, and have the same three arms.
     match seek {
         Seek::AtLeast => match order {
             Ordering::Less => false,

@@ -15,6 +15,7 @@ use searching::{Seek, Stretch};
 fn seek_of(s: Strategy, allow_eq: bool) -> Seek
     ensures { result ≡ seek_of s allow_eq }
 {
+    // A match: each strategy has its own arm in the definition too.
     match s {
         Strategy::Backward => {
             if allow_eq {
@@ -43,6 +44,7 @@ fn key_needs_more(left: RowSlice<'_>, k: usize, right: RowSlice<'_>, s: Stretch,
     if right.count <= g {
         return true;
     }
+    // A match: each strategy has its own arm in the definition too.
     match strategy {
         Strategy::Backward => false,
         Strategy::Forward => false,
@@ -97,6 +99,7 @@ fn one_back(start: usize, at: usize) -> usize
 fn step_back(s: Strategy, start: usize, at: usize) -> usize
     ensures { result ≡ step_back s start at }
 {
+    // A match: each strategy has its own arm in the definition too.
     match s {
         Strategy::Backward => one_back(start, at),
         Strategy::Forward => at,

@@ -15,6 +15,7 @@ use rows::framerule::{has_room, is_frame, is_table, row_count};
 use tables::put_head;
 
 // The columns of a left row, or of a right one.
+// A flag for the side, as in C: the host says it in the call.
 fn side_columns(right: bool, o: Terms) -> usize
     requires { (o.by ≤ 4) × (o.carried ≤ 8) }
     ensures { result ≡ side_columns (without_list o) right }
@@ -26,6 +27,7 @@ fn side_columns(right: bool, o: Terms) -> usize
 }
 
 // The refusals before rows are compared: by the options, by the words of the table and of the boundaries, by their codes.
+// A flag for the side, as in C: the host says it in the call.
 fn judge_words(
     table: &[i64],
     boundaries: &[i64],
@@ -77,6 +79,7 @@ fn cut_rows(
 }
 
 // The same of a table and boundaries that are handed in whole, under these options.
+// A flag for the side, as in C: the host says it in the call.
 fn cut_listed(
     table: &[i64],
     boundaries: &[i64],
@@ -112,6 +115,7 @@ fn cut_listed(
 }
 
 // Tells where a sorted table, of left rows or of right ones, is cut for each boundary: before the first row whose group is not less.
+// A flag for the side, as in C: the host says it in the call.
 pub fn cut(
     table: &[i64],
     boundaries: &[i64],

@@ -122,6 +122,7 @@ pub fn stands_to(
 }
 
 // The end of the run that starts at row i; of rows that are in order it is not sought row by row.
+// A flag, constant in each caller: a closure would need the same flag to say what it promises.
 #[inline(always)]
 fn end_of_run(rows: RowSlice<'_>, i: usize, in_order: bool, rules: Rules<'_>) -> usize
     requires { Within (options_of rules) rows.width rows.count rows.values.now rows.marks.now i × (in_order ≡ true → TableIn (options_of rules) rows.width rows.count rows.values.now rows.marks.now) }
@@ -134,6 +135,7 @@ fn end_of_run(rows: RowSlice<'_>, i: usize, in_order: bool, rules: Rules<'_>) ->
 }
 
 // From the right run from..to on, the cursor passes null runs and runs before the group of the left row at p.
+// A flag, constant in each caller: a closure would need the same flag to say what it promises.
 #[inline(always)]
 fn pass_runs(
     right: RowSlice<'_>,
@@ -176,6 +178,7 @@ fn pass_runs(
 
 // The right cursor for the left run whose first row is at p: a null group leaves it where it is and uses an empty run. Where the right rows are
 // in order, those that the run uses are sorted by key.
+// A flag, constant in each caller: a closure would need the same flag to say what it promises.
 #[inline(always)]
 pub fn serve(
     right: RowSlice<'_>,

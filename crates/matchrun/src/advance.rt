@@ -35,6 +35,7 @@ fn stepped(rv: &[i64], p: usize, w: usize, u: i64, start: usize, step: usize) ->
 }
 
 // Whether the key a is below v, or at it where that counts too.
+// A flag: it is the option allow_eq or its opposite, known only while a join runs.
 fn is_below(a: i64, v: i64, inclusive: bool) -> bool
     ensures { result ≡ below inclusive v a }
 {
@@ -47,6 +48,7 @@ fn is_below(a: i64, v: i64, inclusive: bool) -> bool
 // The first row of at..end whose key is not below v, nor at it where that counts too, looked for
 // row by row; the key of row `at` is at place p. Each row that is passed is one move more than the
 // `moved` moves made before.
+// A flag: it is the option allow_eq or its opposite, known only while a join runs.
 fn rest(
     rv: &[i64],
     at: usize,
@@ -78,6 +80,7 @@ fn rest(
 }
 
 // The key that all keys below v are below, and those at it too where that counts: v, or the next one.
+// A flag: it is the option allow_eq or its opposite, known only while a join runs.
 fn bound(v: i64, inclusive: bool) -> i64
     requires { HasNext v }
     ensures { (a : ℤ) → below inclusive v a ≡ lt_z a result }
@@ -92,6 +95,7 @@ fn bound(v: i64, inclusive: bool) -> i64
 // time up to row `stop`; the key of row `at` is at place p. The last of four rows is tested first:
 // where its key is below v, all four are passed, in four moves, and else the row is chosen among
 // them, with as many moves as rows are passed.
+// A flag: it is the option allow_eq or its opposite, known only while a join runs.
 pub fn advance(
     rv: &[i64],
     at: usize,

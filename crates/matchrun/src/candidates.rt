@@ -78,6 +78,7 @@ fn part_of(right: RowSlice<'_>, at: usize, end: usize, f: i64, l: i64, o: Terms)
     ensures { Cut (without_list o) right.entry.width at end right.entry.values.now right.entry.marks.now f l result }
 {
     let s = strategy_of(o);
+    // A match: each strategy has its own arm in the definition too.
     match s {
         // Backward "selects the last row in the right DataFrame whose 'on' key is less than or
         // equal to the left's key."

@@ -18,6 +18,7 @@ use std::cmp::Ordering;
 fn on_side(s: Strategy, eq: bool, c: Ordering) -> bool
     ensures { result ≡ on_side s eq c }
 {
+    // A match: each strategy has its own arm in the definition too.
     match s {
         // Backward "selects the last row in the right DataFrame whose 'on' key is less than or
         // equal to the left's key."
@@ -72,6 +73,7 @@ pub fn nearer_key(v: i64, a: i64, b: i64) -> bool
 pub fn takes_over(s: Strategy, v: i64, a: i64, b: i64) -> bool
     ensures { TakesOver s v a b result }
 {
+    // A match: each strategy has its own arm in the definition too.
     match s {
         // Backward "selects the last row in the right DataFrame whose 'on' key is less than or
         // equal to the left's key."

@@ -68,6 +68,7 @@ fn walk_keys(
     ensures { Walked (without_list o) left.entry.width m left.entry.values.now from to right.entry.width right.entry.values.now at end number out.old result out.new }
 {
     let s = strategy_of(o);
+    // A match: each strategy has its own arm in the definition too.
     match s {
         // Backward "selects the last row in the right DataFrame whose 'on' key is less than or
         // equal to the left's key."

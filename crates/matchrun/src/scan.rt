@@ -60,6 +60,7 @@ fn choose_row(right: RowSlice<'_>, from: usize, to: usize, v: i64, o: Terms) -> 
     ensures { BestIn (without_list o) right.entry.width to right.entry.values.now right.entry.marks.now result × ((first : ℕ) (x : List Cell) → key_of (without_list o) x ≡ value v → hit_at first right.entry.width to right.entry.values.now right.entry.marks.now result ≡ choose (without_list o) x (fits (without_list o) x) nobody (first + from) (between right.entry.width from to right.entry.values.now right.entry.marks.now)) }
 {
     let s = strategy_of(o);
+    // A match: each strategy has its own arm in the definition too.
     match s {
         // Backward "selects the last row in the right DataFrame whose 'on' key is less than or
         // equal to the left's key."

@@ -29,6 +29,7 @@ fn is_framed(frame: &[i64]) -> bool
 }
 
 // Whether a reader knows frames of c columns: 1 + p, and with the distance 2 + p as well.
+// A flag, constant in each caller: the definition asks for the same one.
 fn knows(distance: bool, p: usize, c: usize) -> bool
     requires { p ≤ 8 }
     ensures { result ≡ known_by distance p c }
@@ -43,6 +44,7 @@ fn knows(distance: bool, p: usize, c: usize) -> bool
 }
 
 // A view of a frame by either reader: 10, then 5, then 13.
+// A flag, constant in each caller: the definition asks for the same one.
 fn view_by(distance: bool, p: usize, frame: &[i64]) -> Result<View, Refusal>
     ensures { result ≡ view_by (known_by distance) p frame.now }
 {
@@ -104,6 +106,7 @@ pub fn shown_at(rows: usize, columns: usize, frame: &[i64], row: usize, column: 
 }
 
 // What either reader shows of one place: a view, and the place read of it.
+// A flag, constant in each caller: the definition asks for the same one.
 fn read_by(
     distance: bool,
     p: usize,

@@ -1,5 +1,5 @@
 // How many rows a table has once a frame's sales are added, counted in one walk over both, if the sales come in group order.
-ghost use Rattle.std.specs.Prelude.{◌≡◌, true, cond, List, ℕ, suc, ◌+◌, ◌^◌, ◌≤◌, ◌<◌, length};
+ghost use Rattle.std.specs.Prelude.{◌≡◌, cond, List, ℕ, suc, ◌+◌, ◌^◌, ◌≤◌, ◌<◌, length};
 ghost use Rattle.frames.specs.Cells.{row_from, rows_of, Words};
 ghost use Rattle.order.specs.options.Options.{options_of};
 ghost use Rattle.takings.specs.Subtotals.{Subtotal, add_all};
@@ -13,13 +13,6 @@ use frames::RowSlice;
 use order::options::Rules;
 use rows::compare::cmp_group;
 use std::cmp::Ordering;
-
-// How many rows there are, if the sales come in group order; else nothing is said of them.
-#[derive(Clone, Copy)]
-pub struct Ordered {
-    pub rows: usize,
-    pub told: bool,
-}
 
 // How the group of the last sale, at p, stands to that of the left row at q, with its answer row at z; the first sale is behind. A row that is no sale with an amount is as if it were of the last group: it makes no row.
 fn side_of(
@@ -54,15 +47,15 @@ fn more(m: usize, stays: bool) -> usize
     m + 1
 }
 
-// How many rows a table of subtotals and the sales of a frame make: each group that the table has not is one more. A group is looked for behind the table's rows up to the last one.
+// How many rows a table of subtotals and the sales of a frame make: each group that the table has not is one more. A group is looked for behind the table's rows up to the last one. None where the sales do not come in group order.
 pub fn count_ordered(
     table: RowSlice<'_>,
     left: RowSlice<'_>,
     answers: RowSlice<'_>,
     rules: Rules<'_>,
-) -> Ordered
+) -> Option<usize>
     requires { CountIn (options_of rules) table.count left.count answers.width table.values.now left.values.now left.marks.now answers.marks.now }
-    ensures { (ts : List Subtotal) (av : Words) → result.told ≡ true → length answers.entry.marks.now ≤ length av → TableIs (options_of rules.entry) table.entry.count ts table.entry.values.now → result.rows ≡ length (add_all (options_of rules.entry) ts (amounts_of (sales_of (options_of rules.entry) (rows_of (suc rules.entry.terms.by) left.entry.count left.entry.values.now left.entry.marks.now) (rows_of answers.entry.width left.entry.count av answers.entry.marks.now)))) }
+    ensures { (ts : List Subtotal) (av : Words) (m : ℕ) → result ≡ Some m → length answers.entry.marks.now ≤ length av → TableIs (options_of rules.entry) table.entry.count ts table.entry.values.now → m ≡ length (add_all (options_of rules.entry) ts (amounts_of (sales_of (options_of rules.entry) (rows_of (suc rules.entry.terms.by) left.entry.count left.entry.values.now left.entry.marks.now) (rows_of answers.entry.width left.entry.count av answers.entry.marks.now)))) }
 {
     let c = rules.terms.by + 1;
     let w = rules.terms.by + 2;
@@ -82,15 +75,9 @@ pub fn count_ordered(
             }
             Ordering::Equal => {}
             Ordering::Greater => {
-                return Ordered {
-                    rows: 0,
-                    told: false,
-                };
+                return None;
             }
         }
     }
-    Ordered {
-        rows: m,
-        told: true,
-    }
+    Some(m)
 }

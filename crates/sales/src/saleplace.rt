@@ -9,7 +9,8 @@ use frames::RowSlice;
 use order::options::{Rules, Terms};
 use std::cmp::Ordering;
 
-// The row of a group; or, if none is here, the row before which it belongs.
+// The row of a group; or, if none is here, the row before which it belongs. A struct and no Result: put_behind, add_sale and count_ordered use the row
+// in both cases, and hand `here` on.
 #[derive(Clone, Copy)]
 pub struct Place {
     pub row: usize,

@@ -71,9 +71,8 @@ pub fn rows_fit(
     if has_room(table.count + sales, w, room) {
         return true;
     }
-    let t = count_ordered(table, left, answers, rules);
-    if t.told {
-        return has_room(t.rows, w, room);
+    if let Some(m) = count_ordered(table, left, answers, rules) {
+        return has_room(m, w, room);
     }
     let m = count_groups(table, left, answers, rules);
     has_room(m, w, room)

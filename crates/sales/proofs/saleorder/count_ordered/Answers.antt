@@ -7,6 +7,7 @@ use lib.ListN.{length}
 use Rattle.frames.specs.Cells.{Words, row_from}
 use Rattle.order.specs.options.Options.{options_of}
 use Rattle.order.proofs.RowLaws.{row_room}
+use Rattle.std.proofs.lemmas.Option.{same_Some}
 use Rattle.std.specs.declared.cmp.Ordering.TheVariants.{Less}
 use Rattle.sales.proofs.salekind.KindLaws.{from_all}
 use Rattle.sales.specs.saleorder.Ordered.{side_of}
@@ -76,4 +77,4 @@ returns c =
     let o = options_of a.rules in
     let l = c.loop-i in
     let x = row_from (suc a.rules.terms.by) l.last a.left.values.now a.left.marks.now in
-    λ ts av e h t. rw (from_all o a.left.count a.answers.width a.left.values.now a.left.marks.now av a.answers.marks.now) at (to_ends o a.table.count a.left.count a.answers.width a.table.values.now a.left.values.now a.left.marks.now av a.answers.marks.now ts t l.any x l.m l.i c.loop-i-test.false (l.invariant.counted ts av h t))
+    λ ts av m e h t. sym (same_Some l.m m e) ∙ rw (from_all o a.left.count a.answers.width a.left.values.now a.left.marks.now av a.answers.marks.now) at (to_ends o a.table.count a.left.count a.answers.width a.table.values.now a.left.values.now a.left.marks.now av a.answers.marks.now ts t l.any x l.m l.i c.loop-i-test.false (l.invariant.counted ts av h t))
