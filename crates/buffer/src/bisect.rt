@@ -57,6 +57,7 @@ fn probe(
 }
 
 // The first row of lower..upper whose cell in column j is one that is looked for, by the column's rule; the end of the range where there is none.
+#[inline(always)]
 pub fn find(
     seek: Seek,
     descending: bool,

@@ -64,6 +64,7 @@ fn key_needs_more(left: RowSlice<'_>, k: usize, right: RowSlice<'_>, s: Stretch,
 }
 
 // Whether the held rows, n of them, do not suffice yet for the last left row.
+#[inline(always)]
 pub fn need_more(left: RowSlice<'_>, right: RowSlice<'_>, rules: Rules<'_>) -> bool
     requires { RowsIn (options_of rules) left.width left.count left.values.now left.marks.now × RowsIn (options_of rules) right.width right.count right.values.now right.marks.now }
     ensures { result ≡ need_more (options_of rules.entry) (rows_in left.entry) (rows_in right.entry) }
@@ -131,6 +132,7 @@ fn split_at(left: RowSlice<'_>, p: usize, right: RowSlice<'_>, rules: Rules<'_>)
 }
 
 // How many of the n held rows a prune by row i of the left frame drops.
+#[inline(always)]
 pub fn prune_by(i: usize, left: RowSlice<'_>, right: RowSlice<'_>, rules: Rules<'_>) -> usize
     requires { PlaceIn i left.count × RowsIn (options_of rules) left.width left.count left.values.now left.marks.now × RowsIn (options_of rules) right.width right.count right.values.now right.marks.now }
     ensures { result ≡ prune_by (options_of rules.entry) i (rows_in left.entry) (rows_in right.entry) }

@@ -30,6 +30,7 @@ fn is_ascending(rows: RowSlice<'_>, rules: Rules<'_>) -> bool
 }
 
 // Whether a list of n boundaries is refused: too many, any without by-columns, a null, or not strictly ascending.
+#[inline(always)]
 pub fn bad_boundaries(rows: RowSlice<'_>, rules: Rules<'_>) -> bool
     requires { GroupsIn (options_of rules) rows.count rows.values.now rows.marks.now }
     ensures { result ≡ bad_boundaries (options_of rules.entry) (rows_of rules.entry.terms.by rows.entry.count rows.entry.values.now rows.entry.marks.now) }

@@ -77,6 +77,7 @@ fn same_run(rows: RowSlice<'_>, p: usize, q: usize, o: Terms) -> bool
 
 // The end of the run that starts at row i, of n rows that are each w wide; i itself behind the last of them. Most rows have the by-values of
 // the row before, word for word: these are passed together, and not compared by the rules.
+#[inline(always)]
 pub fn run_end(rows: RowSlice<'_>, i: usize, rules: Rules<'_>) -> usize
     requires { Within (options_of rules) rows.width rows.count rows.values.now rows.marks.now i }
     ensures { result ≡ i + run_length (options_of rules.entry) (between rows.entry.width i rows.entry.count rows.entry.values.now rows.entry.marks.now) }

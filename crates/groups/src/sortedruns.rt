@@ -48,6 +48,7 @@ fn last_alike(rows: RowSlice<'_>, high: usize, i: usize, o: Terms) -> usize
 }
 
 // A row of n from row i on that has its by-values: row i itself where the run is not long, so that short runs are not searched.
+#[inline(always)]
 fn skip_alike(rows: RowSlice<'_>, i: usize, o: Terms) -> usize
     requires { RowsIn (without_list o) rows.width rows.count rows.values.now rows.marks.now × (i ≤ rows.count) }
     ensures { (i ≤ result) × (result ≤ rows.entry.count) × (i < result → (result < rows.entry.count) × ((codes : Words) (rising : List ℕ) → cmp_group (with_list o codes rising) (row_from rows.entry.width (i * rows.entry.width) rows.entry.values.now rows.entry.marks.now) (row_from rows.entry.width (result * rows.entry.width) rows.entry.values.now rows.entry.marks.now) ≡ Equal)) }
@@ -64,6 +65,7 @@ fn skip_alike(rows: RowSlice<'_>, i: usize, o: Terms) -> usize
 
 // The end of the run that starts at row i of n sorted rows, each w wide; i itself behind the last of them. Between two rows of one group all rows
 // have it, so the rows of a long run are not passed one by one.
+#[inline(always)]
 pub fn sorted_end(rows: RowSlice<'_>, i: usize, rules: Rules<'_>) -> usize
     requires { TableIn (options_of rules) rows.width rows.count rows.values.now rows.marks.now × (i ≤ rows.count) }
     ensures { result ≡ i + run_length (options_of rules.entry) (between rows.entry.width i rows.entry.count rows.entry.values.now rows.entry.marks.now) }

@@ -138,6 +138,7 @@ fn many_end(rows: RowSlice<'_>, i: usize, by: usize) -> usize
 }
 
 // How far the rows behind row i, of n, have its by-values, word for word. It may stop before the last of them: what stands there is then compared by the rules.
+#[inline(always)]
 pub fn same_end(rows: RowSlice<'_>, i: usize, by: usize) -> usize
     requires { RowsTo by rows.width rows.count rows.values.now rows.marks.now i × (i < rows.count) }
     ensures { SameTo by rows.entry.width rows.entry.count rows.entry.values.now rows.entry.marks.now i result }

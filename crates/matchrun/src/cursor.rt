@@ -115,6 +115,7 @@ fn keys_rise(rows: RowSlice<'_>, from: usize, to: usize, o: Terms) -> bool
 }
 
 // Whether no key of rows from..to, each w wide, is greater than the next.
+#[inline(always)]
 pub fn keys_sorted(rows: RowSlice<'_>, from: usize, to: usize, o: Terms) -> bool
     requires { RowsIn (without_list o) rows.width to rows.values.now rows.marks.now × (from ≤ to) }
     ensures { result ≡ keys_sorted (without_list o) (between rows.entry.width from to rows.entry.values.now rows.entry.marks.now) }

@@ -55,6 +55,7 @@ fn best_row(right: RowSlice<'_>, from: usize, to: usize, v: i64, s: Strategy, o:
 }
 
 // The best row of from..to for the left key v, by its index; `to` where there is none. The strategies stand in the order of the join_asof documentation, each headed by its sentence.
+#[inline(always)]
 fn choose_row(right: RowSlice<'_>, from: usize, to: usize, v: i64, o: Terms) -> usize
     requires { RowsIn (without_list o) right.width to right.values.now right.marks.now × (from ≤ to) }
     ensures { BestIn (without_list o) right.entry.width to right.entry.values.now right.entry.marks.now result × ((first : ℕ) (x : List Cell) → key_of (without_list o) x ≡ value v → hit_at first right.entry.width to right.entry.values.now right.entry.marks.now result ≡ choose (without_list o) x (fits (without_list o) x) nobody (first + from) (between right.entry.width from to right.entry.values.now right.entry.marks.now)) }
@@ -75,6 +76,7 @@ fn choose_row(right: RowSlice<'_>, from: usize, to: usize, v: i64, o: Terms) -> 
 }
 
 // The choice for the left row at p among right rows from..to, each w wide; row i of them has the number `number` + i.
+#[inline(always)]
 pub fn match_row(
     left: RowSlice<'_>,
     p: usize,

@@ -78,6 +78,7 @@ fn wants(some: bool, left: RowSlice<'_>, right: RowSlice<'_>, rules: Rules<'_>) 
 }
 
 // One turn: it takes a right frame, of h rows, where some is left and wanted, else it writes its left frame, of n rows.
+#[inline(always)]
 pub fn take_turn(
     s: Walk,
     n: usize,

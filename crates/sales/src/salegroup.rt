@@ -57,6 +57,7 @@ pub fn is_single(o: Terms) -> bool
 }
 
 // The group of the row at p against the group of the left row at q. Groups of one by-value without a list compare by that alone.
+#[inline(always)]
 pub fn cmp_sale(body: &[i64], p: usize, left: RowSlice<'_>, q: usize, rules: Rules<'_>) -> Ordering
     requires { SaleAt (options_of rules) p body.now q left.values.now left.marks.now }
     ensures { result ≡ cmp_group (options_of rules.entry) (plain rules.entry.terms.by p body.now) (row_from (suc rules.entry.terms.by) q left.entry.values.now left.entry.marks.now) }

@@ -5,7 +5,7 @@ ghost use Rattle.frames.specs.Cells.{Words};
 ghost use Rattle.order.specs.options.Options.{with_list};
 ghost use Rattle.sales.specs.saleinsert.Held.{AddIn, OpenIn, PutIn, Inserted};
 
-use crate::salewrite::put_sale;
+use crate::salewrite::{put_sale, shift_up};
 use order::options::Terms;
 
 // The row at a is written again, with one more sale in its total and its count.
@@ -32,11 +32,12 @@ fn open_row(
     requires { OpenIn a end q by values.now body.old }
     ensures { body.new ≡ paste (paste body.old (a + (by + 2)) (drop a body.old) (end - a)) a (take by (drop q values.now) ++ amount ∷ pos 1 ∷ []) (by + 2) }
 {
-    body.copy_within(a..end, a + (by + 2));
+    shift_up(body, a, end, by + 2);
     put_sale(body, a, values, q, by, amount, 1);
 }
 
 // The sale of the left row at q, of this amount, is added to n rows: to the row that is told, or as one before it; answers how many rows there are then.
+#[inline(always)]
 pub fn put_at(
     body: &mut [i64],
     n: usize,

@@ -7,6 +7,7 @@ ghost use Rattle.sales.specs.salepass.Pass.{RowsRoom, SaleIn, Added, Behind};
 
 use crate::saleinsert::put_at;
 use crate::saleplace::{place_near, reach};
+use crate::salewrite::copy_words;
 use frames::RowSlice;
 use order::options::Rules;
 
@@ -23,9 +24,7 @@ pub fn pass_rows(body: &mut [i64], m: usize, table: &[i64], from: usize, to: usi
     requires { RowsRoom m from to w table.now body.old }
     ensures { body.new ≡ paste body.old (m * w) (drop (from * w) table.now) ((to - from) * w) }
 {
-    let at = m * w;
-    let end = at + (to - from) * w;
-    body[at..end].copy_from_slice(&table[from * w..to * w]);
+    copy_words(body, m * w, &table[from * w..to * w]);
 }
 
 // The row behind the place of a group: the next one, if the place is its row.

@@ -141,6 +141,7 @@ pub fn place_near(
 }
 
 // The place among the rows from `start` to n, in steps that double from the first one on: near rows are found by few comparisons.
+#[inline(always)]
 pub fn reach(
     body: &[i64],
     start: usize,

@@ -7,7 +7,7 @@ use native.Mathlib.Omega.{arith}
 use native.Mathlib.Decide.{dec_lt}
 use lib.IntN.{ℤ, pos}
 use lib.ListN.{length, take, drop, get_or, length-append, length-drop, take-append-drop, get_or-append}
-use lib.Seq.{paste, take_at, drop_at, get_or-append-add, get_or-take, get_or-drop, drop-drop, drop-append-add, length-take-le, take_all}
+use lib.Seq.{paste, take_at, drop_at, get_or-append-add, get_or-take, get_or-drop, drop-drop, drop-append-add, length-take-le, take-take, take_all}
 use Rattle.frames.specs.Cells.{Cell, Words, row_from}
 use Rattle.order.specs.declared.options.Options.{Options}
 use Rattle.order.specs.Order.{cmp_group}
@@ -287,3 +287,7 @@ passed_addable b m taken end table body body₁ e room there n p h i l k =
     let x : (m + (p - taken)) * w + (b + 1) ≡ (m + (p - taken)) * w + b + 1 = omega arith in
     let y : p * w + (b + 1) ≡ p * w + b + 1 = omega arith in
     rw (t, rw (x, y) at u) (h p i)
+
+-- A part of a table, pasted whole.
+pub pasted_part : (body table : Words) (at k : ℕ) → k ≤ length table → paste body at (take k table) (length (take k table)) ≡ paste body at table k
+pasted_part body table at k h = rw (length-take-le k table h) (ap (λ (z : Words). take at body ++ z ++ drop (at + k) body) (take-take k k table (omega arith)))

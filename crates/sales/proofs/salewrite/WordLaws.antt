@@ -1,12 +1,53 @@
--- A row of subtotals as one stretch of words. Assumes nothing.
+-- One word more, as the loops go; and a row of subtotals as one stretch of words. Assumes nothing.
 use mathlib.Core.Path.{◌≡◌, sym, ap, ◌∙◌}
 use mathlib.Core.List.{[], ◌∷◌, ◌++◌, append_assoc}
-use Prim.Native.Nat.{ℕ, ◌+◌, ◌-◌, ◌≤◌}
+use Prim.Native.Nat.{ℕ, suc, ◌+◌, ◌-◌, ◌≤◌, ◌<◌, ◌^◌}
+use native.Mathlib.Numerals.{add-one}
 use native.Mathlib.Omega.{arith}
 use lib.IntN.{ℤ, pos}
-use lib.ListN.{length, take, drop, get_or, set, length-drop, length-append}
-use lib.Seq.{paste, drop-cons, set_at, take_all, length-take-le, drop-drop}
+use lib.Signed.{mag}
+use lib.ListN.{length, take, drop, get_or, set, length-drop, length-append, take-append-drop, get_or-append}
+use lib.Seq.{paste, paste-suc, take-suc, drop-cons, set_at, get_or-take, take_all, length-take-le, drop-drop}
+use mir.Syntax.{w64}
+use mir.Val.{to_z, of_z}
+use Rattle.frames.proofs.Signed.{back}
 use Rattle.frames.specs.Cells.{Words}
+
+-- ---- words copied
+-- With the first i words written, one more.
+pub copy_step : (b₀ b ws : Words) (at i : ℕ) → b ≡ paste b₀ at ws i → at + i < length b₀ → i < length ws → mag (get_or ws i (pos 0)) < 2 ^ 63
+    → set b (at + i) (to_z w64 (of_z w64 (get_or ws i (pos 0)))) ≡ paste b₀ at ws (i + 1)
+copy_step b₀ b ws at i e h k m = rw (back (get_or ws i (pos 0)) m, e, add-one) (paste-suc b₀ at ws i (pos 0) h k)
+
+-- ---- words moved up
+-- With k words below still to move, the words from k on stand w places higher.
+pub shift_step : (b₀ b : Words) (k to w : ℕ) (a : ℤ) → suc k ≤ to → to + w ≤ length b₀ → b ≡ paste b₀ (suc k + w) (drop (suc k) b₀) (to - suc k) → a ≡ get_or b k (pos 0)
+    → set b (k + w) a ≡ paste b₀ (k + w) (drop k b₀) (to - k)
+shift_step b₀ b k to w a h r e f =
+    let m : to - k ≡ suc (to - suc k) = omega arith in
+    let s : suc k + w ≡ suc (k + w) = omega arith in
+    let n : suc (k + w) + (to - suc k) ≡ k + w + suc (to - suc k) = omega arith in
+    let T : Words = take (k + w) b₀ in
+    let M : Words = take (to - suc k) (drop (suc k) b₀) in
+    let E : Words = drop (k + w + suc (to - suc k)) b₀ in
+    let lt : length T ≡ k + w = length-take-le (k + w) b₀ (omega arith) in
+    let first : take (suc (k + w)) b₀ ≡ T ++ (get_or b₀ (k + w) (pos 0) ∷ []) = take-suc b₀ (k + w) (pos 0) (omega arith) in
+    let all : b ≡ T ++ get_or b₀ (k + w) (pos 0) ∷ (M ++ E) =
+    e ∙ ap (λ (z : ℕ). take z b₀ ++ M ++ drop (z + (to - suc k)) b₀) s ∙ ap (λ (z : ℕ). take (suc (k + w)) b₀ ++ M ++ drop z b₀) n
+    ∙ ap (λ (z : Words). z ++ M ++ E) first ∙ simp append_assoc in
+    let read : a ≡ get_or b₀ k (pos 0) =
+    f ∙ ap (λ (z : Words). get_or z k (pos 0)) (e ∙ append_assoc (take (suc k + w) b₀) M (drop (suc k + w + (to - suc k)) b₀))
+    ∙ get_or-append (take (suc k + w) b₀) (M ++ drop (suc k + w + (to - suc k)) b₀) (pos 0) k (omega (arith, length-take-le (suc k + w) b₀ (omega arith)))
+    ∙ get_or-take (suc k + w) b₀ k (pos 0) (omega arith) in
+    let next : take (suc (to - suc k)) (drop k b₀) ≡ get_or b₀ k (pos 0) ∷ M = ap (take (suc (to - suc k))) (drop-cons b₀ k (pos 0) (omega arith)) in
+    ap (λ (z : Words). set z (k + w) a) all ∙ set_at T (get_or b₀ (k + w) (pos 0)) (M ++ E) a (k + w) lt
+    ∙ rw (m, next, read) (simp append_assoc)
+
+pub shift_starts : (b₀ : Words) (to w : ℕ) → to + w ≤ length b₀ → b₀ ≡ paste b₀ (to + w) (drop to b₀) (to - to)
+shift_starts b₀ to w h =
+    let z : to - to ≡ 0 = omega arith in
+    let y : to + w + 0 ≡ to + w = omega arith in
+    rw (z, y) (sym (take-append-drop (to + w) b₀) ∙ simp append_assoc)
 
 -- ---- a part written whole
 pub put_pasted : (b g : Words) (at n : ℕ) → length g ≡ n → take at b ++ (g ++ drop n (drop at b)) ≡ paste b at g n
