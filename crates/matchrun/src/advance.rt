@@ -14,7 +14,7 @@ pub struct Position {
 }
 
 // `yes` where a test holds, else `no`: a choice between two numbers, not a jump.
-pub(crate) fn choose(test: bool, yes: usize, no: usize) -> usize
+pub fn choose(test: bool, yes: usize, no: usize) -> usize
     ensures { result ≡ cond test yes no }
 {
     if test { yes } else { no }

@@ -204,3 +204,20 @@ pub fn scanwalk_walk(strategy: u8, left: &[i64], right: &[i64], out: &mut [i64])
 {
     call(true, strategy, left, right, out)
 }
+
+#[cfg(test)]
+mod tests {
+    use matchrun::advance::choose;
+
+    // A crate above matchrun calls its choice between two numbers; Err has one that is not the wanted one.
+    #[test]
+    fn choose_from_another_crate() -> Result<(), usize> {
+        for (test, wanted) in [(true, 3), (false, 5)] {
+            let chosen = choose(test, 3, 5);
+            if chosen != wanted {
+                return Err(chosen);
+            }
+        }
+        Ok(())
+    }
+}
